@@ -1,0 +1,91 @@
+-- Sheets of kind `unify` and `match` that are answered: the answer's text is the rules' answer, written out, and reads as it;
+-- what more and less fuel gives. Assumes nothing.
+use mathlib.Core.Path.{_≡_, refl, sym, _∙_, ap, subst}
+use mathlib.Core.List.{List, [], _∷_}
+use mathlib.Core.Option.{some, Option·some-injective}
+use Prim.Native.Nat.{ℕ, _≤_, _<_}
+use Rattle.rules.specs.Bytes.{Text}
+use Rattle.rules.specs.Tree.{variable, size}
+use Rattle.rules.specs.Writing.{render}
+use Rattle.rules.specs.Substitution.{Binding, Pair}
+use Rattle.rules.specs.Sheet.{Sheet, Entry, asks-unify, asks-match, read-sheet}
+use Rattle.rules.specs.Solving.{unify}
+use Rattle.rules.specs.Solving.{Verdict, solved, unsupported, Answer}
+use Rattle.rules.specs.Matching.{matcher}
+use Rattle.rules.specs.Tidy.{a-variable}
+use Rattle.rules.specs.Meaning.{Decided, needed, FuelMeans}
+use Rattle.rules.specs.Answer.{verdict-lines, read-pairs, answer-of}
+use Rattle.rules.specs.AnswerReading.{read-answer, KeysRead, Answered}
+use Rattle.rules.specs.Call.{passed, call}
+use Rattle.laws.proofs.Solving.Fuel.{unify-fuelled, matcher-fuelled}
+use Rattle.laws.proofs.Sheets.BuiltRun.{BuiltPairs, SmallPairs, BuiltBindings, Writable, unify-writable}
+use Rattle.laws.proofs.Sheets.BuiltMatch.{matcher-writable}
+use Rattle.laws.proofs.Reading.RoundTrip.{reread}
+use Rattle.laws.proofs.Sheets.AnswerText.{answer-read}
+use Rattle.laws.proofs.Sheets.Calls.{call-answer, pairs-read, unify-text, match-text}
+
+keys-read : (bs : List Binding) → BuiltBindings bs → KeysRead bs
+unfolding render size
+keys-read [] h = tt
+keys-read (b ∷ bs) h = (reread (variable (b .0)) (a-variable (h .0)) refl, keys-read bs (h .2))
+
+-- a kind of sheet and the rules that it is answered by
+pub record Kind (kind : ℕ → List Entry → Sheet) (solve : ℕ → List Pair → Answer) : Type 0 where
+  text : (k : ℕ) (texts : List Entry) (a : Text) → answer-of (kind k texts) ≡ some a
+      → (ps : List Pair) × (read-pairs texts ≡ some ps) × (verdict-lines (solve k ps) ≡ a)
+  writable : (k : ℕ) (ps : List Pair) → BuiltPairs ps → SmallPairs ps → Writable (solve k ps .0)
+  fuelled : (k m : ℕ) (ps : List Pair) → FuelMeans k m (solve k ps) (solve m ps)
+
+pub of-unify : Kind asks-unify unify
+of-unify = record { text = unify-text; writable = λ k ps b s. unify-writable k ps b; fuelled = unify-fuelled }
+
+pub of-match : Kind asks-match matcher
+of-match = record { text = match-text; writable = matcher-writable; fuelled = matcher-fuelled }
+
+module _ {kind : ℕ → List Entry → Sheet} {solve : ℕ → List Pair → Answer} (rules : Kind kind solve) where
+  -- every sheet of the kind that is answered has pairs
+  pub answered-pairs : (s : Text) (words room k : ℕ) (texts : List Entry) (a : Text) → read-sheet s ≡ some (kind k texts) → call s words room ≡ passed a
+      → (ps : List Pair) × (read-pairs texts ≡ some ps) × Answered kind k ps a
+  answered-pairs s words room k texts a r e =
+      let (ps, q, w) = rules .text k texts a (call-answer s words room (kind k texts) a r e) in
+      (ps, q, record { sheet = s; words = words; room = room; texts = texts; reads = r; pairs = q; answered = e })
+
+  -- the text is the rules' answer, written out
+  pub written : {k : ℕ} {ps : List Pair} {a : Text} → Answered kind k ps a → a ≡ verdict-lines (solve k ps)
+  written {k} {ps} {a} c =
+      let (qs, r, e) = rules .text k (c .texts) a (call-answer (c .sheet) (c .words) (c .room) (kind k (c .texts)) a (c .reads) (c .answered)) in
+      sym e ∙ ap (λ (z : List Pair). verdict-lines (solve k z)) (Option·some-injective qs ps (sym r ∙ c .pairs))
+
+  can-write : {k : ℕ} {ps : List Pair} {a : Text} → Answered kind k ps a → Writable (solve k ps .0)
+  can-write {k} {ps} c = let b = pairs-read (c .texts) ps (c .pairs) in rules .writable k ps (b .0) (b .1)
+
+  -- read back, it is the rules' answer: the verdict, the bindings and the count of pairs taken
+  pub read-back : {k : ℕ} {ps : List Pair} {a : Text} → Answered kind k ps a → read-answer a ≡ some (solve k ps)
+  read-back {k} {ps} c = ap read-answer (written c) ∙ answer-read (solve k ps .0) (solve k ps .1) (can-write c)
+
+  pub as-ruled : {k : ℕ} {ps : List Pair} {a : Text} → Answered kind k ps a → (v : Verdict) (n : ℕ) → read-answer a ≡ some (v, n) → solve k ps ≡ (v, n)
+  as-ruled {k} {ps} c v n e = Option·some-injective (solve k ps) (v, n) (sym (read-back c) ∙ e)
+
+  pub keys : {k : ℕ} {ps : List Pair} {a : Text} → Answered kind k ps a → (bs : List Binding) (n : ℕ) → read-answer a ≡ some (solved bs, n) → KeysRead bs
+  keys {k} {ps} c bs n e = keys-read bs (subst (λ (z : Answer). Writable (z .0)) (as-ruled c (solved bs) n e) (can-write c) .0)
+
+  -- a decided answer is, byte for byte, the answer to the same pairs with as much fuel or more
+  pub more-fuel : {k m : ℕ} {ps : List Pair} {a b : Text} → Answered kind k ps a → Answered kind m ps b
+      → (v : Verdict) (n : ℕ) → read-answer a ≡ some (v, n) → Decided v → needed v n ≤ m → b ≡ a
+  more-fuel {k} {m} {ps} c d v n e y h =
+      let q = sym (as-ruled c v n e) in
+      let z = subst (λ (w : Answer). Decided (w .0)) q y in
+      let l = subst (λ (w : Answer). needed (w .0) (w .1) ≤ m) q h in
+      written d ∙ ap verdict-lines (rules .fuelled k m ps .enough z l) ∙ sym (written c)
+
+  -- which is no more than the fuel that it was given
+  pub fuel-within : {k : ℕ} {ps : List Pair} {a : Text} → Answered kind k ps a → (v : Verdict) (n : ℕ) → read-answer a ≡ some (v, n) → Decided v → needed v n ≤ k
+  fuel-within {k} {ps} c v n e y =
+      let q = as-ruled c v n e in
+      subst (λ (w : Answer). needed (w .0) (w .1) ≤ k) q (rules .fuelled k k ps .within (subst (λ (w : Answer). Decided (w .0)) (sym q) y))
+
+  -- with less the same pairs are unsupported, and all the fuel is spent
+  pub less-fuel : {k m : ℕ} {ps : List Pair} {a b : Text} → Answered kind k ps a → Answered kind m ps b
+      → (v : Verdict) (n : ℕ) → read-answer a ≡ some (v, n) → m < needed v n → read-answer b ≡ some (unsupported, m)
+  less-fuel {k} {m} {ps} c d v n e h =
+      read-back d ∙ ap some (rules .fuelled k m ps .less (subst (λ (w : Answer). m < needed (w .0) (w .1)) (sym (as-ruled c v n e)) h))

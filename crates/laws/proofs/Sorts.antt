@@ -1,0 +1,3 @@
+-- Sorts: their order, and what well-sorted substitutions do to them.
+pub mod Sorting
+pub mod Instances

@@ -1,0 +1,2 @@
+-- Variants: the count of schemes.
+pub mod SchemeCount
