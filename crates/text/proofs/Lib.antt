@@ -1,0 +1,3 @@
+pub mod Loops
+pub mod Prefixes
+pub mod Sameness

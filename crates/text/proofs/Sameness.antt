@@ -1,0 +1,50 @@
+-- The test whether two texts are one, at a position of both. Assumes nothing.
+use Prim.Native.Nat.{ℕ, zero, suc, _+_, _*_, _<_, _≤_}
+use mathlib.Core.Path.{_≡_, refl, sym, ap, ap₂, subst, _∙_}
+use mathlib.Core.Bool.{Bool, true, false, cond, _&&_}
+use mathlib.Core.List.{List, [], _∷_}
+use lib.Dec.{eqb}
+use lib.ListN.{length, getD, take, drop}
+use lib.Seq.{drop-cons, drop-length}
+use native.Mathlib.Omega.{arith}
+use native.Mathlib.Numerals.{add-one}
+use borrow.Author.Tests.{eq-eqb, ne-eqb, eqb-true}
+use Rattle.rules.specs.Bytes.{same}
+
+and-false : (b : Bool) → b && false ≡ false
+and-false true = refl
+and-false false = refl
+
+pub same-lengths : (a b : List ℕ) → (length a ≡ length b → ⊥) → same a b ≡ false
+unfolding same
+same-lengths [] [] h = absurd (h refl)
+same-lengths [] (y ∷ b) h = refl
+same-lengths (x ∷ a) [] h = refl
+same-lengths (x ∷ a) (y ∷ b) h = ap (λ (t : Bool). eqb x y && t) (same-lengths a b (λ e. h (ap suc e))) ∙ and-false (eqb x y)
+
+pub same-step : (a b : List ℕ) (i : ℕ) → i < length a → i < length b → getD a i 0 ≡ getD b i 0 → same (drop i a) (drop i b) ≡ same (drop (i + 1) a) (drop (i + 1) b)
+unfolding same
+same-step a b i p q e = rw (add-one, drop-cons a i 0 p, drop-cons b i 0 q, eq-eqb (getD a i 0) (getD b i 0) e)
+
+pub same-stop : (a b : List ℕ) (i : ℕ) → i < length a → i < length b → (getD a i 0 ≡ getD b i 0 → ⊥) → same (drop i a) (drop i b) ≡ false
+unfolding same
+same-stop a b i p q e = rw (drop-cons a i 0 p, drop-cons b i 0 q, ne-eqb (getD a i 0) (getD b i 0) e)
+
+pub same-end : (a b : List ℕ) (i : ℕ) → length a ≤ i → length a ≡ length b → i ≤ length a → same (drop i a) (drop i b) ≡ true
+unfolding same
+same-end a b i p q l =
+    let e : i ≡ length a = omega arith in
+    let f : length a ≡ length b = q in
+    rw (e, drop-length) (rw (f, drop-length))
+
+-- the names of which the test says yes are the same
+pub same-is : (a b : List ℕ) → same a b ≡ true → a ≡ b
+unfolding same
+same-is [] [] e = refl
+same-is [] (y ∷ b) e = absurd (let z : _≡_ {A = ℕ} 0 1 = cc in omega arith)
+same-is (x ∷ a) [] e = absurd (let z : _≡_ {A = ℕ} 0 1 = cc in omega arith)
+same-is (x ∷ a) (y ∷ b) e = go (eqb x y) refl e (same-is a b)
+  where
+    go : (t : Bool) → eqb x y ≡ t → t && same a b ≡ true → (same a b ≡ true → a ≡ b) → x ∷ a ≡ y ∷ b
+    go true h e r = ap₂ (λ (u : ℕ) (v : List ℕ). u ∷ v) (eqb-true x y h) (r e)
+    go false h e r = absurd (let z : _≡_ {A = ℕ} 0 1 = cc in omega arith)
