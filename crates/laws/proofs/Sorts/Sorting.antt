@@ -1,21 +1,23 @@
 -- The order of the sorts: what has a sort has every sort above it, and sorts that share a tree meet. Assumes nothing.
 use mathlib.Core.Path.{_≡_, refl, ap, sym, subst, _∙_}
 use mathlib.Core.Bool.{Bool, true, false, cond, not, _&&_, _||_, false≢true}
+use mathlib.Core.Logic.{⊎-elim}
 use mathlib.Core.Option.{some}
 use Prim.Native.Nat.{ℕ}
 use native.Mathlib.Omega.{arith}
 use lib.Dec.{eqb}
 use Rattle.rules.specs.Bytes.{Text, same}
+use Rattle.rules.specs.Names.{letter}
 use Rattle.rules.specs.Tree.{Tree, variable, atom, apply, Trees, none, more, count, tamtplus}
 use Rattle.rules.specs.Sorts.{Sort, Pub, Fresh, Msg, TamNat, Node, Sort-discrete, decided, same-sort, intersects, variable-sort, Symbol, addition, unit, frame, free, tone, is-frame, symbol, has-sort, has-message-sort, natural, naturals, natural-at, message, messages, message-at, basic, sorted}
 use Rattle.rules.specs.Tidy.{Arity, Tidy}
-use Rattle.laws.proofs.Basics.Tests.{and-left, and-right, and-both, eqb-true, same-eq}
+use Rattle.laws.proofs.Basics.Tests.{and-left, and-right, and-both, or-cases, eqb-true, same-eq}
 
 -- a test of all sorts at once
-abbrev all-sorts : (Sort → Bool) → Bool
+abbrev pub all-sorts : (Sort → Bool) → Bool
 all-sorts p = p Pub && (p Fresh && (p Msg && (p TamNat && p Node)))
 
-at-sort : (p : Sort → Bool) → all-sorts p ≡ true → (s : Sort) → p s ≡ true
+pub at-sort : (p : Sort → Bool) → all-sorts p ≡ true → (s : Sort) → p s ≡ true
 at-sort p e s = go s
   where
     from-fresh : (p Fresh && (p Msg && (p TamNat && p Node))) ≡ true
@@ -45,19 +47,19 @@ below c Node = same-sort c Node
 pub below-self : (s : Sort) → below s s ≡ true
 below-self s = at-sort (λ r. below r r) refl s
 
-implies : (a b : Bool) → (not a || b) ≡ true → a ≡ true → b ≡ true
+pub implies : (a b : Bool) → (not a || b) ≡ true → a ≡ true → b ≡ true
 implies true b e h = e
 implies false b e h = absurd (false≢true h)
 
 -- sorts above one sort meet
-below-meet : (a b c : Sort) → below a b ≡ true → below a c ≡ true → intersects b c ≡ true
+pub below-meet : (a b c : Sort) → below a b ≡ true → below a c ≡ true → intersects b c ≡ true
 below-meet a b c h k = implies (below a b && below a c) (intersects b c)
     (at-sort (λ z. not (below a b && below a z) || intersects b z)
     (at-sort (λ y. all-sorts (λ z. not (below a y && below a z) || intersects y z))
     (at-sort (λ x. all-sorts (λ y. all-sorts (λ z. not (below x y && below x z) || intersects y z))) refl a) b) c)
     (and-both (below a b) (below a c) h k)
 
-same-sort-eq : (a b : Sort) → same-sort a b ≡ true → a ≡ b
+pub same-sort-eq : (a b : Sort) → same-sort a b ≡ true → a ≡ b
 same-sort-eq a b e = go (Sort-discrete a b) e
   where
     go : (d : Dec (a ≡ b)) → decided d ≡ true → a ≡ b
@@ -76,18 +78,30 @@ sorted-variable Node c x e = ap (has-sort Node) e
 
 -- atoms: the least sort of a letter
 
-abbrev letter-sort : Bool → Bool → Bool → Bool → Sort
+abbrev pub letter-sort : Bool → Bool → Bool → Bool → Sort
 letter-sort true b c d = Pub
 letter-sort false true c d = Fresh
 letter-sort false false true d = TamNat
 letter-sort false false false true = Node
 letter-sort false false false false = Msg
 
-abbrev atom-sort : ℕ → Sort
+abbrev pub atom-sort : ℕ → Sort
 atom-sort c = letter-sort (eqb c 112) (eqb c 102) (eqb c 116) (eqb c 110)
 
 at-letter : (P : ℕ → Type 0) (c n : ℕ) → eqb c n ≡ true → P n → P c
 at-letter P c n e h = subst P (sym (eqb-true c n e)) h
+
+-- what holds of each of the five letters
+pub at-letters : (P : ℕ → Type 0) → P 112 → P 102 → P 99 → P 116 → P 110 → (c : ℕ) → letter c ≡ true → P c
+unfolding letter
+at-letters P p f k t n c = either (eqb c 112 || eqb c 102 || eqb c 99 || eqb c 116) (eqb c 110)
+    (either (eqb c 112 || eqb c 102 || eqb c 99) (eqb c 116)
+    (either (eqb c 112 || eqb c 102) (eqb c 99)
+    (either (eqb c 112) (eqb c 102) (λ e. at-letter P c 112 e p) (λ e. at-letter P c 102 e f))
+    (λ e. at-letter P c 99 e k)) (λ e. at-letter P c 116 e t)) (λ e. at-letter P c 110 e n)
+  where
+    either : (a b : Bool) → (a ≡ true → P c) → (b ≡ true → P c) → (a || b) ≡ true → P c
+    either a b g h e = ⊎-elim g h (or-cases a b e)
 
 message-letter : (a b c d : Bool) → not d ≡ true → below (letter-sort a b c d) Msg ≡ true
 message-letter true b c d h = refl
@@ -96,7 +110,7 @@ message-letter false false true d h = refl
 message-letter false false false true h = h
 message-letter false false false false h = refl
 
-sorted-atom : (s : Sort) (c : ℕ) (d : Text) → sorted s (atom c d) ≡ true → below (atom-sort c) s ≡ true
+pub sorted-atom : (s : Sort) (c : ℕ) (d : Text) → sorted s (atom c d) ≡ true → below (atom-sort c) s ≡ true
 unfolding sorted natural message basic
 sorted-atom Pub c d e = at-letter (λ b. below (atom-sort b) Pub ≡ true) c 112 e refl
 sorted-atom Fresh c d e = at-letter (λ b. below (atom-sort b) Fresh ≡ true) c 102 e refl
@@ -121,13 +135,13 @@ sorted-apply Msg f ts = refl
 sorted-apply TamNat f ts = refl
 sorted-apply Node f ts = refl
 
-abbrev symbol-sort : Symbol → Sort
+abbrev pub symbol-sort : Symbol → Sort
 symbol-sort addition = TamNat
 symbol-sort unit = TamNat
 symbol-sort frame = Msg
 symbol-sort free = Msg
 
-sorted-symbol : (s : Sort) (h : Symbol) (a b : Bool) → sorted-at s h a b ≡ true → below (symbol-sort h) s ≡ true
+pub sorted-symbol : (s : Sort) (h : Symbol) (a b : Bool) → sorted-at s h a b ≡ true → below (symbol-sort h) s ≡ true
 sorted-symbol Pub h a b e = absurd (false≢true e)
 sorted-symbol Fresh h a b e = absurd (false≢true e)
 sorted-symbol Msg addition a b e = refl
@@ -174,7 +188,7 @@ symbol-unit f e = go (same f tamtplus) (same f tone) (is-frame f) refl e
     go false false true p z = absurd (false≢true z)
     go false false false p z = absurd (false≢true z)
 
-childless : (ts : Trees) → count ts ≡ 0 → ts ≡ none
+pub childless : (ts : Trees) → count ts ≡ 0 → ts ≡ none
 childless none e = refl
 childless (more t ts) e = absurd (omega arith)
 
