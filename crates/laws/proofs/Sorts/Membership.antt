@@ -1,22 +1,20 @@
 -- The test of sorts against their declaration: the trees that are declared to have a sort are those that pass the test and keep
 -- to the declared counts of arguments; a tidy tree keeps to them. Assumes nothing.
 use mathlib.Core.Path.{_≡_, refl, ap, sym, subst, _∙_}
-use mathlib.Core.Bool.{Bool, true, false, cond, not, _&&_, _||_, false≢true}
-use mathlib.Core.Logic.{_↔_, _⊎_, inl, inr, ⊎-elim}
-use mathlib.Core.Option.{some}
+use mathlib.Core.Bool.{Bool, true, false, cond, _&&_, _||_, false≢true}
+use mathlib.Core.Logic.{_↔_, ⊎-elim}
 use Prim.Native.Nat.{ℕ}
 use native.Mathlib.Omega.{arith}
-use lib.Dec.{eqb}
 use Rattle.rules.specs.Bytes.{Text, same}
 use Rattle.rules.specs.Text.{bytes}
 use Rattle.rules.specs.Names.{letter}
 use Rattle.rules.specs.Tree.{Tree, variable, atom, apply, Trees, none, more, count, tamtplus, plus}
-use Rattle.rules.specs.Sorts.{Sort, Pub, Fresh, Msg, TamNat, Node, Symbol, addition, unit, frame, free, tone, is-frame, symbol, variable-sort, natural, naturals, message, messages, basic, sorted}
+use Rattle.rules.specs.Sorts.{Sort, Pub, Fresh, Msg, TamNat, Node, Symbol, addition, unit, frame, free, tone, is-frame, symbol, natural, naturals, message, messages, basic, sorted}
 use Rattle.rules.specs.Membership.{Subsort, pub-msg, fresh-msg, tamnat-msg, reserved, NoneOf, HasSort, of-variable, of-p, of-f, of-c, of-t, of-n, of-tone, of-sum, of-other, of-subsort, HaveSort, nil, both, Ranked, Rankeds}
 use Rattle.rules.specs.Tidy.{Arity, Tidy, Tidies}
-use Rattle.laws.proofs.Basics.Tests.{and-left, and-right, and-both, or-cases, neither-left, neither-right, same-eq, differ-of-ne, ne-of-differ}
-use Rattle.laws.proofs.Sorts.Sorting.{below, below-self, sorted-variable, atom-sort, at-letters, sorted-atom, sorted-at, sorted-apply, symbol-sort, sorted-symbol, childless}
-use Rattle.laws.proofs.Sorts.Square.{above, subsort-below, named}
+use Rattle.laws.proofs.Basics.Tests.{and-left, and-right, and-both, neither-left, neither-right, same-eq, differ-of-ne, ne-of-differ}
+use Rattle.laws.proofs.Sorts.Sorting.{below, below-self, named, sorted-variable, atom-sort, at-letters, sorted-atom, sorted-at, sorted-apply, symbol-sort, sorted-symbol, childless}
+use Rattle.laws.proofs.Sorts.Square.{above, subsort-below}
 
 -- the test on arguments, for any sort
 

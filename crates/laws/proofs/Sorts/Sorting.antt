@@ -2,7 +2,7 @@
 use mathlib.Core.Path.{_≡_, refl, ap, sym, subst, _∙_}
 use mathlib.Core.Bool.{Bool, true, false, cond, not, _&&_, _||_, false≢true}
 use mathlib.Core.Logic.{⊎-elim}
-use mathlib.Core.Option.{some}
+use mathlib.Core.Option.{Option, some, none as nothing}
 use Prim.Native.Nat.{ℕ}
 use native.Mathlib.Omega.{arith}
 use lib.Dec.{eqb}
@@ -76,9 +76,20 @@ sorted-variable Msg c x e = ap has-message-sort e
 sorted-variable TamNat c x e = ap (has-sort TamNat) e
 sorted-variable Node c x e = ap (has-sort Node) e
 
+unnamed : (x : Text) → variable-sort x ≡ nothing → (s : Sort) → not (sorted s (variable x)) ≡ true
+unfolding sorted natural message basic
+unnamed x e = at-sort (λ s. not (sorted s (variable x))) (rw e)
+
+pub named : (s : Sort) (x : Text) → sorted s (variable x) ≡ true → (c : Sort) × (variable-sort x ≡ some c) × (below c s ≡ true)
+named s x e = go (variable-sort x) refl
+  where
+    go : (o : Option Sort) → variable-sort x ≡ o → (c : Sort) × (variable-sort x ≡ some c) × (below c s ≡ true)
+    go nothing p = absurd (false≢true (ap not (sym e) ∙ unnamed x p s))
+    go (some c) p = (c, p, sym (sorted-variable s c x p) ∙ e)
+
 -- atoms: the least sort of a letter
 
-abbrev pub letter-sort : Bool → Bool → Bool → Bool → Sort
+abbrev letter-sort : Bool → Bool → Bool → Bool → Sort
 letter-sort true b c d = Pub
 letter-sort false true c d = Fresh
 letter-sort false false true d = TamNat
@@ -154,21 +165,13 @@ sorted-symbol TamNat frame a b e = e
 sorted-symbol TamNat free a b e = e
 sorted-symbol Node h a b e = absurd (false≢true e)
 
--- a tree's least sort
-
-least : (arity : Text → ℕ) (t : Tree) → Tidy arity t → Sort
-least arity (variable x) d = d .0
-least arity (atom c n) d = atom-sort c
-least arity (apply f ts) d = symbol-sort (symbol f)
-
-least-below : (arity : Text → ℕ) (s : Sort) (t : Tree) (d : Tidy arity t) → sorted s t ≡ true → below (least arity t d) s ≡ true
-unfolding least
-least-below arity s (variable x) d e = sym (sorted-variable s (d .0) x (d .1)) ∙ e
-least-below arity s (atom c n) d e = sorted-atom s c n e
-least-below arity s (apply f ts) d e = sorted-symbol s (symbol f) (naturals ts) (messages ts) (sym (sorted-apply s f ts) ∙ e)
-
-pub sorts-meet : (arity : Text → ℕ) (r s : Sort) (t : Tree) → Tidy arity t → sorted r t ≡ true → sorted s t ≡ true → intersects r s ≡ true
-sorts-meet arity r s t d p q = below-meet (least arity t d) r s (least-below arity r t d p) (least-below arity s t d q)
+-- the sorts of one tree are above one sort
+pub sorts-meet : (r s : Sort) (t : Tree) → sorted r t ≡ true → sorted s t ≡ true → intersects r s ≡ true
+sorts-meet r s (variable x) p q = let n = named r x p in below-meet (n .0) r s (n .2) (sym (sorted-variable s (n .0) x (n .1)) ∙ q)
+sorts-meet r s (atom c d) p q = below-meet (atom-sort c) r s (sorted-atom r c d p) (sorted-atom s c d q)
+sorts-meet r s (apply f ts) p q = below-meet (symbol-sort (symbol f)) r s
+    (sorted-symbol r (symbol f) (naturals ts) (messages ts) (sym (sorted-apply r f ts) ∙ p))
+    (sorted-symbol s (symbol f) (naturals ts) (messages ts) (sym (sorted-apply s f ts) ∙ q))
 
 -- what has a sort has every sort above
 

@@ -1,19 +1,17 @@
 -- The square of sorts: two sorts meet exactly where they are one or one is a subsort of the other, and exactly where some tree
 -- has both. Assumes nothing.
-use mathlib.Core.Path.{_≡_, refl, ap, sym, subst, _∙_}
-use mathlib.Core.Bool.{Bool, true, false, not, _&&_, _||_, Bool·beq, false≢true}
+use mathlib.Core.Path.{_≡_, refl, sym, subst}
+use mathlib.Core.Bool.{Bool, true, false, not, _||_, Bool·beq, false≢true}
 use mathlib.Core.Logic.{_↔_, _⊎_, inl, inr, ⊎-elim}
 use mathlib.Core.List.{[], _∷_}
-use mathlib.Core.Option.{Option, some, none as nothing}
 use Prim.Native.Nat.{ℕ}
-use Rattle.rules.specs.Bytes.{Text}
 use Rattle.rules.specs.Names.{letter, number}
-use Rattle.rules.specs.Tree.{Tree, variable, atom, apply}
-use Rattle.rules.specs.Sorts.{Sort, Pub, Fresh, Msg, TamNat, Node, same-sort, intersects, variable-sort, symbol, natural, naturals, message, messages, basic, sorted}
+use Rattle.rules.specs.Tree.{Tree, atom}
+use Rattle.rules.specs.Sorts.{Sort, Pub, Fresh, Msg, TamNat, Node, intersects, natural, message, basic, sorted}
 use Rattle.rules.specs.Membership.{Subsort, pub-msg, fresh-msg, tamnat-msg}
 use Rattle.rules.specs.Tidy.{Built, an-atom}
 use Rattle.laws.proofs.Basics.Tests.{or-cases}
-use Rattle.laws.proofs.Sorts.Sorting.{all-sorts, at-sort, below, below-self, implies, below-meet, same-sort-eq, sorted-variable, atom-sort, sorted-atom, sorted-apply, symbol-sort, sorted-symbol}
+use Rattle.laws.proofs.Sorts.Sorting.{all-sorts, at-sort, below, below-self, implies, below-meet, same-sort-eq, sorts-meet}
 
 -- a test that holds of every sort above one
 pub above : (c : Sort) (p : Sort → Bool) → all-sorts (λ s. not (below c s) || p s) ≡ true → (s : Sort) → below c s ≡ true → p s ≡ true
@@ -72,26 +70,6 @@ square-symmetric a b = agree (intersects a b) (intersects b a)
 
 -- trees that have both sorts
 
--- the least sort of a variable, if its name gives one
-pub unnamed : (x : Text) → variable-sort x ≡ nothing → (s : Sort) → not (sorted s (variable x)) ≡ true
-unfolding sorted natural message basic
-unnamed x e = at-sort (λ s. not (sorted s (variable x))) (rw e)
-
-pub named : (s : Sort) (x : Text) → sorted s (variable x) ≡ true → (c : Sort) × (variable-sort x ≡ some c) × (below c s ≡ true)
-named s x e = go (variable-sort x) refl
-  where
-    go : (o : Option Sort) → variable-sort x ≡ o → (c : Sort) × (variable-sort x ≡ some c) × (below c s ≡ true)
-    go nothing p = absurd (false≢true (ap not (sym e) ∙ unnamed x p s))
-    go (some c) p = (c, p, sym (sorted-variable s c x p) ∙ e)
-
--- the sorts of one tree are above one sort
-pub shared : (r s : Sort) (t : Tree) → sorted r t ≡ true → sorted s t ≡ true → intersects r s ≡ true
-shared r s (variable x) p q = let n = named r x p in below-meet (n .0) r s (n .2) (sym (sorted-variable s (n .0) x (n .1)) ∙ q)
-shared r s (atom c d) p q = below-meet (atom-sort c) r s (sorted-atom r c d p) (sorted-atom s c d q)
-shared r s (apply f ts) p q = below-meet (symbol-sort (symbol f)) r s
-    (sorted-symbol r (symbol f) (naturals ts) (messages ts) (sym (sorted-apply r f ts) ∙ p))
-    (sorted-symbol s (symbol f) (naturals ts) (messages ts) (sym (sorted-apply s f ts) ∙ q))
-
 abbrev letter-of : Sort → ℕ
 letter-of Pub = 112
 letter-of Fresh = 102
@@ -119,4 +97,4 @@ sampled a b (inl h) = (sample a, sample-built a, sample-sorted a a (below-self a
 sampled a b (inr h) = (sample b, sample-built b, sample-sorted b a h, sample-sorted b b (below-self b))
 
 pub square-shared : (a b : Sort) → (intersects a b ≡ true) ↔ ((t : Tree) × Built t × (sorted a t ≡ true) × (sorted b t ≡ true))
-square-shared a b = (λ e. sampled a b (or-cases (below a b) (below b a) (meet-below a b e)), λ z. shared a b (z .0) (z .2) (z .3))
+square-shared a b = (λ e. sampled a b (or-cases (below a b) (below b a) (meet-below a b e)), λ z. sorts-meet a b (z .0) (z .2) (z .3))
