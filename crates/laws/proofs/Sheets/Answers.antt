@@ -4,6 +4,7 @@ use mathlib.Core.Path.{_≡_, sym, _∙_, ap, subst}
 use mathlib.Core.List.{List}
 use mathlib.Core.Option.{some, Option·some-injective}
 use Prim.Native.Nat.{ℕ, _≤_, _<_}
+use native.Mathlib.Omega.{arith}
 use Rattle.rules.specs.Bytes.{Text}
 use Rattle.rules.specs.Substitution.{Pair}
 use Rattle.rules.specs.Sheet.{Sheet, Entry, asks-unify, asks-match, read-sheet}
@@ -56,8 +57,8 @@ module _ {kind : ℕ → List Entry → Sheet} {solve : ℕ → List Pair → An
   pub as-ruled : {k : ℕ} {ps : List Pair} {a : Text} → Answered kind k ps a → (v : Verdict) (n : ℕ) → read-answer a ≡ some (v, n) → solve k ps ≡ (v, n)
   as-ruled {k} {ps} c v n e = Option·some-injective (solve k ps) (v, n) (sym (read-back c) ∙ e)
 
-  -- a decided answer is, byte for byte, the answer to the same pairs with as much fuel or more
-  pub more-fuel : {k m : ℕ} {ps : List Pair} {a b : Text} → Answered kind k ps a → Answered kind m ps b
+  -- a decided answer is, byte for byte, the answer to the same pairs with the fuel that it needs or more
+  more-fuel : {k m : ℕ} {ps : List Pair} {a b : Text} → Answered kind k ps a → Answered kind m ps b
       → (v : Verdict) (n : ℕ) → read-answer a ≡ some (v, n) → Decided v → needed v n ≤ m → b ≡ a
   more-fuel {k} {m} {ps} c d v n e y h =
       let q = sym (as-ruled c v n e) in
@@ -66,10 +67,15 @@ module _ {kind : ℕ → List Entry → Sheet} {solve : ℕ → List Pair → An
       written d ∙ ap verdict-lines (rules .fuelled k m ps .enough z l) ∙ sym (written c)
 
   -- which is no more than the fuel that it was given
-  pub fuel-within : {k : ℕ} {ps : List Pair} {a : Text} → Answered kind k ps a → (v : Verdict) (n : ℕ) → read-answer a ≡ some (v, n) → Decided v → needed v n ≤ k
+  fuel-within : {k : ℕ} {ps : List Pair} {a : Text} → Answered kind k ps a → (v : Verdict) (n : ℕ) → read-answer a ≡ some (v, n) → Decided v → needed v n ≤ k
   fuel-within {k} {ps} c v n e y =
       let q = as-ruled c v n e in
       subst (λ (w : Answer). needed (w .0) (w .1) ≤ k) q (rules .fuelled k k ps .within (subst (λ (w : Answer). Decided (w .0)) (sym q) y))
+
+  -- so with as much fuel or more the answer is the same
+  pub same-answer : {k m : ℕ} {ps : List Pair} {a b : Text} → Answered kind k ps a → Answered kind m ps b
+      → (v : Verdict) (n : ℕ) → read-answer a ≡ some (v, n) → Decided v → k ≤ m → b ≡ a
+  same-answer c d v n e y h = let z = fuel-within c v n e y in more-fuel c d v n e y (omega arith)
 
   -- with less the same pairs are unsupported, and all the fuel is spent
   pub less-fuel : {k m : ℕ} {ps : List Pair} {a b : Text} → Answered kind k ps a → Answered kind m ps b
