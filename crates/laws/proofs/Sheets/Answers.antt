@@ -58,7 +58,7 @@ module _ {kind : ℕ → List Entry → Sheet} {solve : ℕ → List Pair → An
   as-ruled {k} {ps} c v n e = Option·some-injective (solve k ps) (v, n) (sym (read-back c) ∙ e)
 
   -- a decided answer is, byte for byte, the answer to the same pairs with the fuel that it needs or more
-  more-fuel : {k m : ℕ} {ps : List Pair} {a b : Text} → Answered kind k ps a → Answered kind m ps b
+  pub more-fuel : {k m : ℕ} {ps : List Pair} {a b : Text} → Answered kind k ps a → Answered kind m ps b
       → (v : Verdict) (n : ℕ) → read-answer a ≡ some (v, n) → Decided v → needed v n ≤ m → b ≡ a
   more-fuel {k} {m} {ps} c d v n e y h =
       let q = sym (as-ruled c v n e) in
@@ -67,7 +67,7 @@ module _ {kind : ℕ → List Entry → Sheet} {solve : ℕ → List Pair → An
       written d ∙ ap verdict-lines (rules .fuelled k m ps .enough z l) ∙ sym (written c)
 
   -- which is no more than the fuel that it was given
-  fuel-within : {k : ℕ} {ps : List Pair} {a : Text} → Answered kind k ps a → (v : Verdict) (n : ℕ) → read-answer a ≡ some (v, n) → Decided v → needed v n ≤ k
+  pub fuel-within : {k : ℕ} {ps : List Pair} {a : Text} → Answered kind k ps a → (v : Verdict) (n : ℕ) → read-answer a ≡ some (v, n) → Decided v → needed v n ≤ k
   fuel-within {k} {ps} c v n e y =
       let q = as-ruled c v n e in
       subst (λ (w : Answer). needed (w .0) (w .1) ≤ k) q (rules .fuelled k k ps .within (subst (λ (w : Answer). Decided (w .0)) (sym q) y))
