@@ -5,5 +5,6 @@ pub mod BuiltMatch
 pub mod AnswerText
 pub mod Calls
 pub mod Answers
+pub mod Alike
 pub mod Table
 mod Example

@@ -62,6 +62,11 @@ settled-answer sheet room a e =
     let (u, q, e₂) = replied (need (leb (length b) room) 12) _ a e₁ in
     given-passed (answer-of sheet) 4 b p ∙ ap some (passed-injective b a e₂)
 
+-- a sheet that is answered reads
+pub call-sheet : (s : Text) (words room : ℕ) (a : Text) → call s words room ≡ passed a → (sheet : Sheet) × (read-sheet s ≡ some sheet)
+unfolding call
+call-sheet s words room a e = let (h, p, e₁) = replied (admitted s words) (λ h. settled h room) a e in (h, admitted-sheet s words h p)
+
 pub call-answer : (s : Text) (words room : ℕ) (sheet : Sheet) (a : Text) → read-sheet s ≡ some sheet → call s words room ≡ passed a → answer-of sheet ≡ some a
 unfolding call
 call-answer s words room sheet a r e =
