@@ -10,3 +10,4 @@ pub mod Composing
 pub mod Moving
 pub mod Matching
 pub mod Fuel
+pub mod Rules
