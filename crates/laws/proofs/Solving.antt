@@ -11,3 +11,4 @@ pub mod Moving
 pub mod Matching
 pub mod Fuel
 pub mod Rules
+pub mod OnlyRules

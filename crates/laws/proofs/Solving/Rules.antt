@@ -1,13 +1,14 @@
--- The rules of inference and the step agree, on trees as reading builds them: each step is by a rule, and the rules leave no
--- choice. So a rule keeps the well-sorted unifiers. Assumes nothing.
+-- Every step is by a rule of inference, on trees as reading builds them. Assumes nothing.
 use mathlib.Core.Path.{_≡_, refl, ap, sym, subst, _∙_}
 use mathlib.Core.Bool.{Bool, true, false, not, _&&_, _||_, true≢false, false≢true}
 use mathlib.Core.List.{List, [], _∷_}
+use mathlib.Mathlib.Data.Bool.Basic.{eq-false-of-not-eq-true}
 use mathlib.Core.Logic.{_⊎_, inl, inr}
 use mathlib.Core.Option.{Option, some, none as nothing}
 use Prim.Native.Nat.{ℕ}
 use native.Mathlib.Omega.{arith}
 use lib.Dec.{leb}
+use borrow.Author.Tests.{not-true}
 use Rattle.rules.specs.Bytes.{Text, same}
 use Rattle.rules.specs.Tree.{Tree, variable, atom, apply, Trees, none, more, head, children, same-tree, same-trees, occurs, tamtplus}
 use Rattle.rules.specs.Substitution.{Pair, instantiate-pairs, size-pairs}
@@ -28,21 +29,13 @@ use Rattle.laws.proofs.Sheets.BuiltRun.{BuiltList, summands-built}
 
 -- Tests
 
-false-of : (b : Bool) → ¬ (b ≡ true) → b ≡ false
-false-of true h = absurd (h refl)
-false-of false h = refl
-
--- the test of AC equality, refused
-not-equivalent : {t u : Tree} → Built t → Built u → ¬ AC t u → equivalent t u ≡ false
-not-equivalent {t} {u} bt bu h = false-of (equivalent t u) (λ e. h (equivalent-sound bt bu e))
-
 not-AC : {t u : Tree} → equivalent t u ≡ false → ¬ AC t u
 not-AC e h = true≢false (sym (equivalent-complete h) ∙ e)
 
 mutual
   unfolding same-tree
 
-  same-tree-self : (t : Tree) → same-tree t t ≡ true
+  pub same-tree-self : (t : Tree) → same-tree t t ≡ true
   same-tree-self (variable x) = same-self x
   same-tree-self (atom c d) = and-both _ _ (eqb-self c) (same-self d)
   same-tree-self (apply f ts) = and-both _ _ (same-self f) (same-trees-self ts)
@@ -69,17 +62,7 @@ module _ (t : Tree) (bt : Built t) where
       go false e nothing h = (not-AC e, h)
       go false e (some vs) h = later (not-AC e) h
 
-  removes-only : {us vs : List Tree} → BuiltList us → Removes t us vs → remove equivalent t us ≡ some vs
-  unfolding remove
-  removes-only b (first {u = u} {us = us} h) = ap (λ (c : Bool). remove-at c u us (remove equivalent t us)) (equivalent-complete h)
-  removes-only b (later {u = u} {us = us} n h) = rw (not-equivalent bt (b .0) n, removes-only (b .1) h)
-
-  without-only : (us : List Tree) → BuiltList us → Without t us → remove equivalent t us ≡ nothing
-  unfolding remove
-  without-only [] b h = refl
-  without-only (u ∷ us) b h = rw (not-equivalent bt (b .0) (h .0), without-only us (b .1) (h .1))
-
-removes-built : {t : Tree} {us vs : List Tree} → Removes t us vs → BuiltList us → BuiltList vs
+pub removes-built : {t : Tree} {us vs : List Tree} → Removes t us vs → BuiltList us → BuiltList vs
 removes-built (first h) b = b .1
 removes-built (later n h) b = (b .0, removes-built h (b .1))
 
@@ -94,26 +77,12 @@ cancels (t ∷ ts) us bt bu = go (remove equivalent t us) (removed t (bt .0) us 
     go nothing h k = single h (k us bu)
     go (some vs) h k = paired h (k vs (removes-built h bu))
 
-cancels-only : {ts us ks os : List Tree} → BuiltList ts → BuiltList us → Cancels ts us ks os → cancel equivalent ts us ≡ (ks, os)
-unfolding cancel
-cancels-only bt bu done = refl
-cancels-only bt bu (paired {t = t} {ts = ts} {us = us} h c) =
-    ap (λ (o : Option (List Tree)). cancel-at o t (λ vs. cancel equivalent ts vs) us) (removes-only t (bt .0) bu h)
-    ∙ cancels-only (bt .1) (removes-built h bu) c
-cancels-only bt bu (single {t = t} {ts = ts} {us = us} h c) =
-    ap (λ (o : Option (List Tree)). cancel-at o t (λ vs. cancel equivalent ts vs) us) (without-only t (bt .0) us bu h)
-    ∙ ap (λ (z : List Tree × List Tree). (t ∷ z .0, z .1)) (cancels-only (bt .1) bu c)
-
 -- one side is always natural and the other can never be
 
-never-equal : (l r : Tree) → sort-refuted l r ≡ true → NeverEqual l r
+pub never-equal : (l r : Tree) → sort-refuted l r ≡ true → NeverEqual l r
 unfolding sort-refuted
 never-equal l r e = go (or-cases (not (refinable TamNat l) && natural r) (not (refinable TamNat r) && natural l) e)
   where
-    not-true : (b : Bool) → not b ≡ true → b ≡ false
-    not-true true q = absurd (false≢true q)
-    not-true false q = refl
-
     one : (t u : Tree) → (not (refinable TamNat t) && natural u) ≡ true → (natural u ≡ true) × (refinable TamNat t ≡ false)
     one t u q =
         (and-right (not (refinable TamNat t)) (natural u) q, not-true (refinable TamNat t) (and-left (not (refinable TamNat t)) (natural u) q))
@@ -122,7 +91,7 @@ never-equal l r e = go (or-cases (not (refinable TamNat l) && natural r) (not (r
     go (inl q) = inr (one l r q)
     go (inr q) = inl (one r l q)
 
-refuted : (l r : Tree) → NeverEqual l r → sort-refuted l r ≡ true
+pub refuted : (l r : Tree) → NeverEqual l r → sort-refuted l r ≡ true
 unfolding sort-refuted
 refuted l r (inl h) = rw (h .0, h .1) (or-right (not (refinable TamNat l) && natural r))
 refuted l r (inr h) = rw (h .0, h .1)
