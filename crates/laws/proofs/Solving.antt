@@ -12,3 +12,4 @@ pub mod Matching
 pub mod Fuel
 pub mod Rules
 pub mod OnlyRules
+pub mod Taken

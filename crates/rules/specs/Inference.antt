@@ -69,12 +69,10 @@ put x v ps = instantiate-pairs ((x, v) ∷ []) ps
 
 pub data Infers : Tree → Tree → List Pair → Step → Type 0 where
   trivial : {t : Tree} {ps : List Pair} → Infers t t ps (goes-on ps)
-
   -- two applications
   symbol-clash : {l r : Tree} {f g : Text} {ts us : Trees} {ps : List Pair} → Applies l f ts → Applies r g us → ¬ (f ≡ g) → Infers l r ps fails
   decomposition : {l r : Tree} {f : Text} {ts us : Trees} {ps : List Pair} → Applies l f ts → Applies r f us → ¬ (f ≡ tamtplus) → ¬ (l ≡ r)
       → Infers l r ps (goes-on (push-children ts us ps))
-
   -- two sums
   nothing-left : {l r : Tree} {ps : List Pair} → SumsLeave l r [] [] → Infers l r ps (goes-on ps)
   left-used-up : {l r o : Tree} {os : List Tree} {ps : List Pair} → SumsLeave l r [] (o ∷ os) → Infers l r ps fails
@@ -84,7 +82,6 @@ pub data Infers : Tree → Tree → List Pair → Step → Type 0 where
       → Infers l r ps (goes-on ((rebuild k (j ∷ ks), o) ∷ ps))
   natural-clash : {l r k j o p : Tree} {ks os : List Tree} {ps : List Pair} → SumsLeave l r (k ∷ j ∷ ks) (o ∷ p ∷ os) → NeverEqual l r → Infers l r ps fails
   several-left : {l r k j o p : Tree} {ks os : List Tree} {ps : List Pair} → SumsLeave l r (k ∷ j ∷ ks) (o ∷ p ∷ os) → ¬ NeverEqual l r → Infers l r ps unknown
-
   -- a variable x and another tree
   unknown-sort : {x : Text} {v : Tree} {ps : List Pair} → variable-sort x ≡ nothing → ¬ (variable x ≡ v) → Infers (variable x) v ps unknown
   occurs-check : {x : Text} {s : Sort} {v : Tree} {ps : List Pair} → variable-sort x ≡ some s → ¬ (variable x ≡ v) → ¬ Free x v → Infers (variable x) v ps fails

@@ -20,17 +20,17 @@ taken (suc k) [] = []
 taken (suc k) (p ∷ ps) = p ∷ taken-after (step (p .0) (p .1) ps) (λ qs. taken k qs)
 
 -- those taken after a move
-abbrev pub taken-behind : Move → (List Pair → List Binding → List Pair) → List Pair
-taken-behind (onward qs cs) go = go qs cs
-taken-behind clash go = []
-taken-behind beyond go = []
+abbrev pub taken-after-move : Move → (List Pair → List Binding → List Pair) → List Pair
+taken-after-move (onward qs cs) go = go qs cs
+taken-after-move clash go = []
+taken-after-move beyond go = []
 
 -- by match, with bindings made before
 unfoldable pub taken-matching : ℕ → List Pair → List Binding → List Pair
 unfolding move
 taken-matching zero ps bs = []
 taken-matching (suc k) [] bs = []
-taken-matching (suc k) (p ∷ ps) bs = p ∷ taken-behind (move (p .0) (p .1) ps bs) (λ qs cs. taken-matching k qs cs)
+taken-matching (suc k) (p ∷ ps) bs = p ∷ taken-after-move (move (p .0) (p .1) ps bs) (λ qs cs. taken-matching k qs cs)
 
 unfoldable pub taken-by-match : ℕ → List Pair → List Pair
 unfolding taken-matching
