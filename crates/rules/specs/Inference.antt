@@ -55,11 +55,11 @@ pub record Key (x : Text) (s : Sort) (v : Tree) : Type 0 where
   pub sort : variable-sort x ≡ some s
   pub apart : Free x v
 
--- the tree is a variable, and x has its sort
-abbrev pub Takes : Tree → Text → Type 0
-Takes (variable y) x = (r : Sort) × (variable-sort y ≡ some r) × (sorted r (variable x) ≡ true)
-Takes (atom c d) x = ⊥
-Takes (apply f ts) x = ⊥
+-- the tree is a variable, and x has its sort: it may be the key
+abbrev pub Orientable : Text → Tree → Type 0
+Orientable x (variable y) = (r : Sort) × (variable-sort y ≡ some r) × (sorted r (variable x) ≡ true)
+Orientable x (atom c d) = ⊥
+Orientable x (apply f ts) = ⊥
 
 -- the binding put into the waiting pairs
 abbrev pub put : Text → Tree → List Pair → List Pair
@@ -89,10 +89,10 @@ pub data Infers : Tree → Tree → List Pair → Step → Type 0 where
       → Infers (variable x) v ps (bind x v (put x v ps))
   over-limit : {x : Text} {s : Sort} {v : Tree} {ps : List Pair} → Key x s v → sorted s v ≡ true → 4096 < size-pairs (put x v ps) → Infers (variable x) v ps unknown
   orient : {x f : Text} {t : Tree} {ts : Trees} {ps : List Pair} {a : Step} → Applies t f ts → Infers (variable x) t ps a → Infers t (variable x) ps a
-  orient-variables : {x y : Text} {s : Sort} {ps : List Pair} {a : Step} → Key x s (variable y) → sorted s (variable y) ≡ false → Takes (variable y) x
+  orient-variables : {x y : Text} {s : Sort} {ps : List Pair} {a : Step} → Key x s (variable y) → sorted s (variable y) ≡ false → Orientable x (variable y)
       → Infers (variable y) (variable x) ps a → Infers (variable x) (variable y) ps a
-  sort-clash : {x : Text} {s : Sort} {v : Tree} {ps : List Pair} → Key x s v → sorted s v ≡ false → ¬ Takes v x → refinable s v ≡ false → Infers (variable x) v ps fails
-  sort-undecided : {x : Text} {s : Sort} {v : Tree} {ps : List Pair} → Key x s v → sorted s v ≡ false → ¬ Takes v x → refinable s v ≡ true
+  sort-clash : {x : Text} {s : Sort} {v : Tree} {ps : List Pair} → Key x s v → sorted s v ≡ false → ¬ Orientable x v → refinable s v ≡ false → Infers (variable x) v ps fails
+  sort-undecided : {x : Text} {s : Sort} {v : Tree} {ps : List Pair} → Key x s v → sorted s v ≡ false → ¬ Orientable x v → refinable s v ≡ true
       → Infers (variable x) v ps unknown
 
 -- What a step keeps: the well-sorted unifiers of the pair taken and the waiting pairs are those of what is left to solve; where it

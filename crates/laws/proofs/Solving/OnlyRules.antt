@@ -10,13 +10,13 @@ use lib.Dec.{leb}
 use Rattle.rules.specs.Bytes.{Text, same}
 use Rattle.rules.specs.Tree.{Tree, variable, atom, apply, Trees, head, children, same-tree, occurs, tamtplus}
 use Rattle.rules.specs.Substitution.{Pair, size-pairs}
-use Rattle.rules.specs.Sums.{summands, equivalent}
+use Rattle.rules.specs.Sums.{equivalent}
 use Rattle.rules.specs.Equality.{AC}
-use Rattle.rules.specs.Sorts.{Sort, variable-sort, sorted, refinable, sort-refuted}
+use Rattle.rules.specs.Sorts.{Sort, variable-sort, sorted, refinable}
 use Rattle.rules.specs.Solving.{remove-at, remove, cancel-at, cancel, remainder, cancel-sums, Step, goes-on, bind, fails, unknown, fits, bind-into, unless-refinable, swap-at, swap-for, swap-key, sort-check, occurs-check, eliminate-at, eliminate, push-children, if-refuted, sum-step, decompose-at, decompose, differ, step-at, step}
 use Rattle.rules.specs.Tidy.{Built, Arity, Tidy, TidyPairs}
 use Rattle.rules.specs.Meaning.{Free}
-use Rattle.rules.specs.Inference.{Applies, of-atom, of-apply, Removes, first, later, Without, Cancels, done, paired, single, SumsLeave, sums, NeverEqual, Key, Takes, put, Infers, Keeps}
+use Rattle.rules.specs.Inference.{Applies, of-atom, of-apply, Removes, first, later, Without, Cancels, done, paired, single, SumsLeave, sums, Key, Orientable, put, Infers, Keeps}
 use Rattle.laws.proofs.Basics.Tests.{true-leb, false-leb, same-self, differ-of-ne, tree-eq}
 use Rattle.laws.proofs.Equality.Canonical.{equivalent-sound, equivalent-complete}
 use Rattle.laws.proofs.Equality.Building.{tidy-built}
@@ -123,7 +123,7 @@ swapped-step : (x y : Text) (s r : Sort) (ps : List Pair) → variable-sort y �
 swapped-step x y s r ps q e = ap (λ (z : Option Sort). swap-for z s x y ps) q ∙ ap (λ (b : Bool). swap-at b s x y ps) e
 
 -- no variable in its place
-unswapped-step : (x : Text) (s : Sort) (v : Tree) (ps : List Pair) → ¬ Takes v x → swap-key s x v ps ≡ unless-refinable (refinable s v)
+unswapped-step : (x : Text) (s : Sort) (v : Tree) (ps : List Pair) → ¬ Orientable x v → swap-key s x v ps ≡ unless-refinable (refinable s v)
 unswapped-step x s (variable y) ps n = go (variable-sort y) refl
   where
     by-sort : (r : Sort) → variable-sort y ≡ some r → swap-at (sorted r (variable x)) s x y ps ≡ unless-refinable (refinable s (variable y))

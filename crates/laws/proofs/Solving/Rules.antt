@@ -1,8 +1,7 @@
 -- Every step is by a rule of inference, on trees as reading builds them. Assumes nothing.
 use mathlib.Core.Path.{_≡_, refl, ap, sym, subst, _∙_}
-use mathlib.Core.Bool.{Bool, true, false, not, _&&_, _||_, true≢false, false≢true}
+use mathlib.Core.Bool.{Bool, true, false, not, _&&_, true≢false}
 use mathlib.Core.List.{List, [], _∷_}
-use mathlib.Mathlib.Data.Bool.Basic.{eq-false-of-not-eq-true}
 use mathlib.Core.Logic.{_⊎_, inl, inr}
 use mathlib.Core.Option.{Option, some, none as nothing}
 use Prim.Native.Nat.{ℕ}
@@ -11,20 +10,17 @@ use lib.Dec.{leb}
 use borrow.Author.Tests.{not-true}
 use Rattle.rules.specs.Bytes.{Text, same}
 use Rattle.rules.specs.Tree.{Tree, variable, atom, apply, Trees, none, more, head, children, same-tree, same-trees, occurs, tamtplus}
-use Rattle.rules.specs.Substitution.{Pair, instantiate-pairs, size-pairs}
+use Rattle.rules.specs.Substitution.{Pair, size-pairs}
 use Rattle.rules.specs.Sums.{summands, equivalent}
 use Rattle.rules.specs.Equality.{AC}
 use Rattle.rules.specs.Sorts.{Sort, TamNat, variable-sort, natural, sorted, refinable, sort-refuted}
-use Rattle.rules.specs.Solving.{keep, remove-at, remove, cancel-at, cancel, remainder, cancel-sums, Step, goes-on, bind, fails, unknown, fits, bind-into, unless-refinable, swap-at, swap-for, swap-key, sort-check, occurs-check, eliminate-at, eliminate, push-children, if-refuted, sum-step, decompose-at, decompose, differ, step-at, step}
-use Rattle.rules.specs.Tidy.{Built, Arity, Tidy, TidyPairs}
-use Rattle.rules.specs.Meaning.{Free}
-use Rattle.rules.specs.Inference.{Applies, of-atom, of-apply, Removes, first, later, Without, Cancels, done, paired, single, SumsLeave, sums, NeverEqual, Key, Takes, put, Infers, Keeps}
-use Rattle.laws.proofs.Basics.Tests.{and-left, and-right, and-both, or-cases, or-left, or-right, eqb-self, leb-true, leb-false, true-leb, false-leb, same-eq, same-self, same-of-eq, differ-of-ne, ne-of-differ, tree-eq}
+use Rattle.rules.specs.Solving.{remove-at, remove, cancel-at, cancel, remainder, cancel-sums, goes-on, fits, bind-into, unless-refinable, swap-at, swap-for, swap-key, sort-check, occurs-check, eliminate-at, eliminate, if-refuted, sum-step, decompose-at, decompose, differ, step-at, step}
+use Rattle.rules.specs.Tidy.{Built}
+use Rattle.rules.specs.Inference.{Applies, of-atom, of-apply, Removes, first, later, Without, Cancels, done, paired, single, SumsLeave, sums, NeverEqual, Key, Orientable, put, Infers}
+use Rattle.laws.proofs.Basics.Tests.{and-left, and-right, and-both, or-cases, or-right, eqb-self, leb-true, leb-false, same-eq, same-self, ne-of-differ, tree-eq}
 use Rattle.laws.proofs.Equality.Canonical.{equivalent-sound, equivalent-complete}
-use Rattle.laws.proofs.Equality.Building.{tidy-built}
 use Rattle.laws.proofs.Solving.Substituting.{free-of, free-occurs}
 use Rattle.laws.proofs.Solving.Decomposing.{NotVariable}
-use Rattle.laws.proofs.Solving.Stepping.{StepMeans, step-means}
 use Rattle.laws.proofs.Sheets.BuiltRun.{BuiltList, summands-built}
 
 -- Tests
@@ -144,7 +140,7 @@ module _ (ps : List Pair) where
       go true p = Infers.variable-elimination k e (leb-true _ _ p)
       go false p = Infers.over-limit k e (leb-false _ _ p)
 
-  refinable-infers : {x : Text} {s : Sort} {v : Tree} → Key x s v → sorted s v ≡ false → ¬ Takes v x → Infers (variable x) v ps (unless-refinable (refinable s v))
+  refinable-infers : {x : Text} {s : Sort} {v : Tree} → Key x s v → sorted s v ≡ false → ¬ Orientable x v → Infers (variable x) v ps (unless-refinable (refinable s v))
   refinable-infers {x} {s} {v} k e n = go (refinable s v) refl
     where
       go : (b : Bool) → refinable s v ≡ b → Infers (variable x) v ps (unless-refinable b)
