@@ -65,7 +65,8 @@ Orientable x (apply f ts) = ⊥
 abbrev pub put : Text → Tree → List Pair → List Pair
 put x v ps = instantiate-pairs ((x, v) ∷ []) ps
 
--- The rules: l against r is taken and ps wait
+-- The rules: l against r is taken and ps wait. Baader and Snyder's are `trivial`, `symbol-clash`, `decomposition`, `occurs-check`,
+-- `variable-elimination` and `orient`; the others are document 01's.
 
 pub data Infers : Tree → Tree → List Pair → Step → Type 0 where
   trivial : {t : Tree} {ps : List Pair} → Infers t t ps (goes-on ps)
