@@ -10,3 +10,6 @@ pub mod Composing
 pub mod Moving
 pub mod Matching
 pub mod Fuel
+pub mod Rules
+pub mod OnlyRules
+pub mod Taken

@@ -28,7 +28,7 @@ abbrev pub BuiltBindings : List Binding → Type 0
 BuiltBindings [] = Unit {0}
 BuiltBindings (b ∷ bs) = (variable-token (b .0) ≡ true) × Built (b .1) × BuiltBindings bs
 
-abbrev BuiltList : List Tree → Type 0
+abbrev pub BuiltList : List Tree → Type 0
 BuiltList [] = Unit {0}
 BuiltList (t ∷ ts) = Built t × BuiltList ts
 
@@ -79,7 +79,7 @@ unless-built false us t b k = (b, tt)
 mutual
   unfolding summands
 
-  summands-built : (t : Tree) → Built t → BuiltList (summands t)
+  pub summands-built : (t : Tree) → Built t → BuiltList (summands t)
   summands-built (variable x) b = (b, tt)
   summands-built (atom c d) b = (b, tt)
   summands-built (apply f ts) b = unless-built (same f tamtplus) (summands-of ts) (apply f ts) b (summands-of-built ts (built-children b))
