@@ -1,4 +1,4 @@
--- Two sheets alike in all but fuel, and answers that are solved or failed. Assumes nothing.
+-- Two sheets alike in all but fuel, and answers that are solved or failed (demand 3, the last sentence).
 use mathlib.Core.Path.{_≡_}
 use mathlib.Core.List.{List, _∷_, _++_}
 use mathlib.Core.Option.{some}

@@ -1,5 +1,5 @@
--- Reading with the Rust's counter (unifier.rs, `parse`): one for each leaf and for each closed list, and a closed list is
--- refused over twice 4,096. Assumes nothing.
+-- Reading with the Rust's counter: one for each leaf and for each closed list, and a closed list is refused over twice 4,096
+-- (01, "Reading": the Rust's count; unifier.rs, `parse`).
 use Prim.Native.Nat.{ℕ, zero, suc}
 use mathlib.Core.List.{List, [], _∷_}
 use mathlib.Core.Option.{Option, some, none}

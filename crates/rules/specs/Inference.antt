@@ -1,6 +1,6 @@
 -- The rules of inference for unification (Baader and Snyder, Unification Theory, in the Handbook of Automated Reasoning), under
--- their names, with the rules of document 01 for sorts, sums and the limit of nodes: what a pair taken gives, before the pairs
--- that wait; and what it is for a rule to keep the unifiers. Assumes nothing.
+-- their names, with the rules of 01 for sorts, sums and the limit of nodes: what a pair taken gives, before the pairs that wait;
+-- and what it is for a rule to keep the unifiers (01, "Solving").
 use mathlib.Core.Path.{_≡_}
 use mathlib.Core.Bool.{true, false}
 use mathlib.Core.List.{List, [], _∷_}

@@ -1,5 +1,5 @@
 -- Which trees have which sorts, as a Maude module declares it: subsorts, and for each operator its arguments' sorts and its own
--- (01, "Sorts", after the Maude manual). Assumes nothing.
+-- (01, "Sorts", after the Maude manual).
 use mathlib.Core.Path.{_≡_}
 use mathlib.Core.Bool.{true}
 use mathlib.Core.List.{List, [], _∷_}

@@ -1,4 +1,4 @@
--- The pairs that a run takes from the stack, first to last. Assumes nothing.
+-- The pairs that a run takes from the stack, first to last (01, "The answer goes out": `spent`).
 use mathlib.Core.List.{List, [], _∷_}
 use Prim.Native.Nat.{ℕ, zero, suc}
 use Rattle.rules.specs.Substitution.{Binding, Pair}

@@ -1,5 +1,5 @@
 -- Trees as reading builds them: their parts, and that tidy trees are such, so that the test of AC equality decides it on
--- them. Assumes nothing.
+-- them.
 use mathlib.Core.Path.{_≡_, refl, _∙_, ap}
 use mathlib.Core.Bool.{Bool, true, false, _||_}
 use Prim.Native.Nat.{ℕ}

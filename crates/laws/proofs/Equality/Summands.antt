@@ -1,5 +1,5 @@
 -- The summands of a tree: they are tidy, hold its variables, and under a substitution weigh what the tree weighs.
--- Assumes nothing.
+--
 use mathlib.Core.Path.{_≡_, refl, ap, sym, _∙_}
 use mathlib.Core.Bool.{Bool, true, false}
 use mathlib.Core.List.{List, [], _∷_, _++_, append-nil}

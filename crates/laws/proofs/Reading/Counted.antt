@@ -1,4 +1,4 @@
--- The Rust's counter never refuses a text that reads: it goes up by at most two for each node of the tree. Assumes nothing.
+-- The Rust's counter never refuses a text that reads: it goes up by at most two for each node of the tree.
 use Prim.Native.Nat.{ℕ, zero, suc, _+_, _*_, _≤_, _<_}
 use native.Mathlib.Omega.{arith}
 use mathlib.Core.Path.{_≡_, refl, sym, ap}

@@ -1,5 +1,5 @@
 -- Two answered sheets alike in all but fuel: their second line makes them `unify` or `match` sheets of the same pairs, and a
--- solved or failed answer to the one with less fuel is the other's answer. Assumes nothing.
+-- solved or failed answer to the one with less fuel is the other's answer.
 use mathlib.Core.Path.{_≡_, refl, sym, _∙_, ap, subst}
 use mathlib.Core.List.{List, [], _∷_, _++_}
 use mathlib.Core.Option.{Option, some, none as nothing, Option·some-injective, Option·none-ne-some}

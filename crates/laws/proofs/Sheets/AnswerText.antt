@@ -1,4 +1,4 @@
--- An answer's text reads as the answer. Assumes nothing.
+-- An answer's text reads as the answer.
 use mathlib.Core.Path.{_≡_, refl, sym, _∙_, ap}
 use mathlib.Core.List.{List, [], _∷_, _++_, append-nil}
 use mathlib.Core.Option.{Option, some}

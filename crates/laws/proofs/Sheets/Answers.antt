@@ -1,5 +1,5 @@
 -- Sheets of kind `unify` and `match` that are answered: the answer's text is the rules' answer, written out, and reads as it;
--- what more and less fuel gives. Assumes nothing.
+-- what more and less fuel gives.
 use mathlib.Core.Path.{_≡_, sym, _∙_, ap, subst}
 use mathlib.Core.List.{List}
 use mathlib.Core.Option.{some, Option·some-injective}

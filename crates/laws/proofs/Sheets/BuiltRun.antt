@@ -1,4 +1,4 @@
--- The runs of unify keep trees as reading builds them. Assumes nothing.
+-- The runs of unify keep trees as reading builds them.
 use mathlib.Core.Path.{_≡_, refl}
 use mathlib.Core.Bool.{Bool, true, false}
 use mathlib.Core.List.{List, [], _∷_, _++_}

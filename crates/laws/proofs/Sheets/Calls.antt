@@ -1,4 +1,4 @@
--- What a call that answers says of the sheet: it reads, so do its terms, and the answer is the rules'. Assumes nothing.
+-- What a call that answers says of the sheet: it reads, so do its terms, and the answer is the rules'.
 use mathlib.Core.Path.{_≡_, refl, sym, _∙_, ap, subst}
 use mathlib.Core.Bool.{Bool, true, false, false≢true}
 use mathlib.Core.List.{List, [], _∷_, map}

@@ -1,5 +1,5 @@
 -- The promise on one sheet, P1 of the scope: its pair is tidy, so its answer is a most general unifier, also as the text that
--- the call writes, which is the same with more fuel. Assumes nothing.
+-- the call writes, which is the same with more fuel.
 use mathlib.Core.Path.{_≡_, refl, ap}
 use mathlib.Core.Bool.{cond, _||_}
 use mathlib.Core.List.{List, [], _∷_}

@@ -1,5 +1,5 @@
 -- The rules of inference leave no choice, on trees as reading builds them: what a rule gives is what the step gives. So the rules
--- keep the well-sorted unifiers of tidy pairs. Assumes nothing.
+-- keep the well-sorted unifiers of tidy pairs.
 use mathlib.Core.Path.{_≡_, refl, ap, ap₂, sym, subst, _∙_}
 use mathlib.Core.Bool.{Bool, true, false}
 use mathlib.Core.List.{List, [], _∷_}

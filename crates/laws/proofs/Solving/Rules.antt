@@ -1,4 +1,4 @@
--- Every step is by a rule of inference, on trees as reading builds them. Assumes nothing.
+-- Every step is by a rule of inference, on trees as reading builds them.
 use mathlib.Core.Path.{_≡_, refl, ap, sym, subst, _∙_}
 use mathlib.Core.Bool.{Bool, true, false, not, _&&_, true≢false}
 use mathlib.Core.List.{List, [], _∷_}

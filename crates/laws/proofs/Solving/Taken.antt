@@ -1,4 +1,4 @@
--- The count in an answer of unify or match is the number of the pairs taken, at most the fuel. Assumes nothing.
+-- The count in an answer of unify or match is the number of the pairs taken, at most the fuel.
 use mathlib.Core.Path.{_≡_, refl}
 use mathlib.Core.List.{List, [], _∷_}
 use Prim.Native.Nat.{ℕ, zero, suc, _+_, _≤_}

@@ -1,5 +1,5 @@
 -- Instances under a well-sorted substitution: they are tidy, what has a sort keeps it, and what may get a sort is refinable
--- to it. Assumes nothing.
+-- to it.
 use mathlib.Core.Path.{_≡_, refl, ap, sym, subst, _∙_}
 use mathlib.Core.Bool.{Bool, true, false, _&&_, _||_}
 use Prim.Native.Nat.{ℕ, suc}

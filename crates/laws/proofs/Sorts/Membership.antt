@@ -1,5 +1,5 @@
 -- The test of sorts against their declaration: the trees that are declared to have a sort are those that pass the test and keep
--- to the declared counts of arguments; a tidy tree keeps to them. Assumes nothing.
+-- to the declared counts of arguments; a tidy tree keeps to them.
 use mathlib.Core.Path.{_≡_, refl, ap, sym, subst, _∙_}
 use mathlib.Core.Bool.{Bool, true, false, cond, _&&_, _||_, false≢true}
 use mathlib.Core.Logic.{_↔_, ⊎-elim}

@@ -1,4 +1,4 @@
--- The order of the sorts: what has a sort has every sort above it, and sorts that share a tree meet. Assumes nothing.
+-- The order of the sorts: what has a sort has every sort above it, and sorts that share a tree meet.
 use mathlib.Core.Path.{_≡_, refl, ap, sym, subst, _∙_}
 use mathlib.Core.Bool.{Bool, true, false, cond, not, _&&_, _||_, false≢true}
 use mathlib.Core.Logic.{⊎-elim}

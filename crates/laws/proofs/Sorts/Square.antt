@@ -1,5 +1,5 @@
 -- The square of sorts: two sorts meet exactly where they are one or one is a subsort of the other, and exactly where some tree
--- has both. Assumes nothing.
+-- has both.
 use mathlib.Core.Path.{_≡_, refl, sym, subst}
 use mathlib.Core.Bool.{Bool, true, false, not, _||_, Bool·beq, false≢true}
 use mathlib.Core.Logic.{_↔_, _⊎_, inl, inr, ⊎-elim}
