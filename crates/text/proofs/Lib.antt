@@ -1,3 +1,9 @@
 pub mod Loops
 pub mod Prefixes
 pub mod Sameness
+pub mod Slices
+pub mod Merging
+pub mod Writing
+pub mod Sorting
+pub mod Decimals
+pub mod PlaceLaws
