@@ -1,2 +1,3 @@
 pub mod Screen
 pub mod Prefix
+pub mod Sorting
