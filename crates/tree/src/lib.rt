@@ -1,0 +1,2 @@
+// Trees in a lent work area: cells, names, equality, writing.
+pub mod cells;
