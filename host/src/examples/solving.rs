@@ -1,0 +1,455 @@
+// Equality and solving: each rule, and the answers of the Rust that are easy to miss.
+use super::{Example, answered, refused};
+
+pub fn examples() -> Vec<Example> {
+    let mut list = equal();
+    list.extend(sums());
+    list.extend(keys());
+    list.extend(matching());
+    list.extend(cover());
+    list
+}
+
+fn equal() -> Vec<Example> {
+    let equal = |label, left: &str, right: &str, word: &str| {
+        answered(
+            label,
+            &format!("kind=equal|left={left}|right={right}"),
+            &format!("equal={word}"),
+        )
+    };
+    vec![
+        equal("order", "tamtplus(t(0),t(1))", "tamtplus(t(1),t(0))", "yes"),
+        equal(
+            "grouping",
+            "tamtplus(tamtplus(a,b),c)",
+            "tamtplus(c,b,a)",
+            "yes",
+        ),
+        equal("order-elsewhere", "g(a,b)", "g(b,a)", "no"),
+        equal(
+            "deep-order",
+            "g(h(tamtplus(a,b)))",
+            "g(h(tamtplus(b,a)))",
+            "yes",
+        ),
+        equal("summand-twice", "tamtplus(a,a,b)", "tamtplus(a,b,b)", "no"),
+        equal(
+            "sum-of-one-inside",
+            "tamtplus(tamtplus(a),b)",
+            "tamtplus(a,b)",
+            "yes",
+        ),
+        equal(
+            "leaf-sum-is-a-summand",
+            "tamtplus(tamtplus,a)",
+            "tamtplus(a,tamtplus)",
+            "yes",
+        ),
+        equal(
+            "leaf-sum-is-no-unit",
+            "tamtplus(tamtplus,a,b)",
+            "tamtplus(a,b)",
+            "no",
+        ),
+        equal("loose-atom", "p(a,b)", "p(a,b)", "yes"),
+        equal("bare-digits", "7", "7", "yes"),
+        equal("zeros-count", "t(1)", "t(01)", "no"),
+        equal("variables-by-text", "x0:Msg", "x0:Pub", "no"),
+        equal("loose-nested-atom", "t(t(0))", "t( t(0) )", "yes"),
+        refused("loose-empty-list", "kind=equal|left=a|right=f()|", 4),
+        refused("loose-two-terms", "kind=equal|left=a b|right=a|", 4),
+    ]
+}
+
+fn unify(label: &'static str, left: &str, right: &str, answer: &str) -> Example {
+    answered(
+        label,
+        &format!("kind=unify|fuel=9|left={left}|right={right}"),
+        answer,
+    )
+}
+
+fn sums() -> Vec<Example> {
+    vec![
+        unify(
+            "sums-cancel",
+            "tamtplus(t(0),t(1))",
+            "tamtplus(t(1),t(0))",
+            "verdict=solved|spent=1",
+        ),
+        unify(
+            "one-side-left",
+            "tamtplus(t(0),t(1))",
+            "tamtplus(t(0),t(1),t(2))",
+            "verdict=failed|spent=1",
+        ),
+        unify(
+            "one-left-each",
+            "tamtplus(t(0),t(1))",
+            "tamtplus(t(0),t(2))",
+            "verdict=failed|spent=2",
+        ),
+        unify(
+            "two-left-each",
+            "tamtplus(x0:TamNat,x1:TamNat)",
+            "tamtplus(t(0),t(1))",
+            "verdict=unsupported|spent=1",
+        ),
+        unify(
+            "never-natural",
+            "tamtplus(f(0),x0:Msg)",
+            "tamtplus(t(0),x1:TamNat)",
+            "verdict=failed|spent=1",
+        ),
+        unify(
+            "leaf-sum-against-sum",
+            "tamtplus",
+            "tamtplus(t(0),t(1))",
+            "verdict=failed|spent=1",
+        ),
+        unify(
+            "sum-of-leaf-sums",
+            "tamtplus(tamtplus,tamtplus)",
+            "tamtplus",
+            "verdict=solved|spent=1",
+        ),
+        unify(
+            "leaf-sum-is-natural",
+            "x0:TamNat",
+            "tamtplus",
+            "verdict=solved|spent=1|key=x0:TamNat|value=tamtplus",
+        ),
+        unify(
+            "tone-of-node-is-natural",
+            "x0:TamNat",
+            "tamXCtone(n(0))",
+            "verdict=solved|spent=1|key=x0:TamNat|value=tamXCtone(n(0))",
+        ),
+        unify(
+            "tone-of-node-is-no-message",
+            "x0:Msg",
+            "tamXCtone(n(0))",
+            "verdict=failed|spent=1",
+        ),
+        unify(
+            "tone-of-node-is-not-refinable",
+            "tamtplus(tamXCtone(n(0)),x0:TamNat)",
+            "tamtplus(t(0),t(1))",
+            "verdict=failed|spent=1",
+        ),
+        unify(
+            "first-partner",
+            "tamtplus(t(0),t(0),x0:TamNat)",
+            "tamtplus(t(0),t(1))",
+            "verdict=failed|spent=2",
+        ),
+        unify(
+            "deep-sums",
+            "g(tamtplus(t(0),h(x0:Msg)))",
+            "g(tamtplus(h(a),t(0)))",
+            "verdict=solved|spent=4|key=x0:Msg|value=a",
+        ),
+    ]
+}
+
+fn keys() -> Vec<Example> {
+    vec![
+        unify("equal-trees", "x0:Foo", "x0:Foo", "verdict=solved|spent=1"),
+        unify(
+            "unknown-sort-first",
+            "x0:Foo",
+            "g(x0:Foo)",
+            "verdict=unsupported|spent=1",
+        ),
+        unify(
+            "unknown-sort-as-value",
+            "x0:Msg",
+            "x1:Foo",
+            "verdict=failed|spent=1",
+        ),
+        unify(
+            "left-key",
+            "x0:Msg",
+            "x1:Msg",
+            "verdict=solved|spent=1|key=x0:Msg|value=x1:Msg",
+        ),
+        unify("occurs", "x0:Msg", "g(x0:Msg)", "verdict=failed|spent=1"),
+        unify(
+            "occurs-before-sort",
+            "x0:Pub",
+            "g(x0:Pub)",
+            "verdict=failed|spent=1",
+        ),
+        unify(
+            "key-right",
+            "g(a)",
+            "x0:Msg",
+            "verdict=solved|spent=1|key=x0:Msg|value=g(a)",
+        ),
+        unify(
+            "message-refines",
+            "x0:TamNat",
+            "tamtplus(x1:Msg,t(0))",
+            "verdict=unsupported|spent=1",
+        ),
+        unify(
+            "fresh-against-pub",
+            "x0:Fresh",
+            "p(0)",
+            "verdict=failed|spent=1",
+        ),
+        unify(
+            "node",
+            "x0:Node",
+            "n(3)",
+            "verdict=solved|spent=1|key=x0:Node|value=n(3)",
+        ),
+        unify(
+            "node-is-no-message",
+            "x0:Msg",
+            "n(3)",
+            "verdict=failed|spent=1",
+        ),
+        unify(
+            "node-and-message-do-not-meet",
+            "x0:Node",
+            "x1:Msg",
+            "verdict=failed|spent=1",
+        ),
+        unify(
+            "frames-are-no-messages",
+            "x0:Msg",
+            "cons(a,nil)",
+            "verdict=failed|spent=1",
+        ),
+        unify("names-by-bytes", "t(1)", "t(01)", "verdict=failed|spent=1"),
+        unify(
+            "more-children-right",
+            "g(a)",
+            "g(a,b)",
+            "verdict=solved|spent=2",
+        ),
+        unify(
+            "colon-named-pair",
+            "x1:Msg(a)",
+            "x1:Msg(b)",
+            "verdict=failed|spent=2",
+        ),
+        unify(
+            "colon-named-value",
+            "x0:Msg",
+            "x0:Msg(a)",
+            "verdict=solved|spent=1|key=x0:Msg|value=x0:Msg(a)",
+        ),
+        unify(
+            "colon-named-inside",
+            "g(x0:Msg,x0:Msg(a))",
+            "g(a,x0:Msg(a))",
+            "verdict=solved|spent=3|key=x0:Msg|value=a",
+        ),
+        unify(
+            "sigils-are-variables",
+            "#0:Msg",
+            "%0:Pub",
+            "verdict=solved|spent=1|key=#0:Msg|value=%0:Pub",
+        ),
+        answered(
+            "second-pair-fails",
+            "kind=unify|fuel=9|left=x0:Msg|right=c(0)|left=g(x0:Msg)|right=g(c(1))",
+            "verdict=failed|spent=3",
+        ),
+        answered(
+            "circle",
+            "kind=unify|fuel=9|left=x0:Msg|right=g(x1:Msg)|left=x1:Msg|right=g(x0:Msg)",
+            "verdict=failed|spent=2",
+        ),
+        answered(
+            "composed-both-ways",
+            "kind=unify|fuel=9|left=x0:Msg|right=g(x1:Msg)|left=x1:Msg|right=h(x2:Msg)|left=x2:Msg|right=a",
+            "verdict=solved|spent=3|key=x0:Msg|value=g(h(a))|key=x1:Msg|value=h(a)|key=x2:Msg|value=a",
+        ),
+        answered(
+            "fuel-just-enough",
+            "kind=unify|fuel=2|left=a|right=a",
+            "verdict=solved|spent=1",
+        ),
+        answered(
+            "fuel-one-short",
+            "kind=unify|fuel=1|left=a|right=a",
+            "verdict=unsupported|spent=1",
+        ),
+        answered(
+            "failing-needs-no-more",
+            "kind=unify|fuel=1|left=a|right=b",
+            "verdict=failed|spent=1",
+        ),
+    ]
+}
+
+fn matches(label: &'static str, left: &str, right: &str, answer: &str) -> Example {
+    answered(
+        label,
+        &format!("kind=match|fuel=9|left={left}|right={right}"),
+        answer,
+    )
+}
+
+fn matching() -> Vec<Example> {
+    vec![
+        matches(
+            "match-colon-named",
+            "x1:Msg(a)",
+            "x1:Msg",
+            "verdict=solved|spent=1",
+        ),
+        matches(
+            "match-unknown-sort",
+            "x0:Foo",
+            "x0:Foo",
+            "verdict=failed|spent=1",
+        ),
+        matches(
+            "match-ill-sorted",
+            "x0:Pub",
+            "x1:Msg",
+            "verdict=failed|spent=1",
+        ),
+        matches(
+            "match-subject-constant",
+            "a",
+            "x0:Msg",
+            "verdict=failed|spent=1",
+        ),
+        matches(
+            "match-equal-trees-not-dropped",
+            "g(a,a)",
+            "g(a,a)",
+            "verdict=solved|spent=3",
+        ),
+        matches(
+            "match-itself",
+            "x0:Msg",
+            "x0:Msg",
+            "verdict=solved|spent=1|key=x0:Msg|value=x0:Msg",
+        ),
+        matches(
+            "match-bound-twice",
+            "g(x0:Msg,x0:Msg)",
+            "g(tamtplus(t(0),t(1)),tamtplus(t(1),t(0)))",
+            "verdict=solved|spent=3|key=x0:Msg|value=tamtplus(t(0),t(1))",
+        ),
+        matches(
+            "match-bound-apart",
+            "g(x0:Msg,x0:Msg)",
+            "g(a,b)",
+            "verdict=failed|spent=3",
+        ),
+        matches(
+            "match-newest-first",
+            "g(x0:Msg,x1:Msg)",
+            "g(a,b)",
+            "verdict=solved|spent=3|key=x1:Msg|value=b|key=x0:Msg|value=a",
+        ),
+        matches(
+            "match-ground-summands-cancel",
+            "tamtplus(t(0),x0:TamNat)",
+            "tamtplus(t(1),t(0))",
+            "verdict=solved|spent=2|key=x0:TamNat|value=t(1)",
+        ),
+        matches(
+            "match-variable-summand-stays",
+            "tamtplus(x0:TamNat,t(0))",
+            "tamtplus(x0:TamNat,t(0))",
+            "verdict=solved|spent=2|key=x0:TamNat|value=x0:TamNat",
+        ),
+        matches(
+            "match-two-left",
+            "tamtplus(x0:TamNat,x1:TamNat)",
+            "tamtplus(t(0),t(1))",
+            "verdict=unsupported|spent=1",
+        ),
+        matches(
+            "match-never-natural",
+            "tamtplus(f(0),x0:Msg)",
+            "tamtplus(t(0),t(1))",
+            "verdict=unsupported|spent=1",
+        ),
+        matches(
+            "match-leaf-sum",
+            "x0:TamNat",
+            "tamtplus",
+            "verdict=solved|spent=1|key=x0:TamNat|value=tamtplus",
+        ),
+        matches("match-untidy-g", "g(x0:Msg)", "g", "verdict=solved|spent=1"),
+    ]
+}
+
+fn cover() -> Vec<Example> {
+    let cover = |label, lines: &str, word: &str| {
+        answered(
+            label,
+            &format!("kind=cover|left=x0:Msg|right=h(x1:Pub)|{lines}"),
+            &format!("covered={word}"),
+        )
+    };
+    vec![
+        cover("cover-identity", "member=", "yes"),
+        cover(
+            "cover-general",
+            "member=|key=x0:Msg|value=h(#0:Pub)|key=x1:Pub|value=#0:Pub",
+            "yes",
+        ),
+        cover(
+            "cover-special",
+            "member=|key=x0:Msg|value=h(p(0))|key=x1:Pub|value=p(0)",
+            "no",
+        ),
+        cover(
+            "cover-second",
+            "member=|key=x0:Msg|value=a|member=|key=x0:Msg|value=h(%7:Msg)",
+            "yes",
+        ),
+        cover(
+            "cover-unreadable-reached",
+            "member=|key=x1:Pub|value=g(",
+            "yes",
+        ),
+        cover(
+            "cover-unreadable-elsewhere",
+            "member=|key=x9:Msg|value=g(|key=x0:Msg|value=a",
+            "no",
+        ),
+        cover(
+            "cover-unreadable-after-failure",
+            "member=|key=x0:Msg|value=a|key=x1:Pub|value=(",
+            "yes",
+        ),
+        cover("cover-member-ignored", "member=)(|key=x0:Msg|value=a", "no"),
+        cover(
+            "cover-unsupported-covers",
+            "member=|key=x0:Msg|value=h(tamtplus(#0:TamNat,#1:TamNat))",
+            "no",
+        ),
+        answered(
+            "cover-failed",
+            "kind=cover|left=a|right=b|member=",
+            "covered=none",
+        ),
+        answered(
+            "cover-unsupported",
+            "kind=cover|left=x0:Foo|right=b|member=|key=x0:Foo|value=b",
+            "covered=none",
+        ),
+        answered(
+            "cover-match-unsupported",
+            "kind=cover|left=x0:TamNat|right=tamtplus(t(0),t(1))|member=|key=x0:TamNat|value=tamtplus(#0:TamNat,#1:TamNat)",
+            "covered=yes",
+        ),
+        answered(
+            "cover-unknown-sort",
+            "kind=cover|left=x0:Foo|right=x0:Foo|member=",
+            "covered=no",
+        ),
+    ]
+}
