@@ -1,31 +1,13 @@
-use host::*;
-fn main() {
-    deep::run(|| {
-        let mut bad = 0;
-        let mut n = 0;
-        for e in examples::all() {
-            n += 1;
-            let needed = sheet::read(&e.sheet).map_or(0, |s| sheet::words_needed(&e.sheet, &s));
-            let got = reference::call(
-                &e.sheet,
-                e.words.unwrap_or(needed),
-                e.room.unwrap_or(1 << 20),
-            );
-            if got != e.reply {
-                bad += 1;
-                let show = |r: &reference::Reply| match r {
-                    reference::Reply::Refused(n) => format!("refused {n}"),
-                    reference::Reply::Answer(a) => String::from_utf8_lossy(a).into_owned(),
-                };
-                println!(
-                    "{}: {}\n got {}\n want {}",
-                    e.label,
-                    String::from_utf8_lossy(&e.sheet[..e.sheet.len().min(300)]),
-                    show(&got),
-                    show(&e.reply)
-                );
-            }
+// The program: hands the words of its command line to `command`.
+use std::{env, process::ExitCode};
+
+fn main() -> ExitCode {
+    let words: Vec<String> = env::args().skip(1).collect();
+    match host::command::run(&words) {
+        Ok(code) => code,
+        Err(message) => {
+            eprintln!("host: {message}");
+            ExitCode::from(100)
         }
-        println!("{bad} of {n}");
-    });
+    }
 }

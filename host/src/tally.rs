@@ -36,22 +36,27 @@ fn refusal_name(refusal: u32) -> String {
     format!("refusal {refusal:>2}")
 }
 
+/// What a reply counts as: its refusal, or its kind and the word that the answer begins with.
+pub fn class(bytes: &[u8], reply: &Reply) -> String {
+    match reply {
+        Reply::Refused(refusal) => refusal_name(*refusal),
+        Reply::Answer(answer) => {
+            let kind = sheet::read(bytes).map_or("unread", |sheet| sheet.kind());
+            let text = String::from_utf8_lossy(answer);
+            let line = text.lines().next().unwrap_or_default();
+            let word = if line.starts_with("normal=") {
+                "normal"
+            } else {
+                line
+            };
+            answer_name(kind, word)
+        }
+    }
+}
+
 impl Tally {
     pub fn add(&mut self, bytes: &[u8], reply: &Reply) {
-        let name = match reply {
-            Reply::Refused(refusal) => refusal_name(*refusal),
-            Reply::Answer(answer) => {
-                let kind = sheet::read(bytes).map_or("unread", |sheet| sheet.kind());
-                let text = String::from_utf8_lossy(answer);
-                let line = text.lines().next().unwrap_or_default();
-                let word = if line.starts_with("normal=") {
-                    "normal"
-                } else {
-                    line
-                };
-                answer_name(kind, word)
-            }
-        };
+        let name = class(bytes, reply);
         *self.0.entry(name).or_default() += 1;
     }
 
