@@ -4,6 +4,7 @@ pub mod BuiltRun
 pub mod BuiltMatch
 pub mod AnswerText
 pub mod Calls
+pub mod Refusals
 pub mod Answers
 pub mod Alike
 pub mod Table
