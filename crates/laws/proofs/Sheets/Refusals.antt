@@ -1,6 +1,6 @@
 -- The call gives each refusal exactly on its condition, and an answer in all other cases; what it leaves in the output and the work
 -- area, byte by byte and word by word.
-use mathlib.Core.Path.{_≡_, refl, sym, subst, _∙_}
+use mathlib.Core.Path.{_≡_, refl, sym, subst, ap, _∙_}
 use mathlib.Core.Bool.{Bool, true, false, true≢false, _||_}
 use mathlib.Core.List.{List, [], _∷_, _++_}
 use mathlib.Core.Logic.{_↔_, _⊎_, inl, inr}
@@ -15,7 +15,7 @@ use Rattle.rules.specs.Text.{within}
 use Rattle.rules.specs.Names.{all}
 use Rattle.rules.specs.Sheet.{Sheet, read-sheet, words-needed}
 use Rattle.rules.specs.Answer.{answer-of}
-use Rattle.rules.specs.Call.{Reply, refused, passed, plain, admitted, settled, call, written, overwritten, output-after, cleared, work-after}
+use Rattle.rules.specs.Call.{Reply, refused, passed, refusal-number, plain, admitted, settled, call, written, overwritten, output-after, cleared, work-after}
 use Rattle.rules.specs.Refusals.{Allowed, Screened, Admitted, Outcome, too-long, foreign-byte, out-of-place, short-work, unreadable, short-output, answered, Overwritten, KeepsWork, Cleared}
 use Rattle.laws.proofs.Basics.Tests.{and-left, and-right, and-both, and-split, or-cases, or-left, or-right, eqb-true, eqb-self, leb-true, leb-false, true-leb, false-leb}
 
@@ -157,6 +157,19 @@ module _ (s : Text) (words room : ℕ) where
 
   pub call-outcome : (r : Reply Text) → (call s words room ≡ r) ↔ Outcome s words room r
   call-outcome r = (λ e. subst (Outcome s words room) e holds, gives)
+
+  -- none of the six numbers is 0
+  pub number-zero : (refusal-number (call s words room) ≡ 0) ↔ ((answer : Text) × (call s words room ≡ passed answer))
+  number-zero = (λ e. go holds e (λ a i. (a, i)), λ z. ap refusal-number (z .1))
+    where
+      go : {r : Reply Text} {P : Type 0} → Outcome s words room r → refusal-number r ≡ 0 → ((answer : Text) → r ≡ passed answer → P) → P
+      go (too-long h) e f = absurd (omega arith)
+      go (foreign-byte h p k a) e f = absurd (omega arith)
+      go (out-of-place h i) e f = absurd (omega arith)
+      go (short-work h i k) e f = absurd (omega arith)
+      go (unreadable h i) e f = absurd (omega arith)
+      go (short-output h i k) e f = absurd (omega arith)
+      go (answered {answer = a} h i k) e f = f a refl
 
 -- What is left
 
