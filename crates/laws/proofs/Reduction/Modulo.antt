@@ -51,7 +51,7 @@ modulo-built : {t u : Tree} → StepsModulo t u → Built t → Built u
 modulo-built (equal e) b = built-kept e b
 modulo-built (step e r s) b = modulo-built s (built-step r (built-kept e b))
 
--- a tree that takes no step, or whose AC-equal tree v steps to w: it would be AC equal to the reduced form of w, which is smaller
+-- if v, AC equal to a normal tree t, stepped to w, then t would be AC equal to the reduced form of w, which is smaller than v
 normal-modulo : (t : Tree) → Built t → Normal t → NormalModulo t
 normal-modulo t b n v e w r =
     let same-size = size-kept e in

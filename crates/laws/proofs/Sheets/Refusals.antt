@@ -1,7 +1,7 @@
 -- The call gives each refusal exactly on its condition, and an answer in all other cases; what it leaves in the output and the work
 -- area, byte by byte and word by word.
 use mathlib.Core.Path.{_≡_, refl, sym, subst, ap, _∙_}
-use mathlib.Core.Bool.{Bool, true, false, true≢false, _||_}
+use mathlib.Core.Bool.{Bool, true, false, true≢false}
 use mathlib.Core.List.{List, [], _∷_, _++_}
 use mathlib.Core.Logic.{_↔_, _⊎_, inl, inr}
 use mathlib.Core.Option.{Option, some, none}
@@ -15,7 +15,7 @@ use Rattle.rules.specs.Text.{within}
 use Rattle.rules.specs.Names.{all}
 use Rattle.rules.specs.Sheet.{Sheet, read-sheet, words-needed}
 use Rattle.rules.specs.Answer.{answer-of}
-use Rattle.rules.specs.Call.{Reply, refused, passed, refusal-number, plain, admitted, settled, call, written, overwritten, output-after, cleared, work-after}
+use Rattle.rules.specs.Call.{Reply, refused, passed, refusal-number, plain, admitted, settled, call, written, output-after, work-after}
 use Rattle.rules.specs.Refusals.{Allowed, Screened, Admitted, Outcome, too-long, foreign-byte, out-of-place, short-work, unreadable, short-output, answered, Overwritten, KeepsWork, Cleared}
 use Rattle.laws.proofs.Basics.Tests.{and-left, and-right, and-both, and-split, or-cases, or-left, or-right, eqb-true, eqb-self, leb-true, leb-false, true-leb, false-leb}
 
@@ -134,7 +134,7 @@ module _ (s : Text) (words room : ℕ) where
 
   by-words : {sheet : Sheet} → Screened s → read-sheet s ≡ some sheet → (b : Bool) → leb (words-needed s sheet) words ≡ b → Some
   by-words {sheet} h e true k =
-      by-answer (record { screened = h; reads = e; enough = leb-true (words-needed s sheet) words k; }) (answer-of sheet) refl
+      by-answer (record { screened = h; reads = e; enough = leb-true (words-needed s sheet) words k }) (answer-of sheet) refl
   by-words {sheet} h e false k = (refused 11, short-work h e (leb-false (words-needed s sheet) words k))
 
   by-lines : Screened s → (o : Option Sheet) → read-sheet s ≡ o → Some
@@ -143,7 +143,7 @@ module _ (s : Text) (words room : ℕ) where
 
   by-bytes : length s ≤ 65536 → (b : Bool) → all plain s ≡ b → Some
   by-bytes h true e =
-      by-lines (record { short = h; allowed = λ p k. plain-allowed (getD s p 0) (all-at plain s e p k); }) (read-sheet s) refl
+      by-lines (record { short = h; allowed = λ p k. plain-allowed (getD s p 0) (all-at plain s e p k) }) (read-sheet s) refl
   by-bytes h false e =
       let (p, k, f) = not-at plain s e in
       (refused 2, foreign-byte h p k (λ a. true≢false (sym (allowed-plain (getD s p 0) a) ∙ f)))
@@ -249,9 +249,9 @@ module _ (s : Text) (work : List ℕ) where
         go (answered h e l) k = absurd k
 
     -- after every other call the needed words are zero
-    pub work-cleared : ¬ KeepsWork (call s (length work) room)
+    pub needed-cleared : ¬ KeepsWork (call s (length work) room)
         → (sheet : Sheet) × (read-sheet s ≡ some sheet) × Cleared (words-needed s sheet) work (work-after s work)
-    work-cleared = go (holds s (length work) room)
+    needed-cleared = go (holds s (length work) room)
       where
         go : {r : Reply Text} → Outcome s (length work) room r → ¬ KeepsWork r
             → (sheet : Sheet) × (read-sheet s ≡ some sheet) × Cleared (words-needed s sheet) work (work-after s work)
