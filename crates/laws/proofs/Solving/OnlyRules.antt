@@ -23,7 +23,7 @@ use Rattle.laws.proofs.Equality.Building.{tidy-built}
 use Rattle.laws.proofs.Solving.Substituting.{free-of, free-occurs}
 use Rattle.laws.proofs.Solving.Stepping.{StepMeans, step-means}
 use Rattle.laws.proofs.Solving.Rules.{same-tree-self, removes-built, never-equal, refuted}
-use Rattle.laws.proofs.Sheets.BuiltRun.{BuiltList, summands-built}
+use Rattle.laws.proofs.Equality.Summands.{BuiltList, summands-built}
 
 -- Cancelling
 

@@ -21,7 +21,7 @@ use Rattle.laws.proofs.Basics.Tests.{and-left, and-right, and-both, or-
 use Rattle.laws.proofs.Equality.Canonical.{equivalent-sound, equivalent-complete}
 use Rattle.laws.proofs.Solving.Substituting.{free-of, free-occurs}
 use Rattle.laws.proofs.Solving.Decomposing.{NotVariable}
-use Rattle.laws.proofs.Sheets.BuiltRun.{BuiltList, summands-built}
+use Rattle.laws.proofs.Equality.Summands.{BuiltList, summands-built}
 
 -- Tests
 
