@@ -10,3 +10,6 @@ pub mod Summands
 pub mod Canonicals
 pub mod CanonTexts
 pub mod Ending
+pub mod ItemTokens
+pub mod ItemTerms
+pub mod Flattening

@@ -2,3 +2,4 @@ pub mod Texts
 pub mod Runs
 pub mod Settle
 pub mod Terms
+pub mod Items
