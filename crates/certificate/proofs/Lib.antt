@@ -1,0 +1,15 @@
+pub mod Laws
+pub mod Parts
+pub mod Runs
+pub mod RunSorting
+pub mod Dividing
+pub mod Joining
+pub mod Arranging
+pub mod Settling
+pub mod Summands
+pub mod Canonicals
+pub mod CanonTexts
+pub mod Ending
+pub mod ItemTokens
+pub mod ItemTerms
+pub mod Flattening

@@ -1,0 +1,5 @@
+pub mod Texts
+pub mod Runs
+pub mod Settle
+pub mod Terms
+pub mod Items

@@ -1,0 +1,53 @@
+-- Texts as runs of words. A word is start * 65536 + length, a place of the sheet; with length 0 the start is a code: below 256 it
+-- is a mark, that one byte, and from 256 on a fixed name, of which the name of sums is the only one.
+-- Definitions only.
+use Prim.Native.Nat.{ℕ, zero, suc, _+_, _*_, _<_, _≤_, _/_, _%_}
+use mathlib.Core.Path.{_≡_}
+use mathlib.Core.Bool.{Bool, true, false, cond}
+use mathlib.Core.List.{List, [], _∷_, _++_}
+use lib.Dec.{eqb, ltb}
+use lib.ListN.{length, getD, take, drop}
+use Rattle.rules.specs.Tree.{tamtplus}
+use Rattle.certificate.specs.declared.Order.{Order}
+use Rattle.certificate.specs.declared.Order.the-variants.{Less, Equal, Greater}
+use Rattle.certificate.specs.declared.Spot.{Spot}
+
+-- the text of a code
+unfoldable pub code-text : ℕ → List ℕ
+code-text c = cond (ltb c 256) (c ∷ []) tamtplus
+
+unfoldable pub code-width : ℕ → ℕ
+code-width c = cond (ltb c 256) 1 8
+
+-- the text of a word
+unfoldable pub word-text : List ℕ → ℕ → List ℕ
+unfolding code-text
+word-text s x = cond (eqb (x % 65536) 0) (code-text (x / 65536)) (take (x % 65536) (drop (x / 65536) s))
+
+unfoldable pub width-of : ℕ → ℕ
+unfolding code-width
+width-of x = cond (eqb (x % 65536) 0) (code-width (x / 65536)) (x % 65536)
+
+-- the text of a run of words
+unfoldable pub texts : List ℕ → List ℕ → List ℕ
+texts s [] = []
+texts s (x ∷ l) = word-text s x ++ texts s l
+
+-- a word is a place of the sheet, or a code
+pub record Token (s : List ℕ) (x : ℕ) : Type 0 where
+  pub placed : 0 < x % 65536 → x / 65536 + x % 65536 ≤ length s
+
+-- the words from a to e are such
+abbrev pub Tokens : List ℕ → List ℕ → ℕ → ℕ → Type 0
+Tokens s w a e = (p : ℕ) → a ≤ p → p < e → Token s (getD w p 0)
+
+-- three-way comparison by bytes; a text that begins a longer one is less
+unfoldable pub lex : List ℕ → List ℕ → Order
+lex [] [] = Equal
+lex [] (y ∷ b) = Less
+lex (x ∷ a) [] = Greater
+lex (x ∷ a) (y ∷ b) = cond (ltb x y) Less (cond (ltb y x) Greater (lex a b))
+
+-- the spot after a spot, where x is the spot's word
+unfoldable pub after : ℕ → Spot → Spot
+after x p = cond (eqb (p .byte + 1) (width-of x)) (record { word = p .word + 1; byte = 0 }) (record { word = p .word; byte = p .byte + 1 })
