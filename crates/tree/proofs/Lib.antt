@@ -1,2 +1,4 @@
 pub mod Decoding
 pub mod Pushing
+pub mod Naming
+pub mod Printing

@@ -1,2 +1,3 @@
 // Trees in a lent work area: cells, names, equality, writing.
 pub mod cells;
+pub mod names;
