@@ -3,3 +3,4 @@ pub mod Pushing
 pub mod Naming
 pub mod Printing
 pub mod Comparing
+pub mod Rendering

@@ -1,3 +1,4 @@
 pub mod Cells
 pub mod Arena
 pub mod Output
+pub mod Marked

@@ -2,3 +2,4 @@
 pub mod cells;
 pub mod equality;
 pub mod names;
+pub mod writing;
