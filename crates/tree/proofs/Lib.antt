@@ -4,3 +4,4 @@ pub mod Naming
 pub mod Printing
 pub mod Comparing
 pub mod Rendering
+pub mod Lengths
