@@ -3,3 +3,5 @@ pub mod Pushing
 pub mod Naming
 pub mod Printing
 pub mod Comparing
+pub mod Rendering
+pub mod Lengths
