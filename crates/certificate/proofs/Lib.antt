@@ -13,3 +13,5 @@ pub mod Ending
 pub mod ItemTokens
 pub mod ItemTerms
 pub mod Flattening
+pub mod ItemWords
+pub mod WrittenTexts
