@@ -170,7 +170,7 @@ module _ (s : Text) where
   -- a term of a list and what follows it
   rest-written : (n c : ℕ) (cs : List ℕ) (go : List Item → Read (Term × Terms)) → ((js : List Item) → Proper s js → length js + 1 < n → write s js wanting (c ∷ cs) ≡ after-list (go js) c cs)
       → (o : Read Term) → GoodTerm s n o → after-term o (c ∷ cs)
-          ≡ after-list (o >>= λ (t, js). delimited js (λ ks. go ks >>= λ ((u, us), ls). some ((t, more u us), ls)) (λ ks. some ((t, none), ks)) nothing) c cs
+      ≡ after-list (o >>= λ (t, js). delimited js (λ ks. go ks >>= λ ((u, us), ls). some ((t, more u us), ls)) (λ ks. some ((t, none), ks)) nothing) c cs
   unfolding write
   rest-written n c cs go f nothing g = refl
   rest-written n c cs go f (some (t, [])) g = refl
