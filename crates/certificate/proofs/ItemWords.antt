@@ -17,7 +17,7 @@ use Rattle.certificate.proofs.Flattening.{flat-by, splice-by, flatten, 
 
 -- ---- words in front
 
-emits-emits : (l m : List ℕ) (o : Option (List ℕ)) → emits l (emits m o) ≡ emits (l ++ m) o
+pub emits-emits : (l m : List ℕ) (o : Option (List ℕ)) → emits l (emits m o) ≡ emits (l ++ m) o
 emits-emits l m nothing = refl
 emits-emits l m (some n) = ap some (sym (append-assoc l m n))
 

@@ -15,3 +15,6 @@ pub mod ItemTerms
 pub mod Flattening
 pub mod ItemWords
 pub mod WrittenTexts
+pub mod WriterSteps
+pub mod WriterTurns
+pub mod WriterStates
