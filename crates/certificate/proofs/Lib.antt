@@ -13,3 +13,8 @@ pub mod Ending
 pub mod ItemTokens
 pub mod ItemTerms
 pub mod Flattening
+pub mod ItemWords
+pub mod WrittenTexts
+pub mod WriterSteps
+pub mod WriterTurns
+pub mod WriterStates

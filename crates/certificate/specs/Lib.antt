@@ -3,3 +3,4 @@ pub mod Runs
 pub mod Settle
 pub mod Terms
 pub mod Items
+pub mod Writer
