@@ -1,0 +1,20 @@
+-- A word more set to zero.
+use mathlib.Core.Path.{_≡_, refl, sym, _∙_, ap}
+use mathlib.Core.List.{List, [], _∷_, _++_, append-assoc}
+use Prim.Native.Nat.{ℕ, zero, suc, _+_, _<_, _≤_}
+use native.Mathlib.Numerals.{add-one}
+use native.Mathlib.Omega.{arith}
+use lib.ListN.{length, getD, set, drop, replicate, length-append, length-replicate, length-drop, replicate-append-replicate}
+use lib.Seq.{drop-cons, set-at}
+use Rattle.archive.specs.Clearing.{zeroed}
+
+pub zeroed-next : (w : List ℕ) (i : ℕ) → i < length w → set (zeroed i w) i 0 ≡ zeroed (i + 1) w
+zeroed-next w i h =
+    ap (λ (l : List ℕ). set (replicate i 0 ++ l) i 0) (drop-cons w i 0 h)
+    ∙ set-at (replicate i 0) (getD w i 0) (drop (suc i) w) 0 i (length-replicate i 0)
+    ∙ sym (append-assoc (replicate i 0) (0 ∷ []) (drop (suc i) w))
+    ∙ ap (λ (l : List ℕ). l ++ drop (suc i) w) (replicate-append-replicate i 1 0)
+    ∙ ap (λ (n : ℕ). replicate (i + 1) 0 ++ drop n w) (sym (add-one i))
+
+pub zeroed-length : (w : List ℕ) (i : ℕ) → i ≤ length w → length (zeroed i w) ≡ length w
+zeroed-length w i h = simp (length-append, length-replicate, length-drop) (omega arith)
