@@ -1,9 +1,12 @@
--- Whole sheets: an answer's text reads as the rules' answer, what answered sheets mean, the sheets to check.
+-- Whole sheets: the refusals and what a call leaves, what unify and match bind is built and reads back from the answer's text, what
+-- answered sheets and those alike in all but fuel say, the sheets to check, and the promise on one of them.
 pub mod Clean
 pub mod BuiltRun
 pub mod BuiltMatch
 pub mod AnswerText
 pub mod Calls
+pub mod Refusals
 pub mod Answers
+pub mod Alike
 pub mod Table
 mod Example

@@ -1,4 +1,5 @@
--- Solving: one step, the run and the composition of unify; the steps of match; fuel and budgets.
+-- Solving: substitutions and budgets; the steps, the run and the composition of unify; the steps of match; fuel, the pairs taken, and
+-- the rules of inference.
 pub mod Substituting
 pub mod Budget
 pub mod Binding
@@ -10,3 +11,6 @@ pub mod Composing
 pub mod Moving
 pub mod Matching
 pub mod Fuel
+pub mod Rules
+pub mod OnlyRules
+pub mod Taken

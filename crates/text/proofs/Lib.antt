@@ -5,3 +5,5 @@ pub mod Slices
 pub mod Merging
 pub mod Writing
 pub mod Sorting
+pub mod Decimals
+pub mod PlaceLaws

@@ -1,4 +1,4 @@
--- The test whether a text begins with another, at a position of both; and that `after-key` makes this test. Assumes nothing.
+-- The test whether a text begins with another, at a position of both; and that `after-key` makes this test.
 use mathlib.Core.Path.{_≡_, refl}
 use mathlib.Core.List.{List, [], _∷_}
 use mathlib.Core.Option.{Option, some, none}

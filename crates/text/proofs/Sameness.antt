@@ -1,4 +1,4 @@
--- The test whether two texts are one, at a position of both. Assumes nothing.
+-- The test whether two texts are one, at a position of both.
 use Prim.Native.Nat.{ℕ, zero, suc, _+_, _*_, _<_, _≤_}
 use mathlib.Core.Path.{_≡_, refl, sym, ap, ap₂, subst, _∙_}
 use mathlib.Core.Bool.{Bool, true, false, cond, _&&_}

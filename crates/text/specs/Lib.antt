@@ -1,3 +1,6 @@
 pub mod Screen
 pub mod Prefix
 pub mod Sorting
+pub mod Numbers
+pub mod Printing
+pub mod Places

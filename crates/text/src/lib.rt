@@ -1,4 +1,7 @@
 // Bytes and texts: classes of bytes, the screening of a sheet, counting, equality of two texts.
+pub mod decimal; // decimal.rt: decimal numbers
+pub mod places; // places.rt: texts named by places, and sorting by them
+
 ghost use mathlib.Core.Path.{_≡_};
 ghost use Rattle.rules.specs.Bytes.{same};
 ghost use Rattle.rules.specs.Text.{within, count-of};

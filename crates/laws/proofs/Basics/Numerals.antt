@@ -1,4 +1,4 @@
--- A number written in decimal reads as itself. Assumes nothing.
+-- A number written in decimal reads as itself.
 use mathlib.Core.Path.{_≡_, refl, sym, _∙_, ap}
 use mathlib.Core.Bool.{Bool, true, false, cond, not, _&&_, true≢false}
 use mathlib.Core.List.{[], _∷_, _++_}

@@ -1,5 +1,5 @@
 -- How names are spelled: words and variables hold no bracket and no comma, no word is a variable, and heads that are one
--- are heads of one kind. Assumes nothing.
+-- are heads of one kind.
 use mathlib.Core.Path.{_≡_, refl, sym, _∙_, ap, ap₂, subst}
 use mathlib.Core.Logic.{_≢_, _⊎_, inl, inr}
 use mathlib.Core.Bool.{Bool, true, false, cond, _&&_, _||_, true≢false, false≢true}

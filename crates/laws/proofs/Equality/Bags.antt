@@ -1,5 +1,5 @@
 -- Sums as bags: trees are AC equal exactly where the canonical texts of their summands occur equally often.
--- Assumes nothing.
+--
 use mathlib.Core.Path.{_≡_, refl, _∙_, ap}
 use mathlib.Core.Bool.{Bool, true, false}
 use mathlib.Core.List.{List, [], _∷_, _++_, map, List·Permᴰ, List·Permᴰ·nil, List·Permᴰ·cons, List·Permᴰ·swap, List·Permᴰ·trans, Permᴰ·refl}

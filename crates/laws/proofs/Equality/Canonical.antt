@@ -1,4 +1,4 @@
--- Trees as reading builds them are AC equal exactly where their canonical texts are one. Assumes nothing.
+-- Trees as reading builds them are AC equal exactly where their canonical texts are one.
 use mathlib.Core.Path.{_≡_, refl, _∙_, ap}
 use mathlib.Core.Bool.{true}
 use mathlib.Core.List.{List, [], _∷_, _++_, append-nil, map, nil≢cons, cons≢nil, head-eq-of-cons-eq, tail-eq-of-cons-eq, List·Permᴰ, List·Permᴰ·nil, List·Permᴰ·cons, List·Permᴰ·swap, List·Permᴰ·trans, Permᴰ·symm, Permᴰ·map}

@@ -1,5 +1,5 @@
 -- A tree as reading builds it is AC equal to its normal form with sums of two, since the order and the grouping of summands
--- are free. Assumes nothing.
+-- are free.
 use mathlib.Core.Path.{_≡_, refl, ap}
 use mathlib.Core.Bool.{Bool, true, false, cond}
 use mathlib.Core.List.{List, [], _∷_, _++_, append-nil, map, map-append, List·Permᴰ, List·Permᴰ·nil, List·Permᴰ·cons, List·Permᴰ·swap, List·Permᴰ·trans, Permᴰ·symm, Permᴰ·map}

@@ -1,4 +1,4 @@
--- Trees that are AC equal have one canonical form. Assumes nothing.
+-- Trees that are AC equal have one canonical form.
 use mathlib.Core.Path.{_≡_, refl, sym, _∙_, ap}
 use mathlib.Core.List.{List, [], _∷_, _++_, append-nil, append-assoc, Permᴰ·append-left, Permᴰ·append-right, List·Permᴰ·append-comm}
 use Rattle.rules.specs.Bytes.{Text, same, sort}

@@ -1,5 +1,4 @@
--- The summands of a tree: they are tidy, hold its variables, and under a substitution weigh what the tree weighs.
--- Assumes nothing.
+-- The summands of a tree: they are built or tidy where it is, hold its variables, and under a substitution weigh what it weighs.
 use mathlib.Core.Path.{_≡_, refl, ap, sym, _∙_}
 use mathlib.Core.Bool.{Bool, true, false}
 use mathlib.Core.List.{List, [], _∷_, _++_, append-nil}
@@ -10,10 +9,10 @@ use Rattle.rules.specs.Names.{word}
 use Rattle.rules.specs.Tree.{Tree, variable, atom, apply, Trees, none, more, tamtplus, plus}
 use Rattle.rules.specs.Substitution.{Substitution, substitute, substitutes}
 use Rattle.rules.specs.Sums.{unless-sum, summands, summands-of, rebuild}
-use Rattle.rules.specs.Tidy.{Arity, Tidy, Tidies}
+use Rattle.rules.specs.Tidy.{Built, Builts, Arity, Tidy, Tidies}
 use Rattle.rules.specs.Meaning.{WellSorted, Free, Frees}
 use Rattle.laws.proofs.Basics.Tests.{same-eq}
-use Rattle.laws.proofs.Equality.Building.{tidy-built}
+use Rattle.laws.proofs.Equality.Building.{built-first, built-rest, built-children, tidy-built}
 use Rattle.laws.proofs.Equality.Bags.{weight, weight-plus, weight-some}
 use Rattle.laws.proofs.Sorts.Instances.{substitute-tidy}
 
@@ -37,6 +36,23 @@ module _ (P : Tree → Type 0) where
   all-unless : (b : Bool) (ts : List Tree) (t : Tree) → AllOf P ts → P t → AllOf P (unless-sum b ts t)
   all-unless true ts t p q = p
   all-unless false ts t p q = (q, tt)
+
+-- trees as reading builds them
+
+abbrev pub BuiltList : List Tree → Type 0
+BuiltList = AllOf Built
+
+mutual
+  unfolding summands
+
+  pub summands-built : (t : Tree) → Built t → BuiltList (summands t)
+  summands-built (variable x) b = (b, tt)
+  summands-built (atom c d) b = (b, tt)
+  summands-built (apply f ts) b = all-unless Built (same f tamtplus) (summands-of ts) (apply f ts) (summands-of-built ts (built-children b)) b
+
+  summands-of-built : (ts : Trees) → Builts ts → BuiltList (summands-of ts)
+  summands-of-built none b = tt
+  summands-of-built (more t ts) b = all-append Built (summands t) (summands-of ts) (summands-built t (built-first b)) (summands-of-built ts (built-rest b))
 
 -- variables
 

@@ -1,4 +1,4 @@
--- The text of a tree with plain names is the text of no other such tree. Assumes nothing.
+-- The text of a tree with plain names is the text of no other such tree.
 use mathlib.Core.Path.{_≡_, refl, sym, _∙_, ap, ap₂}
 use mathlib.Core.Logic.{_≢_}
 use mathlib.Core.Bool.{Bool, true, false, true≢false}

@@ -1,19 +1,23 @@
--- An answer's text reads as the answer. Assumes nothing.
+-- An answer's text reads as the answer.
 use mathlib.Core.Path.{_≡_, refl, sym, _∙_, ap}
 use mathlib.Core.List.{List, [], _∷_, _++_, append-nil}
 use mathlib.Core.Option.{Option, some}
+use mathlib.Core.Bool.{true}
 use Prim.Native.Nat.{ℕ}
 use Rattle.rules.specs.Bytes.{Text, same}
 use Rattle.rules.specs.Text.{bytes}
 use Rattle.rules.specs.Maybe.{_>>=_}
-use Rattle.rules.specs.Tree.{Tree}
+use Rattle.rules.specs.Names.{variable-token}
+use Rattle.rules.specs.Tree.{Tree, variable, size}
 use Rattle.rules.specs.Writing.{render}
+use Rattle.rules.specs.Reading.{parse}
 use Rattle.rules.specs.Lines.{lines, after-key, value}
 use Rattle.rules.specs.Decimal.{decimal}
 use Rattle.rules.specs.Substitution.{Binding}
 use Rattle.rules.specs.Solving.{Verdict, solved, failed, unsupported, Answer}
 use Rattle.rules.specs.Answer.{line, binding-lines, verdict-lines}
-use Rattle.rules.specs.AnswerReading.{read-number, read-bindings, read-verdict, read-answer}
+use Rattle.rules.specs.Tidy.{a-variable}
+use Rattle.rules.specs.AnswerReading.{variable-name, read-number, read-bindings, read-verdict, read-answer}
 use Rattle.laws.proofs.Sheets.Clean.{Clean, number-clean, variable-clean, render-clean, two-lines}
 use Rattle.laws.proofs.Basics.Numerals.{decimal-number, decimal-read}
 use Rattle.laws.proofs.Sheets.BuiltRun.{BuiltBindings, Within, Writable}
@@ -37,11 +41,16 @@ bindings-lines (b ∷ bs) h =
     two-lines (bytes "key=" ++ b .0) (bytes "value=" ++ render (b .1)) (binding-lines bs) (binding-texts bs)
     (key-clean (b .0) (variable-clean (b .0) (h .0))) (value-clean (render (b .1)) (render-clean (h .1))) (bindings-lines bs (h .2))
 
+key-read : (x : Text) → variable-token x ≡ true → parse x ≡ some (variable x)
+unfolding render size
+key-read x h = reread (variable x) (a-variable h) refl
+
 bindings-read : (bs : List Binding) → BuiltBindings bs → Within bs → read-bindings (binding-texts bs) ≡ some bs
 unfolding read-bindings after-key
 bindings-read [] h w = refl
 bindings-read (b ∷ bs) h w =
-    ap (λ (o : Option Tree). o >>= λ v. read-bindings (binding-texts bs) >>= λ cs. some ((b .0, v) ∷ cs)) (reread (b .1) (h .1) (w .0))
+    ap (λ (o : Option Tree). o >>= λ k. variable-name k >>= λ x. parse (render (b .1)) >>= λ v. read-bindings (binding-texts bs) >>= λ cs. some ((x, v) ∷ cs)) (key-read (b .0) (h .0))
+    ∙ ap (λ (o : Option Tree). o >>= λ v. read-bindings (binding-texts bs) >>= λ cs. some ((b .0, v) ∷ cs)) (reread (b .1) (h .1) (w .0))
     ∙ ap (λ (o : Option (List Binding)). o >>= λ cs. some ((b .0, b .1) ∷ cs)) (bindings-read bs (h .2) (w .1))
 
 -- what is done with the lines

@@ -1,33 +1,24 @@
 -- Sheets of kind `unify` and `match` that are answered: the answer's text is the rules' answer, written out, and reads as it;
--- what more and less fuel gives. Assumes nothing.
-use mathlib.Core.Path.{_≡_, refl, sym, _∙_, ap, subst}
-use mathlib.Core.List.{List, [], _∷_}
+-- what more and less fuel gives.
+use mathlib.Core.Path.{_≡_, sym, _∙_, ap, subst}
+use mathlib.Core.List.{List}
 use mathlib.Core.Option.{some, Option·some-injective}
 use Prim.Native.Nat.{ℕ, _≤_, _<_}
+use native.Mathlib.Omega.{arith}
 use Rattle.rules.specs.Bytes.{Text}
-use Rattle.rules.specs.Tree.{variable, size}
-use Rattle.rules.specs.Writing.{render}
-use Rattle.rules.specs.Substitution.{Binding, Pair}
+use Rattle.rules.specs.Substitution.{Pair}
 use Rattle.rules.specs.Sheet.{Sheet, Entry, asks-unify, asks-match, read-sheet}
-use Rattle.rules.specs.Solving.{unify}
-use Rattle.rules.specs.Solving.{Verdict, solved, unsupported, Answer}
+use Rattle.rules.specs.Solving.{Verdict, unsupported, Answer, unify}
 use Rattle.rules.specs.Matching.{matcher}
-use Rattle.rules.specs.Tidy.{a-variable}
 use Rattle.rules.specs.Meaning.{Decided, needed, FuelMeans}
 use Rattle.rules.specs.Answer.{verdict-lines, read-pairs, answer-of}
-use Rattle.rules.specs.AnswerReading.{read-answer, KeysRead, Answered}
+use Rattle.rules.specs.AnswerReading.{read-answer, Answered}
 use Rattle.rules.specs.Call.{passed, call}
 use Rattle.laws.proofs.Solving.Fuel.{unify-fuelled, matcher-fuelled}
-use Rattle.laws.proofs.Sheets.BuiltRun.{BuiltPairs, SmallPairs, BuiltBindings, Writable, unify-writable}
+use Rattle.laws.proofs.Sheets.BuiltRun.{BuiltPairs, SmallPairs, Writable, unify-writable}
 use Rattle.laws.proofs.Sheets.BuiltMatch.{matcher-writable}
-use Rattle.laws.proofs.Reading.RoundTrip.{reread}
 use Rattle.laws.proofs.Sheets.AnswerText.{answer-read}
 use Rattle.laws.proofs.Sheets.Calls.{call-answer, pairs-read, unify-text, match-text}
-
-keys-read : (bs : List Binding) → BuiltBindings bs → KeysRead bs
-unfolding render size
-keys-read [] h = tt
-keys-read (b ∷ bs) h = (reread (variable (b .0)) (a-variable (h .0)) refl, keys-read bs (h .2))
 
 -- a kind of sheet and the rules that it is answered by
 pub record Kind (kind : ℕ → List Entry → Sheet) (solve : ℕ → List Pair → Answer) : Type 0 where
@@ -66,10 +57,7 @@ module _ {kind : ℕ → List Entry → Sheet} {solve : ℕ → List Pair → An
   pub as-ruled : {k : ℕ} {ps : List Pair} {a : Text} → Answered kind k ps a → (v : Verdict) (n : ℕ) → read-answer a ≡ some (v, n) → solve k ps ≡ (v, n)
   as-ruled {k} {ps} c v n e = Option·some-injective (solve k ps) (v, n) (sym (read-back c) ∙ e)
 
-  pub keys : {k : ℕ} {ps : List Pair} {a : Text} → Answered kind k ps a → (bs : List Binding) (n : ℕ) → read-answer a ≡ some (solved bs, n) → KeysRead bs
-  keys {k} {ps} c bs n e = keys-read bs (subst (λ (z : Answer). Writable (z .0)) (as-ruled c (solved bs) n e) (can-write c) .0)
-
-  -- a decided answer is, byte for byte, the answer to the same pairs with as much fuel or more
+  -- a decided answer is, byte for byte, the answer to the same pairs with the fuel that it needs or more
   pub more-fuel : {k m : ℕ} {ps : List Pair} {a b : Text} → Answered kind k ps a → Answered kind m ps b
       → (v : Verdict) (n : ℕ) → read-answer a ≡ some (v, n) → Decided v → needed v n ≤ m → b ≡ a
   more-fuel {k} {m} {ps} c d v n e y h =
@@ -83,6 +71,11 @@ module _ {kind : ℕ → List Entry → Sheet} {solve : ℕ → List Pair → An
   fuel-within {k} {ps} c v n e y =
       let q = as-ruled c v n e in
       subst (λ (w : Answer). needed (w .0) (w .1) ≤ k) q (rules .fuelled k k ps .within (subst (λ (w : Answer). Decided (w .0)) (sym q) y))
+
+  -- so with as much fuel or more the answer is the same
+  pub same-answer : {k m : ℕ} {ps : List Pair} {a b : Text} → Answered kind k ps a → Answered kind m ps b
+      → (v : Verdict) (n : ℕ) → read-answer a ≡ some (v, n) → Decided v → k ≤ m → b ≡ a
+  same-answer c d v n e y h = let z = fuel-within c v n e y in more-fuel c d v n e y (omega arith)
 
   -- with less the same pairs are unsupported, and all the fuel is spent
   pub less-fuel : {k m : ℕ} {ps : List Pair} {a b : Text} → Answered kind k ps a → Answered kind m ps b

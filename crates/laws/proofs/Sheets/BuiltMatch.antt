@@ -1,4 +1,4 @@
--- The runs of match keep trees as reading builds them, and what they bind is no larger than what was read. Assumes nothing.
+-- The runs of match keep trees as reading builds them, and what they bind is no larger than what was read.
 use mathlib.Core.Path.{_≡_}
 use mathlib.Core.Bool.{Bool, true, false, true≢false}
 use mathlib.Core.List.{List, [], _∷_, _++_}

@@ -1,7 +1,7 @@
--- The runs of unify keep trees as reading builds them. Assumes nothing.
+-- The runs of unify keep trees as reading builds them.
 use mathlib.Core.Path.{_≡_, refl}
 use mathlib.Core.Bool.{Bool, true, false}
-use mathlib.Core.List.{List, [], _∷_, _++_}
+use mathlib.Core.List.{List, [], _∷_}
 use mathlib.Core.Option.{Option, some, none as nothing}
 use Prim.Native.Nat.{ℕ, zero, suc, _≤_}
 use lib.Dec.{leb}
@@ -9,11 +9,12 @@ use Rattle.rules.specs.Bytes.{Text, same}
 use Rattle.rules.specs.Names.{variable-token}
 use Rattle.rules.specs.Tree.{Tree, variable, atom, apply, Trees, none, more, head, children, size, same-tree, occurs, tamtplus}
 use Rattle.rules.specs.Substitution.{Substitution, substitute, substitutes, Binding, Pair, pick, lookup, instantiate, instantiate-pairs, size-pairs}
-use Rattle.rules.specs.Sums.{summands, summands-of, unless-sum, rebuild, equivalent}
+use Rattle.rules.specs.Sums.{summands, rebuild, equivalent}
 use Rattle.rules.specs.Sorts.{Sort, variable-sort, sorted, refinable, sort-refuted}
 use Rattle.rules.specs.Solving.{Verdict, solved, failed, unsupported, Answer, Step, goes-on, bind, fails, unknown, Rest, emptied, mismatch, stuck, equation, keep, remove-at, remove, cancel-at, cancel, remainder, cancel-sums, fits, bind-into, unless-refinable, swap-at, swap-for, swap-key, sort-check, occurs-check, eliminate-at, eliminate, push-children, if-refuted, sum-step, decompose-at, decompose, against, differ, step-at, step, with-binding, after, run, extended, compose-over, compose, composed, finish, unify}
 use Rattle.rules.specs.Tidy.{Built, a-variable, an-atom, a-leaf, a-list, a-sum, Builts, nil, both}
-use Rattle.laws.proofs.Reduction.Reaching.{built-children}
+use Rattle.laws.proofs.Equality.Building.{built-children}
+use Rattle.laws.proofs.Equality.Summands.{BuiltList, summands-built}
 
 abbrev pub BuiltPairs : List Pair → Type 0
 BuiltPairs [] = Unit {0}
@@ -27,10 +28,6 @@ SmallPairs (p ∷ ps) = (size (p .1) ≤ 4096) × SmallPairs ps
 abbrev pub BuiltBindings : List Binding → Type 0
 BuiltBindings [] = Unit {0}
 BuiltBindings (b ∷ bs) = (variable-token (b .0) ≡ true) × Built (b .1) × BuiltBindings bs
-
-abbrev BuiltList : List Tree → Type 0
-BuiltList [] = Unit {0}
-BuiltList (t ∷ ts) = Built t × BuiltList ts
 
 -- Substitution
 
@@ -67,26 +64,6 @@ pairs-built bs h [] k = tt
 pairs-built bs h (p ∷ ps) k = (instance-built bs h (k .0), instance-built bs h (k .1), pairs-built bs h ps (k .2))
 
 -- Sums
-
-append-built : (ts us : List Tree) → BuiltList ts → BuiltList us → BuiltList (ts ++ us)
-append-built [] us p q = q
-append-built (t ∷ ts) us p q = (p .0, append-built ts us (p .1) q)
-
-unless-built : (c : Bool) (us : List Tree) (t : Tree) → Built t → BuiltList us → BuiltList (unless-sum c us t)
-unless-built true us t b k = k
-unless-built false us t b k = (b, tt)
-
-mutual
-  unfolding summands
-
-  summands-built : (t : Tree) → Built t → BuiltList (summands t)
-  summands-built (variable x) b = (b, tt)
-  summands-built (atom c d) b = (b, tt)
-  summands-built (apply f ts) b = unless-built (same f tamtplus) (summands-of ts) (apply f ts) b (summands-of-built ts (built-children b))
-
-  summands-of-built : (ts : Trees) → Builts ts → BuiltList (summands-of ts)
-  summands-of-built none b = tt
-  summands-of-built (more t ts) (both b bs) = append-built (summands t) (summands-of ts) (summands-built t b) (summands-of-built ts bs)
 
 rebuild-built : (t : Tree) (ts : List Tree) → Built t → BuiltList ts → Built (rebuild t ts)
 unfolding rebuild

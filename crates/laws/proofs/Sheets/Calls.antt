@@ -1,4 +1,4 @@
--- What a call that answers says of the sheet: it reads, so do its terms, and the answer is the rules'. Assumes nothing.
+-- What a call that answers says of the sheet: it reads, so do its terms, and the answer is the rules'.
 use mathlib.Core.Path.{_≡_, refl, sym, _∙_, ap, subst}
 use mathlib.Core.Bool.{Bool, true, false, false≢true}
 use mathlib.Core.List.{List, [], _∷_, map}
@@ -61,6 +61,11 @@ settled-answer sheet room a e =
     let (b, p, e₁) = replied (given (answer-of sheet) 4) _ a e in
     let (u, q, e₂) = replied (need (leb (length b) room) 12) _ a e₁ in
     given-passed (answer-of sheet) 4 b p ∙ ap some (passed-injective b a e₂)
+
+-- a sheet that is answered reads
+pub call-sheet : (s : Text) (words room : ℕ) (a : Text) → call s words room ≡ passed a → (sheet : Sheet) × (read-sheet s ≡ some sheet)
+unfolding call
+call-sheet s words room a e = let (h, p, e₁) = replied (admitted s words) (λ h. settled h room) a e in (h, admitted-sheet s words h p)
 
 pub call-answer : (s : Text) (words room : ℕ) (sheet : Sheet) (a : Text) → read-sheet s ≡ some sheet → call s words room ≡ passed a → answer-of sheet ≡ some a
 unfolding call

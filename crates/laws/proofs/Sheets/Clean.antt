@@ -1,4 +1,4 @@
--- Texts without byte 10: names, written terms and decimal numbers; how they read as lines. Assumes nothing.
+-- Texts without byte 10: names, written terms and decimal numbers; how they read as lines.
 use mathlib.Core.Path.{_≡_, refl, sym, _∙_, ap, ap₂}
 use mathlib.Core.Logic.{_⊎_, inl, inr}
 use mathlib.Core.Bool.{Bool, true, false, cond, _&&_, _||_, true≢false, false≢true}

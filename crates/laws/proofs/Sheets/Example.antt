@@ -1,10 +1,12 @@
 -- The promise on one sheet, P1 of the scope: its pair is tidy, so its answer is a most general unifier, also as the text that
--- the call writes. Assumes nothing.
+-- the call writes, which is the same with more fuel.
 use mathlib.Core.Path.{_≡_, refl, ap}
 use mathlib.Core.Bool.{cond, _||_}
 use mathlib.Core.List.{List, [], _∷_}
 use mathlib.Core.Option.{some}
 use Prim.Native.Nat.{ℕ}
+use Prim.Native.String.{String}
+use native.Mathlib.Omega.{arith}
 use Rattle.rules.specs.Bytes.{Text, same}
 use Rattle.rules.specs.Text.{bytes}
 use Rattle.rules.specs.Names.{word, number, variable-token, letter, letter-name}
@@ -16,10 +18,13 @@ use Rattle.rules.specs.Tidy.{Arity, TidyPairs}
 use Rattle.rules.specs.Meaning.{MostGeneral}
 use Rattle.rules.specs.Sheet.{asks-unify, read-sheet}
 use Rattle.rules.specs.Answer.{read-pairs}
-use Rattle.rules.specs.Call.{call}
+use Rattle.rules.specs.Decimal.{number-up-to}
+use Rattle.rules.specs.Lines.{lines}
+use Rattle.rules.specs.Call.{passed, call}
 use Rattle.rules.specs.AnswerReading.{read-answer, Answered}
+use Rattle.rules.specs.Alike.{AlikeButFuel}
 use Rattle.rules.specs.Table.{text}
-use Rattle.laws.proofs.Promises.{unify-solved, unify-sheet-solved}
+use Rattle.laws.proofs.Promises.{unify-solved, unify-sheet-solved, fuel-alike}
 
 abbrev g : Text
 g = bytes "g"
@@ -77,16 +82,23 @@ most-general = unify-solved arity counts 4 pairs tidy bindings (ap (λ (a : Answ
 abbrev written : Text
 written = text ("verdict=solved" ∷ "spent=3" ∷ "key=x0:Msg" ∷ "value=tamXCpair(p(2),c(0))" ∷ "key=x1:Pub" ∷ "value=p(2)" ∷ [])
 
+abbrev sheet : String → Text
+sheet fuel = text ("kind=unify" ∷ fuel ∷ "left=g(x0:Msg,x1:Pub)" ∷ "right=g(tamXCpair(x1:Pub,c(0)),p(2))" ∷ [])
+
+called : call (sheet "fuel=4") 2000000 1000 ≡ passed written
+unfolding call
+called = refl
+
 answered : Answered asks-unify 4 pairs written
-unfolding read-sheet read-pairs call
+unfolding read-sheet read-pairs
 answered = record {
-  sheet = text ("kind=unify" ∷ "fuel=4" ∷ "left=g(x0:Msg,x1:Pub)" ∷ "right=g(tamXCpair(x1:Pub,c(0)),p(2))" ∷ []);
+  sheet = sheet "fuel=4";
   words = 2000000;
   room = 1000;
   texts = (bytes "g(x0:Msg,x1:Pub)", bytes "g(tamXCpair(x1:Pub,c(0)),p(2))") ∷ [];
   reads = refl;
   pairs = refl;
-  answered = refl;
+  answered = called;
 }
 
 read : read-answer written ≡ some (solved bindings, 3)
@@ -95,3 +107,22 @@ read = refl
 
 most-general-sheet : MostGeneral arity pairs bindings
 most-general-sheet = unify-sheet-solved arity counts tidy 3 answered bindings read
+
+-- with more fuel the answer has the same bytes
+alike : AlikeButFuel (sheet "fuel=4") (sheet "fuel=65536") 4 65536
+unfolding lines number-up-to
+alike = record {
+  kind = bytes "kind=unify";
+  after = bytes "left=g(x0:Msg,x1:Pub)" ∷ bytes "right=g(tamXCpair(x1:Pub,c(0)),p(2))" ∷ [];
+  less-digits = bytes "4";
+  more-digits = bytes "65536";
+  less-number = refl;
+  more-number = refl;
+  less-lines = refl;
+  more-lines = refl;
+}
+
+same-bytes : (words room : ℕ) (b : Text) → call (sheet "fuel=65536") words room ≡ passed b → b ≡ written
+same-bytes words room b e =
+    fuel-alike (sheet "fuel=4") (sheet "fuel=65536") 4 65536 alike (omega arith) 2000000 1000 words room written b called e
+    (record { verdict = solved bindings; spent = 3; reads = read; decided = tt })

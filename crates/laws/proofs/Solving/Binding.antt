@@ -1,5 +1,5 @@
 -- What bindings do: they are well-sorted substitutions, and put into pairs they keep the unifiers that agree with them.
--- Assumes nothing.
+--
 use mathlib.Core.Path.{_≡_, refl, sym, subst, _∙_}
 use mathlib.Core.Bool.{Bool, true, false}
 use mathlib.Core.List.{List, [], _∷_}

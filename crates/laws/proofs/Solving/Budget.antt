@@ -1,5 +1,5 @@
 -- Substitution with a falling budget gives the instance exactly where its nodes fit the budget, also through all sides of a
--- list of pairs. Assumes nothing.
+-- list of pairs.
 use mathlib.Core.Path.{_≡_, refl, ap, ap₂, sym, _∙_, fun-ext}
 use mathlib.Core.Bool.{Bool, true, false}
 use mathlib.Core.List.{List, [], _∷_}

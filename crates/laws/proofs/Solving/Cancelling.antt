@@ -1,4 +1,4 @@
--- Cancelling the summands of two sums keeps the well-sorted substitutions that make them equal. Assumes nothing.
+-- Cancelling the summands of two sums keeps the well-sorted substitutions that make them equal.
 use mathlib.Core.Path.{_≡_, refl, ap, sym, subst, _∙_}
 use mathlib.Core.Bool.{Bool, true, false}
 use mathlib.Core.List.{List, [], _∷_}

@@ -1,4 +1,4 @@
--- Composing triangular bindings gives a most general unifier, no key of which is in a value. Assumes nothing.
+-- Composing triangular bindings gives a most general unifier, no key of which is in a value.
 use mathlib.Core.Path.{_≡_, refl, ap, sym, subst}
 use mathlib.Core.Bool.{Bool, true, false}
 use mathlib.Core.List.{List, [], _∷_}

@@ -1,4 +1,4 @@
--- Taking two trees of one head apart into their children keeps the substitutions that make them equal. Assumes nothing.
+-- Taking two trees of one head apart into their children keeps the substitutions that make them equal.
 use mathlib.Core.Path.{_≡_, refl, sym, _∙_}
 use mathlib.Core.Bool.{false}
 use mathlib.Core.List.{List}

@@ -1,4 +1,4 @@
--- What fuel and the count of pairs taken mean, for unify and for match. Assumes nothing.
+-- What fuel and the count of pairs taken mean, for unify and for match.
 use mathlib.Core.Path.{_≡_, refl, ap, _∙_}
 use mathlib.Core.List.{List, [], _∷_}
 use mathlib.Core.Option.{Option, some, none as nothing}

@@ -1,4 +1,4 @@
--- What a match answer means: its bindings are the only well-sorted matcher, at the pattern variables. Assumes nothing.
+-- What a match answer means: its bindings are the only well-sorted matcher, at the pattern variables.
 use mathlib.Core.Path.{_≡_, refl, sym, subst, _∙_}
 use mathlib.Core.Bool.{true, false, true≢false}
 use mathlib.Core.List.{List, [], _∷_}

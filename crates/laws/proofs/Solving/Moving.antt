@@ -1,5 +1,5 @@
 -- One step of match keeps the well-sorted matchers: of the pair taken, the pairs that wait and the bindings made, and of
--- what is left. Assumes nothing.
+-- what is left.
 use mathlib.Core.Path.{_≡_, refl, ap, sym, subst, _∙_}
 use mathlib.Core.Bool.{Bool, true, false, true≢false}
 use mathlib.Core.List.{List, [], _∷_}

@@ -1,5 +1,5 @@
 -- The run of unify: its bindings are triangular, and satisfied by exactly the well-sorted unifiers of the pairs.
--- Assumes nothing.
+--
 use mathlib.Core.Path.{_≡_}
 use mathlib.Core.List.{List, [], _∷_}
 use mathlib.Core.Logic.{_↔_}

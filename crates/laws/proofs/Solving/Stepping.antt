@@ -1,5 +1,5 @@
 -- One step keeps the well-sorted unifiers: of the pair taken and the pairs that wait, and of what is left to solve.
--- Assumes nothing.
+--
 use mathlib.Core.Path.{_≡_, refl, ap, sym, subst, _∙_}
 use mathlib.Core.Bool.{Bool, true, false, not, _&&_, _||_, true≢false, false≢true}
 use mathlib.Core.List.{List, [], _∷_}

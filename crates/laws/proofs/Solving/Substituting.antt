@@ -1,5 +1,5 @@
 -- Where variables do not occur, and what substitutions do to trees: twice in a row, on trees without a variable, on AC equal
--- trees. Assumes nothing.
+-- trees.
 use mathlib.Core.Path.{_≡_, refl, ap, ap₂}
 use mathlib.Core.Bool.{true, false, false≢true}
 use mathlib.Core.List.{List, [], _∷_}

@@ -1,5 +1,5 @@
 -- Instances under a well-sorted substitution: they are tidy, what has a sort keeps it, and what may get a sort is refinable
--- to it. Assumes nothing.
+-- to it.
 use mathlib.Core.Path.{_≡_, refl, ap, sym, subst, _∙_}
 use mathlib.Core.Bool.{Bool, true, false, _&&_, _||_}
 use Prim.Native.Nat.{ℕ, suc}
@@ -121,7 +121,7 @@ module _ (arity : Text → ℕ) (counts : Arity arity) (σ : Substitution) (good
     unfolding substitute sorted natural message refinable
 
     pub sorted-refinable : (s : Sort) (t : Tree) → Tidy arity t → sorted s (substitute σ t) ≡ true → refinable s t ≡ true
-    sorted-refinable s (variable x) d e = let g = good x (d .0) (d .1) (d .2) in ap (may-meet s) (d .1) ∙ sorts-meet arity (d .0) s (σ x) (g .1) (g .0) e
+    sorted-refinable s (variable x) d e = let g = good x (d .0) (d .1) (d .2) in ap (may-meet s) (d .1) ∙ sorts-meet (d .0) s (σ x) (g .0) e
     sorted-refinable s (atom c n) d e = e
     sorted-refinable s (apply f ts) d e = refinable-apply s f ts d (λ z. naturals-refinable ts (d .2) z) (λ z. messages-refinable ts (d .2) z) e
 

@@ -1,21 +1,23 @@
--- The order of the sorts: what has a sort has every sort above it, and sorts that share a tree meet. Assumes nothing.
+-- The order of the sorts: what has a sort has every sort above it, and sorts that share a tree meet.
 use mathlib.Core.Path.{_≡_, refl, ap, sym, subst, _∙_}
 use mathlib.Core.Bool.{Bool, true, false, cond, not, _&&_, _||_, false≢true}
-use mathlib.Core.Option.{some}
+use mathlib.Core.Logic.{⊎-elim}
+use mathlib.Core.Option.{Option, some, none as nothing}
 use Prim.Native.Nat.{ℕ}
 use native.Mathlib.Omega.{arith}
 use lib.Dec.{eqb}
 use Rattle.rules.specs.Bytes.{Text, same}
+use Rattle.rules.specs.Names.{letter}
 use Rattle.rules.specs.Tree.{Tree, variable, atom, apply, Trees, none, more, count, tamtplus}
 use Rattle.rules.specs.Sorts.{Sort, Pub, Fresh, Msg, TamNat, Node, Sort-discrete, decided, same-sort, intersects, variable-sort, Symbol, addition, unit, frame, free, tone, is-frame, symbol, has-sort, has-message-sort, natural, naturals, natural-at, message, messages, message-at, basic, sorted}
 use Rattle.rules.specs.Tidy.{Arity, Tidy}
-use Rattle.laws.proofs.Basics.Tests.{and-left, and-right, and-both, eqb-true, same-eq}
+use Rattle.laws.proofs.Basics.Tests.{and-left, and-right, and-both, or-cases, eqb-true, same-eq}
 
 -- a test of all sorts at once
-abbrev all-sorts : (Sort → Bool) → Bool
+abbrev pub all-sorts : (Sort → Bool) → Bool
 all-sorts p = p Pub && (p Fresh && (p Msg && (p TamNat && p Node)))
 
-at-sort : (p : Sort → Bool) → all-sorts p ≡ true → (s : Sort) → p s ≡ true
+pub at-sort : (p : Sort → Bool) → all-sorts p ≡ true → (s : Sort) → p s ≡ true
 at-sort p e s = go s
   where
     from-fresh : (p Fresh && (p Msg && (p TamNat && p Node))) ≡ true
@@ -45,19 +47,19 @@ below c Node = same-sort c Node
 pub below-self : (s : Sort) → below s s ≡ true
 below-self s = at-sort (λ r. below r r) refl s
 
-implies : (a b : Bool) → (not a || b) ≡ true → a ≡ true → b ≡ true
+pub implies : (a b : Bool) → (not a || b) ≡ true → a ≡ true → b ≡ true
 implies true b e h = e
 implies false b e h = absurd (false≢true h)
 
 -- sorts above one sort meet
-below-meet : (a b c : Sort) → below a b ≡ true → below a c ≡ true → intersects b c ≡ true
+pub below-meet : (a b c : Sort) → below a b ≡ true → below a c ≡ true → intersects b c ≡ true
 below-meet a b c h k = implies (below a b && below a c) (intersects b c)
     (at-sort (λ z. not (below a b && below a z) || intersects b z)
     (at-sort (λ y. all-sorts (λ z. not (below a y && below a z) || intersects y z))
     (at-sort (λ x. all-sorts (λ y. all-sorts (λ z. not (below x y && below x z) || intersects y z))) refl a) b) c)
     (and-both (below a b) (below a c) h k)
 
-same-sort-eq : (a b : Sort) → same-sort a b ≡ true → a ≡ b
+pub same-sort-eq : (a b : Sort) → same-sort a b ≡ true → a ≡ b
 same-sort-eq a b e = go (Sort-discrete a b) e
   where
     go : (d : Dec (a ≡ b)) → decided d ≡ true → a ≡ b
@@ -74,6 +76,17 @@ sorted-variable Msg c x e = ap has-message-sort e
 sorted-variable TamNat c x e = ap (has-sort TamNat) e
 sorted-variable Node c x e = ap (has-sort Node) e
 
+unnamed : (x : Text) → variable-sort x ≡ nothing → (s : Sort) → not (sorted s (variable x)) ≡ true
+unfolding sorted natural message basic
+unnamed x e = at-sort (λ s. not (sorted s (variable x))) (rw e)
+
+pub named : (s : Sort) (x : Text) → sorted s (variable x) ≡ true → (c : Sort) × (variable-sort x ≡ some c) × (below c s ≡ true)
+named s x e = go (variable-sort x) refl
+  where
+    go : (o : Option Sort) → variable-sort x ≡ o → (c : Sort) × (variable-sort x ≡ some c) × (below c s ≡ true)
+    go nothing p = absurd (false≢true (ap not (sym e) ∙ unnamed x p s))
+    go (some c) p = (c, p, sym (sorted-variable s c x p) ∙ e)
+
 -- atoms: the least sort of a letter
 
 abbrev letter-sort : Bool → Bool → Bool → Bool → Sort
@@ -83,11 +96,23 @@ letter-sort false false true d = TamNat
 letter-sort false false false true = Node
 letter-sort false false false false = Msg
 
-abbrev atom-sort : ℕ → Sort
+abbrev pub atom-sort : ℕ → Sort
 atom-sort c = letter-sort (eqb c 112) (eqb c 102) (eqb c 116) (eqb c 110)
 
 at-letter : (P : ℕ → Type 0) (c n : ℕ) → eqb c n ≡ true → P n → P c
 at-letter P c n e h = subst P (sym (eqb-true c n e)) h
+
+-- what holds of each of the five letters
+pub at-letters : (P : ℕ → Type 0) → P 112 → P 102 → P 99 → P 116 → P 110 → (c : ℕ) → letter c ≡ true → P c
+unfolding letter
+at-letters P p f k t n c = either (eqb c 112 || eqb c 102 || eqb c 99 || eqb c 116) (eqb c 110)
+    (either (eqb c 112 || eqb c 102 || eqb c 99) (eqb c 116)
+    (either (eqb c 112 || eqb c 102) (eqb c 99)
+    (either (eqb c 112) (eqb c 102) (λ e. at-letter P c 112 e p) (λ e. at-letter P c 102 e f))
+    (λ e. at-letter P c 99 e k)) (λ e. at-letter P c 116 e t)) (λ e. at-letter P c 110 e n)
+  where
+    either : (a b : Bool) → (a ≡ true → P c) → (b ≡ true → P c) → (a || b) ≡ true → P c
+    either a b g h e = ⊎-elim g h (or-cases a b e)
 
 message-letter : (a b c d : Bool) → not d ≡ true → below (letter-sort a b c d) Msg ≡ true
 message-letter true b c d h = refl
@@ -96,7 +121,7 @@ message-letter false false true d h = refl
 message-letter false false false true h = h
 message-letter false false false false h = refl
 
-sorted-atom : (s : Sort) (c : ℕ) (d : Text) → sorted s (atom c d) ≡ true → below (atom-sort c) s ≡ true
+pub sorted-atom : (s : Sort) (c : ℕ) (d : Text) → sorted s (atom c d) ≡ true → below (atom-sort c) s ≡ true
 unfolding sorted natural message basic
 sorted-atom Pub c d e = at-letter (λ b. below (atom-sort b) Pub ≡ true) c 112 e refl
 sorted-atom Fresh c d e = at-letter (λ b. below (atom-sort b) Fresh ≡ true) c 102 e refl
@@ -121,13 +146,13 @@ sorted-apply Msg f ts = refl
 sorted-apply TamNat f ts = refl
 sorted-apply Node f ts = refl
 
-abbrev symbol-sort : Symbol → Sort
+abbrev pub symbol-sort : Symbol → Sort
 symbol-sort addition = TamNat
 symbol-sort unit = TamNat
 symbol-sort frame = Msg
 symbol-sort free = Msg
 
-sorted-symbol : (s : Sort) (h : Symbol) (a b : Bool) → sorted-at s h a b ≡ true → below (symbol-sort h) s ≡ true
+pub sorted-symbol : (s : Sort) (h : Symbol) (a b : Bool) → sorted-at s h a b ≡ true → below (symbol-sort h) s ≡ true
 sorted-symbol Pub h a b e = absurd (false≢true e)
 sorted-symbol Fresh h a b e = absurd (false≢true e)
 sorted-symbol Msg addition a b e = refl
@@ -140,21 +165,13 @@ sorted-symbol TamNat frame a b e = e
 sorted-symbol TamNat free a b e = e
 sorted-symbol Node h a b e = absurd (false≢true e)
 
--- a tree's least sort
-
-least : (arity : Text → ℕ) (t : Tree) → Tidy arity t → Sort
-least arity (variable x) d = d .0
-least arity (atom c n) d = atom-sort c
-least arity (apply f ts) d = symbol-sort (symbol f)
-
-least-below : (arity : Text → ℕ) (s : Sort) (t : Tree) (d : Tidy arity t) → sorted s t ≡ true → below (least arity t d) s ≡ true
-unfolding least
-least-below arity s (variable x) d e = sym (sorted-variable s (d .0) x (d .1)) ∙ e
-least-below arity s (atom c n) d e = sorted-atom s c n e
-least-below arity s (apply f ts) d e = sorted-symbol s (symbol f) (naturals ts) (messages ts) (sym (sorted-apply s f ts) ∙ e)
-
-pub sorts-meet : (arity : Text → ℕ) (r s : Sort) (t : Tree) → Tidy arity t → sorted r t ≡ true → sorted s t ≡ true → intersects r s ≡ true
-sorts-meet arity r s t d p q = below-meet (least arity t d) r s (least-below arity r t d p) (least-below arity s t d q)
+-- the sorts of one tree are above one sort
+pub sorts-meet : (r s : Sort) (t : Tree) → sorted r t ≡ true → sorted s t ≡ true → intersects r s ≡ true
+sorts-meet r s (variable x) p q = let n = named r x p in below-meet (n .0) r s (n .2) (sym (sorted-variable s (n .0) x (n .1)) ∙ q)
+sorts-meet r s (atom c d) p q = below-meet (atom-sort c) r s (sorted-atom r c d p) (sorted-atom s c d q)
+sorts-meet r s (apply f ts) p q = below-meet (symbol-sort (symbol f)) r s
+    (sorted-symbol r (symbol f) (naturals ts) (messages ts) (sym (sorted-apply r f ts) ∙ p))
+    (sorted-symbol s (symbol f) (naturals ts) (messages ts) (sym (sorted-apply s f ts) ∙ q))
 
 -- what has a sort has every sort above
 
@@ -174,7 +191,7 @@ symbol-unit f e = go (same f tamtplus) (same f tone) (is-frame f) refl e
     go false false true p z = absurd (false≢true z)
     go false false false p z = absurd (false≢true z)
 
-childless : (ts : Trees) → count ts ≡ 0 → ts ≡ none
+pub childless : (ts : Trees) → count ts ≡ 0 → ts ≡ none
 childless none e = refl
 childless (more t ts) e = absurd (omega arith)
 

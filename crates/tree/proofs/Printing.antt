@@ -1,0 +1,78 @@
+-- Bytes written into an output, one after another. Assumes nothing.
+use Prim.Native.Nat.{ℕ, suc, _+_, _-_, _*_, _<_, _≤_}
+use mathlib.Core.Path.{_≡_, refl, sym, ap, ap₂, _∙_}
+use mathlib.Core.List.{List, [], _∷_, _++_, append-assoc}
+use lib.ListN.{length, getD, take, drop, set, length-append, length-take, length-drop, take-append-drop}
+use lib.Seq.{take-at, drop-append-add, drop-drop, set-split, take-suc, length-take-le}
+use native.Mathlib.Nat.{add-zero}
+use native.Mathlib.Numerals.{add-one}
+use native.Mathlib.Omega.{arith}
+use Rattle.rules.specs.Bytes.{Text}
+use Rattle.tree.specs.Output.{written, Printed}
+
+pub written-none : (out : List ℕ) (at : ℕ) → written out at [] ≡ out
+unfolding written
+written-none out at = rw add-zero (take-append-drop at out)
+
+pub length-written : (out : List ℕ) (at : ℕ) (bs : List ℕ) → at + length bs ≤ length out → length (written out at bs) ≡ length out
+unfolding written
+length-written out at bs h = simp (length-append, length-take, length-drop) (omega arith)
+
+-- one byte
+pub written-byte : (out : List ℕ) (at b : ℕ) → at < length out → set out at b ≡ written out at (b ∷ [])
+unfolding written
+written-byte out at b h = set-split out at b h ∙ rw add-one
+
+-- one part after another
+pub written-then : (out : List ℕ) (at : ℕ) (a b : List ℕ) → at + length a ≤ length out → written (written out at a) (at + length a) b ≡ written out at (a ++ b)
+unfolding written
+written-then out at a b h =
+    let D = drop (at + length a) out in
+    let P = take at out ++ a in
+    let len : length P ≡ at + length a = simp (length-append, length-take) (omega arith) in
+    let whole : take at out ++ (a ++ D) ≡ P ++ D = sym (append-assoc (take at out) a D) in
+    let front : take (at + length a) (take at out ++ (a ++ D)) ≡ P = ap (take (at + length a)) whole ∙ take-at P D (at + length a) len in
+    let sum : at + length a + length b ≡ at + length (a ++ b) = omega (arith, length-append a b) in
+    let back : drop (at + length a + length b) (take at out ++ (a ++ D)) ≡ drop (at + length (a ++ b)) out =
+    ap₂ (λ (n : ℕ) (l : List ℕ). drop (n + length b) l) (sym len) whole
+    ∙ drop-append-add P D (length b)
+    ∙ drop-drop (length b) (at + length a) out
+    ∙ ap (λ (n : ℕ). drop n out) sum in
+    ap₂ (λ (x y : List ℕ). x ++ (b ++ y)) front back
+    ∙ append-assoc (take at out) a (b ++ drop (at + length (a ++ b)) out)
+    ∙ ap (λ (x : List ℕ). take at out ++ x) (sym (append-assoc a b (drop (at + length (a ++ b)) out)))
+
+-- a part printed after another
+pub printed-then : {out v u : List ℕ} {at r q : ℕ} {a b : List ℕ} → at + length a ≤ length out → Printed out v at a r → Printed v u r b q → Printed out u at (a ++ b) q
+printed-then {out} {v} {u} {at} {r} {q} {a} {b} h x y = record {
+  bytes = y .bytes ∙ ap₂ (λ (l : List ℕ) (n : ℕ). written l n b) (x .bytes) (x .end) ∙ written-then out at a b h;
+  end = omega (arith, y .end, x .end, length-append a b);
+}
+
+-- the output keeps its length, so room for a and b leaves room for b
+pub printed-room : {out v : List ℕ} {at r : ℕ} {a : List ℕ} (b : List ℕ) → at + length (a ++ b) ≤ length out → Printed out v at a r → r + length b ≤ length v
+printed-room {out} {v} {at} {r} {a} b h x =
+    let l = length-append a b in
+    omega (arith, l, h, x .end, ap length (x .bytes), length-written out at a (omega arith))
+
+pub printed-first : (a b : List ℕ) (at n : ℕ) → at + length (a ++ b) ≤ n → at + length a ≤ n
+printed-first a b at n h = omega (arith, length-append a b)
+
+-- a turn of the loop that prints a text
+pub written-more : (out text : List ℕ) (at i : ℕ) → at + length text ≤ length out → i < length text → set (written out at (take i text)) (at + i) (getD text i 0) ≡ written out at (take (i + 1) text)
+written-more out text at i h l =
+    let a = take i text in
+    let x = getD text i 0 in
+    let len : length a ≡ i = length-take-le i text (omega arith) in
+    let long = length-written out at a (omega arith) in
+    written-byte (written out at a) (at + i) x (omega arith)
+    ∙ ap (λ (n : ℕ). written (written out at a) (at + n) (x ∷ [])) (sym len)
+    ∙ written-then out at a (x ∷ []) (omega arith)
+    ∙ ap (written out at) (sym (ap (λ (n : ℕ). take n text) (add-one i) ∙ take-suc text i 0 l))
+
+-- the text of a number that is known
+pub printed-at : {out v : Text} {at r n k : ℕ} (f : ℕ → Text) → n ≡ k → Printed out v at (f k) r → Printed out v at (f n) r
+printed-at f e x = rw e x
+
+pub printed-none : (out : Text) (at : ℕ) {t : Text} → t ≡ [] → Printed out out at t at
+printed-none out at e = rw e record { bytes = sym (written-none out at); end = omega arith }

@@ -1,0 +1,34 @@
+use mathlib.Core.Path.{_≡_, ap}
+use Prim.Native.Nat.{ℕ, _/_, _%_}
+use Rattle.tree.specs.Cells.{start-of}
+use borrow.Author.Needs.{needs}
+use Rattle.tree.proofs.cells.start_of.Statement.{statement}
+use Rattle.tree.proofs.cells.start_of.Tie as tie
+use Rattle.tree.proofs.cells.start_of.Reads as reads
+use Rattle.tree.proofs.cells.start_of.Lts as lts
+use Rattle.tree.proofs.cells.wide.Reads as wide-reads
+
+-- src/cells.rt:21:15
+mul-wide : tie.Need-mul-wide
+mul-wide c = search needs
+
+-- src/cells.rt:21:10
+mul-wide-2 : tie.Need-mul-wide-2
+mul-wide-2 c = search needs
+
+-- src/cells.rt:21:10
+shared-slice-read-wide : tie.Need-shared-slice-read-wide
+shared-slice-read-wide c = search needs
+
+-- src/cells.rt:21:5
+wide-requires : tie.Need-wide-requires
+wide-requires c κs = search needs
+
+-- src/cells.rt:17:1
+returns : tie.Need-returns
+unfolding start-of
+returns c = ap (λ (x : ℕ). x / 65536) (c .wide .ensures .0)
+
+pub start-of-spec : {M : Type 1} → statement M
+start-of-spec =
+    tie.close (tie.spec mul-wide mul-wide-2 shared-slice-read-wide wide-requires returns)

@@ -1,0 +1,43 @@
+use native.Mathlib.Omega.{arith}
+use mathlib.Core.Path.{_≡_, sym, ap}
+use lib.ListN.{length}
+use Rattle.tree.proofs.Naming.{fixed-none}
+use borrow.Author.Needs.{needs}
+use Rattle.tree.proofs.names.fixed_len.Statement.{statement}
+use Rattle.tree.proofs.names.fixed_len.Tie as tie
+use Rattle.tree.proofs.names.fixed_len.Reads as reads
+use Rattle.tree.proofs.names.fixed_len.Lts as lts
+
+-- src/names.rt:100:1
+returns : tie.Need-returns
+returns c = search needs
+
+-- src/names.rt:100:1
+returns-2 : tie.Need-returns-2
+returns-2 c = search needs
+
+-- src/names.rt:100:1
+returns-3 : tie.Need-returns-3
+returns-3 c = search needs
+
+-- src/names.rt:100:1
+returns-4 : tie.Need-returns-4
+returns-4 c = search needs
+
+-- src/names.rt:100:1
+returns-5 : tie.Need-returns-5
+returns-5 c = search needs
+
+-- src/names.rt:100:1
+returns-6 : tie.Need-returns-6
+returns-6 c = search needs
+
+-- src/names.rt:100:1
+returns-7 : tie.Need-returns-7
+returns-7 c =
+    let r = c .match .rest in
+    (sym (ap length (fixed-none (c .before .args .code) (r .0 .0 .0 .0 .0 .1) (r .0 .0 .0 .0 .1) (r .0 .0 .0 .1) (r .0 .0 .1) (r .0 .1) (r .1))), omega arith)
+
+pub fixed-len-spec : {M : Type 1} → statement M
+fixed-len-spec =
+    tie.close (tie.spec returns returns-2 returns-3 returns-4 returns-5 returns-6 returns-7)

@@ -1,0 +1,38 @@
+use mathlib.Core.Path.{_≡_, sym, ap, _∙_}
+use native.Mathlib.Omega.{arith}
+use Rattle.tree.proofs.Naming.{fixed-length, name-length, length-small}
+use borrow.Author.Needs.{needs}
+use Rattle.tree.proofs.names.name_len.Statement.{statement}
+use Rattle.tree.proofs.names.name_len.Tie as tie
+use Rattle.tree.proofs.names.name_len.Reads as reads
+use Rattle.tree.proofs.names.name_len.Lts as lts
+use Rattle.tree.proofs.cells.length_of.Reads as length-of-reads
+use Rattle.tree.proofs.cells.start_of.Reads as start-of-reads
+use Rattle.tree.proofs.names.fixed_len.Reads as fixed-len-reads
+
+-- src/names.rt:120:9
+length-of-requires : tie.Need-length-of-requires
+length-of-requires c κs = search needs
+
+-- src/names.rt:122:26
+start-of-requires : tie.Need-start-of-requires
+start-of-requires c κs = search needs
+
+-- src/names.rt:122:9
+fixed-len-requires : tie.Need-fixed-len-requires
+fixed-len-requires c κs = search needs
+
+-- src/names.rt:122:9
+returns : tie.Need-returns
+returns c = (fixed-length _ _ _ (sym (c .before .before .before .length-of .ensures) ∙ c .before .before .if1 .taken) (c .before .start-of .ensures) (c .fixed-len .ensures .0), c .fixed-len .ensures .1)
+
+-- src/names.rt:115:1
+returns-2 : tie.Need-returns-2
+returns-2 c =
+    let p = c .before .before .before .before .pre in
+    let k = c .before .before .before .before .args .k in
+    (c .before .length-of .ensures ∙ sym (name-length _ _ k (p .0 .cell k (p .1 .0) (p .1 .1)) (omega (arith, c .before .length-of .ensures))), omega (arith, c .before .length-of .ensures, length-small (c .before .before .before .before .args .work .now) k))
+
+pub name-len-spec : {M : Type 1} → statement M
+name-len-spec =
+    tie.close (tie.spec length-of-requires start-of-requires fixed-len-requires returns returns-2)

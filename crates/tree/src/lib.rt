@@ -1,0 +1,4 @@
+// Trees in a lent work area: cells, names, equality, writing.
+pub mod cells;
+pub mod equality;
+pub mod names;

@@ -1,0 +1,135 @@
+// The bridge: questions in the types of this crate, answered by the Rust sources.
+use std::collections::{BTreeMap, BTreeSet};
+
+use crate::{
+    Member, Outcome, Term, certificate,
+    query::{Kind, Query},
+    reduction, syntax, unifier, variants,
+};
+
+type Tree = unifier::Tree;
+
+fn tree(term: &Term) -> Tree {
+    match term {
+        Term::Variable(name) => Tree::Variable(name.clone()),
+        Term::Apply(name, children) => {
+            Tree::Apply(name.clone(), children.iter().map(tree).collect())
+        }
+    }
+}
+
+fn term(tree: &Tree) -> Term {
+    match tree {
+        Tree::Variable(name) => Term::Variable(name.clone()),
+        Tree::Apply(name, children) => {
+            Term::Apply(name.clone(), children.iter().map(term).collect())
+        }
+    }
+}
+
+fn trees(pairs: &[(Term, Term)]) -> Vec<(Tree, Tree)> {
+    pairs.iter().map(|(l, r)| (tree(l), tree(r))).collect()
+}
+
+fn outcome(found: unifier::Outcome) -> Outcome {
+    match found {
+        unifier::Outcome::Solved(bindings) => {
+            Outcome::Solved(bindings.iter().map(|(k, v)| (k.clone(), term(v))).collect())
+        }
+        unifier::Outcome::Failed => Outcome::Failed,
+        unifier::Outcome::Unsupported => Outcome::Unsupported,
+    }
+}
+
+/// The term of a text; none where it is unreadable.
+pub fn parse(text: &str) -> Option<Term> {
+    unifier::parse(text).as_ref().map(term)
+}
+
+pub fn render(term: &Term) -> String {
+    unifier::render(&tree(term))
+}
+
+/// Equality of two texts; none where one is unreadable.
+pub fn equivalent(left: &str, right: &str) -> Option<bool> {
+    certificate::equivalent(left, right).ok()
+}
+
+pub fn unify(fuel: usize, pairs: &[(Term, Term)]) -> Outcome {
+    outcome(unifier::unify(fuel, trees(pairs)).expect("trees that were read render readably"))
+}
+
+pub fn matcher(fuel: usize, pairs: &[(Term, Term)]) -> Outcome {
+    outcome(unifier::matcher(fuel, trees(pairs)).expect("trees that were read render readably"))
+}
+
+pub fn normalize(of: &Term) -> Term {
+    term(&reduction::normalize(&tree(of)).expect("trees that were read render readably"))
+}
+
+fn add_variables(tree: &Tree, found: &mut BTreeSet<String>) {
+    match tree {
+        Tree::Variable(name) => {
+            found.insert(name.clone());
+        }
+        Tree::Apply(_, children) => children
+            .iter()
+            .for_each(|child| add_variables(child, found)),
+    }
+}
+
+fn side(text: &str) -> syntax::Term {
+    let mut variables = BTreeSet::new();
+    if let Some(tree) = unifier::parse(text) {
+        add_variables(&tree, &mut variables);
+    }
+    syntax::Term {
+        sort: syntax::Sort::Msg,
+        variables,
+        atoms: BTreeSet::new(),
+    }
+}
+
+/// Whether a member generalizes the most general unifier; none where the pairs are not solved.
+pub fn covered(pairs: &[(&str, &str)], members: &[Member]) -> Option<bool> {
+    let sides: Vec<&str> = pairs.iter().flat_map(|(l, r)| [*l, *r]).collect();
+    let query = Query {
+        kind: Kind::Unify,
+        terms: sides.iter().map(|text| side(text)).collect(),
+        sides: sides.iter().map(|text| (*text).to_owned()).collect(),
+    };
+    let principal = unifier::principal(&query).expect("trees that were read render readably")?;
+    let family: Vec<BTreeMap<&str, &str>> = members
+        .iter()
+        .map(|member| member.entries.iter().copied().collect())
+        .collect();
+    Some(
+        principal
+            .covered(&family)
+            .expect("trees that were read render readably"),
+    )
+}
+
+fn variant(member: &Member) -> Option<variants::Member> {
+    let value = unifier::parse(member.text)?;
+    let entries: BTreeMap<&str, &str> = member.entries.iter().copied().collect();
+    let bindings = entries
+        .into_iter()
+        .map(|(key, text)| Some((key.to_owned(), unifier::parse(text)?)))
+        .collect::<Option<Vec<_>>>()?;
+    Some(variants::Member { value, bindings })
+}
+
+/// Whether the member is the normal form of its instance; none where a text is unreadable or the
+/// Rust makes no claim.
+pub fn sound(term: &Term, member: &Member) -> Option<bool> {
+    let read = variant(member)?;
+    variants::sound(&tree(term), &read, member.text).expect("texts that were read")
+}
+
+/// Whether the family has every variant; none where a text is unreadable or the Rust makes no
+/// claim.
+pub fn complete(term: &Term, members: &[Member]) -> Option<bool> {
+    let family = members.iter().map(variant).collect::<Option<Vec<_>>>()?;
+    variants::complete(&tree(term), &family).expect("trees that were read render readably")
+}

@@ -1,0 +1,185 @@
+// The subcommands of the program.
+use std::{collections::BTreeSet, fs, process::ExitCode};
+
+use crate::{
+    deep, definitions,
+    generate::{self, Size},
+    notice,
+    reference::{self, Reply},
+    rng::Rng,
+    sheet, store,
+    tally::Tally,
+};
+
+const HELP: &str = "\
+host: the reference of the call, generated sheets and the stored list
+
+  host answer FILE                      the reference's answer to the sheet in FILE; a refusal
+                                        goes to standard error and is the exit status (100:
+                                        the command line or the file is at fault)
+  host store                            write the stored list anew
+  host replay                           check the stored list against the reference
+  host compare [--count N] [--seed S]   the model against the Rust on generated sheets
+  host definitions [--count N] [--seed S] [--chunk K] --out FILE
+                                        write rows for the definitions, K rows to a theorem
+  host --help                           this text
+";
+
+type Outcome = Result<ExitCode, String>;
+
+struct Options {
+    count: usize,
+    seed: u64,
+    chunk: usize,
+    out: Option<String>,
+}
+
+fn number<T: std::str::FromStr>(name: &str, value: &str) -> Result<T, String> {
+    value
+        .parse()
+        .map_err(|_| format!("{name} takes a number, not '{value}'"))
+}
+
+fn options(words: &[String], allowed: &[&str], count: usize) -> Result<Options, String> {
+    let mut found = Options {
+        count,
+        seed: 1,
+        chunk: 25,
+        out: None,
+    };
+    let mut words = words.iter();
+    while let Some(name) = words.next() {
+        if !allowed.contains(&name.as_str()) {
+            return Err(format!("unknown option '{name}'; see host --help"));
+        }
+        let value = words
+            .next()
+            .ok_or_else(|| format!("{name} needs a value"))?;
+        match name.as_str() {
+            "--count" => found.count = number(name, value)?,
+            "--seed" => found.seed = number(name, value)?,
+            "--chunk" => found.chunk = number::<usize>(name, value)?.max(1),
+            _ => found.out = Some(value.clone()),
+        }
+    }
+    Ok(found)
+}
+
+fn answer(words: &[String]) -> Outcome {
+    let [file] = words else {
+        return Err("answer takes one file; see host --help".to_owned());
+    };
+    notice::absent("the model answers alone");
+    let bytes = fs::read(file).map_err(|error| format!("{file}: {error}"))?;
+    match reference::call(&bytes, u64::MAX, usize::MAX) {
+        Reply::Answer(answer) => {
+            print!("{}", String::from_utf8_lossy(&answer));
+            Ok(ExitCode::SUCCESS)
+        }
+        Reply::Refused(refusal) => {
+            eprintln!("refusal {refusal}");
+            Ok(ExitCode::from(refusal as u8))
+        }
+    }
+}
+
+fn store() -> Outcome {
+    if !oracle::present() {
+        return Err(format!(
+            "{}; the stored list is left as it is",
+            oracle::notice()
+        ));
+    }
+    let records = store::made();
+    let path = store::path();
+    fs::write(&path, store::written(&records)).map_err(|error| error.to_string())?;
+    println!("{} sheets in {}", records.len(), path.display());
+    Ok(ExitCode::SUCCESS)
+}
+
+fn replay() -> Outcome {
+    let records = store::stored()?;
+    let wrong = store::wrong(&records);
+    for record in &wrong {
+        eprintln!("{}: not the reference's reply", record.label);
+    }
+    let mut tally = Tally::default();
+    for record in &records {
+        tally.add(&record.sheet, &record.reply);
+    }
+    print!("{tally}");
+    let agreed = records.len() - wrong.len();
+    println!("{agreed} of {} sheets agreed", records.len());
+    if !oracle::present() {
+        let asked = |record: &&store::Record| sheet::read(&record.sheet).is_ok();
+        let count = records.iter().filter(asked).count();
+        notice::absent(&format!(
+            "{count} sheets were compared with the model alone"
+        ));
+    }
+    Ok(if wrong.is_empty() {
+        ExitCode::SUCCESS
+    } else {
+        ExitCode::FAILURE
+    })
+}
+
+fn compare(words: &[String]) -> Outcome {
+    let options = options(words, &["--count", "--seed"], 10_000)?;
+    if !oracle::present() {
+        return Err(format!("{}; nothing was compared", oracle::notice()));
+    }
+    let tally = deep::run(|| {
+        let mut rng = Rng::new(options.seed);
+        let mut tally = Tally::default();
+        for _ in 0..options.count {
+            let case = generate::case(&mut rng, Size::Any);
+            tally.add(&case.sheet, &case.reply);
+        }
+        tally
+    });
+    print!("{tally}");
+    println!(
+        "{} sheets: the model and the Rust agree on each that is answered",
+        options.count
+    );
+    for name in tally.missing() {
+        println!("did not come up: {name}");
+    }
+    Ok(ExitCode::SUCCESS)
+}
+
+fn write_definitions(words: &[String]) -> Outcome {
+    let allowed = ["--count", "--seed", "--chunk", "--out"];
+    let options = options(words, &allowed, 1_200)?;
+    let out = options.out.ok_or("definitions needs --out FILE")?;
+    notice::absent("the rows are the model's");
+    let cases = definitions::cases(options.count, options.seed);
+    let text = definitions::module(&cases, options.chunk);
+    fs::write(&out, text).map_err(|error| format!("{out}: {error}"))?;
+    print!("{}", definitions::tally(&cases));
+    let distinct: BTreeSet<_> = cases.iter().map(|case| &case.sheet).collect();
+    println!("{} rows, {} distinct sheets", cases.len(), distinct.len());
+    Ok(ExitCode::SUCCESS)
+}
+
+pub fn run(words: &[String]) -> Outcome {
+    let Some((name, rest)) = words.split_first() else {
+        return Err(format!("no subcommand given\n\n{HELP}"));
+    };
+    match (name.as_str(), rest) {
+        ("--help" | "-h" | "help", []) => {
+            print!("{HELP}");
+            Ok(ExitCode::SUCCESS)
+        }
+        ("answer", rest) => answer(rest),
+        ("store", []) => store(),
+        ("replay", []) => replay(),
+        ("store" | "replay" | "--help" | "-h" | "help", [word, ..]) => {
+            Err(format!("{name} takes no '{word}'"))
+        }
+        ("compare", rest) => compare(rest),
+        ("definitions", rest) => write_definitions(rest),
+        (name, _) => Err(format!("unknown subcommand '{name}'; see host --help")),
+    }
+}

@@ -1,0 +1,107 @@
+// Generated sheets: every kind, tidy and untidy, good and damaged, and what is lent with them. The
+// same seed gives the same sheets.
+mod damage;
+mod kinds;
+mod limits;
+mod members;
+mod pairs;
+mod spelling;
+mod terms;
+
+use crate::{
+    reference::{self, Admitted, Reply},
+    rng::Rng,
+};
+
+/// A sheet, the words and the bytes of output lent with it, and the reply.
+#[derive(Clone, Debug)]
+pub struct Case {
+    pub sheet: Vec<u8>,
+    pub words: u64,
+    pub room: usize,
+    pub reply: Reply,
+}
+
+/// How large sheets may be.
+#[derive(Clone, Copy, PartialEq, Eq)]
+pub enum Size {
+    /// A few lines of small terms.
+    Small,
+    /// Now and then up to the limits.
+    Any,
+}
+
+pub const KINDS: [&str; 7] = [
+    "equal", "unify", "match", "reduce", "cover", "sound", "complete",
+];
+
+/// A sheet, damaged now and then.
+pub fn sheet(rng: &mut Rng, size: Size) -> Vec<u8> {
+    if size == Size::Any && rng.once_in(50) {
+        return limits::sheet(rng);
+    }
+    let kind = KINDS[rng.weighted(&[10, 28, 22, 10, 12, 10, 12])];
+    let text = kinds::sheet(rng, kind);
+    if rng.once_in(9) {
+        damage::damaged(rng, text)
+    } else {
+        text.into_bytes()
+    }
+}
+
+fn words(rng: &mut Rng, needed: u64) -> u64 {
+    match rng.weighted(&[45, 5, 1, 45, 4]) {
+        0 => needed,
+        1 => needed - 1,
+        2 => 0,
+        3 => needed + rng.below(1000) as u64,
+        _ => needed + (1 << 33),
+    }
+}
+
+fn room(rng: &mut Rng, length: usize) -> usize {
+    match rng.weighted(&[45, 5, 1, 49]) {
+        0 => length,
+        1 => length - 1,
+        2 => 0,
+        _ => length + rng.below(1000),
+    }
+}
+
+/// What is lent with a sheet, and the reply.
+pub fn lend(rng: &mut Rng, sheet: Vec<u8>) -> Case {
+    let Admitted {
+        words_needed,
+        answer,
+        ..
+    } = match reference::admit(&sheet) {
+        Ok(admitted) => admitted,
+        Err(refusal) => {
+            let (words, room) = (rng.below(1 << 22) as u64, rng.below(1000));
+            return Case {
+                sheet,
+                words,
+                room,
+                reply: Reply::Refused(refusal),
+            };
+        }
+    };
+    let words = words(rng, words_needed);
+    let room = room(rng, answer.as_ref().map_or(100, Vec::len));
+    let reply = if words < words_needed {
+        Reply::Refused(11)
+    } else {
+        reference::settled(answer, room)
+    };
+    Case {
+        sheet,
+        words,
+        room,
+        reply,
+    }
+}
+
+pub fn case(rng: &mut Rng, size: Size) -> Case {
+    let sheet = sheet(rng, size);
+    lend(rng, sheet)
+}

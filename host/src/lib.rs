@@ -1,0 +1,14 @@
+// The test host: sheets, the reference of the call, a model of the rules, a generator of sheets and
+// the stored list.
+pub mod command;
+pub mod deep;
+pub mod definitions;
+pub mod examples;
+pub mod generate;
+pub mod model;
+pub mod notice;
+pub mod reference;
+pub mod rng;
+pub mod sheet;
+pub mod store;
+pub mod tally;
