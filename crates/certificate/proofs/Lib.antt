@@ -9,7 +9,6 @@ pub mod Settling
 pub mod Summands
 pub mod Canonicals
 pub mod CanonTexts
-pub mod Ending
 pub mod ItemTokens
 pub mod ItemTerms
 pub mod Flattening
@@ -18,3 +17,4 @@ pub mod WrittenTexts
 pub mod WriterSteps
 pub mod WriterTurns
 pub mod WriterStates
+pub mod Comparisons

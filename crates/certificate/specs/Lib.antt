@@ -4,3 +4,4 @@ pub mod Settle
 pub mod Terms
 pub mod Items
 pub mod Writer
+pub mod Comparing

@@ -1,5 +1,6 @@
 pub mod Decoding
 pub mod Pushing
+pub mod Bounded
 pub mod Naming
 pub mod Printing
 pub mod Comparing
