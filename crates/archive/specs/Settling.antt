@@ -1,13 +1,11 @@
 -- What is given once a sheet is admitted: the answer, or refusal 4 or 12, as the code answers it. Definitions only.
 use Prim.Native.Nat.{ℕ}
 use mathlib.Core.Path.{_≡_}
-use mathlib.Core.List.{List}
-use mathlib.Core.Option.{Option, some, none}
-use mathlib.Core.Bool.{Bool, true, false}
+use mathlib.Core.Option.{Option}
 use lib.Dec.{leb}
 use lib.ListN.{length}
 use Rattle.rules.specs.Bytes.{Text}
-use Rattle.rules.specs.Call.{Reply, refused, passed, _>>=_, given, need, overwritten}
+use Rattle.rules.specs.Call.{Reply, passed, _>>=_, given, need, refusal-number, written, overwritten}
 use Rattle.archive.specs.declared.answers.Settled.{Settled}
 use Rattle.archive.specs.declared.answers.Settled.the-variants.{Written, Unreadable, Short}
 
@@ -18,13 +16,19 @@ settles o room = do
   _ ← need (leb (length answer) room) 12
   passed answer
 
--- an answer, 4 or 12 as the code says it
-abbrev pub reply-of : Settled → ℕ
-reply-of (Written n) = 0
-reply-of Unreadable = 4
-reply-of Short = 12
+-- 01's number, 0 for none, and the count of bytes written
+abbrev pub settled-number : Settled → ℕ
+settled-number (Written n) = 0
+settled-number Unreadable = 4
+settled-number Short = 12
 
-abbrev pub count-of-written : Settled → ℕ
-count-of-written (Written n) = n
-count-of-written Unreadable = 0
-count-of-written Short = 0
+abbrev pub settled-count : Settled → ℕ
+settled-count (Written n) = n
+settled-count Unreadable = 0
+settled-count Short = 0
+
+-- r and the output v afterwards are what an answer, or none, gives with the output out
+pub record Settles (o : Option Text) (out v : Text) (r : Settled) : Type 0 where
+  pub number : settled-number r ≡ refusal-number (settles o (length out))
+  pub count : settled-count r ≡ written (settles o (length out))
+  pub output : v ≡ overwritten (settles o (length out)) out

@@ -1,2 +1,3 @@
 // The call.
+pub mod answers;
 pub mod clearing;

@@ -1,0 +1,42 @@
+-- What an answer that fits, one that does not, and none give.
+use mathlib.Core.Path.{_≡_, refl, sym, ap, _∙_}
+use mathlib.Core.Option.{Option, some, none}
+use mathlib.Core.Bool.{true, false}
+use Prim.Native.Nat.{ℕ, _+_, _<_, _≤_}
+use lib.Dec.{leb}
+use lib.ListN.{length, drop}
+use native.Mathlib.Nat.{zero-add}
+use borrow.Author.Tests.{le-leb, lt-leb}
+use Rattle.rules.specs.Bytes.{Text}
+use Rattle.rules.specs.Call.{Reply, refused, passed, refusal-number, written, overwritten}
+use Rattle.tree.specs.Output as Output
+use Rattle.tree.specs.Output.{Printed}
+use Rattle.archive.specs.Settling.{settles, Settles}
+use Rattle.archive.specs.declared.answers.Settled.the-variants.{Written, Unreadable, Short}
+
+settles-fits : (a : Text) (room : ℕ) → length a ≤ room → settles (some a) room ≡ passed a
+unfolding settles
+settles-fits a room h = rw (le-leb (length a) room h)
+
+settles-over : (a : Text) (room : ℕ) → room < length a → settles (some a) room ≡ refused 12
+unfolding settles
+settles-over a room h = rw (lt-leb (length a) room h)
+
+pub unreadable-settles : (out : Text) → Settles none out out Unreadable
+unfolding settles
+unreadable-settles out = record { number = refl; count = refl; output = refl }
+
+pub short-settles : (a out : Text) → length out < length a → Settles (some a) out out Short
+short-settles a out h =
+    let e = settles-over a (length out) h in
+    record { number = sym (ap refusal-number e); count = sym (ap written e); output = sym (ap (λ (z : Reply Text). overwritten z out) e) }
+
+pub written-settles : (a out v : Text) (n : ℕ) → length a ≤ length out → Printed out v 0 a n → Settles (some a) out v (Written n)
+unfolding Output.written
+written-settles a out v n h p =
+    let e = settles-fits a (length out) h in
+    record {
+      number = sym (ap refusal-number e);
+      count = p .end ∙ zero-add (length a) ∙ sym (ap written e);
+      output = p .bytes ∙ rw (zero-add (length a)) (sym (ap (λ (z : Reply Text). overwritten z out) e));
+    }
