@@ -1,1 +1,5 @@
 pub mod LineLaws
+pub mod PairLaws
+pub mod Distinct
+pub mod MemberLaws
+pub mod KeyLaws

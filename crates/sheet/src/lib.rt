@@ -1,4 +1,6 @@
 // The lines of a sheet: a cursor that is handed on by value, lines with a key, two lines that belong together.
+pub mod members; // members.rt: the members of a sheet
+
 use text::begins;
 ghost use mathlib.Core.Path.{_≡_};
 ghost use Prim.Native.Nat.{_≤_};
