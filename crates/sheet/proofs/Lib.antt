@@ -3,3 +3,5 @@ pub mod PairLaws
 pub mod Distinct
 pub mod MemberLaws
 pub mod KeyLaws
+pub mod FormLaws
+pub mod SheetLaws

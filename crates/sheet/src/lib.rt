@@ -1,4 +1,5 @@
 // The lines of a sheet: a cursor that is handed on by value, lines with a key, two lines that belong together.
+pub mod form; // form.rt: the kinds of sheet
 pub mod members; // members.rt: the members of a sheet
 
 use text::begins;
