@@ -1,14 +1,17 @@
 -- What the memory of a run is measured by: the names of the variables in its trees, and the weight of its waiting pairs (01, "A
 -- sheet comes in": the words needed).
 use mathlib.Core.Path.{_≡_}
-use mathlib.Core.Bool.{true, cond}
+use mathlib.Core.Bool.{Bool, true, cond}
 use mathlib.Core.List.{List, [], _∷_, _++_}
 use mathlib.Core.Option.{some, none as nothing}
 use Prim.Native.Nat.{ℕ, suc, _+_}
+use lib.ListN.{length}
 use Rattle.rules.specs.Bytes.{Text, same}
 use Rattle.rules.specs.Text.{is-one-of}
 use Rattle.rules.specs.Tree.{Tree, variable, atom, apply, Trees, none, more, sizes}
 use Rattle.rules.specs.Substitution.{Binding, Pair}
+use Rattle.rules.specs.Sums.{summands}
+use Rattle.rules.specs.Solving.{cancel}
 use Rattle.rules.specs.Reading.{parse}
 use Rattle.rules.specs.Sheet.{Sheet, Entry, Member, asks-equal, asks-unify, asks-match, asks-reduce, asks-cover, asks-sound, asks-complete}
 
@@ -140,3 +143,8 @@ unfoldable pub pushed : Trees → Trees → ℕ
 pushed none us = 0
 pushed (more t ts) none = 0
 pushed (more t ts) (more u us) = suc (pushed ts us)
+
+-- how many summands cancelling leaves on both sides
+unfoldable pub kept-summands : (Tree → Tree → Bool) → Tree → Tree → ℕ
+unfolding cancel summands
+kept-summands test l r = let c = cancel test (summands l) (summands r) in length (c .0) + length (c .1)
