@@ -1,2 +1,4 @@
 pub mod Zeroing
 pub mod Giving
+pub mod Admitting
+pub mod Screening

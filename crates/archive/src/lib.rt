@@ -1,3 +1,4 @@
 // The call.
+pub mod admission;
 pub mod answers;
 pub mod clearing;

@@ -1,0 +1,39 @@
+use borrow.Author.Needs.{needs}
+use Rattle.archive.proofs.Admitting.{three-unread, unread}
+use Rattle.archive.proofs.admission.admit_screened.Statement.{statement}
+use Rattle.archive.proofs.admission.admit_screened.Tie as tie
+use Rattle.archive.proofs.admission.admit_screened.Reads as reads
+use Rattle.archive.proofs.admission.admit_screened.Lts as lts
+use Rattle.sheet.proofs.form.read_sheet.Reads as read-sheet-reads
+use Rattle.sheet.proofs.form.words_needed.Reads as words-needed-reads
+
+-- src/admission.rt:30:9
+read-sheet-requires : tie.Need-read-sheet-requires
+read-sheet-requires c κs = search needs
+
+-- src/admission.rt:32:34
+enum-told : tie.Need-enum-told
+enum-told c = search needs
+
+-- src/admission.rt:32:9
+returns : tie.Need-returns
+returns c =
+    let a = c .before .before .before .before .args in
+    unread (a .sheet .now) (a .words) (c .before .before .before .before .pre) (three-unread (a .sheet .now) _ (c .before .before .read-sheet .ensures) (c .enum-told .given .1))
+
+-- src/admission.rt:34:9
+words-needed-requires : tie.Need-words-needed-requires
+words-needed-requires c κs = search needs
+
+-- src/admission.rt:36:9
+returns-2 : tie.Need-returns-2
+returns-2 c = ?
+
+-- src/admission.rt:26:1
+returns-3 : tie.Need-returns-3
+returns-3 c = ?
+
+pub admit-screened-spec : {M : Type 1} → statement M
+admit-screened-spec =
+    tie.close
+    (tie.spec read-sheet-requires enum-told returns words-needed-requires returns-2 returns-3)
