@@ -1,6 +1,6 @@
 -- What a loop over a slice needs of the lists: the rest from i is the element at i and the rest from i + 1; so for tests of all
 -- elements and for counts. Assumes nothing.
-use mathlib.Core.Path.{_≡_, refl}
+use mathlib.Core.Path.{_≡_}
 use mathlib.Core.List.{List, _∷_}
 use mathlib.Core.Bool.{Bool, true, false, _&&_, cond}
 use Prim.Native.Nat.{ℕ, _+_, _<_, _≤_}
