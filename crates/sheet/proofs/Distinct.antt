@@ -1,12 +1,11 @@
 -- Texts of which none stands twice: sorted, they are those of which none stands next to itself. Assumes nothing.
 use mathlib.Core.Path.{_≡_, refl, ap, ap₂, sym, _∙_}
-use mathlib.Core.Bool.{Bool, true, false, cond, not, _&&_, _||_, true≢false, false≢true}
-use mathlib.Core.List.{List, [], _∷_, map}
-use Prim.Native.Nat.{ℕ}
+use mathlib.Core.Bool.{Bool, true, false, cond, not, _&&_, _||_, true≢false}
+use mathlib.Core.List.{List, [], _∷_}
 use Rattle.rules.specs.Bytes.{Text, same, upto, insert, sort}
 use Rattle.rules.specs.Text.{is-one-of}
 use Rattle.rules.specs.Sheet.{Entry, distinct-keys}
-use Rattle.laws.proofs.Basics.Tests.{same-eq, same-of-eq, or-cases, neither}
+use Rattle.laws.proofs.Basics.Tests.{same-eq, same-of-eq, neither}
 use Rattle.laws.proofs.Basics.Order.{upto-other, upto-one, upto-trans}
 use Rattle.sheet.specs.Members.{keys-of, distinct, apart}
 

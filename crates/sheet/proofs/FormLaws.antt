@@ -1,27 +1,26 @@
 -- The kinds of sheet: what each reading gives from the lines that were found. Assumes nothing.
 use mathlib.Core.Path.{_≡_, refl, ap, sym, subst, _∙_}
-use mathlib.Core.Logic.{_⊎_, inl, inr, ⊎-elim}
+use mathlib.Core.Logic.{⊎-elim}
 use mathlib.Core.Bool.{Bool, true, false, cond, _&&_}
 use mathlib.Core.List.{List, [], _∷_, _++_}
 use mathlib.Core.Option.{Option, some, none}
-use Prim.Native.Nat.{ℕ, _+_, _*_, _<_, _≤_}
+use Prim.Native.Nat.{ℕ, _+_, _<_, _≤_}
 use native.Mathlib.Omega.{arith}
 use lib.Dec.{leb}
 use lib.ListN.{length}
-use Rattle.rules.specs.Bytes.{Text, same}
-use Rattle.rules.specs.Text.{bytes, count-of}
+use Rattle.rules.specs.Bytes.{Text}
+use Rattle.rules.specs.Text.{bytes}
 use Rattle.rules.specs.Maybe.{_>>=_}
 use Rattle.rules.specs.Decimal.{value-from, proper, number-up-to}
-use Rattle.rules.specs.Lines.{lines, after-key, value}
-use Rattle.rules.specs.Sheet.{Entry, Member, Sheet, asks-equal, asks-unify, asks-match, asks-reduce, asks-cover, asks-sound, asks-complete, pairs, members-from, none-waiting, at-end, one-member, Kind, Equal, Unify, Match, Reduce, Cover, Sound, Complete, KindName, kind-in, kinds, read-kind, read-sheet, words-needed}
-use Rattle.laws.proofs.Basics.Tests.{and-right, leb-true}
+use Rattle.rules.specs.Lines.{value}
+use Rattle.rules.specs.Sheet.{Entry, Member, Sheet, asks-equal, asks-unify, asks-match, asks-reduce, asks-sound, asks-complete, pairs, members-from, none-waiting, at-end, one-member, Equal, Reduce, Sound, Complete, read-kind}
+use Rattle.laws.proofs.Basics.Tests.{leb-true}
 use Rattle.text.specs.Numbers.{number-of}
-use Rattle.text.specs.declared.decimal.Number.{Number}
 use Rattle.text.specs.declared.decimal.Number.the-variants.{Is, Not}
 use Rattle.sheet.specs.Lines.{part-of, lines-at, value-at}
 use Rattle.sheet.specs.Pairs.{place, with-line, pair-at, entries-by}
-use Rattle.sheet.specs.Members.{members-at, counted, Walks}
-use Rattle.sheet.specs.Form.{kind-read, solving, reading, text-of, sheet-of, Within, ReadsAs, Walked, form-raise, form-words}
+use Rattle.sheet.specs.Members.{members-at, counted}
+use Rattle.sheet.specs.Form.{solving, reading, text-of, sheet-of, Within, ReadsAs, Walked}
 use Rattle.sheet.specs.declared.Cursor.{Cursor}
 use Rattle.sheet.specs.declared.Place.{Place}
 use Rattle.sheet.specs.declared.Line.{Line}
@@ -30,8 +29,7 @@ use Rattle.sheet.specs.declared.PairLine.the-variants.{Sides, End}
 use Rattle.sheet.specs.declared.form.Form.{Form}
 use Rattle.sheet.specs.declared.form.Form.the-variants as form
 use Rattle.sheet.proofs.LineLaws.{Keyed, Unkeyed, keyed, unkeyed, then, then-none, lines-end, lines-more}
-use Rattle.sheet.proofs.PairLaws.{Paired, paired, Stops, stops, pairs-are, none-first, then-rest, then-half, then-end}
-use Rattle.sheet.proofs.MemberLaws.{other-key, no-member}
+use Rattle.sheet.proofs.PairLaws.{paired, Stops, stops, pairs-are, then-rest, then-half, then-end}
 
 -- ---- what was read
 

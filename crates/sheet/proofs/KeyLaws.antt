@@ -3,11 +3,11 @@ use Prim.Native.Nat.{ℕ, suc, _+_, _-_, _*_, _/_, _%_, _<_, _≤_}
 use mathlib.Core.Path.{_≡_, refl, ap, ap₂, sym, _∙_}
 use mathlib.Core.Bool.{Bool, true, false, not, _&&_}
 use mathlib.Core.List.{List, [], _∷_, _++_, map}
-use lib.ListN.{length, getD, take, drop, set, drop-of-length-le, length-take}
-use lib.Seq.{slice, drop-cons, getD-take, take-suc-set, length-take-le}
+use lib.ListN.{length, getD, take, drop, set}
+use lib.Seq.{drop-cons, getD-take, take-suc-set, length-take-le}
 use native.Mathlib.Omega.{arith}
 use native.Mathlib.Numerals.{add-one}
-use Rattle.rules.specs.Bytes.{Text, same, upto, sort}
+use Rattle.rules.specs.Bytes.{Text, same}
 use Rattle.rules.specs.Text.{bytes}
 use Rattle.rules.specs.Sheet.{Entry, distinct-keys}
 use Rattle.text.specs.Places.{text-at, places-upto}
@@ -16,7 +16,7 @@ use Rattle.text.proofs.Merging.{sort-texts}
 use Rattle.text.specs.declared.decimal.Number.{Number}
 use Rattle.text.specs.declared.decimal.Number.the-variants.{Is, Not}
 use Rattle.sheet.specs.Lines.{part-of, value-at}
-use Rattle.sheet.specs.Members.{keys-of, members-at, counted, distinct, apart, Walks, Gathers, Gathered}
+use Rattle.sheet.specs.Members.{members-at, counted, distinct, apart, Gathers, Gathered}
 use Rattle.sheet.specs.declared.Cursor.{Cursor}
 use Rattle.sheet.specs.declared.Place.{Place}
 use Rattle.sheet.specs.declared.Line.the-variants.{Whole, Missing}

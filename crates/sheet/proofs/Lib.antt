@@ -5,3 +5,5 @@ pub mod MemberLaws
 pub mod KeyLaws
 pub mod FormLaws
 pub mod SheetLaws
+pub mod WalkLaws
+pub mod WordLaws

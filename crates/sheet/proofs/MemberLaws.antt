@@ -1,5 +1,5 @@
 -- Members: what reading them from the last gives, told from the first. Assumes nothing.
-use mathlib.Core.Path.{_≡_, refl, ap, ap₂, sym, _∙_}
+use mathlib.Core.Path.{_≡_, refl, ap, sym, _∙_}
 use mathlib.Core.Logic.{_⊎_, inl, inr, ⊎-elim}
 use mathlib.Core.Bool.{Bool, true, false}
 use mathlib.Core.List.{List, [], _∷_, _++_, append-nil}
@@ -14,8 +14,7 @@ use Rattle.rules.specs.Maybe.{_>>=_, guard}
 use Rattle.rules.specs.Lines.{after-key}
 use Rattle.rules.specs.Sheet.{Entry, Member, Members, with-entry, entry-before, member-before, distinct-keys, members-from, none-waiting}
 use Rattle.laws.proofs.Basics.Tests.{eqb-true, eqb-self}
-use Rattle.text.specs.declared.decimal.Number.{Number}
-use Rattle.text.specs.declared.decimal.Number.the-variants.{Is, Not}
+use Rattle.text.specs.declared.decimal.Number.the-variants.{Is}
 use Rattle.sheet.specs.Lines.{part-of, lines-at}
 use Rattle.sheet.specs.Pairs.{entries-by}
 use Rattle.sheet.specs.Members.{members-at, counted, Walks}
@@ -190,74 +189,74 @@ then-none v es = go (distinct-keys es [])
     go true = refl
     go false = refl
 
-module _ (s : Text) (at f t : ℕ) (n : Cursor) (h : Keyed s (bytes "member=") at f t n) (c : ℕ)
-    (w : Walks (bytes "key=") (bytes "value=") s (n .at) c) (e : Stops (bytes "key=") (bytes "value=") s c) where
+-- what follows a line `member` with this value
+abbrev pub onward : Text → List Entry × List Text → Option (List Member)
+onward v p = none-waiting (member-before v (split p))
+
+-- the members after the entries, where no key follows
+pub rest-of : (v : Text) (es : List Entry) (ls : List Text) → Unkeyed (bytes "key=") (some ls) → onward v (es, ls) ≡ member-then v es (none-waiting (members-from ls))
+rest-of v es ls u =
+    ⊎-elim
+    (λ z. ap (λ (o : Option Members). none-waiting (member-before v (waits es o))) z ∙ sym (ap (λ (o : Option Members). member-then v es (none-waiting o)) z ∙ then-none v es))
+    (λ z. ap (λ (o : Option Members). none-waiting (member-before v (waits es o))) (z .1)
+    ∙ ap (λ (es : List Entry). none-waiting (member-before v (some (es, z .0)))) (append-nil es)
+    ∙ test (distinct-keys es []) (z .0)
+    ∙ sym (ap (λ (o : Option Members). member-then v es (none-waiting o)) (z .1)))
+    (settled ls u)
+  where
+    test : (b : Bool) (ms : List Member) → none-waiting (guard b >>= λ u. some ([], (v, es) ∷ ms)) ≡ (guard b >>= λ u. some ((v, es) ∷ ms))
+    test true ms = refl
+    test false ms = refl
+
+half-members : (ls : List Text) → entries ls ≡ none → none-waiting (members-from ls) ≡ none
+half-members [] e = let z = none-first (bytes "key=") (bytes "value=") [] tt in let y : _≡_ {A = ℕ} 0 1 = cc in absurd (omega arith)
+half-members (l ∷ ls) e = go (after-key (bytes "key=") l) refl
+  where
+    go : (o : Option Text) → after-key (bytes "key=") l ≡ o → none-waiting (members-from (l ∷ ls)) ≡ none
+    go none k = let z = none-first (bytes "key=") (bytes "value=") (l ∷ ls) k in let y : _≡_ {A = ℕ} 0 1 = cc in absurd (omega arith)
+    go (some v) k = key-first l v ls k
+
+module _ (s : Text) (at f t : ℕ) (n : Cursor) (h : Keyed s (bytes "member=") at f t n) where
   abbrev text : Text
   text = part-of f t s
 
-  abbrev go-on : List Entry × List Text → Option (List Member)
-  go-on p = none-waiting (member-before text (split p))
-
-  from-member : members-at s at ≡ (lines-at s (n .at) >>= λ ls. entries ls >>= go-on)
+  pub from-member : members-at s at ≡ (lines-at s (n .at) >>= λ ls. entries-by (bytes "key=") (bytes "value=") ls >>= onward (part-of f t s))
   unfolding members-at
   from-member = ap (λ (o : Option (List Text)). o >>= λ ls. none-waiting (members-from ls)) (h .first) ∙ go (lines-at s (n .at))
     where
-      on : (o : Option (List Entry × List Text)) → none-waiting (member-before text (o >>= split)) ≡ (o >>= go-on)
+      on : (o : Option (List Entry × List Text)) → none-waiting (member-before text (o >>= split)) ≡ (o >>= onward text)
       on none = refl
       on (some p) = refl
 
-      go : (o : Option (List Text)) → ((o >>= λ ls. some (h .line ∷ ls)) >>= λ ls. none-waiting (members-from ls)) ≡ (o >>= λ ls. entries ls >>= go-on)
+      go : (o : Option (List Text)) → ((o >>= λ ls. some (h .line ∷ ls)) >>= λ ls. none-waiting (members-from ls)) ≡ (o >>= λ ls. entries ls >>= onward text)
       go none = refl
       go (some ls) = ap none-waiting (member-first (h .line) text ls (h .has) ∙ ap (member-before text) (members-split ls)) ∙ on (entries ls)
 
-  -- the members after the entries, where no key follows
-  rest-of : (ls : List Text) → Unkeyed (bytes "key=") (some ls) → go-on (w .es ++ [], ls) ≡ member-then text (w .es) (none-waiting (members-from ls))
-  rest-of ls u =
-      ap (λ (es : List Entry). go-on (es, ls)) (append-nil (w .es))
-      ∙ ⊎-elim
-      (λ z. ap (λ (o : Option Members). none-waiting (member-before text (waits (w .es) o))) z ∙ sym (ap (λ (o : Option Members). member-then text (w .es) (none-waiting o)) z ∙ then-none text (w .es)))
-      (λ z. ap (λ (o : Option Members). none-waiting (member-before text (waits (w .es) o))) (z .1)
-      ∙ ap (λ (es : List Entry). none-waiting (member-before text (some (es, z .0)))) (append-nil (w .es))
-      ∙ test (distinct-keys (w .es) []) (z .0)
-      ∙ sym (ap (λ (o : Option Members). member-then text (w .es) (none-waiting o)) (z .1)))
-      (settled ls u)
-    where
-      test : (b : Bool) (ms : List Member) → none-waiting (guard b >>= λ u. some ([], (text, w .es) ∷ ms)) ≡ (guard b >>= λ u. some ((text, w .es) ∷ ms))
-      test true ms = refl
-      test false ms = refl
+  module _ (c : ℕ) (w : Walks (bytes "key=") (bytes "value=") s (n .at) c) (e : Stops (bytes "key=") (bytes "value=") s c) where
+    pub member-turn : members-at s at ≡ member-then (part-of f t s) (w .es) (members-at s c)
+    unfolding members-at
+    member-turn = from-member ∙ ⊎-elim rest half e
+      where
+        rest : Unkeyed (bytes "key=") (lines-at s c) → (lines-at s (n .at) >>= λ ls. entries ls >>= onward text) ≡ member-then text (w .es) (lines-at s c >>= λ ls. none-waiting (members-from ls))
+        rest u = then-rest (bytes "key=") (bytes "value=") s (n .at) c w (onward text) u ∙ ap (λ (es : List Entry). lines-at s c >>= λ ls. onward text (es, ls)) (append-nil (w .es)) ∙ go (lines-at s c) u
+          where
+            go : (o : Option (List Text)) → Unkeyed (bytes "key=") o → (o >>= λ ls. onward text (w .es, ls)) ≡ member-then text (w .es) (o >>= λ ls. none-waiting (members-from ls))
+            go none u = sym (then-none text (w .es))
+            go (some ls) u = rest-of text (w .es) ls u
 
-  half-members : (ls : List Text) → entries ls ≡ none → none-waiting (members-from ls) ≡ none
-  half-members [] e = let z = none-first (bytes "key=") (bytes "value=") [] tt in let y : _≡_ {A = ℕ} 0 1 = cc in absurd (omega arith)
-  half-members (l ∷ ls) e = go (after-key (bytes "key=") l) refl
-    where
-      go : (o : Option Text) → after-key (bytes "key=") l ≡ o → none-waiting (members-from (l ∷ ls)) ≡ none
-      go none k = let z = none-first (bytes "key=") (bytes "value=") (l ∷ ls) k in let y : _≡_ {A = ℕ} 0 1 = cc in absurd (omega arith)
-      go (some v) k = key-first l v ls k
+        half : (lines-at s c >>= entries) ≡ none → (lines-at s (n .at) >>= λ ls. entries ls >>= onward text) ≡ member-then text (w .es) (lines-at s c >>= λ ls. none-waiting (members-from ls))
+        half u = then-half (bytes "key=") (bytes "value=") s (n .at) c w (onward text) u ∙ sym (ap (member-then text (w .es)) (go (lines-at s c) u) ∙ then-none text (w .es))
+          where
+            go : (o : Option (List Text)) → (o >>= entries) ≡ none → (o >>= λ ls. none-waiting (members-from ls)) ≡ none
+            go none u = refl
+            go (some ls) u = half-members ls u
 
-  pub member-turn : members-at s at ≡ member-then text (w .es) (members-at s c)
-  unfolding members-at
-  member-turn = from-member ∙ ⊎-elim rest half e
-    where
-      rest : Unkeyed (bytes "key=") (lines-at s c) → (lines-at s (n .at) >>= λ ls. entries ls >>= go-on) ≡ member-then text (w .es) (lines-at s c >>= λ ls. none-waiting (members-from ls))
-      rest u = then-rest (bytes "key=") (bytes "value=") s (n .at) c w go-on u ∙ go (lines-at s c) u
-        where
-          go : (o : Option (List Text)) → Unkeyed (bytes "key=") o → (o >>= λ ls. go-on (w .es ++ [], ls)) ≡ member-then text (w .es) (o >>= λ ls. none-waiting (members-from ls))
-          go none u = sym (then-none text (w .es))
-          go (some ls) u = rest-of ls u
+    -- a member that repeats a key, and one that does not
+    pub member-repeats : distinct-keys (w .es) [] ≡ false → members-at s at ≡ none
+    member-repeats d = member-turn ∙ ap (λ (b : Bool). guard b >>= λ u. members-at s c >>= λ ms. some ((text, w .es) ∷ ms)) d
 
-      half : (lines-at s c >>= entries) ≡ none → (lines-at s (n .at) >>= λ ls. entries ls >>= go-on) ≡ member-then text (w .es) (lines-at s c >>= λ ls. none-waiting (members-from ls))
-      half u = then-half (bytes "key=") (bytes "value=") s (n .at) c w go-on u ∙ sym (ap (member-then text (w .es)) (go (lines-at s c) u) ∙ then-none text (w .es))
-        where
-          go : (o : Option (List Text)) → (o >>= entries) ≡ none → (o >>= λ ls. none-waiting (members-from ls)) ≡ none
-          go none u = refl
-          go (some ls) u = half-members ls u
-
-  -- a member that repeats a key, and one that does not
-  pub member-repeats : distinct-keys (w .es) [] ≡ false → members-at s at ≡ none
-  member-repeats d = member-turn ∙ ap (λ (b : Bool). guard b >>= λ u. members-at s c >>= λ ms. some ((text, w .es) ∷ ms)) d
-
-  pub member-there : distinct-keys (w .es) [] ≡ true → members-at s at ≡ (members-at s c >>= λ ms. some ((text, w .es) ∷ ms))
-  member-there d = member-turn ∙ ap (λ (b : Bool). guard b >>= λ u. members-at s c >>= λ ms. some ((text, w .es) ∷ ms)) d
+    pub member-there : distinct-keys (w .es) [] ≡ true → members-at s at ≡ (members-at s c >>= λ ms. some ((text, w .es) ∷ ms))
+    member-there d = member-turn ∙ ap (λ (b : Bool). guard b >>= λ u. members-at s c >>= λ ms. some ((text, w .es) ∷ ms)) d
 
 pub count-more : (n : ℕ) (m : Member) (o : Option (List Member)) → counted n (o >>= λ ms. some (m ∷ ms)) ≡ counted (n + 1) o
 count-more n m none = refl

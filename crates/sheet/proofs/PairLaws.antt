@@ -1,9 +1,9 @@
 -- Pairs of lines: two lines at a position, and a walk over as many as there are. Assumes nothing.
 use mathlib.Core.Path.{_≡_, refl, ap, sym, subst, _∙_}
-use mathlib.Core.Logic.{_⊎_, inl, inr, ⊎-elim}
+use mathlib.Core.Logic.{_⊎_, inl, inr}
 use mathlib.Core.List.{List, [], _∷_, _++_, append-assoc}
 use mathlib.Core.Option.{Option, some, none}
-use Prim.Native.Nat.{ℕ, _+_, _<_, _≤_}
+use Prim.Native.Nat.{ℕ, _≤_}
 use native.Mathlib.Omega.{arith}
 use lib.ListN.{length}
 use Rattle.rules.specs.Bytes.{Text}
@@ -18,9 +18,8 @@ use Rattle.sheet.specs.declared.Cursor.{Cursor}
 use Rattle.sheet.specs.declared.Place.{Place}
 use Rattle.sheet.specs.declared.Line.{Line}
 use Rattle.sheet.specs.declared.Line.the-variants.{Whole, Missing}
-use Rattle.sheet.specs.declared.PairLine.{PairLine}
 use Rattle.sheet.specs.declared.PairLine.the-variants.{Sides, End}
-use Rattle.sheet.proofs.LineLaws.{Keyed, Unkeyed, keyed, unkeyed, lines-end, lines-more}
+use Rattle.sheet.proofs.LineLaws.{Keyed, Unkeyed, keyed, unkeyed, lines-end}
 
 -- ---- the definition of the pairs by cases
 

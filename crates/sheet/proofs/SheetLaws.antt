@@ -1,39 +1,32 @@
 -- What the reading of each kind of sheet answers. Assumes nothing.
-use mathlib.Core.Path.{_≡_, refl, ap, sym, subst, _∙_}
-use mathlib.Core.Logic.{_⊎_, inl, inr, ⊎-elim}
-use mathlib.Core.Bool.{Bool, true, false, cond}
+use mathlib.Core.Path.{_≡_, refl, ap, sym, _∙_}
+use mathlib.Core.Logic.{⊎-elim}
+use mathlib.Core.Bool.{Bool, true, false}
 use mathlib.Core.List.{List, [], _∷_, _++_}
 use mathlib.Core.Option.{Option, some, none}
-use Prim.Native.Nat.{ℕ, suc, _+_, _-_, _*_, _<_, _≤_}
+use Prim.Native.Nat.{ℕ, _<_, _≤_}
 use native.Mathlib.Omega.{arith}
-use lib.Dec.{eqb}
-use denote.Enum.Declared.{tagOf}
-use types.Run.{OneOf, miss}
-use lib.ListN.{length, drop, length-take, length-drop}
+use lib.ListN.{length}
 use Rattle.rules.specs.Bytes.{Text, same}
-use Rattle.rules.specs.Text.{bytes, count-of}
+use Rattle.rules.specs.Text.{bytes}
 use Rattle.rules.specs.Maybe.{_>>=_}
 use Rattle.rules.specs.Decimal.{number-up-to}
-use Rattle.rules.specs.Lines.{lines, after-key, value}
-use Rattle.rules.specs.Sheet.{Entry, Member, Sheet, asks-equal, asks-unify, asks-match, asks-reduce, asks-cover, asks-sound, asks-complete, pairs, members-from, none-waiting, at-end, one-member, raise, Kind, Equal, Unify, Match, Reduce, Cover, Sound, Complete, KindName, kind-in, kinds, read-kind, read-sheet, words-needed}
-use Rattle.laws.proofs.Basics.Options.{bound}
+use Rattle.rules.specs.Lines.{after-key, value}
+use Rattle.rules.specs.Sheet.{Entry, Member, Sheet, asks-equal, asks-reduce, asks-cover, asks-sound, asks-complete, pairs, members-from, none-waiting, at-end, one-member, Kind, Equal, Reduce, Cover, Sound, Complete, KindName, kind-in, kinds, read-kind, read-sheet}
 use Rattle.text.specs.Numbers.{number-of}
-use Rattle.text.specs.declared.decimal.Number.{Number}
 use Rattle.text.specs.declared.decimal.Number.the-variants.{Is, Not}
 use Rattle.sheet.specs.Lines.{part-of, lines-at, value-at}
 use Rattle.sheet.specs.Pairs.{place, pair-at, entries-by}
-use Rattle.sheet.specs.Members.{members-at, counted, Walks}
-use Rattle.sheet.specs.Form.{solving, reading, text-of, sheet-of, Within, ReadsAs, Walked, form-raise, form-words}
+use Rattle.sheet.specs.Members.{members-at, counted}
+use Rattle.sheet.specs.Form.{solving, reading, text-of, sheet-of, Within, ReadsAs, Walked}
 use Rattle.sheet.specs.declared.Cursor.{Cursor}
 use Rattle.sheet.specs.declared.Place.{Place}
-use Rattle.sheet.specs.declared.Line.{Line}
 use Rattle.sheet.specs.declared.Line.the-variants.{Whole, Missing}
 use Rattle.sheet.specs.declared.PairLine.the-variants.{Sides, End}
 use Rattle.sheet.specs.declared.form.Form.{Form}
-use Rattle.sheet.proofs.form.Form.{the-type}
 use Rattle.sheet.specs.declared.form.Form.the-variants as form
 use Rattle.sheet.proofs.LineLaws.{Keyed, Unkeyed, keyed, unkeyed, then, then-none}
-use Rattle.sheet.proofs.PairLaws.{Paired, paired, none-first}
+use Rattle.sheet.proofs.PairLaws.{paired, none-first}
 use Rattle.sheet.proofs.MemberLaws.{other-key, no-member}
 use Rattle.sheet.proofs.FormLaws.{reads-three, reads-form, reads-also, end-some, end-none, equal-there, equal-missing, reduce-there, reduce-missing, counted-not, counted-is, sound-there, sound-missing, complete-there, complete-missing, not-one, just-one, pairs-rest, pairs-half, pairs-stop, asks, solving-missing, solving-number, solving-fuel, solving-more, solving-end, number-small}
 
@@ -270,66 +263,3 @@ module _ (s : Text) where
     unfolding reading
     that-kind k q h =
         reads-also (sym (sheet-then ∙ ap (λ (o : Option Kind). lines-at s (n .at) >>= λ ls. o >>= λ k. read-kind k ls) (ap (kind-in kinds) (sym p) ∙ sym q))) h
-
--- ---- the words
-
-ended-as : (ls : List Text) (x sheet : Sheet) → at-end ls x ≡ some sheet → x ≡ sheet
-ended-as [] x sheet e = cc
-ended-as (l ∷ ls) x sheet e = let z : _≡_ {A = ℕ} 0 1 = cc in absurd (omega arith)
-
-raise-same : (s : Text) (r : Form) (sheet : Sheet) → sheet-of s r ≡ some sheet → form-raise s r ≡ raise sheet
-unfolding sheet-of
-raise-same s (form.Equal l r) sheet e = let z : asks-equal (text-of s l) (text-of s r) ≡ sheet = cc in ap raise z
-raise-same s (form.Unify fuel c) sheet e =
-    let (ls, h, k) = bound (lines-at s (c .at)) (λ ls. pairs ls >>= λ p. at-end (p .1) (asks-unify fuel (p .0))) sheet e in
-    let (p, g, j) = bound (pairs ls) (λ p. at-end (p .1) (asks-unify fuel (p .0))) sheet k in
-    ap raise (ended-as (p .1) (asks-unify fuel (p .0)) sheet j)
-raise-same s (form.Match fuel c) sheet e =
-    let (ls, h, k) = bound (lines-at s (c .at)) (λ ls. pairs ls >>= λ p. at-end (p .1) (asks-match fuel (p .0))) sheet e in
-    let (p, g, j) = bound (pairs ls) (λ p. at-end (p .1) (asks-match fuel (p .0))) sheet k in
-    ap raise (ended-as (p .1) (asks-match fuel (p .0)) sheet j)
-raise-same s (form.Reduce t) sheet e = let z : asks-reduce (text-of s t) ≡ sheet = cc in ap raise z
-raise-same s (form.Cover c d) sheet e =
-    let (ls, h, k) = bound (lines-at s (c .at)) (λ ls. pairs ls >>= λ p. members-at s (d .at) >>= λ ms. some (asks-cover (p .0) ms)) sheet e in
-    let (p, g, j) = bound (pairs ls) (λ p. members-at s (d .at) >>= λ ms. some (asks-cover (p .0) ms)) sheet k in
-    let (ms, f, i) = bound (members-at s (d .at)) (λ ms. some (asks-cover (p .0) ms)) sheet j in
-    let z : asks-cover (p .0) ms ≡ sheet = cc in ap raise z
-raise-same s (form.Sound t c) sheet e =
-    let (ms, h, k) = bound (members-at s (c .at)) (λ ms. one-member ms >>= λ m. some (asks-sound (text-of s t) m)) sheet e in
-    let (m, g, j) = bound (one-member ms) (λ m. some (asks-sound (text-of s t) m)) sheet k in
-    let z : asks-sound (text-of s t) m ≡ sheet = cc in ap raise z
-raise-same s (form.Complete t c) sheet e =
-    let (ms, h, k) = bound (members-at s (c .at)) (λ ms. some (asks-complete (text-of s t) ms)) sheet e in
-    let z : asks-complete (text-of s t) ms ≡ sheet = cc in ap raise z
-raise-same s form.Three sheet e = let z : _≡_ {A = ℕ} 0 1 = cc in absurd (omega arith)
-
-count-small : (b : ℕ) (s : Text) → count-of b s ≤ length s
-unfolding count-of
-count-small b [] = omega arith
-count-small b (a ∷ s) = go (eqb a b) (count-small b s)
-  where
-    go : (t : Bool) → count-of b s ≤ length s → cond t 1 0 + count-of b s ≤ suc (length s)
-    go true h = omega arith
-    go false h = omega arith
-
-pub count-bound : (b : ℕ) (s : Text) {n : ℕ} → length s ≤ 65536 → n ≡ count-of b s → n ≤ 65536
-count-bound b s h e = omega (arith, count-small b s)
-
-pub part-count-bound : (b : ℕ) (s : Text) (f t : ℕ) {n : ℕ} {x : Text} → length s ≤ 65536 → x ≡ part-of f t s → n ≡ count-of b x → n ≤ 65536
-part-count-bound b s f t {n} {x} h p e = omega (arith, count-small b x, ap length p, length-take (t - f) (drop f s), length-drop f s)
-
--- only `complete`, the seventh kind, raises the words
-pub no-raise : (s : Text) (r : Form) → OneOf (0 ∷ 1 ∷ 2 ∷ 3 ∷ 4 ∷ 5 ∷ 7 ∷ []) (tagOf the-type r) → 0 ≡ form-raise s r
-no-raise s (form.Equal l r) h = refl
-no-raise s (form.Unify fuel c) h = refl
-no-raise s (form.Match fuel c) h = refl
-no-raise s (form.Reduce t) h = refl
-no-raise s (form.Cover c d) h = refl
-no-raise s (form.Sound t c) h = refl
-no-raise s (form.Complete t c) h = absurd (miss (0 ∷ 1 ∷ 2 ∷ 3 ∷ 4 ∷ 5 ∷ 7 ∷ []) 6 tt h)
-no-raise s form.Three h = refl
-
--- the words that a form needs are those of its sheet
-pub words-same : (s : Text) (r : Form) (sheet : Sheet) → sheet-of s r ≡ some sheet → form-words s r ≡ words-needed s sheet
-unfolding form-words words-needed
-words-same s r sheet e = ap (λ (k : ℕ). 65536 * (count-of 58 s + k + 16) + 16 * length s) (raise-same s r sheet e)

@@ -1,7 +1,7 @@
 -- The members of a sheet from a position on, and their keys. Definitions only.
 use Prim.Native.Nat.{ℕ, _+_, _*_, _≤_}
 use mathlib.Core.Path.{_≡_}
-use mathlib.Core.List.{List, [], _∷_, _++_, map}
+use mathlib.Core.List.{List, [], _∷_, map}
 use mathlib.Core.Option.{Option, some, none}
 use mathlib.Core.Bool.{Bool, true, not, _&&_}
 use lib.ListN.{length, take}

@@ -58,14 +58,13 @@ impl Cursor {
         let Line::Whole { from, to, next } = line else {
             return Line::Missing;
         };
-        if begins(part(sheet, from, to), key) {
-            Line::Whole {
-                from: from + key.len(),
-                to,
-                next,
-            }
-        } else {
-            Line::Missing
+        if !begins(part(sheet, from, to), key) {
+            return Line::Missing;
+        }
+        Line::Whole {
+            from: from + key.len(),
+            to,
+            next,
         }
     }
 }

@@ -1,8 +1,7 @@
 -- Decimal numbers at a position of a text, and the digits of a number one at a time from the last. Assumes nothing.
 use mathlib.Core.Path.{_≡_, refl, ap, sym, _∙_}
 use mathlib.Core.List.{List, [], _∷_, _++_, append-assoc}
-use mathlib.Core.Option.{some, none}
-use mathlib.Core.Bool.{Bool, true, false, cond, not, _&&_}
+use mathlib.Core.Bool.{Bool, true, false, not, _&&_}
 use Prim.Native.Nat.{ℕ, zero, suc, _+_, _-_, _*_, _/_, _%_, _<_, _≤_}
 use native.Mathlib.Omega.{arith}
 use native.Mathlib.Decide.{decLt}
@@ -14,7 +13,6 @@ use Rattle.rules.specs.Names.{digit, all}
 use Rattle.rules.specs.Decimal.{value-from, proper, number-up-to, digits-in, decimal}
 use Rattle.laws.proofs.Basics.Tests.{and-left, and-right, leb-true}
 use Rattle.text.specs.Numbers.{number-of}
-use Rattle.text.specs.declared.decimal.Number.{Number}
 use Rattle.text.specs.declared.decimal.Number.the-variants.{Is, Not}
 use Rattle.text.proofs.Loops.{drop-next}
 

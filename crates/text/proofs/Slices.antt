@@ -1,9 +1,9 @@
 -- Parts of lists: two lists that agree, one word more, a part and the part after it. Assumes nothing.
-use Prim.Native.Nat.{ℕ, zero, suc, _+_, _-_, _<_, _≤_}
-use mathlib.Core.Path.{_≡_, refl, sym, ap, ap₂, _∙_}
+use Prim.Native.Nat.{ℕ, _+_, _<_, _≤_}
+use mathlib.Core.Path.{_≡_, sym, ap, _∙_}
 use mathlib.Core.List.{List, [], _∷_, _++_}
-use lib.ListN.{length, getD, take, drop, set, length-append, length-take, length-drop, length-set, drop-of-length-le}
-use lib.Seq.{slice, slice-cons, slice-empty, length-slice, getD-take, getD-drop, ext-getD, take-suc-set, drop-append-le, take-nil, take-take, take-all, take-append-le, length-take-le, drop-drop, take-add, getD-set-other, getD-set-same}
+use lib.ListN.{length, getD, take, drop, set, length-take, drop-of-length-le}
+use lib.Seq.{slice, length-slice, getD-take, getD-drop, ext-getD, take-suc-set, drop-append-le, take-take, length-take-le}
 use native.Mathlib.Omega.{arith}
 use native.Mathlib.Numerals.{add-one}
 

@@ -1,5 +1,5 @@
 use Rattle.sheet.specs.Pairs.{pair-at}
-use mathlib.Core.Path.{_≡_, sym, _∙_}
+use mathlib.Core.Path.{sym, _∙_}
 use borrow.Author.Needs.{needs}
 use Rattle.sheet.proofs.two_lines.Statement.{statement}
 use Rattle.sheet.proofs.two_lines.Tie as tie

@@ -3,6 +3,7 @@ use Rattle.sheet.specs.declared.Line.the-variants.{Whole}
 use Rattle.sheet.specs.Lines.{line-at, value-of, value-at}
 use native.Mathlib.Omega.{arith}
 use mathlib.Core.Path.{_≡_, ap, sym, _∙_}
+use borrow.Author.Tests.{not-true, not-false}
 use borrow.Author.Needs.{needs}
 use Rattle.sheet.proofs.Cursor.keyed.Statement.{statement}
 use Rattle.sheet.proofs.Cursor.keyed.Tie as tie
@@ -38,19 +39,19 @@ part-requires c κs = let b = bounds (c .before) in (b .ends .0, omega (arith, b
 begins-requires : tie.Need-begins-requires
 begins-requires c κs = search needs
 
+returns-2 : tie.Need-returns-2
+unfolding value-at
+returns-2 c = value-no (c .before .before .before .before .before .before .before .before .before .args .sheet .now) (c .before .before .before .before .before .before .before .before .before .args .key .now) (c .before .before .before .before .line2 .given .0 .0) (c .before .before .before .before .line2 .given .0 .1 .0) (c .before .before .before .before .line2 .given .0 .1 .1 .0) (c .before .before .part .ensures) (c .before .begins .ensures) (found (c .before .before .before .before)) (not-true _ (c .if1 .taken))
+
 add-t12 : tie.Need-add-t12
 add-t12 c =
     let at-line = c .before .before .before .before in
     let b = bounds at-line in
-    omega (arith, b .ends, value-fits (c .before .before .before .before .before .before .before .before .before .args .sheet .now) (c .before .before .before .before .before .before .before .before .before .args .key .now) (c .before .before .before .before .line2 .given .0 .0) (c .before .before .before .before .line2 .given .0 .1 .0) (c .before .before .before .before .line2 .given .0 .1 .1 .0) (c .before .before .part .ensures) (c .before .begins .ensures) (b .ends) (c .if1 .taken))
-
-returns-2 : tie.Need-returns-2
-unfolding value-at
-returns-2 c = value-yes (c .before .before .before .before .before .before .before .before .before .args .sheet .now) (c .before .before .before .before .before .before .before .before .before .args .key .now) (c .before .before .before .before .line2 .given .0 .0) (c .before .before .before .before .line2 .given .0 .1 .0) (c .before .before .before .before .line2 .given .0 .1 .1 .0) (c .before .before .part .ensures) (c .before .begins .ensures) (found (c .before .before .before .before)) (c .if1 .taken)
+    omega (arith, b .ends, value-fits (c .before .before .before .before .before .before .before .before .before .args .sheet .now) (c .before .before .before .before .before .before .before .before .before .args .key .now) (c .before .before .before .before .line2 .given .0 .0) (c .before .before .before .before .line2 .given .0 .1 .0) (c .before .before .before .before .line2 .given .0 .1 .1 .0) (c .before .before .part .ensures) (c .before .begins .ensures) (b .ends) (not-false _ (c .if1 .left)))
 
 returns-3 : tie.Need-returns-3
 unfolding value-at
-returns-3 c = value-no (c .before .before .before .before .before .before .before .before .before .args .sheet .now) (c .before .before .before .before .before .before .before .before .before .args .key .now) (c .before .before .before .before .line2 .given .0 .0) (c .before .before .before .before .line2 .given .0 .1 .0) (c .before .before .before .before .line2 .given .0 .1 .1 .0) (c .before .before .part .ensures) (c .before .begins .ensures) (found (c .before .before .before .before)) (c .if1 .left)
+returns-3 c = value-yes (c .before .before .before .before .before .before .before .before .before .args .sheet .now) (c .before .before .before .before .before .before .before .before .before .args .key .now) (c .before .before .before .before .line2 .given .0 .0) (c .before .before .before .before .line2 .given .0 .1 .0) (c .before .before .before .before .line2 .given .0 .1 .1 .0) (c .before .before .part .ensures) (c .before .begins .ensures) (found (c .before .before .before .before)) (not-false _ (c .if1 .left))
 
 pub keyed-spec : {M : Type 1} → statement M
 keyed-spec =
@@ -62,6 +63,6 @@ keyed-spec =
     returns
     part-requires
     begins-requires
-    add-t12
     returns-2
+    add-t12
     returns-3)

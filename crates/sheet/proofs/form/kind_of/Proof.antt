@@ -1,7 +1,6 @@
 use Rattle.sheet.proofs.SheetLaws.{kind-here, kind-later, kind-none}
-use mathlib.Core.Path.{_≡_, refl, sym, _∙_}
+use mathlib.Core.Path.{sym, _∙_}
 use Rattle.sheet.proofs.SheetLaws.{kind-here, kind-later}
-use Rattle.rules.specs.Sheet.{kind-in}
 use borrow.Author.Needs.{needs}
 use Rattle.sheet.proofs.form.kind_of.Statement.{statement}
 use Rattle.sheet.proofs.form.kind_of.Tie as tie

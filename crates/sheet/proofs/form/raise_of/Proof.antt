@@ -1,10 +1,10 @@
-use mathlib.Core.Path.{_≡_, refl, sym, ap, subst, _∙_}
+use mathlib.Core.Path.{sym, ap, subst, _∙_}
 use native.Mathlib.Omega.{arith}
 use Prim.Native.Nat.{ℕ, _*_}
 use Rattle.rules.specs.Bytes.{Text}
 use Rattle.rules.specs.Text.{count-of}
 use Rattle.sheet.specs.Form.{Within, form-raise}
-use Rattle.sheet.proofs.SheetLaws.{part-count-bound, no-raise}
+use Rattle.sheet.proofs.WordLaws.{part-count-bound, no-raise}
 use borrow.Author.Needs.{needs}
 use Rattle.sheet.proofs.form.raise_of.Statement.{statement}
 use Rattle.sheet.proofs.form.raise_of.Tie as tie

@@ -1,4 +1,4 @@
-use mathlib.Core.Path.{_≡_, refl, sym, _∙_}
+use mathlib.Core.Path.{refl, sym, _∙_}
 use Rattle.sheet.proofs.SheetLaws.{cover-three, cover-read}
 use borrow.Author.Needs.{needs}
 use Rattle.sheet.proofs.form.read_cover.Statement.{statement}

@@ -1,4 +1,4 @@
-use mathlib.Core.Path.{_≡_, refl, sym, ap, _∙_}
+use mathlib.Core.Path.{sym, ap, _∙_}
 use native.Mathlib.Omega.{arith}
 use Rattle.rules.specs.Text.{bytes}
 use Rattle.rules.specs.Sheet.{Equal, Unify, Match, Reduce, Cover, Sound, Complete}

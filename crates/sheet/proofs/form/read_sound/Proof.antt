@@ -1,4 +1,4 @@
-use mathlib.Core.Path.{_≡_, refl, sym, _∙_}
+use mathlib.Core.Path.{sym, _∙_}
 use Rattle.sheet.proofs.SheetLaws.{sound-no-term, sound-three, sound-many, sound-read}
 use borrow.Author.Needs.{needs}
 use Rattle.sheet.proofs.form.read_sound.Statement.{statement}

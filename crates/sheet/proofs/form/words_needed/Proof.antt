@@ -1,7 +1,6 @@
-use mathlib.Core.Path.{_≡_, refl, sym, _∙_}
 use native.Mathlib.Omega.{arith}
 use Rattle.sheet.specs.Form.{form-words}
-use Rattle.sheet.proofs.SheetLaws.{count-bound}
+use Rattle.sheet.proofs.WordLaws.{count-bound}
 use borrow.Author.Needs.{needs}
 use Rattle.sheet.proofs.form.words_needed.Statement.{statement}
 use Rattle.sheet.proofs.form.words_needed.Tie as tie

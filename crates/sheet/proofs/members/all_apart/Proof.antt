@@ -1,8 +1,8 @@
 use mathlib.Core.Path.{_≡_, refl, sym, _∙_}
 use native.Mathlib.Omega.{arith}
-use Prim.Native.Nat.{_≤_, _-_, _+_}
+use Prim.Native.Nat.{_≤_, _-_}
 use mathlib.Core.List.{map}
-use lib.ListN.{length, take, drop}
+use lib.ListN.{take, drop}
 use Rattle.sheet.specs.Members.{apart}
 use Rattle.text.specs.Places.{text-at}
 use Rattle.sheet.proofs.KeyLaws.{apart-same, apart-next, apart-end}

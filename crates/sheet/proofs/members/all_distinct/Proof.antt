@@ -1,6 +1,5 @@
-use mathlib.Core.Path.{_≡_, ap, _∙_}
+use mathlib.Core.Path.{ap, _∙_}
 use mathlib.Core.List.{List, map}
-use native.Mathlib.Omega.{arith}
 use Prim.Native.Nat.{ℕ}
 use lib.ListN.{take}
 use Rattle.text.specs.Places.{text-at}

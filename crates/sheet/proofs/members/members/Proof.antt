@@ -1,4 +1,3 @@
-use mathlib.Core.Path.{_≡_, refl, sym, _∙_}
 use native.Mathlib.Omega.{arith}
 use Rattle.sheet.proofs.members.members.Statement.{statement}
 use Rattle.sheet.proofs.members.members.Tie as tie

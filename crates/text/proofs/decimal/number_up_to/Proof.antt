@@ -6,9 +6,9 @@ use Rattle.text.proofs.Decimals.{value-grows, value-next, value-end, le
 use Rattle.text.proofs.Loops.{all-pass, all-fail, all-end}
 use Rattle.rules.specs.Decimal.{value-from}
 use Rattle.rules.specs.Names.{digit, all}
-use Prim.Native.Nat.{_≤_, _<_, _+_, _-_, _*_}
+use Prim.Native.Nat.{_≤_, _+_, _-_, _*_}
 use native.Mathlib.Omega.{arith}
-use mathlib.Core.Path.{_≡_, refl, ap, sym, _∙_}
+use mathlib.Core.Path.{_≡_, refl, sym, _∙_}
 use Rattle.text.proofs.decimal.number_up_to.Statement.{statement}
 use Rattle.text.proofs.decimal.number_up_to.Tie as tie
 use Rattle.text.proofs.decimal.number_up_to.Reads as reads

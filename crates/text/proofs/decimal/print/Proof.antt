@@ -3,10 +3,9 @@ use Rattle.text.specs.Printing.{written}
 use Rattle.rules.specs.Decimal.{decimal}
 use mathlib.Core.List.{_++_}
 use lib.ListN.{length, take, drop, length-set}
-use Prim.Native.Nat.{_≤_, _<_, _+_, _-_}
+use Prim.Native.Nat.{_≤_, _+_, _-_}
 use native.Mathlib.Omega.{arith}
-use native.Mathlib.Nat.{add-sub-cancel-left}
-use mathlib.Core.Path.{_≡_, refl, ap, sym, _∙_}
+use mathlib.Core.Path.{_≡_, refl}
 use Rattle.text.proofs.decimal.print.Statement.{statement}
 use Rattle.text.proofs.decimal.print.Tie as tie
 use Rattle.text.proofs.decimal.print.Reads as reads
