@@ -78,7 +78,7 @@ module _ (s : Text) (at : ℕ) where
     complete-three q =
         reads-three (complete-there s at f t n has-term ∙ ap (λ (o : Option (List Member)). o >>= λ ms. some (asks-complete (part-of f t s) ms)) (counted-not (members-at s (n .at)) q))
 
-    in-sheet : ((f ≤ t) × (t ≤ length s)) × (n .at ≤ length s)
+    in-sheet : ((f ≤ t) × (t < length s)) × (n .at ≤ length s)
     in-sheet = let k = has-term in ((k .ends .0, omega (arith, k .ends)), omega (arith, k .ends, k .after))
 
     module _ (count : ℕ) (q : Is count ≡ counted 0 (members-at s (n .at))) where

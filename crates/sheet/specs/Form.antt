@@ -1,5 +1,5 @@
 -- The kinds of sheet as the code reads them: what a form stands for, and the words that it needs. Definitions only.
-use Prim.Native.Nat.{ℕ, _+_, _*_, _≤_}
+use Prim.Native.Nat.{ℕ, _+_, _*_, _≤_, _<_}
 use mathlib.Core.Path.{_≡_}
 use mathlib.Core.Bool.{Bool, true, false}
 use mathlib.Core.Option.{Option, some, none}
@@ -54,7 +54,7 @@ sheet-of s (form.Complete t c) = members-at s (c .at) >>= λ ms. some (asks-comp
 sheet-of s form.Three = none
 
 abbrev pub Inside : Text → Place → Type 0
-Inside s p = (p .from ≤ p .to) × (p .to ≤ length s)
+Inside s p = (p .from ≤ p .to) × (p .to < length s)
 
 -- places and cursors stand in the sheet, fuel is at most 65,536
 abbrev pub Within : Text → Form → Type 0

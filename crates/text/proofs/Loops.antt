@@ -1,11 +1,6 @@
 -- What a loop over a slice needs of the lists: the rest from i is the element at i and the rest from i + 1; so for tests of all
-<<<<<<< HEAD
--- elements and for counts.
-use mathlib.Core.Path.{_≡_, refl}
-=======
 -- elements and for counts. Assumes nothing.
 use mathlib.Core.Path.{_≡_}
->>>>>>> bf0cc86eb71c5c9225b0f560f5daa513b848468f
 use mathlib.Core.List.{List, _∷_}
 use mathlib.Core.Bool.{Bool, true, false, _&&_, cond}
 use Prim.Native.Nat.{ℕ, _+_, _<_, _≤_}

@@ -1,14 +1,7 @@
-<<<<<<< HEAD
--- The test whether two texts are one, at a position of both.
-use Prim.Native.Nat.{ℕ, zero, suc, _+_, _*_, _<_, _≤_}
-use mathlib.Core.Path.{_≡_, refl, sym, ap, ap₂, subst, _∙_}
-use mathlib.Core.Bool.{Bool, true, false, cond, _&&_}
-=======
 -- The test whether two texts are one, at a position of both. Assumes nothing.
 use Prim.Native.Nat.{ℕ, suc, _+_, _<_, _≤_}
 use mathlib.Core.Path.{_≡_, refl, ap, ap₂, _∙_}
 use mathlib.Core.Bool.{Bool, true, false, _&&_}
->>>>>>> bf0cc86eb71c5c9225b0f560f5daa513b848468f
 use mathlib.Core.List.{List, [], _∷_}
 use lib.Dec.{eqb}
 use lib.ListN.{length, getD, drop}

@@ -1,5 +1,5 @@
 use borrow.Author.Needs.{needs}
-use Rattle.archive.proofs.Admitting.{three-unread, unread}
+use Rattle.archive.proofs.Admitting.{three-unread, unread, refuses-words, stands}
 use Rattle.archive.proofs.admission.admit_screened.Statement.{statement}
 use Rattle.archive.proofs.admission.admit_screened.Tie as tie
 use Rattle.archive.proofs.admission.admit_screened.Reads as reads
@@ -27,11 +27,15 @@ words-needed-requires c κs = search needs
 
 -- src/admission.rt:36:9
 returns-2 : tie.Need-returns-2
-returns-2 c = ?
+returns-2 c =
+    let b = c .before .before .before .before .before in
+    refuses-words (b .args .sheet .now) (b .args .words) (b .pre) (c .before .before .before .read-sheet .result) (c .before .before .before .read-sheet .ensures) (c .before .before .match .keys2) (c .before .words-needed .result) (c .before .words-needed .ensures) (c .if1 .taken)
 
 -- src/admission.rt:26:1
 returns-3 : tie.Need-returns-3
-returns-3 c = ?
+returns-3 c =
+    let b = c .before .before .before .before .before in
+    stands (b .args .sheet .now) (b .args .words) (b .pre) (c .before .before .before .read-sheet .result) (c .before .before .before .read-sheet .ensures) (c .before .before .match .keys2) (c .before .words-needed .result) (c .before .words-needed .ensures) (c .if1 .left)
 
 pub admit-screened-spec : {M : Type 1} → statement M
 admit-screened-spec =

@@ -17,7 +17,9 @@ enum-known-form : tie.Need-enum-known-form
 enum-known-form c = search needs
 
 part-requires : tie.Need-part-requires
-part-requires c κs = subst (Within (c .before .before .before .before .args .sheet .now)) (c .before .form .given .1) (c .before .before .before .before .pre .1) .0
+part-requires c κs =
+    let h = subst (Within (c .before .before .before .before .args .sheet .now)) (c .before .form .given .1) (c .before .before .before .before .pre .1) .0 in
+    (h .0, omega (arith, h .1))
 
 count-of-requires : tie.Need-count-of-requires
 count-of-requires c κs = search needs
