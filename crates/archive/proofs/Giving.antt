@@ -1,5 +1,5 @@
 -- What an answer that fits, one that does not, and none give.
-use mathlib.Core.Path.{_≡_, refl, sym, ap, _∙_}
+use mathlib.Core.Path.{_≡_, refl, sym, ap, subst, _∙_}
 use mathlib.Core.Option.{Option, some, none}
 use mathlib.Core.Bool.{true, false}
 use Prim.Native.Nat.{ℕ, _+_, _<_, _≤_}
@@ -12,6 +12,7 @@ use Rattle.rules.specs.Call.{Reply, refused, passed, refusal-number, written, o
 use Rattle.tree.specs.Output as Output
 use Rattle.tree.specs.Output.{Printed}
 use Rattle.archive.specs.Settling.{settles, Settles}
+use Rattle.archive.specs.declared.answers.Settled.{Settled}
 use Rattle.archive.specs.declared.answers.Settled.the-variants.{Written, Unreadable, Short}
 
 settles-fits : (a : Text) (room : ℕ) → length a ≤ room → settles (some a) room ≡ passed a
@@ -40,3 +41,6 @@ written-settles a out v n h p =
       count = p .end ∙ zero-add (length a) ∙ sym (ap written e);
       output = p .bytes ∙ rw (zero-add (length a)) (sym (ap (λ (z : Reply Text). overwritten z out) e));
     }
+
+pub settles-as : {o p : Option Text} {out v : Text} {r : Settled} → o ≡ p → Settles p out v r → Settles o out v r
+settles-as {out = out} {v = v} {r = r} e h = subst (λ (z : Option Text). Settles z out v r) (sym e) h

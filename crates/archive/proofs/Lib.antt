@@ -1,4 +1,6 @@
 pub mod Zeroing
 pub mod Giving
-pub mod Admitting
 pub mod Screening
+pub mod Admitting
+pub mod Equals
+pub mod KindLaws

@@ -5,7 +5,7 @@ use Prim.Native.Nat.{ℕ, zero, suc, _+_, _<_, _≤_}
 use native.Mathlib.Numerals.{add-one}
 use native.Mathlib.Omega.{arith}
 use lib.ListN.{length, getD, set, drop, replicate, length-append, length-replicate, length-drop, replicate-append-replicate}
-use lib.Seq.{drop-cons, set-at}
+use lib.Seq.{drop-cons, drop-at, set-at}
 use Rattle.archive.specs.Clearing.{zeroed}
 
 pub zeroed-next : (w : List ℕ) (i : ℕ) → i < length w → set (zeroed i w) i 0 ≡ zeroed (i + 1) w
@@ -18,3 +18,7 @@ zeroed-next w i h =
 
 pub zeroed-length : (w : List ℕ) (i : ℕ) → i ≤ length w → length (zeroed i w) ≡ length w
 zeroed-length w i h = simp (length-append, length-replicate, length-drop) (omega arith)
+
+-- other words before the rest make no difference
+pub zeroed-over : (n : ℕ) (v w : List ℕ) → length v ≡ n → zeroed n (v ++ drop n w) ≡ zeroed n w
+zeroed-over n v w h = ap (λ (l : List ℕ). replicate n 0 ++ l) (drop-at v (drop n w) n h)

@@ -1,3 +1,4 @@
 pub mod Clearing
 pub mod Settling
 pub mod Admission
+pub mod Answering

@@ -1,4 +1,68 @@
-// The call.
-pub mod admission;
-pub mod answers;
-pub mod clearing;
+// The call: a sheet, a work area and an output, all lent.
+pub mod admission; // admission.rt: refusals 1, 2, 3, 11
+pub mod answers; // answers.rt: answers written where they fit
+pub mod clearing; // clearing.rt: the work area set to zero
+pub mod kinds; // kinds.rt: one function for each kind
+
+use admission::Admitted;
+use admission::Refusal;
+use admission::admit;
+use answers::Settled;
+use clearing::clear;
+use kinds::settle;
+use sheet::form::Form;
+ghost use mathlib.Core.Path.{_≡_};
+ghost use Prim.Native.Nat.{_*_, _<_, _≤_};
+ghost use lib.ListN.{length};
+ghost use Rattle.sheet.specs.Form.{Within, sheet-of};
+ghost use Rattle.archive.specs.Settling.{settled-number, settled-count};
+ghost use Rattle.archive.specs.Clearing.{zeroed};
+ghost use Rattle.archive.specs.Answering.{SettlesForm, reply-number, reply-count, Answers};
+
+// The count of bytes written, or a refusal.
+pub enum Reply {
+    Written(usize),
+    Refused(Refusal),
+}
+
+// Settles a sheet that is admitted, and clears the words that it needed.
+fn settle_and_clear(
+    sheet: &[u8],
+    work: &mut [u32],
+    output: &mut [u8],
+    form: Form,
+    needed: usize,
+) -> Settled
+    requires { ⌜ (length (now sheet) ≤ 65536) × (4 * length (now sheet) < needed) × (needed ≤ length (now work)) ⌝ }
+    requires { ⌜ Within (now sheet) form ⌝ }
+    ensures { λ r. ⌜ SettlesForm (sheet-of (now (sheet .entry)) form) (now (output .entry)) (now (output .exit)) r ⌝ }
+    ensures { λ _. ⌜ now (work .exit) ≡ zeroed needed (now (work .entry)) ⌝ }
+{
+    let settled = settle(sheet, &mut work[..needed], output, form);
+    clear(work, needed);
+    settled
+}
+
+// The reply to a sheet that was settled.
+fn reply_of(settled: Settled) -> Reply
+    ensures { λ r. ⌜ (reply-number r ≡ settled-number settled) × (reply-count r ≡ settled-count settled) ⌝ }
+{
+    match settled {
+        Settled::Written(count) => Reply::Written(count),
+        Settled::Unreadable => Reply::Refused(Refusal::Unreadable),
+        Settled::Short => Reply::Refused(Refusal::Short),
+    }
+}
+
+// Answers a sheet.
+pub fn answer(sheet: &[u8], work: &mut [u32], output: &mut [u8]) -> Reply
+    ensures { λ r. ⌜ Answers (now (sheet .entry)) (now (work .entry)) (now (work .exit)) (now (output .entry)) (now (output .exit)) r ⌝ }
+{
+    let admitted = admit(sheet, work.len());
+    match admitted {
+        Admitted::Refused(refusal) => Reply::Refused(refusal),
+        Admitted::Sheet { form, needed } => {
+            reply_of(settle_and_clear(sheet, work, output, form, needed))
+        }
+    }
+}

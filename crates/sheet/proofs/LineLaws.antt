@@ -172,7 +172,7 @@ Unkeyed key none = Unit
 Unkeyed key (some []) = Unit
 Unkeyed key (some (l ∷ ls)) = after-key key l ≡ none
 
-drop-take : (n m : ℕ) (l : Text) → drop n (take m l) ≡ take (m - n) (drop n l)
+pub drop-take : (n m : ℕ) (l : Text) → drop n (take m l) ≡ take (m - n) (drop n l)
 drop-take zero m l = let e : m ≡ m - 0 = omega arith in ap (λ (i : ℕ). take i l) e
 drop-take (suc n) zero l = let e : 0 - suc n ≡ 0 = omega arith in sym (ap (λ (i : ℕ). take i (drop (suc n) l)) e)
 drop-take (suc n) (suc m) [] = sym (take-nil (suc m - suc n))

@@ -36,11 +36,11 @@ loop-again : tie.Need-loop-again Inv-loop μ-loop
 loop-again c =
     let l = c .before in
     let w = l .before .args .work .now in
-    let h : l .loop .i < length w = omega arith in
-    ( omega arith
-    , l .loop .inv .1
-    , simp length-set (l .loop .inv .2)
-    , ap (λ (v : List ℕ). set v (l .loop .i) 0) (l .loop .inv .3) ∙ zeroed-next w (l .loop .i) h
+    let h : l .loop .i < length w = omega arith in (
+      omega arith,
+      l .loop .inv .1,
+      simp length-set (l .loop .inv .2),
+      ap (λ (v : List ℕ). set v (l .loop .i) 0) (l .loop .inv .3) ∙ zeroed-next w (l .loop .i) h,
     )
 
 same-length : tie.Need-same-length Inv-loop μ-loop

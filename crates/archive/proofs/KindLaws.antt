@@ -1,0 +1,82 @@
+-- A sheet that was read as a form is settled by what its kind's function gives.
+use mathlib.Core.Path.{_≡_, refl, sym, subst, ap, _∙_}
+use mathlib.Core.List.{List, [], _∷_}
+use mathlib.Core.Option.{Option, some, none}
+use Prim.Native.Nat.{ℕ, _*_, _<_}
+use lib.ListN.{length}
+use native.Mathlib.Omega.{arith}
+use denote.Enum.Declared.{tagOf}
+use types.Run.{OneOf, miss}
+use Rattle.rules.specs.Bytes.{Text}
+use Rattle.rules.specs.Sheet.{Sheet, asks-equal, asks-reduce, words-needed}
+use Rattle.rules.specs.Answer.{answer-of}
+use Rattle.rules.specs.Call.{Reply, refused, admitted, refusal-number, written, overwritten, cleared, work-after}
+use Rattle.sheet.specs.Form.{text-of, sheet-of}
+use Rattle.sheet.specs.declared.Place.{Place}
+use Rattle.sheet.specs.declared.form.Form.{Form}
+use Rattle.sheet.specs.declared.form.Form.the-variants as form
+use Rattle.sheet.proofs.form.Form.{the-type}
+use Rattle.sheet.proofs.WalkLaws.{unify-pairs, match-pairs, cover-parts, sound-member, complete-members}
+use Rattle.archive.specs.Clearing.{zeroed}
+use Rattle.archive.specs.Settling.{settles, settled-number, settled-count, Settles}
+use Rattle.archive.specs.Admission.{refusal-code, Stands}
+use Rattle.archive.specs.Answering.{answer-now, SettlesForm, call-now, reply-number, reply-count, Answers}
+use Rattle.archive.specs.declared.Reply as code
+use Rattle.archive.specs.declared.Reply.the-variants as reply
+use Rattle.archive.specs.declared.admission.Refusal.{Refusal}
+use Rattle.archive.specs.declared.answers.Settled.{Settled}
+use Rattle.archive.specs.declared.answers.Settled.the-variants.{Unreadable}
+use Rattle.archive.proofs.Giving.{settles-as, unreadable-settles}
+
+pub equal-settled : (s : Text) (l r : Place) (f : Form) {out v : Text} {x : Settled} → f ≡ form.Equal l r
+    → Settles (answer-of (asks-equal (text-of s l) (text-of s r))) out v x → SettlesForm (sheet-of s f) out v x
+unfolding sheet-of answer-now
+equal-settled s l r f {out} {v} {x} e h sheet g =
+    let z : asks-equal (text-of s l) (text-of s r) ≡ sheet = cc (ap (sheet-of s) e) in
+    subst (λ (t : Sheet). Settles (answer-now t) out v x) z h
+
+-- the kinds that are not answered yet
+not-now : (s : Text) (f : Form) (sheet : Sheet) → OneOf (1 ∷ 2 ∷ 3 ∷ 4 ∷ 5 ∷ 6 ∷ 7 ∷ []) (tagOf the-type f) → sheet-of s f ≡ some sheet → answer-now sheet ≡ none
+unfolding sheet-of answer-now
+not-now s (form.Equal l r) sheet h e = absurd (miss (1 ∷ 2 ∷ 3 ∷ 4 ∷ 5 ∷ 6 ∷ 7 ∷ []) 0 tt h)
+not-now s (form.Unify fuel c) sheet h e = ap answer-now (unify-pairs s fuel c sheet e .1)
+not-now s (form.Match fuel c) sheet h e = ap answer-now (match-pairs s fuel c sheet e .1)
+not-now s (form.Reduce t) sheet h e = let z : sheet ≡ asks-reduce (text-of s t) = cc in ap answer-now z
+not-now s (form.Cover c d) sheet h e = ap answer-now (cover-parts s c d sheet e .3)
+not-now s (form.Sound t c) sheet h e = ap answer-now (sound-member s t c sheet e .1)
+not-now s (form.Complete t c) sheet h e = ap answer-now (complete-members s t c sheet e .1)
+not-now s form.Three sheet h e = let z : _≡_ {A = ℕ} 0 1 = cc in absurd (omega arith)
+
+pub other-settled : (s : Text) (f : Form) (out : Text) → OneOf (1 ∷ 2 ∷ 3 ∷ 4 ∷ 5 ∷ 6 ∷ 7 ∷ []) (tagOf the-type f) → SettlesForm (sheet-of s f) out out Unreadable
+other-settled s f out h sheet e = settles-as (not-now s f sheet h e) (unreadable-settles out)
+
+-- the whole call, by what was admitted and settled
+module _ (s : Text) (w : List ℕ) (out : Text) where
+  pub refused-answers : (x : Refusal) → admitted s (length w) ≡ refused (refusal-code x) → Answers s w w out out (reply.Refused x)
+  unfolding call-now work-after
+  refused-answers x e =
+      let f : call-now s (length w) (length out) ≡ refused (refusal-code x) = rw e in
+      record {
+        number = sym (ap refusal-number f);
+        count = sym (ap written f);
+        output = sym (ap (λ (z : Reply Text). overwritten z out) f);
+        work = sym (ap (λ (z : Reply Sheet). cleared s z w) e);
+      }
+
+  module _ (f : Form) (needed : ℕ) (a : Stands s (length w) f needed) where
+    pub roomy : 4 * length s < needed
+    unfolding words-needed
+    roomy = omega (arith, a .need)
+
+    pub settled-answers : (v : List ℕ) (after : Text) (x : Settled) (r : code.Reply) → SettlesForm (sheet-of s f) out after x → v ≡ zeroed needed w
+        → (reply-number r ≡ settled-number x) × (reply-count r ≡ settled-count x) → Answers s w v out after r
+    unfolding call-now work-after
+    settled-answers v after x r h z q =
+        let k = h (a .sheet) (a .decodes) in
+        let g : call-now s (length w) (length out) ≡ settles (answer-now (a .sheet)) (length out) = rw (a .passes) in
+        record {
+          number = q .0 ∙ k .number ∙ sym (ap refusal-number g);
+          count = q .1 ∙ k .count ∙ sym (ap written g);
+          output = k .output ∙ sym (ap (λ (y : Reply Text). overwritten y out) g);
+          work = z ∙ ap (λ (n : ℕ). zeroed n w) (a .need) ∙ sym (ap (λ (y : Reply Sheet). cleared s y w) (a .passes));
+        }
