@@ -58,7 +58,7 @@ module _ (s : Text) (w : List ℕ) (out : Text) where
       let f : call-now s (length w) (length out) ≡ refused (refusal-code x) = rw e in
       record {
         number = sym (ap refusal-number f);
-        count = sym (ap written f);
+        written-is = sym (ap written f);
         output = sym (ap (λ (z : Reply Text). overwritten z out) f);
         work = sym (ap (λ (z : Reply Sheet). cleared s z w) e);
       }
@@ -76,7 +76,7 @@ module _ (s : Text) (w : List ℕ) (out : Text) where
         let g : call-now s (length w) (length out) ≡ settles (answer-now (a .sheet)) (length out) = rw (a .passes) in
         record {
           number = q .0 ∙ k .number ∙ sym (ap refusal-number g);
-          count = q .1 ∙ k .count ∙ sym (ap written g);
+          written-is = q .1 ∙ k .count ∙ sym (ap written g);
           output = k .output ∙ sym (ap (λ (y : Reply Text). overwritten y out) g);
           work = z ∙ ap (λ (n : ℕ). zeroed n w) (a .need) ∙ sym (ap (λ (y : Reply Sheet). cleared s y w) (a .passes));
         }

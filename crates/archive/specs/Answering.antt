@@ -44,9 +44,12 @@ abbrev pub reply-count : code.Reply → ℕ
 reply-count (reply.Written n) = n
 reply-count (reply.Refused x) = 0
 
--- what the call gives, and every byte of the output and every word of the work area after it
-pub record Answers (s : Text) (w v : List ℕ) (out after : Text) (r : code.Reply) : Type 0 where
-  pub number : reply-number r ≡ refusal-number (call-now s (length w) (length out))
-  pub count : reply-count r ≡ written (call-now s (length w) (length out))
+-- what the call gives, as 01's two numbers, and every byte of the output and every word of the work area after it
+pub record Calls (s : Text) (w v : List ℕ) (out after : Text) (refusal count : ℕ) : Type 0 where
+  pub number : refusal ≡ refusal-number (call-now s (length w) (length out))
+  pub written-is : count ≡ written (call-now s (length w) (length out))
   pub output : after ≡ overwritten (call-now s (length w) (length out)) out
   pub work : v ≡ work-after s w
+
+abbrev pub Answers : Text → List ℕ → List ℕ → Text → Text → code.Reply → Type 0
+Answers s w v out after r = Calls s w v out after (reply-number r) (reply-count r)

@@ -17,7 +17,8 @@ ghost use lib.ListN.{length};
 ghost use Rattle.sheet.specs.Form.{Within, sheet-of};
 ghost use Rattle.archive.specs.Settling.{settled-number, settled-count};
 ghost use Rattle.archive.specs.Clearing.{zeroed};
-ghost use Rattle.archive.specs.Answering.{SettlesForm, reply-number, reply-count, Answers};
+ghost use Rattle.archive.specs.Answering.{SettlesForm, reply-number, reply-count, Answers, Calls};
+ghost use Rattle.archive.specs.Admission.{refusal-code};
 
 // The count of bytes written, or a refusal.
 pub enum Reply {
@@ -65,4 +66,50 @@ pub fn answer(sheet: &[u8], work: &mut [u32], output: &mut [u8]) -> Reply
             reply_of(settle_and_clear(sheet, work, output, form, needed))
         }
     }
+}
+
+// What the exported call gives: the refusal's number, 0 for none, and the count of bytes written.
+#[repr(C)]
+pub struct Called {
+    pub refusal: u32,
+    pub written: usize,
+}
+
+// The number of a refusal.
+fn number_of(refusal: Refusal) -> u32
+    ensures { λ r. ⌜ r ≡ refusal-code refusal ⌝ }
+{
+    match refusal {
+        Refusal::Long => 1,
+        Refusal::Foreign => 2,
+        Refusal::Lines => 3,
+        Refusal::Words => 11,
+        Refusal::Unreadable => 4,
+        Refusal::Short => 12,
+    }
+}
+
+// A reply as two numbers.
+fn numbers_of(reply: Reply) -> Called
+    ensures { λ r. ⌜ (r .refusal ≡ reply-number reply) × (r .written ≡ reply-count reply) ⌝ }
+{
+    match reply {
+        Reply::Written(count) => Called {
+            refusal: 0,
+            written: count,
+        },
+        Reply::Refused(refusal) => Called {
+            refusal: number_of(refusal),
+            written: 0,
+        },
+    }
+}
+
+// `answer`, for C: each slice is a pointer and a length.
+#[no_mangle]
+pub extern "C" fn yukhtsami_answer(sheet: &[u8], work: &mut [u32], output: &mut [u8]) -> Called
+    ensures { λ r. ⌜ Calls (now (sheet .entry)) (now (work .entry)) (now (work .exit)) (now (output .entry)) (now (output .exit)) (r .refusal) (r .written) ⌝ }
+{
+    let reply = answer(sheet, work, output);
+    numbers_of(reply)
 }
