@@ -82,6 +82,13 @@ pub data Proper (s : Text) : List Item → Type 0 where
   commas : {is : List Item} → Proper s is → Proper s (comma ∷ is)
   names : {x : ℕ} {is : List Item} → Named s x → Proper s is → Proper s (name x ∷ is)
 
+-- the text of a place
+pub place-text : (s : Text) (f t : ℕ) → f < t → t < 65536 → word-text s (place f t) ≡ take (t - f) (drop f s)
+place-text s f t a b =
+    let m : place f t % 65536 ≡ t - f = omega arith in
+    let d : place f t / 65536 ≡ f = omega arith in
+    text-place s (place f t) (λ e. omega arith) ∙ rw (m, d)
+
 -- a place of the front of a text is one of the text
 part-of-front : (to f n : ℕ) (s : Text) → f + n ≤ to → to ≤ length s → take n (drop f (take to s)) ≡ take n (drop f s)
 part-of-front to f n s p q =
@@ -98,10 +105,7 @@ part-of-front to f n s p q =
 
 module _ (s : Text) (to : ℕ) (fits : to ≤ length s) (small : to < 65536) where
   name-text : (f t : ℕ) → f < t → t ≤ to → word-text s (place f t) ≡ take (t - f) (drop f (take to s))
-  name-text f t a b =
-      let m : place f t % 65536 ≡ t - f = omega arith in
-      let d : place f t / 65536 ≡ f = omega arith in
-      text-place s (place f t) (λ e. omega arith) ∙ rw (m, d) (sym (part-of-front to f (t - f) s (omega arith) fits))
+  name-text f t a b = place-text s f t a (omega arith) ∙ sym (part-of-front to f (t - f) s (omega arith) fits)
 
   pub name-named : (at f t : ℕ) → Names (take to s) at f t → Named s (place f t)
   name-named at f t e =

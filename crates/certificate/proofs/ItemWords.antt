@@ -34,10 +34,6 @@ inner-append (a ∷ l) [] p q = absurd q
 inner-append (a ∷ []) (b ∷ m) p q = refl
 inner-append (a ∷ (c ∷ l)) (b ∷ m) p q = ap (λ (r : List ℕ). a ++ (2883584 ∷ r)) (inner-append (c ∷ l) (b ∷ m) tt tt) ∙ sym (append-assoc a (2883584 ∷ inner (c ∷ l)) (2883584 ∷ inner (b ∷ m)))
 
-some-append : (l m : List (List ℕ)) → Some l → Some (l ++ m)
-some-append [] m p = absurd p
-some-append (a ∷ l) m p = tt
-
 headed-some : (x : ℕ) (l : List (List ℕ)) → Some l → headed x l ≡ x ∷ (2621440 ∷ (inner l ++ (2686976 ∷ [])))
 unfolding headed
 headed-some x [] p = absurd p

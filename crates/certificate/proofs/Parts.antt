@@ -1,11 +1,10 @@
 -- A part of a part of a list. Assumes nothing.
-use Prim.Native.Nat.{ℕ, zero, suc, _+_, _-_, _<_, _≤_}
+use Prim.Native.Nat.{ℕ, _+_, _<_, _≤_}
 use mathlib.Core.Path.{_≡_, refl, sym, ap, ap₂, _∙_}
-use mathlib.Core.List.{List, [], _∷_, _++_}
-use lib.ListN.{length, getD, take, drop, set, length-append, length-take, length-drop, length-set, drop-of-length-le}
-use lib.Seq.{slice, slice-cons, slice-empty, length-slice, getD-take, getD-drop, ext-getD, take-suc-set, drop-append-le, take-nil, take-take, take-all, take-append-le, length-take-le, drop-drop, take-add, getD-set-other, getD-set-same}
+use mathlib.Core.List.{List}
+use lib.ListN.{length, getD, take, drop, length-drop, drop-of-length-le}
+use lib.Seq.{slice, slice-empty, length-slice, getD-take, getD-drop, ext-getD, take-nil, take-all, length-take-le, drop-drop}
 use native.Mathlib.Omega.{arith}
-use native.Mathlib.Numerals.{add-one}
 
 -- a part of a part
 module _ (base lim : ℕ) (w : List ℕ) (p : base ≤ lim) (q : lim ≤ length w) (a n : ℕ) where
@@ -33,7 +32,3 @@ module _ (base lim : ℕ) (w : List ℕ) (p : base ≤ lim) (q : lim ≤ length 
   part-past k l e =
       ap (take n) (drop-drop a base (take lim w) ∙ drop-of-length-le (take lim w) {i = base + a} (omega (arith, length-take-le lim w q))) ∙ take-nil n
       ∙ sym (ap (λ (k : ℕ). slice lim k w) e ∙ slice-empty lim w)
-
--- no part
-pub slice-none : (f t : ℕ) (w : List ℕ) → t ≤ f → slice f t w ≡ []
-slice-none f t w p = drop-of-length-le (take t w) {i = f} (let k = length-take t w in omega arith)

@@ -22,11 +22,12 @@ use Rattle.text.specs.Sorting.{Wrote}
 use Rattle.text.proofs.Slices.{slice-same, slice-join, slice-none}
 use Rattle.certificate.specs.Texts.{Token, Tokens}
 use Rattle.certificate.specs.Items.{Item, begin, shut, comma, name, place, before, items-by, items-at, Mode, wanting, naming, having, emits, adds, in-sum, opening, bracket, closing, write, writes, brackets, written}
-use Rattle.certificate.specs.Writer.{Opened, Closed, Kept, Done}
+use Rattle.certificate.specs.Writer.{Opened, Closed, Kept, Done, Outcome, finished}
+use Rattle.certificate.specs.declared.writer.Written.{Written}
 use Rattle.certificate.proofs.Settling.{Each, none as no-words, more as more-words, each-at, slice-at}
 use Rattle.certificate.proofs.ItemTokens.{items-is}
 use Rattle.certificate.proofs.ItemWords.{emits-emits}
-use Rattle.certificate.proofs.WriterSteps.{no-bracket, last-bracket, brackets-kept, wrote-one}
+use Rattle.certificate.proofs.WriterSteps.{no-bracket, last-bracket, brackets-kept, wrote-one, opening-short}
 use Rattle.certificate.proofs.WriterTurns.{name-on, begin-on, shut-on, comma-on, off, wanting-off, having-off, naming-on}
 
 -- the words from base to `out` are written, and what follows is the rest of the whole
@@ -89,11 +90,6 @@ closing-tokens : (s : List ℕ) (b : Bool) → Each (Token s) (cond b [] (268697
 closing-tokens s true = no-words
 closing-tokens s false = more-words (code-token s 2686976 (omega arith)) no-words
 
-opening-short : (a b : Bool) (x : ℕ) → length (opening a b x) ≤ 2
-opening-short true true x = omega arith
-opening-short true false x = omega arith
-opening-short false b x = omega arith
-
 closing-short : (b : Bool) → length {A = ℕ} (cond b [] (2686976 ∷ [])) ≤ 1
 closing-short true = omega arith
 closing-short false = omega arith
@@ -123,9 +119,6 @@ module _ (s w : List ℕ) (from to base stack : ℕ) (start : from ≤ to) (fits
       emits-none (some l) = refl
 
   module _ (v : List ℕ) (at depth out : ℕ) (m : Mode) (h : State v at depth out m) where
-    ahead : Option (List ℕ)
-    ahead = writes s (items-at (take to s) at) m (brackets v stack depth)
-
     -- a turn writes l
     moved : (v₁ : List ℕ) (at₁ depth₁ out₁ : ℕ) (m₁ : Mode) (l : List ℕ) → length v₁ ≡ length v → ((p : ℕ) → p < out → getD v₁ p 0 ≡ getD v p 0) → ((p : ℕ) → stack + (to - from) ≤ p → getD v₁ p 0 ≡ getD v p 0)
         → slice out out₁ v₁ ≡ l → Each (Token s) l → out₁ ≡ out + length l → from ≤ at₁ → at₁ ≤ to → out₁ + from ≤ base + at₁ → depth₁ + from ≤ at₁
@@ -280,40 +273,36 @@ module _ (s w : List ℕ) (from to base stack : ℕ) (start : from ≤ to) (fits
         let cs = brackets v stack depth in
         none-ahead wanting h (ap (λ (o : Option (List Item)). writes s o wanting cs) (items-is (take to s) at e r refl) ∙ wanting-off s (items-at (take to s)) cs r k)
 
-    pub no-delimiter : State v at depth out having → {r : Symbol} → r ≡ symbol-at (take to s) at → OneOf (0 ∷ 3 ∷ 5 ∷ []) (tagOf the-type r) → written s (take to s) from ≡ none
-    no-delimiter h {r} e k =
-        let cs = brackets v stack depth in
-        none-ahead having h (ap (λ (o : Option (List Item)). writes s o having cs) (items-is (take to s) at e r refl) ∙ having-off s (items-at (take to s)) cs r k)
-
-    pub comma-out : State v at depth out having → {r : Symbol} (t : ℕ) → r ≡ symbol-at (take to s) at → r ≡ Comma t → depth ≡ 0 → written s (take to s) from ≡ none
-    unfolding write
-    comma-out h t e₁ e₂ d =
+    pub no-delimiter : State v at depth out having → {r : Symbol} → r ≡ symbol-at (take to s) at → OneOf (0 ∷ 3 ∷ 4 ∷ 5 ∷ []) (tagOf the-type r) → (depth ≡ 0 → ⊥) → written s (take to s) from ≡ none
+    no-delimiter h {r} e k d =
+        let c = getD v (stack + (depth - 1)) 0 in
+        let cs = brackets v stack (depth - 1) in
         none-ahead having h
-        (ap₂ (λ (o : Option (List Item)) (cs : List ℕ). writes s o having cs) (items-is (take to s) at e₁ (Comma t) e₂) (no-bracket v stack depth d) ∙ off s comma having (items-at (take to s) t) [] (λ is. refl))
+        (ap₂ (λ (o : Option (List Item)) (cs : List ℕ). writes s o having cs) (items-is (take to s) at e r refl) (last-bracket v stack depth d) ∙ having-off s (items-at (take to s)) c cs r k)
 
-    pub shut-out : State v at depth out having → {r : Symbol} (t : ℕ) → r ≡ symbol-at (take to s) at → r ≡ Shut t → depth ≡ 0 → written s (take to s) from ≡ none
+    -- no bracket is open
+    pub finish-turn : State v at depth out having → {r : Symbol} → r ≡ symbol-at (take to s) at → depth ≡ 0 → {q : Written} → q ≡ finished r out → Outcome s v from to base q
     unfolding write
-    shut-out h t e₁ e₂ d =
-        none-ahead having h
-        (ap₂ (λ (o : Option (List Item)) (cs : List ℕ). writes s o having cs) (items-is (take to s) at e₁ (Shut t) e₂) (no-bracket v stack depth d) ∙ off s shut having (items-at (take to s) t) [] (λ is. refl))
+    finish-turn h {r} e d {q} g = subst (Outcome s v from to base) (sym g) (by r (ap₂ (λ (o : Option (List Item)) (cs : List ℕ). writes s o having cs) (items-is (take to s) at e r refl) (no-bracket v stack depth d)))
+      where
+        rest : ℕ → Option (List Item)
+        rest = items-at (take to s)
 
-    pub stop-out : State v at depth out having → {r : Symbol} → r ≡ symbol-at (take to s) at → r ≡ Stop → (depth ≡ 0 → ⊥) → written s (take to s) from ≡ none
-    unfolding write
-    stop-out h e₁ e₂ d =
-        none-ahead having h (ap₂ (λ (o : Option (List Item)) (cs : List ℕ). writes s o having cs) (items-is (take to s) at e₁ Stop e₂) (last-bracket v stack depth d))
-
-    pub stop-done : State v at depth out having → {r : Symbol} → r ≡ symbol-at (take to s) at → r ≡ Stop → depth ≡ 0 → Done s v from to base out
-    unfolding write
-    stop-done h e₁ e₂ d =
-        let hr = h .room in
-        let hi = h .inside in
-        record {
-          low = h .low;
-          room = omega arith;
-          words = sym (h .whole) ∙ ap (emits (slice base out v)) (ap₂ (λ (o : Option (List Item)) (cs : List ℕ). writes s o having cs) (items-is (take to s) at e₁ Stop e₂) (no-bracket v stack depth d))
-              ∙ ap some (append-nil (slice base out v));
-          tokens = h .tokens;
-        }
+        by : (r : Symbol) → writes s (items-at (take to s) at) having (brackets v stack depth) ≡ writes s (items-by r rest) having [] → Outcome s v from to base (finished r out)
+        by (Begin t) a = none-ahead having h (a ∙ off s begin having (rest t) [] (λ is. refl))
+        by (Shut t) a = none-ahead having h (a ∙ off s shut having (rest t) [] (λ is. refl))
+        by (Comma t) a = none-ahead having h (a ∙ off s comma having (rest t) [] (λ is. refl))
+        by (Name f t) a = none-ahead having h (a ∙ off s (name (place f t)) having (rest t) [] (λ is. refl))
+        by Stop a =
+            let hr = h .room in
+            let hi = h .inside in
+            record {
+              low = h .low;
+              room = omega arith;
+              words = sym (h .whole) ∙ ap (emits (slice base out v)) a ∙ ap some (append-nil (slice base out v));
+              tokens = h .tokens;
+            }
+        by Bad a = none-ahead having h a
 
     -- ---- there is room
 

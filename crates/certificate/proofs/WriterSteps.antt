@@ -15,7 +15,7 @@ use Rattle.text.proofs.Slices.{slice-none, slice-set, slice-same}
 use Rattle.certificate.specs.Texts.{word-text}
 use Rattle.certificate.specs.Items.{place, adds, in-sum, opening, bracket, closing, brackets}
 use Rattle.certificate.specs.Writer.{Opened, Closed}
-use Rattle.certificate.proofs.WordTexts.{text-place}
+use Rattle.certificate.proofs.ItemTokens.{place-text}
 
 -- ---- words written
 
@@ -67,31 +67,25 @@ brackets-kept w v stack (suc d) h = ap₂ (λ (c : ℕ) (cs : List ℕ). c ∷ c
 
 -- ---- names
 
-pub place-text : (s : Text) (f t : ℕ) → f < t → t < 65536 → word-text s (place f t) ≡ take (t - f) (drop f s)
-place-text s f t a b =
-    let m : place f t % 65536 ≡ t - f = omega arith in
-    let d : place f t / 65536 ≡ f = omega arith in
-    text-place s (place f t) (λ e. omega arith) ∙ rw (m, d)
-
 pub adds-is : (s : Text) (f t : ℕ) → f < t → t < 65536 → same (take (t - f) (drop f s)) tamtplus ≡ adds s (place f t)
 unfolding adds
 adds-is s f t a b = sym (ap (λ (n : Text). same n tamtplus) (place-text s f t a b))
 
 -- ---- a name and its bracket
 
+pub opening-short : (a b : Bool) (x : ℕ) → length (opening a b x) ≤ 2
+opening-short true true x = omega arith
+opening-short true false x = omega arith
+opening-short false b x = omega arith
+
 module _ (s : Text) (w v : List ℕ) (stack depth out x r : ℕ) (room : out + 2 ≤ stack) (fits : stack + depth < length w) where
   abbrev words : List ℕ
   words = opening (adds s x) (in-sum (brackets w stack depth)) x
 
-  short : (a b : Bool) → length (opening a b x) ≤ 2
-  short true true = omega arith
-  short true false = omega arith
-  short false b = omega arith
-
   pub opened-is : Wrote w v out (opening (adds s x) (in-sum (brackets w stack depth)) x) → r ≡ out + length (opening (adds s x) (in-sum (brackets w stack depth)) x) → (c : ℕ) → c ≡ bracket (adds s x) (in-sum (brackets w stack depth))
       → Opened s w (set v (stack + depth) c) stack depth out x r
   opened-is h e c f =
-      let n = short (adds s x) (in-sum (brackets w stack depth)) in
+      let n = opening-short (adds s x) (in-sum (brackets w stack depth)) x in
       let lv = h .len in
       let k : out + length words ≤ out + 2 = omega arith in
       let lc = length-set v (stack + depth) c in

@@ -19,7 +19,8 @@ use Rattle.syntax.specs.declared.Symbol.the-variants.{Begin, Shut, Comma, Name,
 use Rattle.syntax.proofs.Symbol.{the-type}
 use Rattle.syntax.proofs.SymbolLaws.{Marks, Names, Means, means-is}
 use Rattle.certificate.specs.Items.{Item, begin, shut, comma, name, place, before, items-by, items-at, Mode, wanting, naming, having, emits, adds, in-sum, opening, bracket, closing, write, writes, brackets, written}
-use Rattle.certificate.proofs.ItemTokens.{items-is}
+use Rattle.certificate.specs.Writer.{finished}
+use Rattle.certificate.specs.declared.writer.Written.the-variants.{Unreadable}
 
 -- ---- what is written from an item on
 
@@ -61,15 +62,15 @@ module _ (s : Text) where
   wanting-off f cs Stop h = refl
   wanting-off f cs Bad h = refl
 
-  -- a symbol other than a comma, a closing bracket or the end, after a term
-  pub having-off : (f : ℕ → Option (List Item)) (cs : List ℕ) (q : Symbol) → OneOf (0 ∷ 3 ∷ 5 ∷ []) (tagOf the-type q) → writes s (items-by q f) having cs ≡ none
+  -- a symbol other than a comma and a closing bracket, inside a list
+  pub having-off : (f : ℕ → Option (List Item)) (c : ℕ) (cs : List ℕ) (q : Symbol) → OneOf (0 ∷ 3 ∷ 4 ∷ 5 ∷ []) (tagOf the-type q) → writes s (items-by q f) having (c ∷ cs) ≡ none
   unfolding write
-  having-off f cs (Begin t) h = off begin having (f t) cs (λ is. refl)
-  having-off f cs (Shut t) h = absurd (⊎-elim (λ a. omega arith) (⊎-elim (λ a. omega arith) (λ a. omega arith)) h)
-  having-off f cs (Comma t) h = absurd (⊎-elim (λ a. omega arith) (⊎-elim (λ a. omega arith) (λ a. omega arith)) h)
-  having-off f cs (Name a t) h = off (name (place a t)) having (f t) cs (λ is. refl)
-  having-off f cs Stop h = absurd (⊎-elim (λ a. omega arith) (⊎-elim (λ a. omega arith) (λ a. omega arith)) h)
-  having-off f cs Bad h = refl
+  having-off f c cs (Begin t) h = off begin having (f t) (c ∷ cs) (λ is. refl)
+  having-off f c cs (Shut t) h = absurd (⊎-elim (λ a. omega arith) (⊎-elim (λ a. omega arith) (⊎-elim (λ a. omega arith) (λ a. omega arith))) h)
+  having-off f c cs (Comma t) h = absurd (⊎-elim (λ a. omega arith) (⊎-elim (λ a. omega arith) (⊎-elim (λ a. omega arith) (λ a. omega arith))) h)
+  having-off f c cs (Name a t) h = off (name (place a t)) having (f t) (c ∷ cs) (λ is. refl)
+  having-off f c cs Stop h = refl
+  having-off f c cs Bad h = refl
 
   -- a name that no bracket follows is a term
   alone : (i : Item) (x : ℕ) (o : Option (List Item)) (cs : List ℕ) → ((is : List Item) → write s (i ∷ is) (naming x) cs ≡ emits (x ∷ []) (write s (i ∷ is) having cs))
@@ -97,3 +98,13 @@ module _ (s : Text) where
   naming-on f x cs (Name a t) h = alone (name (place a t)) x (f t) cs (λ is. refl)
   naming-on f x cs Stop h = refl
   naming-on f x cs Bad h = refl
+
+-- a symbol other than the end
+pub finished-other : (out : ℕ) (q : Symbol) → OneOf (0 ∷ 1 ∷ 2 ∷ 3 ∷ 5 ∷ []) (tagOf the-type q) → Unreadable ≡ finished q out
+finished-other out (Begin t) h = refl
+finished-other out (Shut t) h = refl
+finished-other out (Comma t) h = refl
+finished-other out (Name f t) h = refl
+finished-other out Stop h =
+    absurd (⊎-elim (λ a. omega arith) (⊎-elim (λ a. omega arith) (⊎-elim (λ a. omega arith) (⊎-elim (λ a. omega arith) (λ a. omega arith)))) h)
+finished-other out Bad h = refl

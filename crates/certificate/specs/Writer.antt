@@ -7,6 +7,8 @@ use lib.ListN.{length, getD, take}
 use lib.Seq.{slice}
 use Rattle.rules.specs.Bytes.{Text}
 use Rattle.text.specs.Sorting.{Wrote}
+use Rattle.syntax.specs.declared.Symbol.{Symbol}
+use Rattle.syntax.specs.declared.Symbol.the-variants.{Begin, Shut, Comma, Name, Stop, Bad}
 use Rattle.certificate.specs.Texts.{Tokens}
 use Rattle.certificate.specs.Items.{adds, in-sum, opening, bracket, closing, brackets, written}
 use Rattle.certificate.specs.declared.writer.Written.{Written}
@@ -39,6 +41,15 @@ pub record Done (s v : List ℕ) (from to base end : ℕ) : Type 0 where
   pub room : end + from ≤ base + to
   pub words : written s (take to s) from ≡ some (slice base end v)
   pub tokens : Tokens s v base end
+
+-- what a text is once no bracket is open
+abbrev pub finished : Symbol → ℕ → Written
+finished (Begin to) out = Unreadable
+finished (Shut to) out = Unreadable
+finished (Comma to) out = Unreadable
+finished (Name from to) out = Unreadable
+finished Stop out = Words out
+finished Bad out = Unreadable
 
 abbrev pub Outcome : Text → List ℕ → ℕ → ℕ → ℕ → Written → Type 0
 Outcome s v from to base (Words end) = Done s v from to base end

@@ -4,7 +4,7 @@ ghost use Prim.Native.Nat.{_+_, _-_, _<_, _≤_};
 ghost use lib.ListN.{length, getD, take};
 ghost use Rattle.text.specs.Sorting.{Wrote};
 ghost use Rattle.certificate.specs.Items.{place, adds, in-sum, opening, bracket, closing, brackets};
-ghost use Rattle.certificate.specs.Writer.{Opened, Closed, Kept, Outcome};
+ghost use Rattle.certificate.specs.Writer.{Opened, Closed, Kept, Outcome, finished};
 use syntax::Symbol;
 
 // What became of a text: its words, up to the one that is answered, or no term.
@@ -112,6 +112,16 @@ fn close_list(work: &mut [u32], stack: usize, depth: usize, out: usize) -> usize
     put_closing(work, out, bracket)
 }
 
+// What a text is whose last bracket is closed: its words, if nothing follows.
+fn finished(next: Symbol, out: usize) -> Written
+    ensures { λ r. ⌜ r ≡ finished next out ⌝ }
+{
+    match next {
+        Symbol::Stop => Written::Words(out),
+        _ => Written::Unreadable,
+    }
+}
+
 // Writes the words of the text from `from` to `to` into the words from `base` on. The words from `stack` on, as many as the text has
 // bytes, hold the open brackets.
 pub fn write_text(
@@ -145,26 +155,17 @@ pub fn write_text(
         at = end;
         loop {
             let next = syntax::next_symbol(&sheet[..to], at);
+            if depth == 0 {
+                return finished(next, out);
+            }
             match next {
-                Symbol::Stop => {
-                    if depth == 0 {
-                        return Written::Words(out);
-                    }
-                    break 'term;
-                }
                 Symbol::Comma(past) => {
-                    if depth == 0 {
-                        break 'term;
-                    }
                     work[out] = 2883584;
                     out += 1;
                     at = past;
                     continue 'term;
                 }
                 Symbol::Shut(past) => {
-                    if depth == 0 {
-                        break 'term;
-                    }
                     depth -= 1;
                     out = close_list(work, stack, depth, out);
                     at = past;

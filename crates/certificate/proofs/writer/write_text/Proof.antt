@@ -1,7 +1,3 @@
-use lib.ListN.{length, take, set}
-use Rattle.certificate.proofs.WriterStates.{Writing, restart, resume, writing-starts, open-turn, name-turn, comma-turn, shut-turn, kept, no-name, no-delimiter, comma-out, shut-out, stop-out, stop-done, name-room, mark-room}
-use Rattle.certificate.proofs.WriterStates.{Writing, writing-starts, open-turn, name-turn, comma-turn, shut-turn, kept, no-name, no-delimiter, comma-out, shut-out, stop-out, stop-done, name-room, mark-room}
-use lib.Seq.{length-take-le}
 use Prim.Native.Nat.{_≤_, _<_, _+_, _-_}
 use mathlib.Core.Path.{_≡_, refl, sym, ap, _∙_}
 use native.Mathlib.Omega.{arith}
@@ -10,12 +6,14 @@ use lib.ListN.{length, take, set}
 use Rattle.syntax.specs.declared.Symbol.the-variants.{Begin, Shut, Comma, Name, Stop}
 use Rattle.syntax.proofs.SymbolLaws.{means-is}
 use Rattle.certificate.specs.Items.{wanting, having}
-use Rattle.certificate.proofs.WriterStates.{Writing, writing-starts, open-turn, name-turn, comma-turn, shut-turn, kept, no-name, no-delimiter, comma-out, shut-out, stop-out, stop-done}
+use Rattle.certificate.proofs.WriterStates.{Writing, restart, resume, writing-starts, open-turn, name-turn, comma-turn, shut-turn, kept, no-name, no-delimiter, finish-turn, name-room, mark-room}
+use lib.Seq.{length-take-le}
 use Rattle.certificate.proofs.writer.write_text.Statement.{statement}
 use Rattle.certificate.proofs.writer.write_text.Tie as tie
 use Rattle.certificate.proofs.writer.write_text.Reads as reads
 use Rattle.certificate.proofs.writer.write_text.Lts as lts
 use Rattle.certificate.proofs.writer.close_list.Reads as close-list-reads
+use Rattle.certificate.proofs.writer.finished.Reads as finished-reads
 use Rattle.certificate.proofs.writer.open_list.Reads as open-list-reads
 use Rattle.certificate.proofs.writer.place.Reads as place-reads
 use Rattle.syntax.proofs.next_symbol.Reads as next-symbol-reads
@@ -174,30 +172,30 @@ slice-aggregate-next-symbol-3 c =
 next-symbol-requires-3 : tie.Need-next-symbol-requires-3 Inv-loop μ-loop Inv-term μ-term
 next-symbol-requires-3 c κs = tt
 
-enum-told : tie.Need-enum-told Inv-loop μ-loop Inv-term μ-term
-enum-told c = search needs
+finished-requires : tie.Need-finished-requires Inv-loop μ-loop Inv-term μ-term
+finished-requires c κs = tt
 
 same-length : tie.Need-same-length Inv-loop μ-loop Inv-term μ-term
 same-length c =
-    let a = c .before .before .before .before .before .before .before .before .before .before .before .before .before .before .before .before .before .before .args in
-    let q = c .before .before .before .before .before .before .before .before .before .before .before .before .before .before .before .before .before .before .pre in
-    let t = c .before .before .before .before .before .before .before .before .before .before .before .before .before .before .before .term in
-    let f = c .before .before .before .before .before .before .before .before .before .before .before .first .given .0 .0 in
-    let e = c .before .before .before .before .before .before .before .before .before .before .before .first .given .0 .1 .0 in
-    let l = c .before .before .before .before .before .loop in
-    let h = resume (name-turn (a .sheet .now) (a .work .now) (a .from) (a .to) (a .base) (a .stack) (q .0) (q .1) (q .2) (q .3) (q .4) (t .work) (t .at) (t .depth) (t .out) (t .inv) f e (c .before .before .before .before .before .before .before .before .before .before .before .before .before .next-symbol .ensures) (c .before .before .before .before .before .before .before .before .before .before .before .first .given .1) (c .before .before .before .before .before .before .before .before .next-symbol2 .ensures) (c .before .before .before .before .before .before .before .match2 .keys2) (c .before .before .before .before .before .before .place .result) (c .before .before .before .before .before .before .place .ensures)) (l .inv .1) in
+    let a = c .before .before .before .before .before .before .before .before .before .before .before .before .before .before .before .before .before .args in
+    let q = c .before .before .before .before .before .before .before .before .before .before .before .before .before .before .before .before .before .pre in
+    let t = c .before .before .before .before .before .before .before .before .before .before .before .before .before .before .term in
+    let f = c .before .before .before .before .before .before .before .before .before .before .first .given .0 .0 in
+    let e = c .before .before .before .before .before .before .before .before .before .before .first .given .0 .1 .0 in
+    let l = c .before .before .before .before .loop in
+    let h = resume (name-turn (a .sheet .now) (a .work .now) (a .from) (a .to) (a .base) (a .stack) (q .0) (q .1) (q .2) (q .3) (q .4) (t .work) (t .at) (t .depth) (t .out) (t .inv) f e (c .before .before .before .before .before .before .before .before .before .before .before .before .next-symbol .ensures) (c .before .before .before .before .before .before .before .before .before .before .first .given .1) (c .before .before .before .before .before .before .before .next-symbol2 .ensures) (c .before .before .before .before .before .before .match2 .keys2) (c .before .before .before .before .before .place .result) (c .before .before .before .before .before .place .ensures)) (l .inv .1) in
     h .len
 
 returns : tie.Need-returns Inv-loop μ-loop Inv-term μ-term
 returns c =
-    let a = c .before .before .before .before .before .before .before .before .before .before .before .before .before .before .before .before .before .before .args in
-    let q = c .before .before .before .before .before .before .before .before .before .before .before .before .before .before .before .before .before .before .pre in
-    let t = c .before .before .before .before .before .before .before .before .before .before .before .before .before .before .before .term in
-    let f = c .before .before .before .before .before .before .before .before .before .before .before .first .given .0 .0 in
-    let e = c .before .before .before .before .before .before .before .before .before .before .before .first .given .0 .1 .0 in
-    let l = c .before .before .before .before .before .loop in
-    let h = resume (name-turn (a .sheet .now) (a .work .now) (a .from) (a .to) (a .base) (a .stack) (q .0) (q .1) (q .2) (q .3) (q .4) (t .work) (t .at) (t .depth) (t .out) (t .inv) f e (c .before .before .before .before .before .before .before .before .before .before .before .before .before .next-symbol .ensures) (c .before .before .before .before .before .before .before .before .before .before .before .first .given .1) (c .before .before .before .before .before .before .before .before .next-symbol2 .ensures) (c .before .before .before .before .before .before .before .match2 .keys2) (c .before .before .before .before .before .before .place .result) (c .before .before .before .before .before .before .place .ensures)) (l .inv .1) in
-    (kept (a .sheet .now) (a .work .now) (a .from) (a .to) (a .base) (a .stack) (q .0) (q .1) (q .2) (q .3) (q .4) (l .work) (l .at) (l .depth) (l .out) having h, stop-done (a .sheet .now) (a .work .now) (a .from) (a .to) (a .base) (a .stack) (q .0) (q .1) (q .2) (q .3) (q .4) (l .work) (l .at) (l .depth) (l .out) h (c .before .before .before .next-symbol3 .ensures) (c .before .enum-told .given .1) (c .if1 .taken))
+    let a = c .before .before .before .before .before .before .before .before .before .before .before .before .before .before .before .before .before .args in
+    let q = c .before .before .before .before .before .before .before .before .before .before .before .before .before .before .before .before .before .pre in
+    let t = c .before .before .before .before .before .before .before .before .before .before .before .before .before .before .term in
+    let f = c .before .before .before .before .before .before .before .before .before .before .first .given .0 .0 in
+    let e = c .before .before .before .before .before .before .before .before .before .before .first .given .0 .1 .0 in
+    let l = c .before .before .before .before .loop in
+    let h = resume (name-turn (a .sheet .now) (a .work .now) (a .from) (a .to) (a .base) (a .stack) (q .0) (q .1) (q .2) (q .3) (q .4) (t .work) (t .at) (t .depth) (t .out) (t .inv) f e (c .before .before .before .before .before .before .before .before .before .before .before .before .next-symbol .ensures) (c .before .before .before .before .before .before .before .before .before .before .first .given .1) (c .before .before .before .before .before .before .before .next-symbol2 .ensures) (c .before .before .before .before .before .before .match2 .keys2) (c .before .before .before .before .before .place .result) (c .before .before .before .before .before .place .ensures)) (l .inv .1) in
+    (kept (a .sheet .now) (a .work .now) (a .from) (a .to) (a .base) (a .stack) (q .0) (q .1) (q .2) (q .3) (q .4) (l .work) (l .at) (l .depth) (l .out) having h, finish-turn (a .sheet .now) (a .work .now) (a .from) (a .to) (a .base) (a .stack) (q .0) (q .1) (q .2) (q .3) (q .4) (l .work) (l .at) (l .depth) (l .out) h (c .before .before .next-symbol3 .ensures) (c .before .if1 .taken) (c .finished .ensures))
 
 enum-known-next : tie.Need-enum-known-next Inv-loop μ-loop Inv-term μ-term
 enum-known-next c = search needs
@@ -211,8 +209,8 @@ mul-work-2 c =
     let e = c .before .before .before .before .before .before .before .before .before .before .before .before .first .given .0 .1 .0 in
     let l = c .before .before .before .before .before .before .loop in
     let h = resume (name-turn (a .sheet .now) (a .work .now) (a .from) (a .to) (a .base) (a .stack) (q .0) (q .1) (q .2) (q .3) (q .4) (t .work) (t .at) (t .depth) (t .out) (t .inv) f e (c .before .before .before .before .before .before .before .before .before .before .before .before .before .before .next-symbol .ensures) (c .before .before .before .before .before .before .before .before .before .before .before .before .first .given .1) (c .before .before .before .before .before .before .before .before .before .next-symbol2 .ensures) (c .before .before .before .before .before .before .before .before .match2 .keys2) (c .before .before .before .before .before .before .before .place .result) (c .before .before .before .before .before .before .before .place .ensures)) (l .inv .1) in
-    let p = c .before .before .next .given .0 .0 in
-    let g = mark-room (a .sheet .now) (a .work .now) (a .from) (a .to) (a .base) (a .stack) (q .0) (q .1) (q .2) (q .3) (q .4) (l .work) (l .at) (l .depth) (l .out) having h (means-is (take (a .to) (a .sheet .now)) (l .at) (c .before .before .before .before .next-symbol3 .ensures) (Comma p) (c .before .before .next .given .1)) in
+    let p = c .before .next .given .0 .0 in
+    let g = mark-room (a .sheet .now) (a .work .now) (a .from) (a .to) (a .base) (a .stack) (q .0) (q .1) (q .2) (q .3) (q .4) (l .work) (l .at) (l .depth) (l .out) having h (means-is (take (a .to) (a .sheet .now)) (l .at) (c .before .before .before .before .next-symbol3 .ensures) (Comma p) (c .before .next .given .1)) in
     omega arith
 
 slice-write-work-2 : tie.Need-slice-write-work-2 Inv-loop μ-loop Inv-term μ-term
@@ -224,8 +222,8 @@ slice-write-work-2 c =
     let e = c .before .before .before .before .before .before .before .before .before .before .before .before .first .given .0 .1 .0 in
     let l = c .before .before .before .before .before .before .loop in
     let h = resume (name-turn (a .sheet .now) (a .work .now) (a .from) (a .to) (a .base) (a .stack) (q .0) (q .1) (q .2) (q .3) (q .4) (t .work) (t .at) (t .depth) (t .out) (t .inv) f e (c .before .before .before .before .before .before .before .before .before .before .before .before .before .before .next-symbol .ensures) (c .before .before .before .before .before .before .before .before .before .before .before .before .first .given .1) (c .before .before .before .before .before .before .before .before .before .next-symbol2 .ensures) (c .before .before .before .before .before .before .before .before .match2 .keys2) (c .before .before .before .before .before .before .before .place .result) (c .before .before .before .before .before .before .before .place .ensures)) (l .inv .1) in
-    let p = c .before .before .next .given .0 .0 in
-    let g = mark-room (a .sheet .now) (a .work .now) (a .from) (a .to) (a .base) (a .stack) (q .0) (q .1) (q .2) (q .3) (q .4) (l .work) (l .at) (l .depth) (l .out) having h (means-is (take (a .to) (a .sheet .now)) (l .at) (c .before .before .before .before .next-symbol3 .ensures) (Comma p) (c .before .before .next .given .1)) in
+    let p = c .before .next .given .0 .0 in
+    let g = mark-room (a .sheet .now) (a .work .now) (a .from) (a .to) (a .base) (a .stack) (q .0) (q .1) (q .2) (q .3) (q .4) (l .work) (l .at) (l .depth) (l .out) having h (means-is (take (a .to) (a .sheet .now)) (l .at) (c .before .before .before .before .next-symbol3 .ensures) (Comma p) (c .before .next .given .1)) in
     omega arith
 
 add-out-2 : tie.Need-add-out-2 Inv-loop μ-loop Inv-term μ-term
@@ -237,8 +235,8 @@ add-out-2 c =
     let e = c .before .before .before .before .before .before .before .before .before .before .before .before .first .given .0 .1 .0 in
     let l = c .before .before .before .before .before .before .loop in
     let h = resume (name-turn (a .sheet .now) (a .work .now) (a .from) (a .to) (a .base) (a .stack) (q .0) (q .1) (q .2) (q .3) (q .4) (t .work) (t .at) (t .depth) (t .out) (t .inv) f e (c .before .before .before .before .before .before .before .before .before .before .before .before .before .before .next-symbol .ensures) (c .before .before .before .before .before .before .before .before .before .before .before .before .first .given .1) (c .before .before .before .before .before .before .before .before .before .next-symbol2 .ensures) (c .before .before .before .before .before .before .before .before .match2 .keys2) (c .before .before .before .before .before .before .before .place .result) (c .before .before .before .before .before .before .before .place .ensures)) (l .inv .1) in
-    let p = c .before .before .next .given .0 .0 in
-    let g = mark-room (a .sheet .now) (a .work .now) (a .from) (a .to) (a .base) (a .stack) (q .0) (q .1) (q .2) (q .3) (q .4) (l .work) (l .at) (l .depth) (l .out) having h (means-is (take (a .to) (a .sheet .now)) (l .at) (c .before .before .before .before .next-symbol3 .ensures) (Comma p) (c .before .before .next .given .1)) in
+    let p = c .before .next .given .0 .0 in
+    let g = mark-room (a .sheet .now) (a .work .now) (a .from) (a .to) (a .base) (a .stack) (q .0) (q .1) (q .2) (q .3) (q .4) (l .work) (l .at) (l .depth) (l .out) having h (means-is (take (a .to) (a .sheet .now)) (l .at) (c .before .before .before .before .next-symbol3 .ensures) (Comma p) (c .before .next .given .1)) in
     omega arith
 
 term-less-2 : tie.Need-term-less-2 Inv-loop μ-loop Inv-term μ-term
@@ -251,8 +249,8 @@ term-less-2 c =
     let n = name-room (a .sheet .now) (a .work .now) (a .from) (a .to) (a .base) (a .stack) (q .0) (q .1) (q .2) (q .3) (q .4) (t .work) (t .at) (t .depth) (t .out) (t .inv) f e (c .before .before .before .before .before .before .before .before .before .before .before .before .before .before .next-symbol .ensures) (c .before .before .before .before .before .before .before .before .before .before .before .before .first .given .1) in
     let l = c .before .before .before .before .before .before .loop in
     let h = resume (name-turn (a .sheet .now) (a .work .now) (a .from) (a .to) (a .base) (a .stack) (q .0) (q .1) (q .2) (q .3) (q .4) (t .work) (t .at) (t .depth) (t .out) (t .inv) f e (c .before .before .before .before .before .before .before .before .before .before .before .before .before .before .next-symbol .ensures) (c .before .before .before .before .before .before .before .before .before .before .before .before .first .given .1) (c .before .before .before .before .before .before .before .before .before .next-symbol2 .ensures) (c .before .before .before .before .before .before .before .before .match2 .keys2) (c .before .before .before .before .before .before .before .place .result) (c .before .before .before .before .before .before .before .place .ensures)) (l .inv .1) in
-    let p = c .before .before .next .given .0 .0 in
-    let g = mark-room (a .sheet .now) (a .work .now) (a .from) (a .to) (a .base) (a .stack) (q .0) (q .1) (q .2) (q .3) (q .4) (l .work) (l .at) (l .depth) (l .out) having h (means-is (take (a .to) (a .sheet .now)) (l .at) (c .before .before .before .before .next-symbol3 .ensures) (Comma p) (c .before .before .next .given .1)) in
+    let p = c .before .next .given .0 .0 in
+    let g = mark-room (a .sheet .now) (a .work .now) (a .from) (a .to) (a .base) (a .stack) (q .0) (q .1) (q .2) (q .3) (q .4) (l .work) (l .at) (l .depth) (l .out) having h (means-is (take (a .to) (a .sheet .now)) (l .at) (c .before .before .before .before .next-symbol3 .ensures) (Comma p) (c .before .next .given .1)) in
     let z = l .inv .0 in
     omega arith
 
@@ -265,7 +263,7 @@ term-again-2 c =
     let e = c .before .before .before .before .before .before .before .before .before .before .before .before .first .given .0 .1 .0 in
     let l = c .before .before .before .before .before .before .loop in
     let h = resume (name-turn (a .sheet .now) (a .work .now) (a .from) (a .to) (a .base) (a .stack) (q .0) (q .1) (q .2) (q .3) (q .4) (t .work) (t .at) (t .depth) (t .out) (t .inv) f e (c .before .before .before .before .before .before .before .before .before .before .before .before .before .before .next-symbol .ensures) (c .before .before .before .before .before .before .before .before .before .before .before .before .first .given .1) (c .before .before .before .before .before .before .before .before .before .next-symbol2 .ensures) (c .before .before .before .before .before .before .before .before .match2 .keys2) (c .before .before .before .before .before .before .before .place .result) (c .before .before .before .before .before .before .before .place .ensures)) (l .inv .1) in
-    comma-turn (a .sheet .now) (a .work .now) (a .from) (a .to) (a .base) (a .stack) (q .0) (q .1) (q .2) (q .3) (q .4) (l .work) (l .at) (l .depth) (l .out) h (c .before .before .next .given .0 .0) (c .before .before .before .before .next-symbol3 .ensures) (c .before .before .next .given .1) (c .if2 .left)
+    comma-turn (a .sheet .now) (a .work .now) (a .from) (a .to) (a .base) (a .stack) (q .0) (q .1) (q .2) (q .3) (q .4) (l .work) (l .at) (l .depth) (l .out) h (c .before .next .given .0 .0) (c .before .before .before .before .next-symbol3 .ensures) (c .before .next .given .1) (c .before .before .before .if1 .left)
 
 enum-known-next-2 : tie.Need-enum-known-next-2 Inv-loop μ-loop Inv-term μ-term
 enum-known-next-2 c = search needs
@@ -282,8 +280,8 @@ close-list-requires c κs =
     let e = c .before .before .before .before .before .before .before .before .before .before .before .before .before .first .given .0 .1 .0 in
     let l = c .before .before .before .before .before .before .before .loop in
     let h = resume (name-turn (a .sheet .now) (a .work .now) (a .from) (a .to) (a .base) (a .stack) (q .0) (q .1) (q .2) (q .3) (q .4) (t .work) (t .at) (t .depth) (t .out) (t .inv) f e (c .before .before .before .before .before .before .before .before .before .before .before .before .before .before .before .next-symbol .ensures) (c .before .before .before .before .before .before .before .before .before .before .before .before .before .first .given .1) (c .before .before .before .before .before .before .before .before .before .before .next-symbol2 .ensures) (c .before .before .before .before .before .before .before .before .before .match2 .keys2) (c .before .before .before .before .before .before .before .before .place .result) (c .before .before .before .before .before .before .before .before .place .ensures)) (l .inv .1) in
-    let p = c .before .before .before .next2 .given .0 .0 in
-    let g = mark-room (a .sheet .now) (a .work .now) (a .from) (a .to) (a .base) (a .stack) (q .0) (q .1) (q .2) (q .3) (q .4) (l .work) (l .at) (l .depth) (l .out) having h (means-is (take (a .to) (a .sheet .now)) (l .at) (c .before .before .before .before .before .next-symbol3 .ensures) (Shut p) (c .before .before .before .next2 .given .1)) in
+    let p = c .before .before .next2 .given .0 .0 in
+    let g = mark-room (a .sheet .now) (a .work .now) (a .from) (a .to) (a .base) (a .stack) (q .0) (q .1) (q .2) (q .3) (q .4) (l .work) (l .at) (l .depth) (l .out) having h (means-is (take (a .to) (a .sheet .now)) (l .at) (c .before .before .before .before .before .next-symbol3 .ensures) (Shut p) (c .before .before .next2 .given .1)) in
     (omega arith, omega arith)
 
 loop-less : tie.Need-loop-less Inv-loop μ-loop Inv-term μ-term
@@ -295,8 +293,8 @@ loop-less c =
     let e = c .before .before .before .before .before .before .before .before .before .before .before .before .before .before .before .before .first .given .0 .1 .0 in
     let l = c .before .before .before .before .before .before .before .before .before .before .loop in
     let h = resume (name-turn (a .sheet .now) (a .work .now) (a .from) (a .to) (a .base) (a .stack) (q .0) (q .1) (q .2) (q .3) (q .4) (t .work) (t .at) (t .depth) (t .out) (t .inv) f e (c .before .before .before .before .before .before .before .before .before .before .before .before .before .before .before .before .before .before .next-symbol .ensures) (c .before .before .before .before .before .before .before .before .before .before .before .before .before .before .before .before .first .given .1) (c .before .before .before .before .before .before .before .before .before .before .before .before .before .next-symbol2 .ensures) (c .before .before .before .before .before .before .before .before .before .before .before .before .match2 .keys2) (c .before .before .before .before .before .before .before .before .before .before .before .place .result) (c .before .before .before .before .before .before .before .before .before .before .before .place .ensures)) (l .inv .1) in
-    let p = c .before .before .before .before .before .before .next2 .given .0 .0 in
-    let g = mark-room (a .sheet .now) (a .work .now) (a .from) (a .to) (a .base) (a .stack) (q .0) (q .1) (q .2) (q .3) (q .4) (l .work) (l .at) (l .depth) (l .out) having h (means-is (take (a .to) (a .sheet .now)) (l .at) (c .before .before .before .before .before .before .before .before .next-symbol3 .ensures) (Shut p) (c .before .before .before .before .before .before .next2 .given .1)) in
+    let p = c .before .before .before .before .before .next2 .given .0 .0 in
+    let g = mark-room (a .sheet .now) (a .work .now) (a .from) (a .to) (a .base) (a .stack) (q .0) (q .1) (q .2) (q .3) (q .4) (l .work) (l .at) (l .depth) (l .out) having h (means-is (take (a .to) (a .sheet .now)) (l .at) (c .before .before .before .before .before .before .before .before .next-symbol3 .ensures) (Shut p) (c .before .before .before .before .before .next2 .given .1)) in
     omega arith
 
 loop-again : tie.Need-loop-again Inv-loop μ-loop Inv-term μ-term
@@ -308,12 +306,12 @@ loop-again c =
     let e = c .before .before .before .before .before .before .before .before .before .before .before .before .before .before .before .before .first .given .0 .1 .0 in
     let l = c .before .before .before .before .before .before .before .before .before .before .loop in
     let h = resume (name-turn (a .sheet .now) (a .work .now) (a .from) (a .to) (a .base) (a .stack) (q .0) (q .1) (q .2) (q .3) (q .4) (t .work) (t .at) (t .depth) (t .out) (t .inv) f e (c .before .before .before .before .before .before .before .before .before .before .before .before .before .before .before .before .before .before .next-symbol .ensures) (c .before .before .before .before .before .before .before .before .before .before .before .before .before .before .before .before .first .given .1) (c .before .before .before .before .before .before .before .before .before .before .before .before .before .next-symbol2 .ensures) (c .before .before .before .before .before .before .before .before .before .before .before .before .match2 .keys2) (c .before .before .before .before .before .before .before .before .before .before .before .place .result) (c .before .before .before .before .before .before .before .before .before .before .before .place .ensures)) (l .inv .1) in
-    let p = c .before .before .before .before .before .before .next2 .given .0 .0 in
-    let g = mark-room (a .sheet .now) (a .work .now) (a .from) (a .to) (a .base) (a .stack) (q .0) (q .1) (q .2) (q .3) (q .4) (l .work) (l .at) (l .depth) (l .out) having h (means-is (take (a .to) (a .sheet .now)) (l .at) (c .before .before .before .before .before .before .before .before .next-symbol3 .ensures) (Shut p) (c .before .before .before .before .before .before .next2 .given .1)) in
+    let p = c .before .before .before .before .before .next2 .given .0 .0 in
+    let g = mark-room (a .sheet .now) (a .work .now) (a .from) (a .to) (a .base) (a .stack) (q .0) (q .1) (q .2) (q .3) (q .4) (l .work) (l .at) (l .depth) (l .out) having h (means-is (take (a .to) (a .sheet .now)) (l .at) (c .before .before .before .before .before .before .before .before .next-symbol3 .ensures) (Shut p) (c .before .before .before .before .before .next2 .given .1)) in
     let z = l .inv .0 in
     let w₁ = set (t .work) (t .out) (c .before .before .before .before .before .before .before .before .before .before .before .place .result) in
     let wl : length w₁ ≡ length (a .work .now) = (name-turn (a .sheet .now) (a .work .now) (a .from) (a .to) (a .base) (a .stack) (q .0) (q .1) (q .2) (q .3) (q .4) (t .work) (t .at) (t .depth) (t .out) (t .inv) f e (c .before .before .before .before .before .before .before .before .before .before .before .before .before .before .before .before .before .before .next-symbol .ensures) (c .before .before .before .before .before .before .before .before .before .before .before .before .before .before .before .before .first .given .1) (c .before .before .before .before .before .before .before .before .before .before .before .before .before .next-symbol2 .ensures) (c .before .before .before .before .before .before .before .before .before .before .before .before .match2 .keys2) (c .before .before .before .before .before .before .before .before .before .before .before .place .result) (c .before .before .before .before .before .before .before .before .before .before .before .place .ensures)) .len in
-    (omega arith, shut-turn (a .sheet .now) w₁ (a .from) (a .to) (a .base) (a .stack) (q .0) (q .1) (q .2) (q .3) (omega arith) (l .work) (l .at) (l .depth) (l .out) (l .inv .1) p (c .before .before .before .before .before .before .before .before .next-symbol3 .ensures) (c .before .before .before .before .before .before .next2 .given .1) (c .before .before .before .before .if3 .left) (c .before .before .close-list .last .0) (c .before .before .close-list .result) (c .before .before .close-list .ensures))
+    (omega arith, shut-turn (a .sheet .now) w₁ (a .from) (a .to) (a .base) (a .stack) (q .0) (q .1) (q .2) (q .3) (omega arith) (l .work) (l .at) (l .depth) (l .out) (l .inv .1) p (c .before .before .before .before .before .before .before .before .next-symbol3 .ensures) (c .before .before .before .before .before .next2 .given .1) (c .before .before .before .before .before .before .before .if1 .left) (c .before .before .close-list .last .0) (c .before .before .close-list .result) (c .before .before .close-list .ensures))
 
 same-length-2 : tie.Need-same-length-2 Inv-loop μ-loop Inv-term μ-term
 same-length-2 c = c .before .before .before .term .inv .len
@@ -327,91 +325,25 @@ returns-2 c =
 
 same-length-3 : tie.Need-same-length-3 Inv-loop μ-loop Inv-term μ-term
 same-length-3 c =
-    let a = c .before .before .before .before .before .before .before .before .before .before .before .before .before .before .before .before .before .before .args in
-    let q = c .before .before .before .before .before .before .before .before .before .before .before .before .before .before .before .before .before .before .pre in
-    let t = c .before .before .before .before .before .before .before .before .before .before .before .before .before .before .before .term in
-    let f = c .before .before .before .before .before .before .before .before .before .before .before .first .given .0 .0 in
-    let e = c .before .before .before .before .before .before .before .before .before .before .before .first .given .0 .1 .0 in
-    let l = c .before .before .before .before .before .loop in
-    let h = resume (name-turn (a .sheet .now) (a .work .now) (a .from) (a .to) (a .base) (a .stack) (q .0) (q .1) (q .2) (q .3) (q .4) (t .work) (t .at) (t .depth) (t .out) (t .inv) f e (c .before .before .before .before .before .before .before .before .before .before .before .before .before .next-symbol .ensures) (c .before .before .before .before .before .before .before .before .before .before .before .first .given .1) (c .before .before .before .before .before .before .before .before .next-symbol2 .ensures) (c .before .before .before .before .before .before .before .match2 .keys2) (c .before .before .before .before .before .before .place .result) (c .before .before .before .before .before .before .place .ensures)) (l .inv .1) in
+    let a = c .before .before .before .before .before .before .before .before .before .before .before .before .before .before .before .before .before .args in
+    let q = c .before .before .before .before .before .before .before .before .before .before .before .before .before .before .before .before .before .pre in
+    let t = c .before .before .before .before .before .before .before .before .before .before .before .before .before .before .term in
+    let f = c .before .before .before .before .before .before .before .before .before .before .first .given .0 .0 in
+    let e = c .before .before .before .before .before .before .before .before .before .before .first .given .0 .1 .0 in
+    let l = c .before .before .before .before .loop in
+    let h = resume (name-turn (a .sheet .now) (a .work .now) (a .from) (a .to) (a .base) (a .stack) (q .0) (q .1) (q .2) (q .3) (q .4) (t .work) (t .at) (t .depth) (t .out) (t .inv) f e (c .before .before .before .before .before .before .before .before .before .before .before .before .next-symbol .ensures) (c .before .before .before .before .before .before .before .before .before .before .first .given .1) (c .before .before .before .before .before .before .before .next-symbol2 .ensures) (c .before .before .before .before .before .before .match2 .keys2) (c .before .before .before .before .before .place .result) (c .before .before .before .before .before .place .ensures)) (l .inv .1) in
     h .len
 
 returns-3 : tie.Need-returns-3 Inv-loop μ-loop Inv-term μ-term
 returns-3 c =
-    let a = c .before .before .before .before .before .before .before .before .before .before .before .before .before .before .before .before .before .before .args in
-    let q = c .before .before .before .before .before .before .before .before .before .before .before .before .before .before .before .before .before .before .pre in
-    let t = c .before .before .before .before .before .before .before .before .before .before .before .before .before .before .before .term in
-    let f = c .before .before .before .before .before .before .before .before .before .before .before .first .given .0 .0 in
-    let e = c .before .before .before .before .before .before .before .before .before .before .before .first .given .0 .1 .0 in
-    let l = c .before .before .before .before .before .loop in
-    let h = resume (name-turn (a .sheet .now) (a .work .now) (a .from) (a .to) (a .base) (a .stack) (q .0) (q .1) (q .2) (q .3) (q .4) (t .work) (t .at) (t .depth) (t .out) (t .inv) f e (c .before .before .before .before .before .before .before .before .before .before .before .before .before .next-symbol .ensures) (c .before .before .before .before .before .before .before .before .before .before .before .first .given .1) (c .before .before .before .before .before .before .before .before .next-symbol2 .ensures) (c .before .before .before .before .before .before .before .match2 .keys2) (c .before .before .before .before .before .before .place .result) (c .before .before .before .before .before .before .place .ensures)) (l .inv .1) in
-    (kept (a .sheet .now) (a .work .now) (a .from) (a .to) (a .base) (a .stack) (q .0) (q .1) (q .2) (q .3) (q .4) (l .work) (l .at) (l .depth) (l .out) having h, stop-out (a .sheet .now) (a .work .now) (a .from) (a .to) (a .base) (a .stack) (q .0) (q .1) (q .2) (q .3) (q .4) (l .work) (l .at) (l .depth) (l .out) h (c .before .before .before .next-symbol3 .ensures) (c .before .enum-told .given .1) (c .if1 .left))
-
-same-length-4 : tie.Need-same-length-4 Inv-loop μ-loop Inv-term μ-term
-same-length-4 c =
-    let a = c .before .before .before .before .before .before .before .before .before .before .before .before .before .before .before .before .before .before .before .args in
-    let q = c .before .before .before .before .before .before .before .before .before .before .before .before .before .before .before .before .before .before .before .pre in
-    let t = c .before .before .before .before .before .before .before .before .before .before .before .before .before .before .before .before .term in
-    let f = c .before .before .before .before .before .before .before .before .before .before .before .before .first .given .0 .0 in
-    let e = c .before .before .before .before .before .before .before .before .before .before .before .before .first .given .0 .1 .0 in
-    let l = c .before .before .before .before .before .before .loop in
-    let h = resume (name-turn (a .sheet .now) (a .work .now) (a .from) (a .to) (a .base) (a .stack) (q .0) (q .1) (q .2) (q .3) (q .4) (t .work) (t .at) (t .depth) (t .out) (t .inv) f e (c .before .before .before .before .before .before .before .before .before .before .before .before .before .before .next-symbol .ensures) (c .before .before .before .before .before .before .before .before .before .before .before .before .first .given .1) (c .before .before .before .before .before .before .before .before .before .next-symbol2 .ensures) (c .before .before .before .before .before .before .before .before .match2 .keys2) (c .before .before .before .before .before .before .before .place .result) (c .before .before .before .before .before .before .before .place .ensures)) (l .inv .1) in
-    h .len
-
-returns-4 : tie.Need-returns-4 Inv-loop μ-loop Inv-term μ-term
-returns-4 c =
-    let a = c .before .before .before .before .before .before .before .before .before .before .before .before .before .before .before .before .before .before .before .args in
-    let q = c .before .before .before .before .before .before .before .before .before .before .before .before .before .before .before .before .before .before .before .pre in
-    let t = c .before .before .before .before .before .before .before .before .before .before .before .before .before .before .before .before .term in
-    let f = c .before .before .before .before .before .before .before .before .before .before .before .before .first .given .0 .0 in
-    let e = c .before .before .before .before .before .before .before .before .before .before .before .before .first .given .0 .1 .0 in
-    let l = c .before .before .before .before .before .before .loop in
-    let h = resume (name-turn (a .sheet .now) (a .work .now) (a .from) (a .to) (a .base) (a .stack) (q .0) (q .1) (q .2) (q .3) (q .4) (t .work) (t .at) (t .depth) (t .out) (t .inv) f e (c .before .before .before .before .before .before .before .before .before .before .before .before .before .before .next-symbol .ensures) (c .before .before .before .before .before .before .before .before .before .before .before .before .first .given .1) (c .before .before .before .before .before .before .before .before .before .next-symbol2 .ensures) (c .before .before .before .before .before .before .before .before .match2 .keys2) (c .before .before .before .before .before .before .before .place .result) (c .before .before .before .before .before .before .before .place .ensures)) (l .inv .1) in
-    (kept (a .sheet .now) (a .work .now) (a .from) (a .to) (a .base) (a .stack) (q .0) (q .1) (q .2) (q .3) (q .4) (l .work) (l .at) (l .depth) (l .out) having h, comma-out (a .sheet .now) (a .work .now) (a .from) (a .to) (a .base) (a .stack) (q .0) (q .1) (q .2) (q .3) (q .4) (l .work) (l .at) (l .depth) (l .out) h (c .before .before .next .given .0 .0) (c .before .before .before .before .next-symbol3 .ensures) (c .before .before .next .given .1) (c .if2 .taken))
-
-same-length-5 : tie.Need-same-length-5 Inv-loop μ-loop Inv-term μ-term
-same-length-5 c =
-    let a = c .before .before .before .before .before .before .before .before .before .before .before .before .before .before .before .before .before .before .before .args in
-    let q = c .before .before .before .before .before .before .before .before .before .before .before .before .before .before .before .before .before .before .before .pre in
-    let t = c .before .before .before .before .before .before .before .before .before .before .before .before .before .before .before .before .term in
-    let f = c .before .before .before .before .before .before .before .before .before .before .before .before .first .given .0 .0 in
-    let e = c .before .before .before .before .before .before .before .before .before .before .before .before .first .given .0 .1 .0 in
-    let l = c .before .before .before .before .before .before .loop in
-    let h = resume (name-turn (a .sheet .now) (a .work .now) (a .from) (a .to) (a .base) (a .stack) (q .0) (q .1) (q .2) (q .3) (q .4) (t .work) (t .at) (t .depth) (t .out) (t .inv) f e (c .before .before .before .before .before .before .before .before .before .before .before .before .before .before .next-symbol .ensures) (c .before .before .before .before .before .before .before .before .before .before .before .before .first .given .1) (c .before .before .before .before .before .before .before .before .before .next-symbol2 .ensures) (c .before .before .before .before .before .before .before .before .match2 .keys2) (c .before .before .before .before .before .before .before .place .result) (c .before .before .before .before .before .before .before .place .ensures)) (l .inv .1) in
-    h .len
-
-returns-5 : tie.Need-returns-5 Inv-loop μ-loop Inv-term μ-term
-returns-5 c =
-    let a = c .before .before .before .before .before .before .before .before .before .before .before .before .before .before .before .before .before .before .before .args in
-    let q = c .before .before .before .before .before .before .before .before .before .before .before .before .before .before .before .before .before .before .before .pre in
-    let t = c .before .before .before .before .before .before .before .before .before .before .before .before .before .before .before .before .term in
-    let f = c .before .before .before .before .before .before .before .before .before .before .before .before .first .given .0 .0 in
-    let e = c .before .before .before .before .before .before .before .before .before .before .before .before .first .given .0 .1 .0 in
-    let l = c .before .before .before .before .before .before .loop in
-    let h = resume (name-turn (a .sheet .now) (a .work .now) (a .from) (a .to) (a .base) (a .stack) (q .0) (q .1) (q .2) (q .3) (q .4) (t .work) (t .at) (t .depth) (t .out) (t .inv) f e (c .before .before .before .before .before .before .before .before .before .before .before .before .before .before .next-symbol .ensures) (c .before .before .before .before .before .before .before .before .before .before .before .before .first .given .1) (c .before .before .before .before .before .before .before .before .before .next-symbol2 .ensures) (c .before .before .before .before .before .before .before .before .match2 .keys2) (c .before .before .before .before .before .before .before .place .result) (c .before .before .before .before .before .before .before .place .ensures)) (l .inv .1) in
-    (kept (a .sheet .now) (a .work .now) (a .from) (a .to) (a .base) (a .stack) (q .0) (q .1) (q .2) (q .3) (q .4) (l .work) (l .at) (l .depth) (l .out) having h, shut-out (a .sheet .now) (a .work .now) (a .from) (a .to) (a .base) (a .stack) (q .0) (q .1) (q .2) (q .3) (q .4) (l .work) (l .at) (l .depth) (l .out) h (c .before .before .next2 .given .0 .0) (c .before .before .before .before .next-symbol3 .ensures) (c .before .before .next2 .given .1) (c .if3 .taken))
-
-same-length-6 : tie.Need-same-length-6 Inv-loop μ-loop Inv-term μ-term
-same-length-6 c =
-    let a = c .before .before .before .before .before .before .before .before .before .before .before .before .before .before .before .before .args in
-    let q = c .before .before .before .before .before .before .before .before .before .before .before .before .before .before .before .before .pre in
-    let t = c .before .before .before .before .before .before .before .before .before .before .before .before .before .term in
-    let f = c .before .before .before .before .before .before .before .before .before .first .given .0 .0 in
-    let e = c .before .before .before .before .before .before .before .before .before .first .given .0 .1 .0 in
-    let l = c .before .before .before .loop in
-    let h = resume (name-turn (a .sheet .now) (a .work .now) (a .from) (a .to) (a .base) (a .stack) (q .0) (q .1) (q .2) (q .3) (q .4) (t .work) (t .at) (t .depth) (t .out) (t .inv) f e (c .before .before .before .before .before .before .before .before .before .before .before .next-symbol .ensures) (c .before .before .before .before .before .before .before .before .before .first .given .1) (c .before .before .before .before .before .before .next-symbol2 .ensures) (c .before .before .before .before .before .match2 .keys2) (c .before .before .before .before .place .result) (c .before .before .before .before .place .ensures)) (l .inv .1) in
-    h .len
-
-returns-6 : tie.Need-returns-6 Inv-loop μ-loop Inv-term μ-term
-returns-6 c =
-    let a = c .before .before .before .before .before .before .before .before .before .before .before .before .before .before .before .before .args in
-    let q = c .before .before .before .before .before .before .before .before .before .before .before .before .before .before .before .before .pre in
-    let t = c .before .before .before .before .before .before .before .before .before .before .before .before .before .term in
-    let f = c .before .before .before .before .before .before .before .before .before .first .given .0 .0 in
-    let e = c .before .before .before .before .before .before .before .before .before .first .given .0 .1 .0 in
-    let l = c .before .before .before .loop in
-    let h = resume (name-turn (a .sheet .now) (a .work .now) (a .from) (a .to) (a .base) (a .stack) (q .0) (q .1) (q .2) (q .3) (q .4) (t .work) (t .at) (t .depth) (t .out) (t .inv) f e (c .before .before .before .before .before .before .before .before .before .before .before .next-symbol .ensures) (c .before .before .before .before .before .before .before .before .before .first .given .1) (c .before .before .before .before .before .before .next-symbol2 .ensures) (c .before .before .before .before .before .match2 .keys2) (c .before .before .before .before .place .result) (c .before .before .before .before .place .ensures)) (l .inv .1) in
-    (kept (a .sheet .now) (a .work .now) (a .from) (a .to) (a .base) (a .stack) (q .0) (q .1) (q .2) (q .3) (q .4) (l .work) (l .at) (l .depth) (l .out) having h, no-delimiter (a .sheet .now) (a .work .now) (a .from) (a .to) (a .base) (a .stack) (q .0) (q .1) (q .2) (q .3) (q .4) (l .work) (l .at) (l .depth) (l .out) h (c .before .next-symbol3 .ensures) (c .match3 .keys4))
+    let a = c .before .before .before .before .before .before .before .before .before .before .before .before .before .before .before .before .before .args in
+    let q = c .before .before .before .before .before .before .before .before .before .before .before .before .before .before .before .before .before .pre in
+    let t = c .before .before .before .before .before .before .before .before .before .before .before .before .before .before .term in
+    let f = c .before .before .before .before .before .before .before .before .before .before .first .given .0 .0 in
+    let e = c .before .before .before .before .before .before .before .before .before .before .first .given .0 .1 .0 in
+    let l = c .before .before .before .before .loop in
+    let h = resume (name-turn (a .sheet .now) (a .work .now) (a .from) (a .to) (a .base) (a .stack) (q .0) (q .1) (q .2) (q .3) (q .4) (t .work) (t .at) (t .depth) (t .out) (t .inv) f e (c .before .before .before .before .before .before .before .before .before .before .before .before .next-symbol .ensures) (c .before .before .before .before .before .before .before .before .before .before .first .given .1) (c .before .before .before .before .before .before .before .next-symbol2 .ensures) (c .before .before .before .before .before .before .match2 .keys2) (c .before .before .before .before .before .place .result) (c .before .before .before .before .before .place .ensures)) (l .inv .1) in
+    (kept (a .sheet .now) (a .work .now) (a .from) (a .to) (a .base) (a .stack) (q .0) (q .1) (q .2) (q .3) (q .4) (l .work) (l .at) (l .depth) (l .out) having h, no-delimiter (a .sheet .now) (a .work .now) (a .from) (a .to) (a .base) (a .stack) (q .0) (q .1) (q .2) (q .3) (q .4) (l .work) (l .at) (l .depth) (l .out) h (c .before .before .next-symbol3 .ensures) (c .match3 .keys3) (c .before .if1 .left))
 
 pub write-text-spec : {M : Type 1} → statement M
 write-text-spec =
@@ -439,7 +371,7 @@ write-text-spec =
     loop-holds
     slice-aggregate-next-symbol-3
     next-symbol-requires-3
-    enum-told
+    finished-requires
     same-length
     returns
     enum-known-next
@@ -456,10 +388,4 @@ write-text-spec =
     same-length-2
     returns-2
     same-length-3
-    returns-3
-    same-length-4
-    returns-4
-    same-length-5
-    returns-5
-    same-length-6
-    returns-6)
+    returns-3)
