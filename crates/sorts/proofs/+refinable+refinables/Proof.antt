@@ -1,14 +1,14 @@
 use borrow.Author.Needs.{needs}
 use native.Mathlib.Omega.{arith}
 use Prim.Native.Nat.{_+_, _*_, _-_}
-use mathlib.Core.Path.{_≡_, refl, sym, ap, _∙_}
-use mathlib.Core.Bool.{Bool, true, false, _||_}
+use mathlib.Core.Path.{_≡_, refl, sym, _∙_}
+use mathlib.Core.Bool.{true, false, _||_}
 use mathlib.Core.Logic.{_⊎_, inl, inr, ⊎-elim}
 use lib.Dec.{eqb}
 use borrow.Author.Tests.{eq-eqb, ne-eqb}
 use denote.Enum.Declared.{tagOf}
 use Rattle.rules.specs.Tree.{size, sizes}
-use Rattle.rules.specs.Sorts.{symbol, addition, unit, frame, free, refinable as is-refinable, refinables as are-refinable}
+use Rattle.rules.specs.Sorts.{symbol, unit, frame, free, refinable as is-refinable, refinables as are-refinable}
 use Rattle.tree.specs.Cells.{kind-of, name-at, tree-at, trees-at}
 use Rattle.tree.proofs.Decoding.{children-fall, head-falls, rest-falls, all-more}
 use Rattle.sorts.specs.Numbers.{numbered}
