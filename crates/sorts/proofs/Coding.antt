@@ -1,7 +1,7 @@
 -- Sorts by their numbers, the kinds of variables, and symbols. Assumes nothing.
-use Prim.Native.Nat.{ℕ, zero, suc, _+_, _-_, _<_, _≤_}
+use Prim.Native.Nat.{ℕ, zero, suc, _+_, _-_, _<_}
 use mathlib.Core.Path.{_≡_, refl, sym, ap, _∙_}
-use mathlib.Core.Bool.{Bool, true, false, cond}
+use mathlib.Core.Bool.{Bool, true, cond}
 use mathlib.Core.Option.{Option, some, none as nothing}
 use lib.Dec.{eqb, ltb}
 use native.Mathlib.Omega.{arith}

@@ -94,8 +94,8 @@ pub fn naturals(sheet: &[u8], work: &[u32], free: usize, i: usize) -> bool
     if i == 0 {
         return true;
     }
+    let next = next_of(work, free, i);
     if natural(sheet, work, free, i) {
-        let next = next_of(work, free, i);
         return naturals(sheet, work, free, next);
     }
     false
@@ -132,8 +132,8 @@ pub fn messages(sheet: &[u8], work: &[u32], free: usize, i: usize) -> bool
     if i == 0 {
         return true;
     }
+    let next = next_of(work, free, i);
     if message(sheet, work, free, i) {
-        let next = next_of(work, free, i);
         return messages(sheet, work, free, next);
     }
     false
@@ -221,8 +221,8 @@ pub fn refinables(sheet: &[u8], work: &[u32], free: usize, sort: usize, i: usize
     if i == 0 {
         return true;
     }
+    let next = next_of(work, free, i);
     if refinable(sheet, work, free, sort, i) {
-        let next = next_of(work, free, i);
         return refinables(sheet, work, free, sort, next);
     }
     false

@@ -1,17 +1,16 @@
 -- The decoder at a cell, the frame law, and the measures of a walk over cells. Assumes nothing.
-use Prim.Native.Nat.{ℕ, zero, suc, _+_, _-_, _*_, _<_, _≤_}
-use mathlib.Core.Path.{_≡_, refl, sym, ap, ap₂, subst, _∙_}
-use mathlib.Core.Bool.{Bool, true, false, cond, _&&_}
+use Prim.Native.Nat.{ℕ, zero, suc, _+_, _*_, _<_, _≤_}
+use mathlib.Core.Path.{_≡_, refl, sym, ap, ap₂, _∙_}
+use mathlib.Core.Bool.{Bool, _&&_}
 use mathlib.Core.List.{List}
-use lib.Dec.{eqb, ltb}
-use lib.ListN.{length, getD}
+use lib.ListN.{getD}
 use native.Mathlib.Omega.{arith}
 use native.Mathlib.Decide.{decLt}
 use borrow.Author.Tests.{eq-eqb, ne-eqb, lt-ltb, le-ltb}
 use Rattle.rules.specs.Bytes.{Text}
 use Rattle.rules.specs.Tree.{Tree, variable, atom, apply, Trees, none, more, size, sizes}
 use Rattle.tree.specs.Cells.{start-of, length-of, kind-of, first-of, next-of, nodes-of, named, name-at, made, forest, trees-at, tree-at}
-use Rattle.tree.specs.Arena.{Links, Cell, Arena}
+use Rattle.tree.specs.Arena.{Links}
 
 -- a cell's kind is one of three
 pub data Kind (n : ℕ) : Type 0 where

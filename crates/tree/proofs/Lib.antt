@@ -6,3 +6,4 @@ pub mod Printing
 pub mod Comparing
 pub mod Rendering
 pub mod Lengths
+pub mod Example

@@ -1,8 +1,8 @@
 -- The names of cells: parts of the sheet and fixed names, and the heads of trees. Assumes nothing.
-use Prim.Native.Nat.{ℕ, zero, suc, _+_, _-_, _*_, _<_, _≤_}
+use Prim.Native.Nat.{ℕ, zero, suc, _+_, _-_, _<_, _≤_}
 use mathlib.Core.Path.{_≡_, refl, sym, ap, ap₂, _∙_}
-use mathlib.Core.Bool.{Bool, true, false, cond, _&&_, true≢false}
-use mathlib.Core.List.{List, [], _∷_, _++_, head-eq-of-cons-eq, tail-eq-of-cons-eq, append-cancel-right}
+use mathlib.Core.Bool.{Bool, true, false, _&&_, true≢false}
+use mathlib.Core.List.{List, [], _∷_, head-eq-of-cons-eq, tail-eq-of-cons-eq, append-cancel-right}
 use mathlib.Core.Logic.{_⊎_, inl, inr}
 use lib.Dec.{eqb}
 use lib.ListN.{length, getD, take, drop, length-take, length-drop}
@@ -10,10 +10,10 @@ use native.Mathlib.Omega.{arith}
 use native.Mathlib.Decide.{decLt}
 use borrow.Author.Tests.{eq-eqb, ne-eqb, eqb-true, eqb-false}
 use Rattle.rules.specs.Bytes.{Text, same}
-use Rattle.rules.specs.Tree.{Tree, variable, atom, apply, Trees, atom-text, head}
+use Rattle.rules.specs.Tree.{atom-text, head}
 use Rattle.laws.proofs.Basics.Tests.{same-eq, same-of-eq, differ-of-ne}
 use Rattle.tree.specs.Cells.{start-of, length-of, kind-of, fixed-name, part, named, name-at, tree-at}
-use Rattle.tree.specs.Arena.{Place, Cell}
+use Rattle.tree.specs.Arena.{Cell}
 use Rattle.tree.proofs.Bounded.{every-below, below-holds, agree, agreeing}
 use Rattle.tree.proofs.Decoding.{Kind, application, a-variable, an-atom, kind, tree-variable, tree-atom, tree-apply}
 

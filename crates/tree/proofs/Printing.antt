@@ -1,6 +1,6 @@
 -- Bytes written into an output, one after another. Assumes nothing.
-use Prim.Native.Nat.{ℕ, suc, _+_, _-_, _*_, _<_, _≤_}
-use mathlib.Core.Path.{_≡_, refl, sym, ap, ap₂, _∙_}
+use Prim.Native.Nat.{ℕ, _+_, _<_, _≤_}
+use mathlib.Core.Path.{_≡_, sym, ap, ap₂, _∙_}
 use mathlib.Core.List.{List, [], _∷_, _++_, append-assoc}
 use lib.ListN.{length, getD, take, drop, set, length-append, length-take, length-drop, take-append-drop}
 use lib.Seq.{take-at, drop-append-add, drop-drop, set-split, take-suc, length-take-le}
@@ -48,15 +48,6 @@ printed-then {out} {v} {u} {at} {r} {q} {a} {b} h x y = record {
   bytes = y .bytes ∙ ap₂ (λ (l : List ℕ) (n : ℕ). written l n b) (x .bytes) (x .end) ∙ written-then out at a b h;
   end = omega (arith, y .end, x .end, length-append a b);
 }
-
--- the output keeps its length, so room for a and b leaves room for b
-pub printed-room : {out v : List ℕ} {at r : ℕ} {a : List ℕ} (b : List ℕ) → at + length (a ++ b) ≤ length out → Printed out v at a r → r + length b ≤ length v
-printed-room {out} {v} {at} {r} {a} b h x =
-    let l = length-append a b in
-    omega (arith, l, h, x .end, ap length (x .bytes), length-written out at a (omega arith))
-
-pub printed-first : (a b : List ℕ) (at n : ℕ) → at + length (a ++ b) ≤ n → at + length a ≤ n
-printed-first a b at n h = omega (arith, length-append a b)
 
 -- a turn of the loop that prints a text
 pub written-more : (out text : List ℕ) (at i : ℕ) → at + length text ≤ length out → i < length text → set (written out at (take i text)) (at + i) (getD text i 0) ≡ written out at (take (i + 1) text)

@@ -1,6 +1,6 @@
 -- The cell that is written at the free end. Assumes nothing.
-use Prim.Native.Nat.{ℕ, zero, suc, _+_, _-_, _*_, _/_, _%_, _<_, _≤_}
-use mathlib.Core.Path.{_≡_, refl, sym, ap, ap₂, subst, _∙_}
+use Prim.Native.Nat.{ℕ, _+_, _*_, _/_, _%_, _<_, _≤_}
+use mathlib.Core.Path.{_≡_, refl, sym, ap, ap₂, _∙_}
 use mathlib.Core.Logic.{_⊎_, inl, inr}
 use mathlib.Core.List.{List}
 use lib.ListN.{length, getD, set, length-set}
@@ -8,9 +8,9 @@ use lib.Seq.{getD-set-same, getD-set-other}
 use native.Mathlib.Omega.{arith}
 use native.Mathlib.Decide.{decLt}
 use Rattle.rules.specs.Bytes.{Text}
-use Rattle.rules.specs.Tree.{Tree, Trees, none, more, size}
+use Rattle.rules.specs.Tree.{Tree, more, size}
 use Rattle.tree.specs.Cells.{start-of, length-of, kind-of, first-of, next-of, nodes-of, named, name-at, variable-kind, made, trees-at, tree-at}
-use Rattle.tree.specs.Arena.{Links, Place, Cell, Arena, Grown, Wrote, Linked}
+use Rattle.tree.specs.Arena.{Links, Place, Cell, Arena, Wrote, Linked}
 use Rattle.tree.proofs.Decoding.{Agree, same-start, same-length, same-kind, same-count, same-first, same-next, same-name, frame-tree, frame-trees, trees-more}
 
 -- two numbers in one word

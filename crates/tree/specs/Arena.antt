@@ -4,7 +4,7 @@ use mathlib.Core.Path.{_≡_}
 use mathlib.Core.List.{List}
 use lib.ListN.{length, getD}
 use Rattle.rules.specs.Bytes.{Text}
-use Rattle.rules.specs.Tree.{Tree, Trees, more, size}
+use Rattle.rules.specs.Tree.{Tree, more, size}
 use Rattle.tree.specs.Cells.{start-of, length-of, kind-of, nodes-of, first-of, next-of, name-at, variable-kind, tree-at, trees-at}
 
 -- the links of cells 1 to n - 1 fall

@@ -3,7 +3,7 @@
 -- code of a fixed name. The kind is 0 for an application, 1 to 6 for a variable by its sort, else the letter of an atom, whose place is
 -- that of its digits. Two numbers in a word: the first times 65,536, and the second. Definitions only.
 use Prim.Native.Nat.{ℕ, zero, suc, _+_, _*_, _/_, _%_}
-use mathlib.Core.Bool.{Bool, true, false, cond}
+use mathlib.Core.Bool.{cond}
 use mathlib.Core.List.{List, [], _∷_}
 use mathlib.Core.Option.{Option, some, none as nothing}
 use lib.Dec.{eqb, ltb}

@@ -1,7 +1,7 @@
 -- Bytes written into an output. Definitions only.
 use Prim.Native.Nat.{ℕ, _+_}
 use mathlib.Core.Path.{_≡_}
-use mathlib.Core.List.{List, _++_}
+use mathlib.Core.List.{_++_}
 use lib.ListN.{length, take, drop}
 use Rattle.rules.specs.Bytes.{Text}
 

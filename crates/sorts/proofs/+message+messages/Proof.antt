@@ -49,7 +49,7 @@ abbrev message-calls : ℕ → message-lts.Claims
 message-calls t = (kind-of-reads.Asked, kind-of-reads.Learnt, symbol-of-reads.Asked, symbol-of-reads.Learnt, first-of-reads.Asked, first-of-reads.Learnt, naturals-reads.Asked, naturals-reads.Learnt, messages-below t, messages.Post)
 
 abbrev messages-calls : ℕ → messages-lts.Claims
-messages-calls t = (message-below t, message.Post, next-of-reads.Asked, next-of-reads.Learnt, messages-below t, messages.Post)
+messages-calls t = (next-of-reads.Asked, next-of-reads.Learnt, message-below t, message.Post, messages-below t, messages.Post)
 
 message-kind-of-requires : (t : ℕ) → message-lts.Need-kind-of-requires (message-calls t) (message-at t) message.Post
 message-kind-of-requires t c κs = search needs
@@ -118,29 +118,29 @@ message-returns-6 t c = c .messages2 .ensures ∙ message-apply _ _ _ (c .before
 messages-returns : (t : ℕ) → messages-lts.Need-returns (messages-calls t) (messages-at t) messages.Post
 messages-returns t c = messages-none _ _ _ (c .if1 .taken)
 
-messages-message-requires : (t : ℕ) → messages-lts.Need-message-requires (messages-calls t) (messages-at t) messages.Post
-messages-message-requires t c κs =
-    let p = c .before .before .before .pre .1 in
-    let q : 0 < c .before .before .before .args .i = omega arith in
-    (omega (arith, c .before .before .before .pre .0, head-falls (c .before .before .before .args .sheet .now) (p .0 .links) (c .before .before .before .args .i) q (p .1)), (p .0, (q, p .1)))
-
 messages-next-of-requires : (t : ℕ) → messages-lts.Need-next-of-requires (messages-calls t) (messages-at t) messages.Post
 messages-next-of-requires t c κs = search needs
+
+messages-message-requires : (t : ℕ) → messages-lts.Need-message-requires (messages-calls t) (messages-at t) messages.Post
+messages-message-requires t c κs =
+    let p = c .before .before .before .before .pre .1 in
+    let q : 0 < c .before .before .before .before .args .i = omega arith in
+    (omega (arith, c .before .before .before .before .pre .0, head-falls (c .before .before .before .before .args .sheet .now) (p .0 .links) (c .before .before .before .before .args .i) q (p .1)), (p .0, (q, p .1)))
 
 messages-messages-requires : (t : ℕ) → messages-lts.Need-messages-requires (messages-calls t) (messages-at t) messages.Post
 messages-messages-requires t c κs =
     let p = c .before .before .before .before .before .before .pre .1 in
-    (omega (arith, c .before .before .before .before .before .before .pre .0, rest-falls (c .before .before .before .before .before .before .args .sheet .now) (p .0 .links) (c .before .before .before .before .before .before .args .i) (c .next-of .result) (omega arith) (p .1) (c .next-of .ensures .0)), (p .0, omega (arith, c .next-of .ensures .1, p .1)))
+    (omega (arith, c .before .before .before .before .before .before .pre .0, rest-falls (c .before .before .before .before .before .before .args .sheet .now) (p .0 .links) (c .before .before .before .before .before .before .args .i) (c .before .before .next-of .result) (omega arith) (p .1) (c .before .before .next-of .ensures .0)), (p .0, omega (arith, c .before .before .next-of .ensures .1, p .1)))
 
 messages-returns-2 : (t : ℕ) → messages-lts.Need-returns-2 (messages-calls t) (messages-at t) messages.Post
 messages-returns-2 t c =
     let p = c .before .before .before .before .before .before .before .pre .1 in
-    all-more is-message are-messages messages-step (c .before .before .before .before .before .before .before .args .sheet .now) (c .before .before .before .before .before .before .before .args .i) (c .before .next-of .result) true (c .messages .result) (p .0 .links) (omega arith) (p .1) (c .before .next-of .ensures .0) (sym (c .before .before .if2 .taken) ∙ c .before .before .before .message .ensures) (c .messages .ensures)
+    all-more is-message are-messages messages-step (c .before .before .before .before .before .before .before .args .sheet .now) (c .before .before .before .before .before .before .before .args .i) (c .before .before .before .next-of .result) true (c .messages .result) (p .0 .links) (omega arith) (p .1) (c .before .before .before .next-of .ensures .0) (sym (c .before .if2 .taken) ∙ c .before .before .message .ensures) (c .messages .ensures)
 
 messages-returns-3 : (t : ℕ) → messages-lts.Need-returns-3 (messages-calls t) (messages-at t) messages.Post
 messages-returns-3 t c =
-    let p = c .before .before .before .before .before .pre .1 in
-    all-more is-message are-messages messages-step (c .before .before .before .before .before .args .sheet .now) (c .before .before .before .before .before .args .i) _ false _ (p .0 .links) (omega arith) (p .1) refl (sym (c .if2 .left) ∙ c .before .message .ensures) refl
+    let p = c .before .before .before .before .before .before .pre .1 in
+    all-more is-message are-messages messages-step (c .before .before .before .before .before .before .args .sheet .now) (c .before .before .before .before .before .before .args .i) _ false _ (p .0 .links) (omega arith) (p .1) refl (sym (c .if2 .left) ∙ c .before .message .ensures) refl
 
 pub +message+messages-spec : {M : Type 1} → statement M
 +message+messages-spec = close μ-message μ-messages (λ t. message-lts.spec (message-calls t) (message-at t)
@@ -166,8 +166,8 @@ pub +message+messages-spec : {M : Type 1} → statement M
     λ t. messages-lts.spec (messages-calls t) (messages-at t)
     messages.Post
     (messages-returns t)
-    (messages-message-requires t)
     (messages-next-of-requires t)
+    (messages-message-requires t)
     (messages-messages-requires t)
     (messages-returns-2 t)
     (messages-returns-3 t)

@@ -1,4 +1,3 @@
-use Rattle.sorts.proofs.Coding.{symbol-is}
 use borrow.Author.Needs.{needs}
 use native.Mathlib.Omega.{arith}
 use Prim.Native.Nat.{_+_, _*_}
@@ -8,6 +7,7 @@ use Rattle.rules.specs.Tree.{size, sizes}
 use Rattle.rules.specs.Sorts.{symbol, addition, unit, frame, free, natural as is-natural, naturals as are-natural}
 use Rattle.tree.specs.Cells.{kind-of, name-at, tree-at, trees-at}
 use Rattle.tree.proofs.Decoding.{children-fall, head-falls, rest-falls, all-more}
+use Rattle.sorts.proofs.Coding.{symbol-is}
 use Rattle.sorts.proofs.Sorting.{natural-variable, natural-atom, natural-apply, naturals-none, naturals-step}
 use Prim.Native.Nat.{ℕ, _<_}
 use borrow.Fn.Kinds.{In}
@@ -48,7 +48,7 @@ abbrev natural-calls : ℕ → natural-lts.Claims
 natural-calls t = (kind-of-reads.Asked, kind-of-reads.Learnt, symbol-of-reads.Asked, symbol-of-reads.Learnt, first-of-reads.Asked, first-of-reads.Learnt, naturals-below t, naturals.Post)
 
 abbrev naturals-calls : ℕ → naturals-lts.Claims
-naturals-calls t = (natural-below t, natural.Post, next-of-reads.Asked, next-of-reads.Learnt, naturals-below t, naturals.Post)
+naturals-calls t = (next-of-reads.Asked, next-of-reads.Learnt, natural-below t, natural.Post, naturals-below t, naturals.Post)
 
 natural-kind-of-requires : (t : ℕ) → natural-lts.Need-kind-of-requires (natural-calls t) (natural-at t) natural.Post
 natural-kind-of-requires t c κs = search needs
@@ -101,29 +101,29 @@ natural-returns-6 t c = natural-apply _ _ _ (c .before .before .before .before .
 naturals-returns : (t : ℕ) → naturals-lts.Need-returns (naturals-calls t) (naturals-at t) naturals.Post
 naturals-returns t c = naturals-none _ _ _ (c .if1 .taken)
 
-naturals-natural-requires : (t : ℕ) → naturals-lts.Need-natural-requires (naturals-calls t) (naturals-at t) naturals.Post
-naturals-natural-requires t c κs =
-    let p = c .before .before .before .pre .1 in
-    let q : 0 < c .before .before .before .args .i = omega arith in
-    (omega (arith, c .before .before .before .pre .0, head-falls (c .before .before .before .args .sheet .now) (p .0 .links) (c .before .before .before .args .i) q (p .1)), (p .0, (q, p .1)))
-
 naturals-next-of-requires : (t : ℕ) → naturals-lts.Need-next-of-requires (naturals-calls t) (naturals-at t) naturals.Post
 naturals-next-of-requires t c κs = search needs
+
+naturals-natural-requires : (t : ℕ) → naturals-lts.Need-natural-requires (naturals-calls t) (naturals-at t) naturals.Post
+naturals-natural-requires t c κs =
+    let p = c .before .before .before .before .pre .1 in
+    let q : 0 < c .before .before .before .before .args .i = omega arith in
+    (omega (arith, c .before .before .before .before .pre .0, head-falls (c .before .before .before .before .args .sheet .now) (p .0 .links) (c .before .before .before .before .args .i) q (p .1)), (p .0, (q, p .1)))
 
 naturals-naturals-requires : (t : ℕ) → naturals-lts.Need-naturals-requires (naturals-calls t) (naturals-at t) naturals.Post
 naturals-naturals-requires t c κs =
     let p = c .before .before .before .before .before .before .pre .1 in
-    (omega (arith, c .before .before .before .before .before .before .pre .0, rest-falls (c .before .before .before .before .before .before .args .sheet .now) (p .0 .links) (c .before .before .before .before .before .before .args .i) (c .next-of .result) (omega arith) (p .1) (c .next-of .ensures .0)), (p .0, omega (arith, c .next-of .ensures .1, p .1)))
+    (omega (arith, c .before .before .before .before .before .before .pre .0, rest-falls (c .before .before .before .before .before .before .args .sheet .now) (p .0 .links) (c .before .before .before .before .before .before .args .i) (c .before .before .next-of .result) (omega arith) (p .1) (c .before .before .next-of .ensures .0)), (p .0, omega (arith, c .before .before .next-of .ensures .1, p .1)))
 
 naturals-returns-2 : (t : ℕ) → naturals-lts.Need-returns-2 (naturals-calls t) (naturals-at t) naturals.Post
 naturals-returns-2 t c =
     let p = c .before .before .before .before .before .before .before .pre .1 in
-    all-more is-natural are-natural naturals-step (c .before .before .before .before .before .before .before .args .sheet .now) (c .before .before .before .before .before .before .before .args .i) (c .before .next-of .result) true (c .naturals .result) (p .0 .links) (omega arith) (p .1) (c .before .next-of .ensures .0) (sym (c .before .before .if2 .taken) ∙ c .before .before .before .natural .ensures) (c .naturals .ensures)
+    all-more is-natural are-natural naturals-step (c .before .before .before .before .before .before .before .args .sheet .now) (c .before .before .before .before .before .before .before .args .i) (c .before .before .before .next-of .result) true (c .naturals .result) (p .0 .links) (omega arith) (p .1) (c .before .before .before .next-of .ensures .0) (sym (c .before .if2 .taken) ∙ c .before .before .natural .ensures) (c .naturals .ensures)
 
 naturals-returns-3 : (t : ℕ) → naturals-lts.Need-returns-3 (naturals-calls t) (naturals-at t) naturals.Post
 naturals-returns-3 t c =
-    let p = c .before .before .before .before .before .pre .1 in
-    all-more is-natural are-natural naturals-step (c .before .before .before .before .before .args .sheet .now) (c .before .before .before .before .before .args .i) _ false _ (p .0 .links) (omega arith) (p .1) refl (sym (c .if2 .left) ∙ c .before .natural .ensures) refl
+    let p = c .before .before .before .before .before .before .pre .1 in
+    all-more is-natural are-natural naturals-step (c .before .before .before .before .before .before .args .sheet .now) (c .before .before .before .before .before .before .args .i) _ false _ (p .0 .links) (omega arith) (p .1) refl (sym (c .if2 .left) ∙ c .before .natural .ensures) refl
 
 pub +natural+naturals-spec : {M : Type 1} → statement M
 +natural+naturals-spec = close μ-natural μ-naturals (λ t. natural-lts.spec (natural-calls t) (natural-at t)
@@ -145,8 +145,8 @@ pub +natural+naturals-spec : {M : Type 1} → statement M
     λ t. naturals-lts.spec (naturals-calls t) (naturals-at t)
     naturals.Post
     (naturals-returns t)
-    (naturals-natural-requires t)
     (naturals-next-of-requires t)
+    (naturals-natural-requires t)
     (naturals-naturals-requires t)
     (naturals-returns-2 t)
     (naturals-returns-3 t)

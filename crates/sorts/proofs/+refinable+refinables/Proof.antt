@@ -1,14 +1,14 @@
 use borrow.Author.Needs.{needs}
 use native.Mathlib.Omega.{arith}
 use Prim.Native.Nat.{_+_, _*_, _-_}
-use mathlib.Core.Path.{_≡_, refl, sym, ap, _∙_}
-use mathlib.Core.Bool.{Bool, true, false, _||_}
+use mathlib.Core.Path.{_≡_, refl, sym, _∙_}
+use mathlib.Core.Bool.{true, false, _||_}
 use mathlib.Core.Logic.{_⊎_, inl, inr, ⊎-elim}
 use lib.Dec.{eqb}
 use borrow.Author.Tests.{eq-eqb, ne-eqb}
 use denote.Enum.Declared.{tagOf}
 use Rattle.rules.specs.Tree.{size, sizes}
-use Rattle.rules.specs.Sorts.{symbol, addition, unit, frame, free, refinable as is-refinable, refinables as are-refinable}
+use Rattle.rules.specs.Sorts.{symbol, unit, frame, free, refinable as is-refinable, refinables as are-refinable}
 use Rattle.tree.specs.Cells.{kind-of, name-at, tree-at, trees-at}
 use Rattle.tree.proofs.Decoding.{children-fall, head-falls, rest-falls, all-more}
 use Rattle.sorts.specs.Numbers.{numbered}
@@ -60,7 +60,7 @@ abbrev refinable-calls : ℕ → refinable-lts.Claims
 refinable-calls t = (kind-of-reads.Asked, kind-of-reads.Learnt, sorted-reads.Asked, sorted-reads.Learnt, meets-reads.Asked, meets-reads.Learnt, first-of-reads.Asked, first-of-reads.Learnt, symbol-of-reads.Asked, symbol-of-reads.Learnt, refinables-below t, refinables.Post)
 
 abbrev refinables-calls : ℕ → refinables-lts.Claims
-refinables-calls t = (refinable-below t, refinable.Post, next-of-reads.Asked, next-of-reads.Learnt, refinables-below t, refinables.Post)
+refinables-calls t = (next-of-reads.Asked, next-of-reads.Learnt, refinable-below t, refinable.Post, refinables-below t, refinables.Post)
 
 -- an arm of two variants
 unit-or-free : (y : Symbol) → (tagOf the-type y ≡ 1) ⊎ (tagOf the-type y ≡ 3) → (decoded y ≡ unit) ⊎ (decoded y ≡ free)
@@ -192,31 +192,31 @@ refinable-returns-10 t c =
 refinables-returns : (t : ℕ) → refinables-lts.Need-returns (refinables-calls t) (refinables-at t) refinables.Post
 refinables-returns t c = refinables-none _ _ _ _ (c .if1 .taken)
 
-refinables-refinable-requires : (t : ℕ) → refinables-lts.Need-refinable-requires (refinables-calls t) (refinables-at t) refinables.Post
-refinables-refinable-requires t c κs =
-    let p = c .before .before .before .pre .1 in
-    let q : 0 < c .before .before .before .args .i = omega arith in
-    (omega (arith, c .before .before .before .pre .0, head-falls (c .before .before .before .args .sheet .now) (p .0 .links) (c .before .before .before .args .i) q (p .1 .0)), (p .0, ((q, p .1 .0), p .1 .1)))
-
 refinables-next-of-requires : (t : ℕ) → refinables-lts.Need-next-of-requires (refinables-calls t) (refinables-at t) refinables.Post
 refinables-next-of-requires t c κs = search needs
+
+refinables-refinable-requires : (t : ℕ) → refinables-lts.Need-refinable-requires (refinables-calls t) (refinables-at t) refinables.Post
+refinables-refinable-requires t c κs =
+    let p = c .before .before .before .before .pre .1 in
+    let q : 0 < c .before .before .before .before .args .i = omega arith in
+    (omega (arith, c .before .before .before .before .pre .0, head-falls (c .before .before .before .before .args .sheet .now) (p .0 .links) (c .before .before .before .before .args .i) q (p .1 .0)), (p .0, ((q, p .1 .0), p .1 .1)))
 
 refinables-refinables-requires : (t : ℕ) → refinables-lts.Need-refinables-requires (refinables-calls t) (refinables-at t) refinables.Post
 refinables-refinables-requires t c κs =
     let p = c .before .before .before .before .before .before .pre .1 in
-    (omega (arith, c .before .before .before .before .before .before .pre .0, rest-falls (c .before .before .before .before .before .before .args .sheet .now) (p .0 .links) (c .before .before .before .before .before .before .args .i) (c .next-of .result) (omega arith) (p .1 .0) (c .next-of .ensures .0)), (p .0, (omega (arith, c .next-of .ensures .1, p .1), p .1 .1)))
+    (omega (arith, c .before .before .before .before .before .before .pre .0, rest-falls (c .before .before .before .before .before .before .args .sheet .now) (p .0 .links) (c .before .before .before .before .before .before .args .i) (c .before .before .next-of .result) (omega arith) (p .1 .0) (c .before .before .next-of .ensures .0)), (p .0, (omega (arith, c .before .before .next-of .ensures .1, p .1), p .1 .1)))
 
 refinables-returns-2 : (t : ℕ) → refinables-lts.Need-returns-2 (refinables-calls t) (refinables-at t) refinables.Post
 refinables-returns-2 t c =
     let p = c .before .before .before .before .before .before .before .pre .1 in
     let n = numbered (c .before .before .before .before .before .before .before .args .sort) in
-    all-more (is-refinable n) (are-refinable n) (refinables-step n) (c .before .before .before .before .before .before .before .args .sheet .now) (c .before .before .before .before .before .before .before .args .i) (c .before .next-of .result) true (c .refinables .result) (p .0 .links) (omega arith) (p .1 .0) (c .before .next-of .ensures .0) (sym (c .before .before .if2 .taken) ∙ c .before .before .before .refinable .ensures) (c .refinables .ensures)
+    all-more (is-refinable n) (are-refinable n) (refinables-step n) (c .before .before .before .before .before .before .before .args .sheet .now) (c .before .before .before .before .before .before .before .args .i) (c .before .before .before .next-of .result) true (c .refinables .result) (p .0 .links) (omega arith) (p .1 .0) (c .before .before .before .next-of .ensures .0) (sym (c .before .if2 .taken) ∙ c .before .before .refinable .ensures) (c .refinables .ensures)
 
 refinables-returns-3 : (t : ℕ) → refinables-lts.Need-returns-3 (refinables-calls t) (refinables-at t) refinables.Post
 refinables-returns-3 t c =
-    let p = c .before .before .before .before .before .pre .1 in
-    let n = numbered (c .before .before .before .before .before .args .sort) in
-    all-more (is-refinable n) (are-refinable n) (refinables-step n) (c .before .before .before .before .before .args .sheet .now) (c .before .before .before .before .before .args .i) _ false _ (p .0 .links) (omega arith) (p .1 .0) refl (sym (c .if2 .left) ∙ c .before .refinable .ensures) refl
+    let p = c .before .before .before .before .before .before .pre .1 in
+    let n = numbered (c .before .before .before .before .before .before .args .sort) in
+    all-more (is-refinable n) (are-refinable n) (refinables-step n) (c .before .before .before .before .before .before .args .sheet .now) (c .before .before .before .before .before .before .args .i) _ false _ (p .0 .links) (omega arith) (p .1 .0) refl (sym (c .if2 .left) ∙ c .before .refinable .ensures) refl
 
 pub +refinable+refinables-spec : {M : Type 1} → statement M
 +refinable+refinables-spec = close μ-refinable μ-refinables (λ t. refinable-lts.spec (refinable-calls t) (refinable-at t)
@@ -246,8 +246,8 @@ pub +refinable+refinables-spec : {M : Type 1} → statement M
     λ t. refinables-lts.spec (refinables-calls t) (refinables-at t)
     refinables.Post
     (refinables-returns t)
-    (refinables-refinable-requires t)
     (refinables-next-of-requires t)
+    (refinables-refinable-requires t)
     (refinables-refinables-requires t)
     (refinables-returns-2 t)
     (refinables-returns-3 t)

@@ -1,4 +1,3 @@
-use native.Mathlib.Omega.{arith}
 use Rattle.sorts.specs.Numbers.{numbered}
 use Rattle.sorts.proofs.Sorting.{basic-atom, basic-other}
 use borrow.Author.Needs.{needs}

@@ -1,6 +1,6 @@
 use Rattle.sorts.proofs.Coding.{number-is}
-use mathlib.Core.Path.{_≡_, sym, ap₂}
-use mathlib.Core.Bool.{Bool, false}
+use mathlib.Core.Path.{sym, ap₂}
+use mathlib.Core.Bool.{false}
 use mathlib.Core.List.{[]}
 use Prim.Native.Nat.{ℕ}
 use lib.ListN.{getD}

@@ -1,6 +1,5 @@
-use mathlib.Core.Path.{_≡_, sym, _∙_}
+use mathlib.Core.Path.{sym, _∙_}
 use Rattle.rules.specs.Sorts.{symbol, is-frame}
-use Rattle.sorts.specs.Numbers.{coded}
 use borrow.Author.Needs.{needs}
 use Rattle.sorts.proofs.symbol_of.Statement.{statement}
 use Rattle.sorts.proofs.symbol_of.Tie as tie

@@ -1,6 +1,6 @@
 use native.Mathlib.Omega.{arith}
-use mathlib.Core.Path.{_≡_, ap}
-use Prim.Native.Nat.{ℕ, _/_, _%_}
+use mathlib.Core.Path.{ap}
+use Prim.Native.Nat.{ℕ, _%_}
 use Rattle.tree.specs.Cells.{nodes-of}
 use borrow.Author.Needs.{needs}
 use Rattle.tree.proofs.cells.count_of.Statement.{statement}

@@ -1,5 +1,5 @@
 use native.Mathlib.Omega.{arith}
-use mathlib.Core.Path.{_≡_, refl}
+use mathlib.Core.Path.{refl}
 use lib.ListN.{length-set}
 use Rattle.tree.proofs.Pushing.{wrote}
 use borrow.Author.Needs.{needs}

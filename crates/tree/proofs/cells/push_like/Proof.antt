@@ -1,5 +1,3 @@
-use mathlib.Core.Path.{_≡_, refl, ap, sym}
-use Prim.Native.Nat.{ℕ, _/_, _%_}
 use Rattle.tree.specs.Cells.{start-of, length-of, kind-of}
 use borrow.Author.Needs.{needs}
 use Rattle.tree.proofs.cells.push_like.Statement.{statement}

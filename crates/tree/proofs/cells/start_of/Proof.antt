@@ -1,5 +1,5 @@
-use mathlib.Core.Path.{_≡_, ap}
-use Prim.Native.Nat.{ℕ, _/_, _%_}
+use mathlib.Core.Path.{ap}
+use Prim.Native.Nat.{ℕ, _/_}
 use Rattle.tree.specs.Cells.{start-of}
 use borrow.Author.Needs.{needs}
 use Rattle.tree.proofs.cells.start_of.Statement.{statement}

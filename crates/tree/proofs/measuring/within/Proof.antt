@@ -1,4 +1,4 @@
-use mathlib.Core.Path.{_≡_, refl}
+use mathlib.Core.Path.{refl}
 use Rattle.tree.proofs.Lengths.{fits-is, over-is}
 use Rattle.tree.proofs.measuring.within.Statement.{statement}
 use Rattle.tree.proofs.measuring.within.Tie as tie

@@ -1,5 +1,5 @@
 use native.Mathlib.Omega.{arith}
-use mathlib.Core.Path.{_≡_, sym, ap}
+use mathlib.Core.Path.{sym, ap}
 use lib.ListN.{length}
 use Rattle.tree.proofs.Naming.{fixed-none}
 use borrow.Author.Needs.{needs}

@@ -1,4 +1,4 @@
-use mathlib.Core.Path.{_≡_, sym, ap, _∙_}
+use mathlib.Core.Path.{sym, _∙_}
 use native.Mathlib.Omega.{arith}
 use Rattle.tree.proofs.Naming.{fixed-length, name-length, length-small}
 use borrow.Author.Needs.{needs}

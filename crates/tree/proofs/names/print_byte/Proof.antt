@@ -1,4 +1,4 @@
-use mathlib.Core.Path.{_≡_, refl}
+use mathlib.Core.Path.{refl}
 use Rattle.tree.proofs.Printing.{written-byte}
 use borrow.Author.Needs.{needs}
 use Rattle.tree.proofs.names.print_byte.Statement.{statement}

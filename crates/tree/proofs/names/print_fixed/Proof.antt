@@ -1,9 +1,8 @@
 use native.Mathlib.Omega.{arith}
 use Prim.Native.Nat.{ℕ}
-use mathlib.Core.Path.{_≡_, sym, ap}
+use mathlib.Core.Path.{ap}
 use lib.ListN.{length}
 use Rattle.tree.specs.Cells.{fixed-name}
-use Rattle.tree.specs.Output.{Printed}
 use Rattle.tree.proofs.Naming.{fixed-none}
 use Rattle.tree.proofs.Printing.{printed-at, printed-none}
 use borrow.Author.Needs.{needs}

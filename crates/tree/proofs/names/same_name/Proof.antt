@@ -1,4 +1,4 @@
-use mathlib.Core.Path.{_≡_, sym, ap, ap₂, _∙_}
+use mathlib.Core.Path.{ap, _∙_}
 use native.Mathlib.Omega.{arith}
 use mathlib.Core.List.{List}
 use Prim.Native.Nat.{ℕ}

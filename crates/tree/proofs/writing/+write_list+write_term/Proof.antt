@@ -1,10 +1,9 @@
 use borrow.Author.Needs.{needs}
 use native.Mathlib.Omega.{arith}
 use Prim.Native.Nat.{_+_, _*_}
-use mathlib.Core.Path.{_≡_, refl, sym, ap, _∙_}
+use mathlib.Core.Path.{_≡_, refl, ap}
 use lib.ListN.{length}
 use Rattle.rules.specs.Tree.{size, sizes}
-use Rattle.rules.specs.Writing.{render, renders}
 use Rattle.tree.specs.Cells.{kind-of, next-of, tree-at, trees-at}
 use Rattle.tree.proofs.Decoding.{children-fall, head-falls, rest-falls}
 use Rattle.tree.proofs.Printing.{printed-none, printed-then}

@@ -1,11 +1,8 @@
 use native.Mathlib.Omega.{arith}
-use Prim.Native.Nat.{ℕ, _+_, _≤_}
-use mathlib.Core.Path.{_≡_, refl, sym, ap, ap₂, _∙_}
-use mathlib.Core.List.{List, [], _∷_, _++_}
-use Rattle.rules.specs.Bytes.{Text}
+use Prim.Native.Nat.{ℕ}
+use mathlib.Core.Path.{sym, ap, _∙_}
 use Rattle.rules.specs.Tree.{atom-text}
-use Rattle.rules.specs.Writing.{render}
-use Rattle.tree.specs.Cells.{kind-of, name-at, tree-at}
+use Rattle.tree.specs.Cells.{kind-of, name-at}
 use Rattle.tree.proofs.Printing.{printed-then}
 use Rattle.tree.proofs.Rendering.{render-atom, atom-length}
 use borrow.Author.Needs.{needs}
