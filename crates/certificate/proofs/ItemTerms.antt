@@ -208,7 +208,7 @@ module _ (s : Text) where
   name-read : (x : ℕ) (is : List Item) (go : List Text → Option (Trees × List Text)) (go′ : List Item → Read (Term × Terms)) → Named s x → Proper s is
       → ((js : List Item) → Proper s js → go (texts-of js) ≡ as-trees (go′ js))
       → term-rest go (word-text s x) (texts-of is) (after-token (bytes "(") (texts-of is))
-          ≡ as-tree (opened is (λ ks. go′ ks >>= λ ((t, ts), ls). some (node x (more t ts), ls)) (some (node x none, is)))
+      ≡ as-tree (opened is (λ ks. go′ ks >>= λ ((t, ts), ls). some (node x (more t ts), ls)) (some (node x none, is)))
   unfolding tree-of tree-by
   name-read x is go go′ h p f = ap (term-rest go (word-text s x) (texts-of is)) (after-begin is p) ∙ by is p
     where
@@ -224,7 +224,7 @@ module _ (s : Text) where
   item-read : (t : Term) (is : List Item) (go : List Text → Option (Trees × List Text)) (go′ : List Item → Read (Term × Terms)) → Proper s is
       → ((js : List Item) → Proper s js → go (texts-of js) ≡ as-trees (go′ js))
       → list-rest go (tree-of t, texts-of is) (after-token (bytes ",") (texts-of is))
-          ≡ as-trees (delimited is (λ ks. go′ ks >>= λ ((u, us), ls). some ((t, more u us), ls)) (λ ks. some ((t, none), ks)) nothing)
+      ≡ as-trees (delimited is (λ ks. go′ ks >>= λ ((u, us), ls). some ((t, more u us), ls)) (λ ks. some ((t, none), ks)) nothing)
   unfolding tree-of tree-by
   item-read t is go go′ p f = ap (list-rest go (tree-of t, texts-of is)) (after-comma is p) ∙ by is p
     where
@@ -242,7 +242,7 @@ module _ (s : Text) where
 
   rest-read : (n : ℕ) (go : List Text → Option (Trees × List Text)) (go′ : List Item → Read (Term × Terms)) → ((js : List Item) → Proper s js → go (texts-of js) ≡ as-trees (go′ js))
       → (o : Read Term) → GoodTerm n o → (as-tree o >>= λ q. list-rest go q (after-token (bytes ",") (q .1)))
-          ≡ as-trees (o >>= λ (t, js). delimited js (λ ks. go′ ks >>= λ ((u, us), ls). some ((t, more u us), ls)) (λ ks. some ((t, none), ks)) nothing)
+      ≡ as-trees (o >>= λ (t, js). delimited js (λ ks. go′ ks >>= λ ((u, us), ls). some ((t, more u us), ls)) (λ ks. some ((t, none), ks)) nothing)
   rest-read n go go′ f nothing g = refl
   rest-read n go go′ f (some (t, js)) g = item-read t js go go′ (g .1) f
 

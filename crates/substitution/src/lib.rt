@@ -1,0 +1,2 @@
+// Occurrence of variables, bindings, and substitution over trees in a lent work area.
+pub mod occurrence;
