@@ -1,2 +1,3 @@
 // Occurrence of variables, bindings, and substitution over trees in a lent work area.
+pub mod bindings;
 pub mod occurrence;
