@@ -1,3 +1,4 @@
 // Occurrence of variables, bindings, and substitution over trees in a lent work area.
 pub mod bindings;
+pub mod instances;
 pub mod occurrence;
