@@ -15,7 +15,7 @@ use Rattle.tree.proofs.Decoding.{Kind, application, a-variable, an-atom, kind, 
 use Rattle.substitution.specs.Bindings.{key-of, keyed, bindings-of, bindings-at, FoundAt}
 
 -- a cell is a key by its name
-key-name : (s : Text) (w : List ℕ) (k : ℕ) → Kind (kind-of w k) → key-of (tree-at s w k) ≡ name-at s w k
+pub key-name : (s : Text) (w : List ℕ) (k : ℕ) → Kind (kind-of w k) → key-of (tree-at s w k) ≡ name-at s w k
 unfolding key-of
 key-name s w k (application e) = ap key-of (tree-apply s w k e)
 key-name s w k (a-variable p q) = ap key-of (tree-variable s w k p q)

@@ -3,3 +3,6 @@ pub mod Keys
 pub mod Growing
 pub mod Substituting
 pub mod Placing
+pub mod Binding
+pub mod Chains
+pub mod Composing

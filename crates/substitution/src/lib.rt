@@ -2,3 +2,4 @@
 pub mod bindings;
 pub mod instances;
 pub mod occurrence;
+pub mod solving;
