@@ -1,11 +1,11 @@
-// Whether a variable, or any variable, occurs in a tree.
+// Whether a variable occurs in a tree.
 use tree::cells::first_of;
 use tree::cells::kind_of;
 use tree::cells::next_of;
 use tree::names::same_name;
 ghost use mathlib.Core.Path.{_≡_};
 ghost use Prim.Native.Nat.{_<_};
-ghost use Rattle.rules.specs.Tree.{occurs, occurs-in, ground, grounds};
+ghost use Rattle.rules.specs.Tree.{occurs, occurs-in};
 ghost use Rattle.tree.specs.Cells.{name-at, tree-at, trees-at};
 ghost use Rattle.tree.specs.Arena.{Arena};
 
@@ -36,36 +36,9 @@ pub fn occurs_in(sheet: &[u8], work: &[u32], free: usize, key: usize, i: usize) 
     if i == 0 {
         return false;
     }
+    let next = next_of(work, free, i);
     if occurs(sheet, work, free, key, i) {
         return true;
     }
-    occurs_in(sheet, work, free, key, next_of(work, free, i))
-}
-
-// Whether no variable occurs in the tree of cell i.
-pub fn ground(sheet: &[u8], work: &[u32], free: usize, i: usize) -> bool
-    requires { ⌜ Arena (now sheet) (now work) free ⌝ }
-    requires { ⌜ (0 < i) × (i < free) ⌝ }
-    ensures { λ r. ⌜ r ≡ ground (tree-at (now (sheet .entry)) (now (work .entry)) i) ⌝ }
-{
-    let kind = kind_of(work, i);
-    if 0 < kind {
-        return 7 <= kind;
-    }
-    grounds(sheet, work, free, first_of(work, free, i))
-}
-
-// Whether no variable occurs in the list from cell i on.
-pub fn grounds(sheet: &[u8], work: &[u32], free: usize, i: usize) -> bool
-    requires { ⌜ Arena (now sheet) (now work) free ⌝ }
-    requires { ⌜ i < free ⌝ }
-    ensures { λ r. ⌜ r ≡ grounds (trees-at (now (sheet .entry)) (now (work .entry)) i) ⌝ }
-{
-    if i == 0 {
-        return true;
-    }
-    if ground(sheet, work, free, i) {
-        return grounds(sheet, work, free, next_of(work, free, i));
-    }
-    false
+    occurs_in(sheet, work, free, key, next)
 }

@@ -46,7 +46,7 @@ abbrev occurs-calls : ℕ → occurs-lts.Claims
 occurs-calls t = (kind-of-reads.Asked, kind-of-reads.Learnt, same-name-reads.Asked, same-name-reads.Learnt, first-of-reads.Asked, first-of-reads.Learnt, occurs-in-below t, occurs-in.Post)
 
 abbrev occurs-in-calls : ℕ → occurs-in-lts.Claims
-occurs-in-calls t = (occurs-below t, occurs.Post, next-of-reads.Asked, next-of-reads.Learnt, occurs-in-below t, occurs-in.Post)
+occurs-in-calls t = (next-of-reads.Asked, next-of-reads.Learnt, occurs-below t, occurs.Post, occurs-in-below t, occurs-in.Post)
 
 -- src/occurrence.rt:19:9
 occurs-kind-of-requires : (t : ℕ) → occurs-lts.Need-kind-of-requires (occurs-calls t) (occurs-at t) occurs.Post
@@ -87,34 +87,34 @@ occurs-returns-3 t c =
 occurs-in-returns : (t : ℕ) → occurs-in-lts.Need-returns (occurs-in-calls t) (occurs-in-at t) occurs-in.Post
 occurs-in-returns t c = occurs-none _ _ _ _ (c .if1 .taken)
 
--- src/occurrence.rt:39:8
-occurs-in-occurs-requires : (t : ℕ) → occurs-in-lts.Need-occurs-requires (occurs-in-calls t) (occurs-in-at t) occurs-in.Post
-occurs-in-occurs-requires t c κs =
-    let p = c .before .before .before .pre .1 in
-    let q : 0 < c .before .before .before .args .i = omega arith in
-    (omega (arith, c .before .before .before .pre .0, head-falls (c .before .before .before .args .sheet .now) (p .0 .links) (c .before .before .before .args .i) q (p .1 .1)), (p .0, (p .1 .0, (q, p .1 .1))))
-
--- src/occurrence.rt:40:9
-occurs-in-returns-2 : (t : ℕ) → occurs-in-lts.Need-returns-2 (occurs-in-calls t) (occurs-in-at t) occurs-in.Post
-occurs-in-returns-2 t c =
-    let p = c .before .before .before .before .before .pre .1 in
-    occurs-more _ _ _ _ _ true _ (p .0 .links) (omega arith) (p .1 .1) refl (sym (c .if2 .taken) ∙ c .before .occurs .ensures) refl
-
--- src/occurrence.rt:42:39
+-- src/occurrence.rt:39:9
 occurs-in-next-of-requires : (t : ℕ) → occurs-in-lts.Need-next-of-requires (occurs-in-calls t) (occurs-in-at t) occurs-in.Post
 occurs-in-next-of-requires t c κs = search needs
 
--- src/occurrence.rt:42:5
+-- src/occurrence.rt:40:8
+occurs-in-occurs-requires : (t : ℕ) → occurs-in-lts.Need-occurs-requires (occurs-in-calls t) (occurs-in-at t) occurs-in.Post
+occurs-in-occurs-requires t c κs =
+    let p = c .before .before .before .before .pre .1 in
+    let q : 0 < c .before .before .before .before .args .i = omega arith in
+    (omega (arith, c .before .before .before .before .pre .0, head-falls (c .before .before .before .before .args .sheet .now) (p .0 .links) (c .before .before .before .before .args .i) q (p .1 .1)), (p .0, (p .1 .0, (q, p .1 .1))))
+
+-- src/occurrence.rt:41:9
+occurs-in-returns-2 : (t : ℕ) → occurs-in-lts.Need-returns-2 (occurs-in-calls t) (occurs-in-at t) occurs-in.Post
+occurs-in-returns-2 t c =
+    let p = c .before .before .before .before .before .before .pre .1 in
+    occurs-more _ _ _ _ _ true _ (p .0 .links) (omega arith) (p .1 .1) refl (sym (c .if2 .taken) ∙ c .before .occurs .ensures) refl
+
+-- src/occurrence.rt:43:5
 occurs-in-occurs-in-requires : (t : ℕ) → occurs-in-lts.Need-occurs-in-requires (occurs-in-calls t) (occurs-in-at t) occurs-in.Post
 occurs-in-occurs-in-requires t c κs =
     let p = c .before .before .before .before .before .before .pre .1 in
-    (omega (arith, c .before .before .before .before .before .before .pre .0, rest-falls (c .before .before .before .before .before .before .args .sheet .now) (p .0 .links) (c .before .before .before .before .before .before .args .i) (c .next-of .result) (omega arith) (p .1 .1) (c .next-of .ensures .0)), (p .0, (p .1 .0, omega (arith, c .next-of .ensures .1, p .1 .1))))
+    (omega (arith, c .before .before .before .before .before .before .pre .0, rest-falls (c .before .before .before .before .before .before .args .sheet .now) (p .0 .links) (c .before .before .before .before .before .before .args .i) (c .before .before .next-of .result) (omega arith) (p .1 .1) (c .before .before .next-of .ensures .0)), (p .0, (p .1 .0, omega (arith, c .before .before .next-of .ensures .1, p .1 .1))))
 
 -- src/occurrence.rt:30:1
 occurs-in-returns-3 : (t : ℕ) → occurs-in-lts.Need-returns-3 (occurs-in-calls t) (occurs-in-at t) occurs-in.Post
 occurs-in-returns-3 t c =
     let p = c .before .before .before .before .before .before .before .pre .1 in
-    occurs-more _ _ _ _ _ false (c .occurs-in .result) (p .0 .links) (omega arith) (p .1 .1) (c .before .next-of .ensures .0) (sym (c .before .before .if2 .left) ∙ c .before .before .before .occurs .ensures) (c .occurs-in .ensures)
+    occurs-more _ _ _ _ _ false (c .occurs-in .result) (p .0 .links) (omega arith) (p .1 .1) (c .before .before .before .next-of .ensures .0) (sym (c .before .if2 .left) ∙ c .before .before .occurs .ensures) (c .occurs-in .ensures)
 
 pub +occurs+occurs-in-spec : {M : Type 1} → statement M
 +occurs+occurs-in-spec = close μ-occurs μ-occurs-in (λ t. occurs-lts.spec (occurs-calls t) (occurs-at t)
@@ -129,8 +129,8 @@ pub +occurs+occurs-in-spec : {M : Type 1} → statement M
     λ t. occurs-in-lts.spec (occurs-in-calls t) (occurs-in-at t)
     occurs-in.Post
     (occurs-in-returns t)
+    (occurs-in-next-of-requires t)
     (occurs-in-occurs-requires t)
     (occurs-in-returns-2 t)
-    (occurs-in-next-of-requires t)
     (occurs-in-occurs-in-requires t)
     (occurs-in-returns-3 t)

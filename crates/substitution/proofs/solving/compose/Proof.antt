@@ -42,7 +42,7 @@ substitute-requires c κs =
     let p = c .before .before .before .before .before .before .before .before .before .pre in
     let h = c .before .before .before .before .before .before .loop .inv in
     let g = holds-room h (c .before .before .before .value-of .result) (omega arith) (c .before .before .before .value-of .ensures .0) (c .before .rest-of .result) (c .before .rest-of .ensures .0) in
-    (h .arena, ((holds-value h (c .before .before .before .value-of .result) (omega arith) (c .before .before .before .value-of .ensures .0), omega (arith, h .left, h .grew, c .before .before .before .value-of .ensures .1), h .inside, h .inside), (omega (arith, g, p .1 .1 .0, h .grown .len), omega (arith, g, p .1 .1 .1), omega arith)))
+    (h .arena, ((holds-value h (c .before .before .before .value-of .result) (omega arith) (c .before .before .before .value-of .ensures .0), omega (arith, h .left, h .grew, c .before .before .before .value-of .ensures .1), omega (arith, h .left, h .grew, h .inside, c .before .before .before .value-of .ensures .1, c .before .rest-of .ensures .1), h .inside), (omega (arith, g, p .1 .1 .0, h .grown .len), omega (arith, g, p .1 .1 .1), omega arith)))
 
 -- src/solving.rt:87:13
 enum-known-built : tie.Need-enum-known-built Inv-loop μ-loop
