@@ -15,11 +15,13 @@ const MODULES: [&str; 7] = [
     "variants",
 ];
 
+// A folder that the variable names is taken from the root of the repository on.
 fn folder() -> PathBuf {
+    let package = env::var("CARGO_MANIFEST_DIR").expect("set by cargo");
+    let root = Path::new(&package).join("../..");
     match env::var_os(VARIABLE) {
-        Some(folder) => PathBuf::from(folder),
-        None => Path::new(&env::var("CARGO_MANIFEST_DIR").expect("set by cargo"))
-            .join("../../../shared/docs/src"),
+        Some(folder) => root.join(folder),
+        None => root.join("../shared/docs/src"),
     }
 }
 

@@ -15,7 +15,8 @@ const HELP: &str = "\
 host: the reference of the call, generated sheets and the stored list
 
   host answer FILE                      the reference's answer to the sheet in FILE; a refusal
-                                        goes to standard error and is the exit status
+                                        goes to standard error and is the exit status (100:
+                                        the command line or the file is at fault)
   host store                            write the stored list anew
   host replay                           check the stored list against the reference
   host compare [--count N] [--seed S]   the model against the Rust on generated sheets

@@ -1,5 +1,6 @@
 // Sheets with replies written by hand: those of document 01, and one or more for each reading of
 // it. In the texts here `|` stands for byte 10.
+mod deep;
 mod equality;
 mod limits;
 mod lines;
@@ -141,6 +142,7 @@ pub fn all() -> Vec<Example> {
     let parts = [
         of_document(),
         lines::examples(),
+        deep::examples(),
         equality::examples(),
         solving::examples(),
         variants::examples(),

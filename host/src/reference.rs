@@ -127,7 +127,6 @@ fn by_model(sheet: &Sheet) -> Option<String> {
     })
 }
 
-// The Rust has no count of pairs: that line is taken from the model's answer.
 fn by_rust(sheet: &Sheet, modelled: &Option<String>) -> Option<String> {
     let read_all = |pairs: &[Pair]| -> Option<Vec<(oracle::Term, oracle::Term)>> {
         pairs
@@ -135,19 +134,18 @@ fn by_rust(sheet: &Sheet, modelled: &Option<String>) -> Option<String> {
             .map(|(l, r)| Some((oracle::parse(l)?, oracle::parse(r)?)))
             .collect()
     };
-    let told = |outcome: Outcome| {
-        let (word, bindings) = match outcome {
-            Outcome::Solved(bindings) => ("solved", bindings),
-            Outcome::Failed => ("failed", vec![]),
-            Outcome::Unsupported => ("unsupported", vec![]),
-        };
-        let written = bindings.iter().map(|(k, v)| (k.clone(), oracle::render(v)));
-        verdict(word, spent(modelled), written.collect())
+    let solved = |solve: Solve, fuel: usize, pairs: &[Pair]| -> Option<String> {
+        Some(solved_by_rust(
+            solve,
+            fuel,
+            &read_all(pairs)?,
+            spent(modelled),
+        ))
     };
     Some(match sheet {
         Sheet::Equal(left, right) => claim("equal", Some(oracle::equivalent(left, right)?)),
-        Sheet::Unify(fuel, pairs) => told(oracle::unify(*fuel, &read_all(pairs)?)),
-        Sheet::Match(fuel, pairs) => told(oracle::matcher(*fuel, &read_all(pairs)?)),
+        Sheet::Unify(fuel, pairs) => solved(oracle::unify, *fuel, pairs)?,
+        Sheet::Match(fuel, pairs) => solved(oracle::matcher, *fuel, pairs)?,
         Sheet::Reduce(term) => {
             let term = oracle::parse(term)?;
             format!("normal={}\n", oracle::render(&oracle::normalize(&term)))
@@ -167,6 +165,54 @@ fn by_rust(sheet: &Sheet, modelled: &Option<String>) -> Option<String> {
             claim("complete", if kept_out { None } else { told() })
         }
     })
+}
+
+type Solve = fn(usize, &[(oracle::Term, oracle::Term)]) -> Outcome;
+
+// The Rust has no count of pairs: that line is taken from the model's answer, if the Rust bears it
+// out.
+fn solved_by_rust(
+    solve: Solve,
+    fuel: usize,
+    pairs: &[(oracle::Term, oracle::Term)],
+    spent: &str,
+) -> String {
+    let outcome = solve(fuel, pairs);
+    let count = spent.parse().unwrap_or(usize::MAX);
+    let spent = if borne_out(solve, fuel, pairs, &outcome, count) {
+        spent
+    } else {
+        "another number"
+    };
+    let (word, bindings) = match outcome {
+        Outcome::Solved(bindings) => ("solved", bindings),
+        Outcome::Failed => ("failed", vec![]),
+        Outcome::Unsupported => ("unsupported", vec![]),
+    };
+    let written = bindings.iter().map(|(k, v)| (k.clone(), oracle::render(v)));
+    verdict(word, spent, written.collect())
+}
+
+// Whether the Rust runs as it must if so many pairs are taken: a solved or failed run needs just
+// that fuel, and a run that more fuel would settle has used up its own. Of a run that a pair ends
+// as unsupported the Rust tells no more.
+fn borne_out(
+    solve: Solve,
+    fuel: usize,
+    pairs: &[(oracle::Term, oracle::Term)],
+    outcome: &Outcome,
+    count: usize,
+) -> bool {
+    let least = match outcome {
+        Outcome::Solved(_) => count.saturating_add(1),
+        Outcome::Failed => count,
+        Outcome::Unsupported => {
+            return count <= fuel
+                && (count == fuel || solve(model::FUEL, pairs) == Outcome::Unsupported);
+        }
+    };
+    let before = least.checked_sub(1).map(|fuel| solve(fuel, pairs));
+    before == Some(Outcome::Unsupported) && solve(least, pairs) == *outcome
 }
 
 fn spent(modelled: &Option<String>) -> &str {

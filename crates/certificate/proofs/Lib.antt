@@ -1,6 +1,6 @@
-pub mod Laws
+pub mod WordTexts
 pub mod Parts
-pub mod Runs
+pub mod RunLaws
 pub mod RunSorting
 pub mod Dividing
 pub mod Joining
@@ -9,7 +9,12 @@ pub mod Settling
 pub mod Summands
 pub mod Canonicals
 pub mod CanonTexts
-pub mod Ending
 pub mod ItemTokens
 pub mod ItemTerms
 pub mod Flattening
+pub mod ItemWords
+pub mod WrittenTexts
+pub mod WriterSteps
+pub mod WriterTurns
+pub mod WriterStates
+pub mod Comparisons

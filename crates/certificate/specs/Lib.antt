@@ -3,3 +3,5 @@ pub mod Runs
 pub mod Settle
 pub mod Terms
 pub mod Items
+pub mod Writer
+pub mod Comparing

@@ -8,9 +8,9 @@ use mathlib.Core.List.{List, [], _∷_, _++_}
 use lib.Dec.{eqb, ltb}
 use lib.ListN.{length, getD, take, drop}
 use Rattle.rules.specs.Tree.{tamtplus}
-use Rattle.certificate.specs.declared.Order.{Order}
-use Rattle.certificate.specs.declared.Order.the-variants.{Less, Equal, Greater}
-use Rattle.certificate.specs.declared.Spot.{Spot}
+use Rattle.certificate.specs.declared.order.Order.{Order}
+use Rattle.certificate.specs.declared.order.Order.the-variants.{Less, Equal, Greater}
+use Rattle.certificate.specs.declared.order.Spot.{Spot}
 
 -- the text of a code
 unfoldable pub code-text : ℕ → List ℕ

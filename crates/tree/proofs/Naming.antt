@@ -14,6 +14,7 @@ use Rattle.rules.specs.Tree.{Tree, variable, atom, apply, Trees, atom-text, hea
 use Rattle.laws.proofs.Basics.Tests.{same-eq, same-of-eq, differ-of-ne}
 use Rattle.tree.specs.Cells.{start-of, length-of, kind-of, fixed-name, part, named, name-at, tree-at}
 use Rattle.tree.specs.Arena.{Place, Cell}
+use Rattle.tree.proofs.Bounded.{every-below, below-holds, agree, agreeing}
 use Rattle.tree.proofs.Decoding.{Kind, application, a-variable, an-atom, kind, tree-variable, tree-atom, tree-apply}
 
 -- the name of a cell, by its place
@@ -60,35 +61,6 @@ pub same-none : (t : Text) → eqb (length t) 0 ≡ same [] t
 unfolding same
 same-none [] = refl
 same-none (b ∷ t) = ne-eqb (length (b ∷ t)) 0 (omega arith)
-
--- a test of every number below n
-every-below : ℕ → (ℕ → Bool) → Bool
-every-below zero p = true
-every-below (suc n) p = p n && every-below n p
-
-below-holds : (n : ℕ) (p : ℕ → Bool) → every-below n p ≡ true → (k : ℕ) → k < n → p k ≡ true
-unfolding every-below
-below-holds zero p e k l = absurd (omega arith)
-below-holds (suc n) p e k l = go (p n) refl e (below-holds n p)
-  where
-    at : (b : Bool) → p n ≡ b → b ≡ true → (k < n) ⊎ (k ≡ n) → (k < n → p k ≡ true) → p k ≡ true
-    at b f g (inl q) r = r q
-    at b f g (inr q) r = ap p q ∙ f ∙ g
-
-    go : (b : Bool) → p n ≡ b → (b && every-below n p) ≡ true → (every-below n p ≡ true → (k : ℕ) → k < n → p k ≡ true) → p k ≡ true
-    go true f g r = at true f refl (elim (decLt k n) [ yes q ↦ inl q | no q ↦ inr (omega arith) ]) (r g k)
-    go false f g r = absurd (true≢false (sym g))
-
-agree : Bool → Bool → Bool
-agree true b = b
-agree false true = false
-agree false false = true
-
-agreeing : (a b : Bool) → agree a b ≡ true → a ≡ b
-unfolding agree
-agreeing true b e = sym e
-agreeing false true e = absurd (true≢false (sym e))
-agreeing false false e = refl
 
 -- two codes have one name where they are one
 pub codes : (a b : ℕ) → 0 < a → a < 7 → 0 < b → b < 7 → same (fixed-name a) (fixed-name b) ≡ eqb a b

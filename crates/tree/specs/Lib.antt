@@ -1,3 +1,5 @@
 pub mod Cells
 pub mod Arena
 pub mod Output
+pub mod Marked
+pub mod Measure

@@ -59,12 +59,16 @@ fn bytes(rng: &mut Rng) -> String {
 }
 
 fn fuel(rng: &mut Rng) -> String {
-    let pairs = rng.between(1, 300);
+    let pairs = if rng.once_in(4) {
+        rng.between(3_900, 4_300)
+    } else {
+        rng.between(1, 300)
+    };
     let fuel = pairs - 1 + rng.below(3);
     let kind = rng.pick(&["unify", "match"]);
     let nested = chain("h", "x0:Msg", pairs - 1);
     let subject = chain("h", "c(0)", pairs - 1);
-    if rng.once_in(2) {
+    if pairs <= 300 && rng.once_in(2) {
         return format!("kind={kind}\nfuel={fuel}\nleft={nested}\nright={subject}\n");
     }
     format!(
@@ -142,8 +146,46 @@ fn sums(rng: &mut Rng) -> String {
     )
 }
 
+// Long names, copied by a binding.
+fn names(rng: &mut Rng) -> String {
+    let name = "name".repeat(rng.between(1, 3_000));
+    let times = rng.between(1, 9);
+    let kind = rng.pick(&["unify", "match"]);
+    let left = leaves("g", "x0:Msg", times);
+    match rng.below(3) {
+        0 => {
+            format!("kind={kind}\nfuel=99\nleft=x0:Msg\nright={name}\nleft=x1:Msg\nright={left}\n")
+        }
+        1 => format!("kind={kind}\nfuel=9\nleft=h({name})\nright=h({name}2)\n"),
+        _ => format!(
+            "kind=sound\nterm={left}\nmember={}\nkey=x0:Msg\nvalue={name}\n",
+            leaves("g", &name, times)
+        ),
+    }
+}
+
+// Many members, or one with many keys, where the last key may be a repeated one.
+fn members(rng: &mut Rng) -> String {
+    let count = rng.between(20, 300);
+    let kind = rng.pick(&[
+        "cover\nleft=x0:Msg\nright=x299:Msg",
+        "sound\nterm=a",
+        "complete\nterm=x0:Msg",
+    ]);
+    if !kind.starts_with("sound") && rng.once_in(2) {
+        let members = "member=b\nkey=x0:Msg\nvalue=b\n".repeat(count);
+        let last = rng.pick(&["", "member=x1:Msg\n"]);
+        return format!("kind={kind}\n{members}{last}");
+    }
+    let keys: String = (1..count)
+        .map(|index| format!("key=x{index}:Msg\nvalue=a\n"))
+        .collect();
+    let last = rng.between(1, count);
+    format!("kind={kind}\nmember=a\n{keys}key=x{last}:Msg\nvalue=a\n")
+}
+
 pub fn sheet(rng: &mut Rng) -> Vec<u8> {
-    let text = match rng.weighted(&[4, 3, 4, 4, 3, 3, 2, 3]) {
+    let text = match rng.weighted(&[4, 3, 4, 4, 3, 3, 2, 3, 3, 3]) {
         0 => read(rng),
         1 => bytes(rng),
         2 => fuel(rng),
@@ -151,7 +193,9 @@ pub fn sheet(rng: &mut Rng) -> Vec<u8> {
         4 => composed(rng),
         5 => schemes(rng),
         6 => instance(rng),
-        _ => sums(rng),
+        7 => sums(rng),
+        8 => names(rng),
+        _ => members(rng),
     };
     text.into_bytes()
 }

@@ -3,7 +3,7 @@ use std::rc::Rc;
 
 use super::{
     LIMIT,
-    sorts::{Sort, has_sort, never_equal, refinable, sort_of},
+    sorts::{has_sort, never_equal, refinable, sort_of},
     term::{Bindings, Pair, SUM, Term, ac_equal, nested, values},
 };
 
@@ -212,17 +212,12 @@ impl Matcher {
 
     fn variable(&mut self, key: &Rc<str>, subject: &Term) -> Result<(), End> {
         let bound = self.bindings.iter().find(|binding| binding.0 == *key);
-        let fits = match bound {
-            Some((_, value)) => {
-                return if ac_equal(value, subject) {
-                    Ok(())
-                } else {
-                    Err(End::Fails)
-                };
-            }
-            None => sort_of(key).is_some_and(|sort: Sort| has_sort(sort, subject)),
-        };
-        if !fits {
+        match bound.map(|binding| ac_equal(&binding.1, subject)) {
+            Some(true) => return Ok(()),
+            Some(false) => return Err(End::Fails),
+            None => {}
+        }
+        if !sort_of(key).is_some_and(|sort| has_sort(sort, subject)) {
             return Err(End::Fails);
         }
         self.bindings.push((key.clone(), subject.clone()));

@@ -1,0 +1,87 @@
+-- Sorts by their numbers, the kinds of variables, and symbols. Assumes nothing.
+use Prim.Native.Nat.{ℕ, zero, suc, _+_, _-_, _<_, _≤_}
+use mathlib.Core.Path.{_≡_, refl, sym, ap, _∙_}
+use mathlib.Core.Bool.{Bool, true, false, cond}
+use mathlib.Core.Option.{Option, some, none as nothing}
+use lib.Dec.{eqb, ltb}
+use native.Mathlib.Omega.{arith}
+use borrow.Author.Tests.{lt-ltb, eqb-true}
+use Rattle.rules.specs.Sorts.{Sort, Pub, Fresh, Msg, TamNat, Node, sort-number, same-sort, has-sort, has-message-sort}
+use Rattle.rules.specs.Sorts as rules
+use Rattle.tree.specs.Cells.{kind-of-sort}
+use Rattle.tree.proofs.Bounded.{every-below, below-holds, agree, agreeing}
+use Rattle.sorts.specs.Numbers.{numbered, coded}
+use Rattle.sorts.specs.declared.Symbol.{Symbol}
+use Rattle.sorts.specs.declared.Symbol.the-variants.{Addition, Unit, Frame, Free}
+
+-- the number of the sort of a number
+pub number-is : (n : ℕ) → n < 5 → sort-number (numbered n) ≡ n
+unfolding every-below
+number-is n h = eqb-true (sort-number (numbered n)) n (below-holds 5 (λ m. eqb (sort-number (numbered m)) m) refl n h)
+
+-- whether two sorts are one
+pub sort-test : (n m : ℕ) → n < 5 → m < 5 → same-sort (numbered n) (numbered m) ≡ eqb n m
+unfolding every-below agree
+sort-test n m h l =
+    agreeing _ _ (below-holds 5 (λ y. agree (same-sort (numbered n) (numbered y)) (eqb n y))
+    (below-holds 5 (λ x. every-below 5 (λ y. agree (same-sort (numbered x) (numbered y)) (eqb x y))) refl n h) m l)
+
+-- the sort of a kind
+abbrev of-kind : ℕ → Option Sort
+of-kind zero = nothing
+of-kind (suc n) = cond (ltb n 5) (some (numbered n)) nothing
+
+of-sort : (v : Option Sort) → of-kind (kind-of-sort v) ≡ v
+of-sort nothing = refl
+of-sort (some Pub) = refl
+of-sort (some Fresh) = refl
+of-sort (some Msg) = refl
+of-sort (some TamNat) = refl
+of-sort (some Node) = refl
+
+sort-of-kind : (r : ℕ) (v : Option Sort) → r ≡ kind-of-sort v → v ≡ of-kind r
+sort-of-kind r v e = sym (of-sort v) ∙ ap of-kind (sym e)
+
+-- a test of the sort by the kind
+kinds : (p : ℕ → Bool) (f : Option Sort → Bool) → every-below 6 (λ n. agree (p (suc n)) (f (of-kind (suc n)))) ≡ true
+    → (r : ℕ) (v : Option Sort) → r ≡ kind-of-sort v → 0 < r → r < 7 → p r ≡ f v
+kinds p f t zero v e h l = absurd (omega arith)
+kinds p f t (suc n) v e h l = agreeing (p (suc n)) (f (of-kind (suc n))) (below-holds 6 (λ n. agree (p (suc n)) (f (of-kind (suc n)))) t n (omega arith)) ∙ ap f (sym (sort-of-kind (suc n) v e))
+
+pub natural-kind : (r : ℕ) (v : Option Sort) → r ≡ kind-of-sort v → 0 < r → r < 7 → eqb r 4 ≡ has-sort TamNat v
+unfolding every-below agree
+natural-kind = kinds (λ r. eqb r 4) (has-sort TamNat) refl
+
+pub message-kind : (r : ℕ) (v : Option Sort) → r ≡ kind-of-sort v → 0 < r → r < 7 → ltb r 5 ≡ has-message-sort v
+unfolding every-below agree
+message-kind = kinds (λ r. ltb r 5) has-message-sort refl
+
+pub sort-kind : (n : ℕ) → n < 5 → (r : ℕ) (v : Option Sort) → r ≡ kind-of-sort v → 0 < r → r < 7 → eqb r (n + 1) ≡ has-sort (numbered n) v
+unfolding every-below agree
+sort-kind n l = kinds (λ r. eqb r (n + 1)) (has-sort (numbered n)) (below-holds 5 (λ m. every-below 6 (λ k. agree (eqb (suc k) (m + 1)) (has-sort (numbered m) (of-kind (suc k))))) refl n l)
+
+pub kind-known : (r : ℕ) (v : Option Sort) → r ≡ kind-of-sort v → 0 < r → r < 6 → v ≡ some (numbered (r - 1))
+kind-known zero v e h l = absurd (omega arith)
+kind-known (suc n) v e h l =
+    let p : suc n - 1 ≡ n = omega arith in
+    let q : n < 5 = omega arith in
+    sort-of-kind (suc n) v e ∙ rw (lt-ltb n 5 q, p)
+
+pub kind-unknown : (r : ℕ) (v : Option Sort) → r ≡ kind-of-sort v → r ≡ 6 → v ≡ nothing
+kind-unknown r v e f = sort-of-kind 6 v (sym f ∙ e)
+
+-- symbols
+abbrev pub decoded : Symbol → rules.Symbol
+decoded Addition = rules.addition
+decoded Unit = rules.unit
+decoded Frame = rules.frame
+decoded Free = rules.free
+
+decoded-coded : (x : rules.Symbol) → decoded (coded x) ≡ x
+decoded-coded rules.addition = refl
+decoded-coded rules.unit = refl
+decoded-coded rules.frame = refl
+decoded-coded rules.free = refl
+
+pub symbol-is : {y z : Symbol} (x : rules.Symbol) → y ≡ coded x → y ≡ z → x ≡ decoded z
+symbol-is x e f = sym (decoded-coded x) ∙ ap decoded (sym e ∙ f)

@@ -1,0 +1,20 @@
+-- Sorts by their numbers, and symbols as the code has them. Definitions only.
+use Prim.Native.Nat.{ℕ, zero, suc}
+use Rattle.rules.specs.Sorts.{Sort, Pub, Fresh, Msg, TamNat, Node}
+use Rattle.rules.specs.Sorts as rules
+use Rattle.sorts.specs.declared.Symbol.{Symbol}
+use Rattle.sorts.specs.declared.Symbol.the-variants.{Addition, Unit, Frame, Free}
+
+-- the sort of a number below five
+abbrev pub numbered : ℕ → Sort
+numbered zero = Pub
+numbered (suc zero) = Fresh
+numbered (suc (suc zero)) = Msg
+numbered (suc (suc (suc zero))) = TamNat
+numbered (suc (suc (suc (suc n)))) = Node
+
+abbrev pub coded : rules.Symbol → Symbol
+coded rules.addition = Addition
+coded rules.unit = Unit
+coded rules.frame = Frame
+coded rules.free = Free

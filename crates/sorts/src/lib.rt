@@ -1,0 +1,229 @@
+// The five sorts: which meet, which trees have them, and which trees may have an instance of them.
+use tree::cells::first_of;
+use tree::cells::kind_of;
+use tree::cells::next_of;
+use tree::names::name_is;
+ghost use mathlib.Core.Path.{_≡_};
+ghost use Prim.Native.Nat.{_<_};
+ghost use Rattle.rules.specs.Sorts.{intersects, symbol, natural, naturals, message, messages, basic, sorted, refinable, refinables};
+ghost use Rattle.tree.specs.Cells.{name-at, tree-at, trees-at};
+ghost use Rattle.tree.specs.Arena.{Arena};
+ghost use Rattle.sorts.specs.Numbers.{numbered, coded};
+
+// Which sorts meet, by their numbers: Pub, Fresh, Msg, TamNat, Node.
+const MEETS: [[bool; 5]; 5] = [
+    [true, false, true, false, false],
+    [false, true, true, false, false],
+    [true, true, true, true, false],
+    [false, false, true, true, false],
+    [false, false, false, false, true],
+];
+
+const MSG: usize = 2;
+
+const TAM_NAT: usize = 3;
+
+// Whether two sorts meet.
+pub fn meets(a: usize, b: usize) -> bool
+    requires { ⌜ (a < 5) × (b < 5) ⌝ }
+    ensures { λ r. ⌜ r ≡ intersects (numbered a) (numbered b) ⌝ }
+{
+    MEETS[a][b]
+}
+
+// What a name stands for.
+pub enum Symbol {
+    Addition,
+    Unit,
+    Frame,
+    Free,
+}
+
+// What the name of cell k stands for.
+pub fn symbol_of(sheet: &[u8], work: &[u32], free: usize, k: usize) -> Symbol
+    requires { ⌜ Arena (now sheet) (now work) free ⌝ }
+    requires { ⌜ (0 < k) × (k < free) ⌝ }
+    ensures { λ r. ⌜ r ≡ coded (symbol (name-at (now (sheet .entry)) (now (work .entry)) k)) ⌝ }
+{
+    if name_is(sheet, work, free, k, b"tamtplus") {
+        return Symbol::Addition;
+    }
+    if name_is(sheet, work, free, k, b"tamXCtone") {
+        return Symbol::Unit;
+    }
+    if name_is(sheet, work, free, k, b"list") {
+        return Symbol::Frame;
+    }
+    if name_is(sheet, work, free, k, b"cons") {
+        return Symbol::Frame;
+    }
+    if name_is(sheet, work, free, k, b"nil") {
+        return Symbol::Frame;
+    }
+    Symbol::Free
+}
+
+// Whether the tree of cell i is natural.
+pub fn natural(sheet: &[u8], work: &[u32], free: usize, i: usize) -> bool
+    requires { ⌜ Arena (now sheet) (now work) free ⌝ }
+    requires { ⌜ (0 < i) × (i < free) ⌝ }
+    ensures { λ r. ⌜ r ≡ natural (tree-at (now (sheet .entry)) (now (work .entry)) i) ⌝ }
+{
+    let kind = kind_of(work, i);
+    if 7 <= kind {
+        return kind == 116;
+    }
+    if 0 < kind {
+        return kind == 4;
+    }
+    let symbol = symbol_of(sheet, work, free, i);
+    match symbol {
+        Symbol::Addition => naturals(sheet, work, free, first_of(work, free, i)),
+        Symbol::Unit => true,
+        Symbol::Frame => false,
+        Symbol::Free => false,
+    }
+}
+
+// Whether every tree of the list from cell i on is natural.
+pub fn naturals(sheet: &[u8], work: &[u32], free: usize, i: usize) -> bool
+    requires { ⌜ Arena (now sheet) (now work) free ⌝ }
+    requires { ⌜ i < free ⌝ }
+    ensures { λ r. ⌜ r ≡ naturals (trees-at (now (sheet .entry)) (now (work .entry)) i) ⌝ }
+{
+    if i == 0 {
+        return true;
+    }
+    if natural(sheet, work, free, i) {
+        let next = next_of(work, free, i);
+        return naturals(sheet, work, free, next);
+    }
+    false
+}
+
+// Whether the tree of cell i is a message.
+pub fn message(sheet: &[u8], work: &[u32], free: usize, i: usize) -> bool
+    requires { ⌜ Arena (now sheet) (now work) free ⌝ }
+    requires { ⌜ (0 < i) × (i < free) ⌝ }
+    ensures { λ r. ⌜ r ≡ message (tree-at (now (sheet .entry)) (now (work .entry)) i) ⌝ }
+{
+    let kind = kind_of(work, i);
+    if 7 <= kind {
+        return kind != 110;
+    }
+    if 0 < kind {
+        return kind < 5;
+    }
+    let symbol = symbol_of(sheet, work, free, i);
+    match symbol {
+        Symbol::Addition => naturals(sheet, work, free, first_of(work, free, i)),
+        Symbol::Unit => messages(sheet, work, free, first_of(work, free, i)),
+        Symbol::Frame => false,
+        Symbol::Free => messages(sheet, work, free, first_of(work, free, i)),
+    }
+}
+
+// Whether every tree of the list from cell i on is a message.
+pub fn messages(sheet: &[u8], work: &[u32], free: usize, i: usize) -> bool
+    requires { ⌜ Arena (now sheet) (now work) free ⌝ }
+    requires { ⌜ i < free ⌝ }
+    ensures { λ r. ⌜ r ≡ messages (trees-at (now (sheet .entry)) (now (work .entry)) i) ⌝ }
+{
+    if i == 0 {
+        return true;
+    }
+    if message(sheet, work, free, i) {
+        let next = next_of(work, free, i);
+        return messages(sheet, work, free, next);
+    }
+    false
+}
+
+// Whether the tree of cell i is a variable of the sort or an atom of the letter.
+fn basic(sheet: &[u8], work: &[u32], free: usize, sort: usize, letter: usize, i: usize) -> bool
+    requires { ⌜ Arena (now sheet) (now work) free ⌝ }
+    requires { ⌜ (0 < i) × (i < free) ⌝ }
+    requires { ⌜ sort < 5 ⌝ }
+    ensures { λ r. ⌜ r ≡ basic (numbered sort) letter (tree-at (now (sheet .entry)) (now (work .entry)) i) ⌝ }
+{
+    let kind = kind_of(work, i);
+    if 7 <= kind {
+        return kind == letter;
+    }
+    kind == sort + 1
+}
+
+// Whether the tree of cell i has the sort.
+pub fn sorted(sheet: &[u8], work: &[u32], free: usize, sort: usize, i: usize) -> bool
+    requires { ⌜ Arena (now sheet) (now work) free ⌝ }
+    requires { ⌜ (0 < i) × (i < free) ⌝ }
+    requires { ⌜ sort < 5 ⌝ }
+    ensures { λ r. ⌜ r ≡ sorted (numbered sort) (tree-at (now (sheet .entry)) (now (work .entry)) i) ⌝ }
+{
+    match sort {
+        0 => basic(sheet, work, free, 0, 112, i),
+        1 => basic(sheet, work, free, 1, 102, i),
+        MSG => message(sheet, work, free, i),
+        TAM_NAT => natural(sheet, work, free, i),
+        _ => basic(sheet, work, free, 4, 110, i),
+    }
+}
+
+// Whether the tree of cell i may have an instance of the sort.
+pub fn refinable(sheet: &[u8], work: &[u32], free: usize, sort: usize, i: usize) -> bool
+    requires { ⌜ Arena (now sheet) (now work) free ⌝ }
+    requires { ⌜ (0 < i) × (i < free) ⌝ }
+    requires { ⌜ sort < 5 ⌝ }
+    ensures { λ r. ⌜ r ≡ refinable (numbered sort) (tree-at (now (sheet .entry)) (now (work .entry)) i) ⌝ }
+{
+    let kind = kind_of(work, i);
+    if 7 <= kind {
+        return sorted(sheet, work, free, sort, i);
+    }
+    if 6 == kind {
+        return false;
+    }
+    if 0 < kind {
+        return meets(kind - 1, sort);
+    }
+    let first = first_of(work, free, i);
+    let symbol = symbol_of(sheet, work, free, i);
+    match symbol {
+        Symbol::Addition => {
+            if sort == TAM_NAT {
+                return refinables(sheet, work, free, TAM_NAT, first);
+            }
+            if sort == MSG {
+                return refinables(sheet, work, free, TAM_NAT, first);
+            }
+            false
+        }
+        Symbol::Frame => false,
+        Symbol::Unit | Symbol::Free => {
+            if first == 0 {
+                return sorted(sheet, work, free, sort, i);
+            }
+            if sort == MSG {
+                return refinables(sheet, work, free, MSG, first);
+            }
+            false
+        }
+    }
+}
+
+// Whether every tree of the list from cell i on may have an instance of the sort.
+pub fn refinables(sheet: &[u8], work: &[u32], free: usize, sort: usize, i: usize) -> bool
+    requires { ⌜ Arena (now sheet) (now work) free ⌝ }
+    requires { ⌜ i < free ⌝ }
+    requires { ⌜ sort < 5 ⌝ }
+    ensures { λ r. ⌜ r ≡ refinables (numbered sort) (trees-at (now (sheet .entry)) (now (work .entry)) i) ⌝ }
+{
+    if i == 0 {
+        return true;
+    }
+    if refinable(sheet, work, free, sort, i) {
+        let next = next_of(work, free, i);
+        return refinables(sheet, work, free, sort, next);
+    }
+    false
+}
