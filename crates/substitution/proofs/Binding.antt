@@ -1,31 +1,29 @@
 -- One binding put into the waiting pairs. Assumes nothing.
 use Prim.Native.Nat.{ℕ, _+_, _<_, _≤_}
 use mathlib.Core.Path.{_≡_, refl, sym, ap, ap₂, _∙_}
-use mathlib.Core.Bool.{Bool, true, false}
+use mathlib.Core.Bool.{Bool}
 use mathlib.Core.List.{List, [], _∷_}
 use native.Mathlib.Omega.{arith}
 use Rattle.rules.specs.Bytes.{Text}
-use Rattle.rules.specs.Tree.{Tree, Trees, none, more, sizes}
-use Rattle.rules.specs.Substitution.{Binding, Pair, lookup, substitute, substitutes, instantiate-pairs, size-pairs, flatten}
-use Rattle.rules.specs.Solving.{Step, bind, unknown, fits, bind-into}
+use Rattle.rules.specs.Tree.{Tree, Trees, more, sizes}
+use Rattle.rules.specs.Substitution.{Binding, Pair, lookup, substitutes, size-pairs, flatten}
+use Rattle.rules.specs.Solving.{bind, unknown, fits, bind-into}
 use Rattle.laws.proofs.Basics.Tests.{true-leb, false-leb}
 use Rattle.laws.proofs.Solving.Budget.{flatten-instance, flatten-size}
-use Rattle.tree.specs.Cells.{kind-of, name-at, tree-at, trees-at}
+use Rattle.tree.specs.Cells.{name-at, tree-at, trees-at}
 use Rattle.tree.specs.Arena.{Arena, Grown}
-use Rattle.tree.proofs.Decoding.{kind, trees-none, frame-trees}
-use Rattle.substitution.specs.Bindings.{bindings-of, bindings-at}
+use Rattle.tree.proofs.Decoding.{frame-trees}
+use Rattle.substitution.specs.Bindings.{bindings-at}
 use Rattle.substitution.specs.Building.{Made, Listed, instances-at}
 use Rattle.substitution.specs.Composing.{put-pairs, Put}
-use Rattle.substitution.proofs.Keys.{key-name}
+use Rattle.substitution.proofs.Keys.{bindings-none}
+use Rattle.substitution.proofs.Chains.{bindings-pair}
 use Rattle.substitution.proofs.Growing.{grown-then}
 
 -- a list of one binding
 bindings-one : {s : Text} {w v : List ℕ} {n m b : ℕ} (key value : ℕ) → Made s w v n m b (more (tree-at s w key) (more (tree-at s w value) (trees-at s w 0)))
     → bindings-at s v b ≡ (name-at s w key, tree-at s w value) ∷ []
-unfolding bindings-of
-bindings-one {s} {w} key value d =
-    ap bindings-of (d .trees ∙ ap (λ (ts : Trees). more (tree-at s w key) (more (tree-at s w value) ts)) (trees-none s w 0 refl))
-    ∙ ap (λ (x : Text). (x, tree-at s w value) ∷ []) (key-name s w key (kind (kind-of w key)))
+bindings-one {s} {w} key value d = bindings-pair key value 0 d ∙ ap (λ (bs : List Binding). (name-at s w key, tree-at s w value) ∷ bs) (bindings-none s w 0 refl)
 
 -- the test of the nodes in all
 module _ (x : Text) (t : Tree) (ps : List Pair) where

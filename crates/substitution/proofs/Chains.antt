@@ -1,6 +1,6 @@
 -- Lists of bindings and nothing else, cell by cell. Assumes nothing.
-use Prim.Native.Nat.{ℕ, _<_, _≤_}
-use mathlib.Core.Path.{_≡_, refl, sym, ap, ap₂, _∙_}
+use Prim.Native.Nat.{ℕ, _<_}
+use mathlib.Core.Path.{_≡_, refl, sym, ap, _∙_}
 use mathlib.Core.List.{List, [], _∷_}
 use native.Mathlib.Omega.{arith}
 use native.Mathlib.Decide.{decLt}
@@ -9,9 +9,10 @@ use Rattle.rules.specs.Tree.{Tree, variable, Trees, none, more}
 use Rattle.rules.specs.Substitution.{Binding}
 use Rattle.tree.specs.Cells.{kind-of, name-at, next-of, tree-at, trees-at}
 use Rattle.tree.specs.Arena.{Links}
-use Rattle.tree.proofs.Decoding.{kind, trees-none, trees-more}
+use Rattle.tree.proofs.Decoding.{kind, tree-variable, trees-none, trees-more}
 use Rattle.substitution.specs.Bindings.{key-of, bindings-of, bindings-at, flatten-bindings, Chain}
-use Rattle.substitution.proofs.Keys.{key-name, bindings-odd, bindings-more}
+use Rattle.substitution.specs.Building.{Made}
+use Rattle.substitution.proofs.Keys.{key-name, bindings-more}
 
 -- bindings read back
 pub bindings-flatten : (bs : List Binding) → bindings-of (flatten-bindings bs) ≡ bs
@@ -78,3 +79,14 @@ module _ {w : List ℕ} {n : ℕ} (s : Text) (l : Links w n) (k v : ℕ) (p : 0 
         key = chain-key (tree-at s w k) (tree-at s w v) (trees-at s w j) g ∙ ap variable (key-name s w k (kind (kind-of w k)));
         chain = chain-tail (tree-at s w k) (tree-at s w v) (trees-at s w j) g;
       }
+
+-- a key and a value put before a list of bindings
+module _ {s : Text} {w v : List ℕ} {n m b : ℕ} (key value list : ℕ) (d : Made s w v n m b (more (tree-at s w key) (more (tree-at s w value) (trees-at s w list)))) where
+  pub bindings-pair : bindings-at s v b ≡ (name-at s w key, tree-at s w value) ∷ bindings-at s w list
+  unfolding bindings-of
+  bindings-pair = ap bindings-of (d .trees) ∙ ap (λ (x : Text). (x, tree-at s w value) ∷ bindings-at s w list) (key-name s w key (kind (kind-of w key)))
+
+  pub chain-pair : 0 < kind-of w key → kind-of w key < 7 → Chain (trees-at s w list) → Chain (trees-at s v b)
+  chain-pair p q c =
+      let e : trees-at s v b ≡ more (variable (name-at s w key)) (more (tree-at s w value) (trees-at s w list)) = d .trees ∙ ap (λ (t : Tree). more t (more (tree-at s w value) (trees-at s w list))) (tree-variable s w key p q) in
+      rw e (chain-more (name-at s w key) (tree-at s w value) (trees-at s w list) c)

@@ -1,13 +1,13 @@
 -- The loop that composes the bindings. Assumes nothing.
 use Prim.Native.Nat.{ℕ, _+_, _*_, _<_, _≤_}
 use mathlib.Core.Path.{_≡_, refl, sym, ap, ap₂, _∙_}
-use mathlib.Core.Bool.{Bool, true, false}
+use mathlib.Core.Bool.{Bool}
 use mathlib.Core.List.{List, [], _∷_, reverse, reverseAux}
 use mathlib.Core.Option.{Option, some, none as nothing}
 use lib.ListN.{length}
 use native.Mathlib.Omega.{arith}
 use Rattle.rules.specs.Bytes.{Text}
-use Rattle.rules.specs.Tree.{Tree, variable, Trees, none, more, size}
+use Rattle.rules.specs.Tree.{Tree, variable, more, size}
 use Rattle.rules.specs.Substitution.{Binding, instantiate}
 use Rattle.rules.specs.Solving.{extended, compose-over, compose}
 use Rattle.laws.proofs.Basics.Tests.{true-leb, false-leb}
@@ -15,10 +15,10 @@ use Rattle.tree.specs.Cells.{name-at, next-of, tree-at, trees-at}
 use Rattle.tree.specs.Arena.{Arena, Grown, Linked}
 use Rattle.tree.proofs.Decoding.{same-next, trees-none, frame-tree}
 use Rattle.substitution.specs.Bindings.{bindings-of, bindings-at, Chain}
-use Rattle.substitution.specs.Building.{Made, Placed, instance-at}
+use Rattle.substitution.specs.Building.{Placed, instance-at}
 use Rattle.substitution.specs.Composing.{Joined}
 use Rattle.substitution.proofs.Keys.{bindings-none}
-use Rattle.substitution.proofs.Growing.{grown-same, grown-then, grown-within}
+use Rattle.substitution.proofs.Growing.{grown-same, grown-then}
 use Rattle.substitution.proofs.Chains.{chain-none, chain-more, Entry, value-some, entry}
 
 -- the bindings composed one after the other, over those composed before

@@ -1,13 +1,13 @@
 -- One growth of the area after another, and lists before which a cell is written. Assumes nothing.
-use Prim.Native.Nat.{ℕ, _+_, _*_, _<_, _≤_}
-use mathlib.Core.Path.{_≡_, refl, sym, ap, ap₂, _∙_}
+use Prim.Native.Nat.{ℕ, _+_, _<_, _≤_}
+use mathlib.Core.Path.{_≡_, refl, sym, ap, _∙_}
 use mathlib.Core.List.{List}
 use native.Mathlib.Omega.{arith}
 use Rattle.rules.specs.Bytes.{Text}
 use Rattle.rules.specs.Tree.{Tree, Trees, more}
 use Rattle.tree.specs.Cells.{tree-at, trees-at}
-use Rattle.tree.specs.Arena.{Links, Arena, Grown, Linked}
-use Rattle.tree.proofs.Decoding.{frame-tree, frame-trees}
+use Rattle.tree.specs.Arena.{Arena, Grown, Linked}
+use Rattle.tree.proofs.Decoding.{frame-tree}
 use Rattle.substitution.specs.Building.{Made}
 
 -- nothing new

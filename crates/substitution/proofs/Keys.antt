@@ -1,18 +1,18 @@
 -- Bindings, cell by cell, and what is looked up in them. Assumes nothing.
-use Prim.Native.Nat.{ℕ, _<_, _≤_}
-use mathlib.Core.Path.{_≡_, refl, sym, ap, ap₂, _∙_}
+use Prim.Native.Nat.{ℕ, _<_}
+use mathlib.Core.Path.{_≡_, refl, sym, ap, _∙_}
 use mathlib.Core.Bool.{Bool, true, false}
 use mathlib.Core.List.{List, [], _∷_}
 use mathlib.Core.Option.{Option, some, none as nothing}
 use Rattle.rules.specs.Bytes.{Text, same}
 use Rattle.rules.specs.Maybe.{otherwise}
-use Rattle.rules.specs.Tree.{Tree, variable, Trees, none, more}
+use Rattle.rules.specs.Tree.{Tree, variable, more}
 use Rattle.rules.specs.Substitution.{Binding, pick, lookup}
 use Rattle.rules.specs.Matching.{or-else, bound}
 use Rattle.tree.specs.Cells.{kind-of, name-at, next-of, tree-at, trees-at}
 use Rattle.tree.specs.Arena.{Links}
 use Rattle.tree.proofs.Decoding.{Kind, application, a-variable, an-atom, kind, tree-variable, tree-atom, tree-apply, trees-none, trees-more}
-use Rattle.substitution.specs.Bindings.{key-of, keyed, bindings-of, bindings-at, FoundAt}
+use Rattle.substitution.specs.Bindings.{key-of, bindings-of, bindings-at, FoundAt}
 
 -- a cell is a key by its name
 pub key-name : (s : Text) (w : List ℕ) (k : ℕ) → Kind (kind-of w k) → key-of (tree-at s w k) ≡ name-at s w k

@@ -7,10 +7,10 @@ use lib.Dec.{leb}
 use native.Mathlib.Omega.{arith}
 use borrow.Author.Tests.{le-leb, lt-leb}
 use Rattle.rules.specs.Bytes.{Text, same}
-use Rattle.rules.specs.Tree.{Tree, Trees, more, occurs, occurs-in, ground, grounds}
+use Rattle.rules.specs.Tree.{occurs, occurs-in, ground, grounds}
 use Rattle.tree.specs.Cells.{kind-of, name-at, first-of, next-of, tree-at, trees-at}
 use Rattle.tree.specs.Arena.{Links}
-use Rattle.tree.proofs.Decoding.{Kind, application, a-variable, an-atom, kind, tree-variable, tree-atom, tree-apply, trees-none, trees-more, all-more}
+use Rattle.tree.proofs.Decoding.{Kind, application, a-variable, an-atom, tree-variable, tree-atom, tree-apply, trees-none, trees-more, all-more}
 
 module _ (x : Text) (s : Text) (w : List ℕ) where
   pub occurs-variable : (k : ℕ) → 0 < kind-of w k → kind-of w k < 7 → same (name-at s w k) x ≡ occurs x (tree-at s w k)

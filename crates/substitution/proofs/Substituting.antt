@@ -1,15 +1,15 @@
 -- Instances of the trees of cells. Assumes nothing.
 use Prim.Native.Nat.{ℕ, _<_, _≤_}
-use mathlib.Core.Path.{_≡_, refl, sym, ap, ap₂, _∙_}
+use mathlib.Core.Path.{_≡_, sym, ap, ap₂, _∙_}
 use mathlib.Core.List.{List}
 use Rattle.rules.specs.Bytes.{Text}
-use Rattle.rules.specs.Tree.{Tree, variable, apply, Trees, none, more}
-use Rattle.rules.specs.Substitution.{Substitution, substitute, substitutes, lookup, instantiate}
+use Rattle.rules.specs.Tree.{Tree, apply, Trees, none, more}
+use Rattle.rules.specs.Substitution.{Substitution, substitute, substitutes, instantiate}
 use Rattle.tree.specs.Cells.{kind-of, name-at, first-of, next-of, tree-at, trees-at}
 use Rattle.tree.specs.Arena.{Links}
 use Rattle.tree.proofs.Decoding.{Agree, tree-variable, tree-atom, tree-apply, trees-none, trees-more, frame-tree, frame-trees}
 use Rattle.substitution.specs.Bindings.{bindings-of}
-use Rattle.substitution.specs.Building.{instance-at, instances-at}
+use Rattle.substitution.specs.Building.{instance-at}
 
 module _ (σ : Substitution) (s : Text) (w : List ℕ) where
   pub instance-variable : (k : ℕ) → 0 < kind-of w k → kind-of w k < 7 → substitute σ (tree-at s w k) ≡ σ (name-at s w k)

@@ -1,15 +1,15 @@
 -- What a binding makes of the waiting pairs, and what composing makes of the bindings. Definitions only.
-use Prim.Native.Nat.{ℕ, _+_, _*_, _<_, _≤_}
+use Prim.Native.Nat.{ℕ, _+_, _*_, _≤_}
 use mathlib.Core.Path.{_≡_}
 use mathlib.Core.List.{List, [], _∷_, reverse}
-use mathlib.Core.Option.{Option, some, none as nothing}
+use mathlib.Core.Option.{some, none as nothing}
 use lib.ListN.{length}
 use Rattle.rules.specs.Bytes.{Text}
 use Rattle.rules.specs.Tree.{Tree}
 use Rattle.rules.specs.Substitution.{Binding, Pair, instantiate-pairs, size-pairs, flatten}
 use Rattle.rules.specs.Solving.{bind, unknown, bind-into, compose}
 use Rattle.tree.specs.Cells.{trees-at}
-use Rattle.tree.specs.Arena.{Arena, Grown}
+use Rattle.tree.specs.Arena.{Grown}
 use Rattle.substitution.specs.Bindings.{bindings-at, Chain}
 use Rattle.substitution.specs.Building.{Made}
 use Rattle.substitution.specs.declared.solving.Waiting.{Waiting}

@@ -1,5 +1,4 @@
 // A binding put into the waiting pairs, and the bindings composed.
-use crate::bindings::Pushed;
 use crate::bindings::push_pair;
 use crate::bindings::rest_of;
 use crate::bindings::value_of;

@@ -1,6 +1,5 @@
-use borrow.Author.Needs.{needs}
 use native.Mathlib.Omega.{arith}
-use Prim.Native.Nat.{ℕ, _<_}
+use Prim.Native.Nat.{_<_}
 use mathlib.Core.Path.{_≡_, refl, sym, ap, _∙_}
 use Rattle.rules.specs.Matching.{bound}
 use Rattle.tree.specs.Cells.{name-at}
@@ -8,11 +7,6 @@ use Rattle.substitution.specs.Bindings.{bindings-at}
 use Rattle.substitution.proofs.Keys.{bindings-none, bindings-odd, bound-here, bound-on, found-at, found-nothing}
 use Rattle.substitution.proofs.bindings.lookup.Statement.{statement}
 use Rattle.substitution.proofs.bindings.lookup.Tie as tie
-use Rattle.substitution.proofs.bindings.lookup.Reads as reads
-use Rattle.substitution.proofs.bindings.lookup.Lts as lts
-use Rattle.substitution.proofs.bindings.rest_of.Reads as rest-of-reads
-use Rattle.substitution.proofs.bindings.value_of.Reads as value-of-reads
-use Rattle.tree.proofs.names.same_name.Reads as same-name-reads
 
 abbrev Inv-loop : tie.InvT-loop
 Inv-loop sheet work free b x k₀ k = (k < free) × (bound (name-at sheet work x) (bindings-at sheet work b) ≡ bound (name-at sheet work x) (bindings-at sheet work k))
@@ -20,15 +14,12 @@ Inv-loop sheet work free b x k₀ k = (k < free) × (bound (name-at sheet work x
 abbrev μ-loop : tie.MeasureT-loop
 μ-loop sheet work free b x k₀ k = k
 
--- src/bindings.rt:46:5
 loop-holds : tie.Need-loop-holds Inv-loop μ-loop
 loop-holds c = (c .before .before .pre .1 .0, refl)
 
--- src/bindings.rt:47:13
 value-of-requires : tie.Need-value-of-requires Inv-loop μ-loop
 value-of-requires c κs = (c .before .before .before .before .pre .0 .links, (omega arith, c .before .loop .inv .0))
 
--- src/bindings.rt:49:13
 returns : tie.Need-returns Inv-loop μ-loop
 unfolding bound
 returns c =
@@ -36,11 +27,9 @@ returns c =
     let x = name-at (a .sheet .now) (a .work .now) (a .x) in
     found-nothing x _ (c .before .before .before .loop .inv .1 ∙ ap (bound x) (bindings-odd (a .sheet .now) (c .before .before .before .before .before .before .pre .0 .links) (c .before .before .before .loop .k) (c .before .value-of .result) (omega arith) (c .before .before .before .loop .inv .0) (c .before .value-of .ensures .0) (c .if1 .taken)))
 
--- src/bindings.rt:51:12
 same-name-requires : tie.Need-same-name-requires Inv-loop μ-loop
 same-name-requires c κs = (c .before .before .before .before .before .before .pre .0, ((omega arith, c .before .before .before .loop .inv .0), c .before .before .before .before .before .before .pre .1 .1))
 
--- src/bindings.rt:52:13
 returns-2 : tie.Need-returns-2 Inv-loop μ-loop
 returns-2 c =
     let a = c .before .before .before .before .before .before .before .before .args in
@@ -49,15 +38,12 @@ returns-2 c =
     let r : c .before .before .before .value-of .result < a .free = omega (arith, c .before .before .before .value-of .ensures .1, c .before .before .before .before .before .loop .inv .0) in
     found-at q r (c .before .before .before .before .before .loop .inv .1 ∙ bound-here (a .sheet .now) (c .before .before .before .before .before .before .before .before .pre .0 .links) (c .before .before .before .before .before .loop .k) (c .before .before .before .value-of .result) (omega arith) (c .before .before .before .before .before .loop .inv .0) (c .before .before .before .value-of .ensures .0) x q r (sym (c .before .same-name .ensures) ∙ c .if2 .taken))
 
--- src/bindings.rt:54:9
 rest-of-requires : tie.Need-rest-of-requires Inv-loop μ-loop
 rest-of-requires c κs = (c .before .before .before .before .before .before .before .before .pre .0 .links, (omega arith, omega (arith, c .before .before .before .value-of .ensures .1, c .before .before .before .before .before .loop .inv .0)))
 
--- src/bindings.rt:46:5
 loop-less : tie.Need-loop-less Inv-loop μ-loop
 loop-less c = omega (arith, c .before .before .before .before .value-of .ensures .1, c .rest-of .ensures .1)
 
--- src/bindings.rt:46:5
 loop-again : tie.Need-loop-again Inv-loop μ-loop
 loop-again c =
     let a = c .before .before .before .before .before .before .before .before .before .args in
@@ -66,7 +52,6 @@ loop-again c =
     let r : c .before .before .before .before .value-of .result < a .free = omega (arith, c .before .before .before .before .value-of .ensures .1, c .before .before .before .before .before .before .loop .inv .0) in
     (omega (arith, c .rest-of .ensures .1, r), c .before .before .before .before .before .before .loop .inv .1 ∙ bound-on (a .sheet .now) (c .before .before .before .before .before .before .before .before .before .pre .0 .links) (c .before .before .before .before .before .before .loop .k) (c .before .before .before .before .value-of .result) (omega arith) (c .before .before .before .before .before .before .loop .inv .0) (c .before .before .before .before .value-of .ensures .0) x q r (c .rest-of .result) (c .rest-of .ensures .0) (sym (c .before .before .same-name .ensures) ∙ c .before .if2 .left))
 
--- src/bindings.rt:39:1
 returns-3 : tie.Need-returns-3 Inv-loop μ-loop
 unfolding bound
 returns-3 c =

@@ -3,26 +3,19 @@ use Rattle.substitution.proofs.Growing.{made-same, made-linked, made-tr
 use borrow.Author.Needs.{needs}
 use Rattle.substitution.proofs.bindings.push_pair.Statement.{statement}
 use Rattle.substitution.proofs.bindings.push_pair.Tie as tie
-use Rattle.substitution.proofs.bindings.push_pair.Reads as reads
-use Rattle.substitution.proofs.bindings.push_pair.Lts as lts
-use Rattle.tree.proofs.cells.share.Reads as share-reads
 
--- src/bindings.rt:79:9
 share-requires : tie.Need-share-requires
 share-requires c κs = search needs
 
--- src/bindings.rt:80:9
 share-requires-2 : tie.Need-share-requires-2
 share-requires-2 c κs =
     let p = c .before .before .before .before .before .before .before .pre in
     let h = c .before .before .before .share .ensures in
     (rw (h .0) (h .1 .arena), ((p .1 .0 .0, omega (arith, p .1 .0 .1, h .0), omega (arith, h .0)), (omega (arith, h .0, p .1 .1 .0, h .1 .grown .len), omega (arith, h .0, p .1 .1 .1))))
 
--- src/bindings.rt:66:1
 same-length : tie.Need-same-length
 same-length c = search needs
 
--- src/bindings.rt:66:1
 returns : tie.Need-returns
 returns c =
     let a = c .before .before .before .before .before .before .before .before .before .before .args in

@@ -47,21 +47,17 @@ ground-calls t = (kind-of-reads.Asked, kind-of-reads.Learnt, first-of-reads.Aske
 abbrev grounds-calls : ℕ → grounds-lts.Claims
 grounds-calls t = (ground-below t, ground.Post, next-of-reads.Asked, next-of-reads.Learnt, grounds-below t, grounds.Post)
 
--- src/ground.rt:51:9
 ground-kind-of-requires : (t : ℕ) → ground-lts.Need-kind-of-requires (ground-calls t) (ground-at t) ground.Post
 ground-kind-of-requires t c κs = search needs
 
--- src/ground.rt:53:9
 ground-returns : (t : ℕ) → ground-lts.Need-returns (ground-calls t) (ground-at t) ground.Post
 ground-returns t c =
     let a = c .before .before .before .before .args in
     ap (leb 7) (c .before .kind-of .ensures) ∙ ground-leaf _ _ _ (omega (arith, c .before .kind-of .ensures, c .if1 .taken)) (kind _)
 
--- src/ground.rt:55:32
 ground-first-of-requires : (t : ℕ) → ground-lts.Need-first-of-requires (ground-calls t) (ground-at t) ground.Post
 ground-first-of-requires t c κs = search needs
 
--- src/ground.rt:55:5
 ground-grounds-requires : (t : ℕ) → ground-lts.Need-grounds-requires (ground-calls t) (ground-at t) ground.Post
 ground-grounds-requires t c κs =
     let a = c .before .before .before .before .before .args in
@@ -69,41 +65,34 @@ ground-grounds-requires t c κs =
     let k : kind-of (a .work .now) (a .i) ≡ 0 = omega (arith, c .before .if1 .left, c .before .before .kind-of .ensures) in
     (omega (arith, c .before .before .before .before .before .pre .0, children-fall (a .sheet .now) (a .work .now) (a .i) (c .first-of .result) k (c .first-of .ensures .0)), (p .0, omega (arith, c .first-of .ensures .1, p .1)))
 
--- src/ground.rt:46:1
 ground-returns-2 : (t : ℕ) → ground-lts.Need-returns-2 (ground-calls t) (ground-at t) ground.Post
 ground-returns-2 t c =
     let a = c .before .before .before .before .before .before .args in
     let k : kind-of (a .work .now) (a .i) ≡ 0 = omega (arith, c .before .before .if1 .left, c .before .before .before .kind-of .ensures) in
     ground-apply _ _ _ _ _ k (c .before .first-of .ensures .0) (c .grounds .ensures)
 
--- src/ground.rt:65:9
 grounds-returns : (t : ℕ) → grounds-lts.Need-returns (grounds-calls t) (grounds-at t) grounds.Post
 grounds-returns t c = ground-none _ _ _ (c .if1 .taken)
 
--- src/ground.rt:67:8
 grounds-ground-requires : (t : ℕ) → grounds-lts.Need-ground-requires (grounds-calls t) (grounds-at t) grounds.Post
 grounds-ground-requires t c κs =
     let p = c .before .before .before .pre .1 in
     let q : 0 < c .before .before .before .args .i = omega arith in
     (omega (arith, c .before .before .before .pre .0, head-falls (c .before .before .before .args .sheet .now) (p .0 .links) (c .before .before .before .args .i) q (p .1)), (p .0, (q, p .1)))
 
--- src/ground.rt:68:43
 grounds-next-of-requires : (t : ℕ) → grounds-lts.Need-next-of-requires (grounds-calls t) (grounds-at t) grounds.Post
 grounds-next-of-requires t c κs = search needs
 
--- src/ground.rt:68:9
 grounds-grounds-requires : (t : ℕ) → grounds-lts.Need-grounds-requires (grounds-calls t) (grounds-at t) grounds.Post
 grounds-grounds-requires t c κs =
     let p = c .before .before .before .before .before .before .pre .1 in
     (omega (arith, c .before .before .before .before .before .before .pre .0, rest-falls (c .before .before .before .before .before .before .args .sheet .now) (p .0 .links) (c .before .before .before .before .before .before .args .i) (c .next-of .result) (omega arith) (p .1) (c .next-of .ensures .0)), (p .0, omega (arith, c .next-of .ensures .1, p .1)))
 
--- src/ground.rt:68:9
 grounds-returns-2 : (t : ℕ) → grounds-lts.Need-returns-2 (grounds-calls t) (grounds-at t) grounds.Post
 grounds-returns-2 t c =
     let p = c .before .before .before .before .before .before .before .pre .1 in
     ground-more _ _ _ _ true (c .grounds .result) (p .0 .links) (omega arith) (p .1) (c .before .next-of .ensures .0) (sym (c .before .before .if2 .taken) ∙ c .before .before .before .ground .ensures) (c .grounds .ensures)
 
--- src/ground.rt:59:1
 grounds-returns-3 : (t : ℕ) → grounds-lts.Need-returns-3 (grounds-calls t) (grounds-at t) grounds.Post
 grounds-returns-3 t c =
     let p = c .before .before .before .before .before .pre .1 in

@@ -1,10 +1,10 @@
 use borrow.Author.Needs.{needs}
 use native.Mathlib.Omega.{arith}
 use Prim.Native.Nat.{_+_, _*_}
-use mathlib.Core.Path.{_≡_, refl, sym, ap, _∙_}
+use mathlib.Core.Path.{_≡_, refl, ap, _∙_}
 use Rattle.rules.specs.Tree.{size, sizes}
 use Rattle.rules.specs.Substitution.{lookup}
-use Rattle.tree.specs.Cells.{kind-of, next-of, tree-at, trees-at}
+use Rattle.tree.specs.Cells.{kind-of, next-of}
 use Rattle.tree.proofs.Decoding.{size-pos}
 use Rattle.substitution.specs.Bindings.{bindings-at}
 use Rattle.substitution.specs.Building.{instance-at}
@@ -66,67 +66,53 @@ substitute-calls t = (kind-of-reads.Asked, kind-of-reads.Learnt, image-reads.Ask
 abbrev substitute-list-calls : ℕ → substitute-list-lts.Claims
 substitute-list-calls t = (next-of-reads.Asked, next-of-reads.Learnt, substitute-list-below t, substitute-list.Post, substitute-below t, substitute.Post)
 
--- src/instances.rt:108:12
 substitute-kind-of-requires : (t : ℕ) → substitute-lts.Need-kind-of-requires (substitute-calls t) (substitute-at t) substitute.Post
 substitute-kind-of-requires t c κs = search needs
 
--- src/instances.rt:109:13
 substitute-image-requires : (t : ℕ) → substitute-lts.Need-image-requires (substitute-calls t) (substitute-at t) substitute.Post
 substitute-image-requires t c κs =
     let p = c .before .before .before .before .before .before .pre .1 in
     (p .0, ((p .1 .0 .0, p .1 .0 .1, p .1 .0 .2), omega (arith, c .before .before .kind-of .ensures, c .before .if1 .taken)))
 
--- src/instances.rt:110:9
 substitute-place-requires : (t : ℕ) → substitute-lts.Need-place-requires (substitute-calls t) (substitute-at t) substitute.Post
 substitute-place-requires t c κs =
     let p = c .before .before .before .before .before .before .before .before .pre .1 in
     (p .0, ((c .before .image .ensures .0, c .before .image .ensures .1, p .1 .0 .3), (p .1 .1 .0, p .1 .1 .1)))
 
--- src/instances.rt:110:9
 substitute-same-length : (t : ℕ) → substitute-lts.Need-same-length (substitute-calls t) (substitute-at t) substitute.Post
 substitute-same-length t c = search needs
 
--- src/instances.rt:110:9
 substitute-returns : (t : ℕ) → substitute-lts.Need-returns (substitute-calls t) (substitute-at t) substitute.Post
 substitute-returns t c = rw (← c .before .before .before .before .image .ensures .2) (c .before .before .place .ensures)
 
--- src/instances.rt:113:9
 substitute-same-length-2 : (t : ℕ) → substitute-lts.Need-same-length-2 (substitute-calls t) (substitute-at t) substitute.Post
 substitute-same-length-2 t c = search needs
 
--- src/instances.rt:113:9
 substitute-returns-2 : (t : ℕ) → substitute-lts.Need-returns-2 (substitute-calls t) (substitute-at t) substitute.Post
 substitute-returns-2 t c =
     let a = c .before .before .before .before .before .before .args in
     (omega (arith, size-pos (instance-at (a .sheet .now) (a .work .now) (a .b) (a .i))), grown-same _ _ _)
 
--- src/instances.rt:115:9
 substitute-first-of-requires : (t : ℕ) → substitute-lts.Need-first-of-requires (substitute-calls t) (substitute-at t) substitute.Post
 substitute-first-of-requires t c κs = search needs
 
--- src/instances.rt:116:65
 substitute-sub-substitute-list : (t : ℕ) → substitute-lts.Need-sub-substitute-list (substitute-calls t) (substitute-at t) substitute.Post
 substitute-sub-substitute-list t c = omega arith
 
--- src/instances.rt:116:9
 substitute-substitute-list-requires : (t : ℕ) → substitute-lts.Need-substitute-list-requires (substitute-calls t) (substitute-at t) substitute.Post
 substitute-substitute-list-requires t c κs =
     let p = c .before .before .before .before .before .before .before .before .before .pre .1 in
     (omega (arith, c .before .before .before .before .before .before .before .before .before .pre .0, c .before .first-of .ensures .1), (p .0, ((omega (arith, c .before .first-of .ensures .1, p .1 .0 .1), p .1 .0 .2), (omega (arith, p .1 .1 .0), omega (arith, p .1 .1 .1), omega (arith, p .1 .1 .2)))))
 
--- src/instances.rt:118:9
 substitute-enum-known-children : (t : ℕ) → substitute-lts.Need-enum-known-children (substitute-calls t) (substitute-at t) substitute.Post
 substitute-enum-known-children t c = search needs
 
--- src/instances.rt:123:9
 substitute-enum-told : (t : ℕ) → substitute-lts.Need-enum-told (substitute-calls t) (substitute-at t) substitute.Post
 substitute-enum-told t c = search needs
 
--- src/instances.rt:123:9
 substitute-same-length-3 : (t : ℕ) → substitute-lts.Need-same-length-3 (substitute-calls t) (substitute-at t) substitute.Post
 substitute-same-length-3 t c = search needs
 
--- src/instances.rt:123:9
 substitute-returns-3 : (t : ℕ) → substitute-lts.Need-returns-3 (substitute-calls t) (substitute-at t) substitute.Post
 unfolding size
 substitute-returns-3 t c =
@@ -138,18 +124,15 @@ substitute-returns-3 t c =
     let e = instance-apply (lookup (bindings-at s w (a .b))) s w (a .i) (c .before .before .before .before .before .before .first-of .result) k (c .before .before .before .before .before .before .first-of .ensures .0) in
     (omega (arith, d .0, ap size e), grown-within (d .1) (omega arith) (omega arith))
 
--- src/instances.rt:126:13
 substitute-keep-requires : (t : ℕ) → substitute-lts.Need-keep-requires (substitute-calls t) (substitute-at t) substitute.Post
 substitute-keep-requires t c κs =
     let p = c .before .before .before .before .before .before .before .before .before .before .before .before .before .before .before .before .before .pre .1 in
     let d = rw (c .before .before .before .children .given .1) at (c .before .before .before .before .before .before .before .substitute-list .ensures) in
     (d .made .arena, ((p .1 .0 .0, omega (arith, d .made .grew, p .1 .0 .1), omega (arith, d .made .grew, p .1 .0 .3)), (omega (arith, d .used, d .made .grown .len, p .1 .1 .0, c .before .before .before .before .before .before .before .before .before .before .before .if2 .left), omega (arith, d .used, p .1 .1 .1, c .before .before .before .before .before .before .before .before .before .before .before .if2 .left))))
 
--- src/instances.rt:129:9
 substitute-same-length-4 : (t : ℕ) → substitute-lts.Need-same-length-4 (substitute-calls t) (substitute-at t) substitute.Post
 substitute-same-length-4 t c = search needs
 
--- src/instances.rt:129:9
 substitute-returns-4 : (t : ℕ) → substitute-lts.Need-returns-4 (substitute-calls t) (substitute-at t) substitute.Post
 substitute-returns-4 t c =
     let a = c .before .before .before .before .before .before .before .before .before .before .before .before .before .before .before .before .before .before .before .before .args in
@@ -161,24 +144,20 @@ substitute-returns-4 t c =
     rw (instance-apply (lookup (bindings-at s w (a .b))) s w (a .i) (c .before .before .before .before .before .before .before .before .before .before .before .before .first-of .result) k (c .before .before .before .before .before .before .before .before .before .before .before .before .first-of .ensures .0))
     (placed-unchanged (a .i) (a .next) (p .0) (p .1 .0 .0) (p .1 .0 .1) k (omega (arith, c .before .before .before .before .before .before .before .before .before .before .before .before .before .before .if2 .left)) (p .1 .0 .3) d _ _ (c .before .before .before .before .if3 .taken ∙ c .before .before .before .before .before .before .before .before .before .before .before .before .first-of .ensures .0) (c .before .before .keep .ensures .0) (c .before .before .keep .ensures .1))
 
--- src/instances.rt:135:54
 substitute-sub-push-like : (t : ℕ) → substitute-lts.Need-sub-push-like (substitute-calls t) (substitute-at t) substitute.Post
 substitute-sub-push-like t c =
     let d = rw (c .before .before .before .children .given .1) at (c .before .before .before .before .before .before .before .substitute-list .ensures) in
     omega (arith, d .spent)
 
--- src/instances.rt:135:9
 substitute-push-like-requires : (t : ℕ) → substitute-lts.Need-push-like-requires (substitute-calls t) (substitute-at t) substitute.Post
 substitute-push-like-requires t c κs =
     let p = c .before .before .before .before .before .before .before .before .before .before .before .before .before .before .before .before .before .pre .1 in
     let d = rw (c .before .before .before .children .given .1) at (c .before .before .before .before .before .before .before .substitute-list .ensures) in
     ((omega (arith, d .used, d .made .grown .len, p .1 .1 .0, c .before .before .before .before .before .before .before .before .before .before .before .if2 .left), omega (arith, d .made .grew, p .1 .0 .1)), (omega (arith, d .made .inside, d .used, p .1 .1 .1), omega (arith, p .1 .0 .3, p .1 .1 .1), omega (arith, p .1 .1 .2)))
 
--- src/instances.rt:94:1
 substitute-same-length-5 : (t : ℕ) → substitute-lts.Need-same-length-5 (substitute-calls t) (substitute-at t) substitute.Post
 substitute-same-length-5 t c = search needs
 
--- src/instances.rt:94:1
 substitute-returns-5 : (t : ℕ) → substitute-lts.Need-returns-5 (substitute-calls t) (substitute-at t) substitute.Post
 substitute-returns-5 t c =
     let a = c .before .before .before .before .before .before .before .before .before .before .before .before .before .before .before .before .before .before .before .before .args in
@@ -190,7 +169,6 @@ substitute-returns-5 t c =
     rw (instance-apply (lookup (bindings-at s w (a .b))) s w (a .i) (c .before .before .before .before .before .before .before .before .before .before .before .before .first-of .result) k (c .before .before .before .before .before .before .before .before .before .before .before .before .first-of .ensures .0))
     (placed-apply (a .i) (a .next) (p .0) (p .1 .0 .0) (p .1 .0 .1) k (omega (arith, c .before .before .before .before .before .before .before .before .before .before .before .before .before .before .if2 .left)) (p .1 .0 .3) d (c .before .before .push-like .result) (p .1 .1 .0) (c .before .before .push-like .ensures .1) (c .before .before .push-like .ensures .0))
 
--- src/instances.rt:158:9
 substitute-list-returns : (t : ℕ) → substitute-list-lts.Need-returns (substitute-list-calls t) (substitute-list-at t) substitute-list.Post
 substitute-list-returns t c =
     let a = c .before .before .before .args in
@@ -198,7 +176,6 @@ substitute-list-returns t c =
     let w = a .work .now in
     rw (instances-none (lookup (bindings-at s w (a .b))) s w (a .i) (c .if1 .taken)) (listed-none (a .budget) (c .before .before .before .pre .1 .0))
 
--- src/instances.rt:165:9
 substitute-list-returns-2 : (t : ℕ) → substitute-list-lts.Need-returns-2 (substitute-list-calls t) (substitute-list-at t) substitute-list.Post
 unfolding size
 substitute-list-returns-2 t c =
@@ -209,34 +186,27 @@ substitute-list-returns-2 t c =
     let e = instances-more (lookup (bindings-at s w (a .b))) s w (a .i) (next-of w (a .i)) (p .0 .links) (omega (arith, c .before .if1 .left)) (p .1 .0 .0) refl in
     (omega (arith, ap sizes e, size-pos (instance-at s w (a .b) (a .i))), grown-same _ _ _)
 
--- src/instances.rt:167:9
 substitute-list-next-of-requires : (t : ℕ) → substitute-list-lts.Need-next-of-requires (substitute-list-calls t) (substitute-list-at t) substitute-list.Post
 substitute-list-next-of-requires t c κs = search needs
 
--- src/instances.rt:168:60
 substitute-list-sub-substitute-list : (t : ℕ) → substitute-list-lts.Need-sub-substitute-list (substitute-list-calls t) (substitute-list-at t) substitute-list.Post
 substitute-list-sub-substitute-list t c = omega arith
 
--- src/instances.rt:168:9
 substitute-list-substitute-list-requires :
     (t : ℕ) → substitute-list-lts.Need-substitute-list-requires (substitute-list-calls t) (substitute-list-at t) substitute-list.Post
 substitute-list-substitute-list-requires t c κs =
     let p = c .before .before .before .before .before .before .before .pre .1 in
     (omega (arith, c .before .before .before .before .before .before .before .pre .0, c .before .next-of .ensures .1), (p .0, ((omega (arith, c .before .next-of .ensures .1, p .1 .0 .0), p .1 .0 .1), (omega (arith, p .1 .1 .0), omega (arith, p .1 .1 .1), omega (arith, p .1 .1 .2)))))
 
--- src/instances.rt:170:9
 substitute-list-enum-known-rest : (t : ℕ) → substitute-list-lts.Need-enum-known-rest (substitute-list-calls t) (substitute-list-at t) substitute-list.Post
 substitute-list-enum-known-rest t c = search needs
 
--- src/instances.rt:175:9
 substitute-list-enum-told : (t : ℕ) → substitute-list-lts.Need-enum-told (substitute-list-calls t) (substitute-list-at t) substitute-list.Post
 substitute-list-enum-told t c = search needs
 
--- src/instances.rt:175:9
 substitute-list-same-length : (t : ℕ) → substitute-list-lts.Need-same-length (substitute-list-calls t) (substitute-list-at t) substitute-list.Post
 substitute-list-same-length t c = search needs
 
--- src/instances.rt:175:9
 substitute-list-returns-3 : (t : ℕ) → substitute-list-lts.Need-returns-3 (substitute-list-calls t) (substitute-list-at t) substitute-list.Post
 unfolding size
 substitute-list-returns-3 t c =
@@ -248,25 +218,21 @@ substitute-list-returns-3 t c =
     let e = instances-more (lookup (bindings-at s w (a .b))) s w (a .i) (c .before .before .before .before .before .before .next-of .result) (p .0 .links) (omega (arith, c .before .before .before .before .before .before .before .before .before .if1 .left)) (p .1 .0 .0) (c .before .before .before .before .before .before .next-of .ensures .0) in
     (omega (arith, d .0, ap sizes e, size-pos (instance-at s w (a .b) (a .i))), grown-within (d .1) (omega arith) (omega arith))
 
--- src/instances.rt:177:47
 substitute-list-add-substitute : (t : ℕ) → substitute-list-lts.Need-add-substitute (substitute-list-calls t) (substitute-list-at t) substitute-list.Post
 substitute-list-add-substitute t c =
     let p = c .before .before .before .before .before .before .before .before .before .before .before .before .before .before .pre .1 in
     let d = rw (c .before .before .rest .given .1) at (c .before .before .before .before .before .before .substitute-list .ensures) in
     omega (arith, d .spent, p .1 .1 .2)
 
--- src/instances.rt:177:5
 substitute-list-substitute-requires : (t : ℕ) → substitute-list-lts.Need-substitute-requires (substitute-list-calls t) (substitute-list-at t) substitute-list.Post
 substitute-list-substitute-requires t c κs =
     let p = c .before .before .before .before .before .before .before .before .before .before .before .before .before .before .pre .1 in
     let d = rw (c .before .before .rest .given .1) at (c .before .before .before .before .before .before .substitute-list .ensures) in
     (omega (arith, c .before .before .before .before .before .before .before .before .before .before .before .before .before .before .pre .0), (d .made .arena, ((omega (arith, c .before .before .before .before .before .before .before .before .before .before .before .if1 .left), omega (arith, d .made .grew, p .1 .0 .0), omega (arith, d .made .grew, p .1 .0 .1), d .made .inside), (omega (arith, d .used, d .made .grown .len, p .1 .1 .0, c .before .before .before .before .before .before .before .before .before .before .if2 .left), omega (arith, d .used, p .1 .1 .1, c .before .before .before .before .before .before .before .before .before .before .if2 .left), omega (arith, d .spent, p .1 .1 .2, c .before .before .before .before .before .before .before .before .before .before .if2 .left)))))
 
--- src/instances.rt:144:1
 substitute-list-same-length-2 : (t : ℕ) → substitute-list-lts.Need-same-length-2 (substitute-list-calls t) (substitute-list-at t) substitute-list.Post
 substitute-list-same-length-2 t c = search needs
 
--- src/instances.rt:144:1
 substitute-list-returns-4 : (t : ℕ) → substitute-list-lts.Need-returns-4 (substitute-list-calls t) (substitute-list-at t) substitute-list.Post
 substitute-list-returns-4 t c =
     let a = c .before .before .before .before .before .before .before .before .before .before .before .before .before .before .before .before .before .args in

@@ -1,5 +1,5 @@
 use native.Mathlib.Omega.{arith}
-use mathlib.Core.Path.{_≡_, refl, sym, _∙_}
+use mathlib.Core.Path.{sym, _∙_}
 use Rattle.rules.specs.Substitution.{lookup as lookup-in}
 use Rattle.tree.proofs.Decoding.{tree-variable}
 use Rattle.substitution.specs.Bindings.{bindings-at}
@@ -7,16 +7,10 @@ use Rattle.substitution.proofs.Substituting.{instance-variable, instanc
 use borrow.Author.Needs.{needs}
 use Rattle.substitution.proofs.instances.image.Statement.{statement}
 use Rattle.substitution.proofs.instances.image.Tie as tie
-use Rattle.substitution.proofs.instances.image.Reads as reads
-use Rattle.substitution.proofs.instances.image.Lts as lts
-use Rattle.substitution.proofs.bindings.lookup.Reads as lookup-reads
-use Rattle.tree.proofs.cells.kind_of.Reads as kind-of-reads
 
--- src/instances.rt:25:13
 kind-of-requires : tie.Need-kind-of-requires
 kind-of-requires c κs = search needs
 
--- src/instances.rt:26:9
 returns : tie.Need-returns
 returns c =
     let a = c .before .before .before .before .args in
@@ -25,19 +19,15 @@ returns c =
     let w = a .work .now in
     (p .1 .0 .0, p .1 .0 .1, sym (instance-atom (lookup-in (bindings-at s w (a .b))) s w (a .i) (omega (arith, c .before .kind-of .ensures, c .if1 .taken))))
 
--- src/instances.rt:28:9
 lookup-requires : tie.Need-lookup-requires
 lookup-requires c κs = search needs
 
--- src/instances.rt:29:19
 enum-known-found : tie.Need-enum-known-found
 enum-known-found c = search needs
 
--- src/instances.rt:30:9
 enum-told : tie.Need-enum-told
 enum-told c = search needs
 
--- src/instances.rt:30:9
 returns-2 : tie.Need-returns-2
 returns-2 c =
     let a = c .before .before .before .before .before .before .before .args in
@@ -47,7 +37,6 @@ returns-2 c =
     let d = rw (c .enum-told .given .1) at (c .before .before .lookup .ensures) in
     (p .1 .0 .0, p .1 .0 .1, sym (instance-variable (lookup-in (bindings-at s w (a .b))) s w (a .i) (p .1 .1) (omega (arith, c .before .before .before .before .kind-of .ensures, c .before .before .before .if1 .left)) ∙ d .1 ∙ sym (tree-variable s w (a .i) (p .1 .1) (omega (arith, c .before .before .before .before .kind-of .ensures, c .before .before .before .if1 .left)))))
 
--- src/instances.rt:19:1
 returns-3 : tie.Need-returns-3
 returns-3 c =
     let a = c .before .before .before .before .before .before .before .before .args in

@@ -1,38 +1,28 @@
 use native.Mathlib.Omega.{arith}
-use mathlib.Core.Path.{_≡_, sym, _∙_}
+use mathlib.Core.Path.{sym, _∙_}
 use Rattle.substitution.proofs.Placing.{before-same, before-linked}
 use borrow.Author.Needs.{needs}
 use Rattle.substitution.proofs.instances.keep.Statement.{statement}
 use Rattle.substitution.proofs.instances.keep.Tie as tie
-use Rattle.substitution.proofs.instances.keep.Reads as reads
-use Rattle.substitution.proofs.instances.keep.Lts as lts
-use Rattle.tree.proofs.cells.next_of.Reads as next-of-reads
-use Rattle.tree.proofs.cells.share.Reads as share-reads
 
--- src/instances.rt:42:8
 next-of-requires : tie.Need-next-of-requires
 next-of-requires c κs = search needs
 
--- src/instances.rt:43:9
 same-length : tie.Need-same-length
 same-length c = search needs
 
--- src/instances.rt:43:9
 returns : tie.Need-returns
 returns c =
     let a = c .before .before .before .before .before .args in
     let p = c .before .before .before .before .before .pre in
     (before-same (a .i) (a .next) (p .0) (p .1 .0 .0) (p .1 .0 .1) (sym (c .before .next-of .ensures .0) ∙ c .if1 .taken), omega arith)
 
--- src/instances.rt:48:9
 share-requires : tie.Need-share-requires
 share-requires c κs = search needs
 
--- src/instances.rt:36:1
 same-length-2 : tie.Need-same-length-2
 same-length-2 c = search needs
 
--- src/instances.rt:36:1
 returns-2 : tie.Need-returns-2
 returns-2 c =
     let h = c .before .before .share .ensures in

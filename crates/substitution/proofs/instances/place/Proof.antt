@@ -6,27 +6,19 @@ use Rattle.substitution.proofs.Placing.{placed-kept}
 use borrow.Author.Needs.{needs}
 use Rattle.substitution.proofs.instances.place.Statement.{statement}
 use Rattle.substitution.proofs.instances.place.Tie as tie
-use Rattle.substitution.proofs.instances.place.Reads as reads
-use Rattle.substitution.proofs.instances.place.Lts as lts
-use Rattle.substitution.proofs.instances.keep.Reads as keep-reads
-use Rattle.tree.proofs.cells.count_of.Reads as count-of-reads
 
--- src/instances.rt:79:9
 count-of-requires : tie.Need-count-of-requires
 count-of-requires c κs = search needs
 
--- src/instances.rt:81:9
 same-length : tie.Need-same-length
 same-length c = search needs
 
--- src/instances.rt:81:9
 returns : tie.Need-returns
 returns c =
     let a = c .before .before .before .before .before .args in
     let p = c .before .before .before .before .before .pre in
     (omega (arith, c .before .count-of .ensures .0, p .0 .cell (a .i) (p .1 .0 .0) (p .1 .0 .1) .counted, c .if1 .taken), grown-same _ _ _)
 
--- src/instances.rt:83:9
 keep-requires : tie.Need-keep-requires
 keep-requires c κs =
     let a = c .before .before .before .before .before .before .args in
@@ -35,11 +27,9 @@ keep-requires c κs =
     let z = size-pos (tree-at (a .sheet .now) (a .work .now) (a .i)) in
     (p .0, (p .1 .0, (omega (arith, h, z, p .1 .1 .0, c .before .before .count-of .ensures .0, c .before .if1 .left), omega (arith, p .1 .1 .1))))
 
--- src/instances.rt:66:1
 same-length-2 : tie.Need-same-length-2
 same-length-2 c = search needs
 
--- src/instances.rt:66:1
 returns-2 : tie.Need-returns-2
 returns-2 c =
     let a = c .before .before .before .before .before .before .before .before .before .args in

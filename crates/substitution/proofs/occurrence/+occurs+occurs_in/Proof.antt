@@ -48,27 +48,21 @@ occurs-calls t = (kind-of-reads.Asked, kind-of-reads.Learnt, same-name-reads.Ask
 abbrev occurs-in-calls : ℕ → occurs-in-lts.Claims
 occurs-in-calls t = (next-of-reads.Asked, next-of-reads.Learnt, occurs-below t, occurs.Post, occurs-in-below t, occurs-in.Post)
 
--- src/occurrence.rt:19:9
 occurs-kind-of-requires : (t : ℕ) → occurs-lts.Need-kind-of-requires (occurs-calls t) (occurs-at t) occurs.Post
 occurs-kind-of-requires t c κs = search needs
 
--- src/occurrence.rt:21:9
 occurs-returns : (t : ℕ) → occurs-lts.Need-returns (occurs-calls t) (occurs-at t) occurs.Post
 occurs-returns t c = occurs-atom _ _ _ _ (omega (arith, c .before .kind-of .ensures, c .if1 .taken))
 
--- src/occurrence.rt:24:9
 occurs-same-name-requires : (t : ℕ) → occurs-lts.Need-same-name-requires (occurs-calls t) (occurs-at t) occurs.Post
 occurs-same-name-requires t c κs = search needs
 
--- src/occurrence.rt:24:9
 occurs-returns-2 : (t : ℕ) → occurs-lts.Need-returns-2 (occurs-calls t) (occurs-at t) occurs.Post
 occurs-returns-2 t c = c .same-name .ensures ∙ occurs-variable _ _ _ _ (omega (arith, c .before .before .before .kind-of .ensures, c .before .if2 .taken)) (omega (arith, c .before .before .before .kind-of .ensures, c .before .before .if1 .left))
 
--- src/occurrence.rt:26:39
 occurs-first-of-requires : (t : ℕ) → occurs-lts.Need-first-of-requires (occurs-calls t) (occurs-at t) occurs.Post
 occurs-first-of-requires t c κs = search needs
 
--- src/occurrence.rt:26:5
 occurs-occurs-in-requires : (t : ℕ) → occurs-lts.Need-occurs-in-requires (occurs-calls t) (occurs-at t) occurs.Post
 occurs-occurs-in-requires t c κs =
     let a = c .before .before .before .before .before .before .args in
@@ -76,41 +70,34 @@ occurs-occurs-in-requires t c κs =
     let k : kind-of (a .work .now) (a .i) ≡ 0 = omega (arith, c .before .if2 .left, c .before .before .before .kind-of .ensures) in
     (omega (arith, c .before .before .before .before .before .before .pre .0, children-fall (a .sheet .now) (a .work .now) (a .i) (c .first-of .result) k (c .first-of .ensures .0)), (p .0, (p .1 .0, omega (arith, c .first-of .ensures .1, p .1 .1))))
 
--- src/occurrence.rt:13:1
 occurs-returns-3 : (t : ℕ) → occurs-lts.Need-returns-3 (occurs-calls t) (occurs-at t) occurs.Post
 occurs-returns-3 t c =
     let a = c .before .before .before .before .before .before .before .args in
     let k : kind-of (a .work .now) (a .i) ≡ 0 = omega (arith, c .before .before .if2 .left, c .before .before .before .before .kind-of .ensures) in
     occurs-apply _ _ _ _ _ _ k (c .before .first-of .ensures .0) (c .occurs-in .ensures)
 
--- src/occurrence.rt:37:9
 occurs-in-returns : (t : ℕ) → occurs-in-lts.Need-returns (occurs-in-calls t) (occurs-in-at t) occurs-in.Post
 occurs-in-returns t c = occurs-none _ _ _ _ (c .if1 .taken)
 
--- src/occurrence.rt:39:9
 occurs-in-next-of-requires : (t : ℕ) → occurs-in-lts.Need-next-of-requires (occurs-in-calls t) (occurs-in-at t) occurs-in.Post
 occurs-in-next-of-requires t c κs = search needs
 
--- src/occurrence.rt:40:8
 occurs-in-occurs-requires : (t : ℕ) → occurs-in-lts.Need-occurs-requires (occurs-in-calls t) (occurs-in-at t) occurs-in.Post
 occurs-in-occurs-requires t c κs =
     let p = c .before .before .before .before .pre .1 in
     let q : 0 < c .before .before .before .before .args .i = omega arith in
     (omega (arith, c .before .before .before .before .pre .0, head-falls (c .before .before .before .before .args .sheet .now) (p .0 .links) (c .before .before .before .before .args .i) q (p .1 .1)), (p .0, (p .1 .0, (q, p .1 .1))))
 
--- src/occurrence.rt:41:9
 occurs-in-returns-2 : (t : ℕ) → occurs-in-lts.Need-returns-2 (occurs-in-calls t) (occurs-in-at t) occurs-in.Post
 occurs-in-returns-2 t c =
     let p = c .before .before .before .before .before .before .pre .1 in
     occurs-more _ _ _ _ _ true _ (p .0 .links) (omega arith) (p .1 .1) refl (sym (c .if2 .taken) ∙ c .before .occurs .ensures) refl
 
--- src/occurrence.rt:43:5
 occurs-in-occurs-in-requires : (t : ℕ) → occurs-in-lts.Need-occurs-in-requires (occurs-in-calls t) (occurs-in-at t) occurs-in.Post
 occurs-in-occurs-in-requires t c κs =
     let p = c .before .before .before .before .before .before .pre .1 in
     (omega (arith, c .before .before .before .before .before .before .pre .0, rest-falls (c .before .before .before .before .before .before .args .sheet .now) (p .0 .links) (c .before .before .before .before .before .before .args .i) (c .before .before .next-of .result) (omega arith) (p .1 .1) (c .before .before .next-of .ensures .0)), (p .0, (p .1 .0, omega (arith, c .before .before .next-of .ensures .1, p .1 .1))))
 
--- src/occurrence.rt:30:1
 occurs-in-returns-3 : (t : ℕ) → occurs-in-lts.Need-returns-3 (occurs-in-calls t) (occurs-in-at t) occurs-in.Post
 occurs-in-returns-3 t c =
     let p = c .before .before .before .before .before .before .before .pre .1 in

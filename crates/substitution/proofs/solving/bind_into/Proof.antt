@@ -3,18 +3,12 @@ use Rattle.substitution.proofs.Binding.{put-done, put-over}
 use borrow.Author.Needs.{needs}
 use Rattle.substitution.proofs.solving.bind_into.Statement.{statement}
 use Rattle.substitution.proofs.solving.bind_into.Tie as tie
-use Rattle.substitution.proofs.solving.bind_into.Reads as reads
-use Rattle.substitution.proofs.solving.bind_into.Lts as lts
-use Rattle.substitution.proofs.bindings.push_pair.Reads as push-pair-reads
-use Rattle.substitution.proofs.instances.substitute_list.Reads as substitute-list-reads
 
--- src/solving.rt:44:9
 push-pair-requires : tie.Need-push-pair-requires
 push-pair-requires c κs =
     let p = c .before .before .before .pre in
     (p .0, ((p .1 .0 .0, p .1 .0 .1, p .1 .0 .2, p .1 .0 .3, p .0 .links .some), (omega (arith, p .1 .1 .0), omega (arith, p .1 .1 .1))))
 
--- src/solving.rt:47:9
 substitute-list-requires : tie.Need-substitute-list-requires
 substitute-list-requires c κs =
     let p = c .before .before .before .before .before .before .before .pre in
@@ -22,30 +16,24 @@ substitute-list-requires c κs =
     let e = c .before .before .before .push-pair .ensures .1 in
     (d .arena, ((omega (arith, p .1 .0 .4, e), d .inside), (omega (arith, p .1 .1 .0, d .grown .len, e), omega (arith, p .1 .1 .1, e), omega arith)))
 
--- src/solving.rt:49:9
 enum-known-built : tie.Need-enum-known-built
 enum-known-built c = search needs
 
--- src/solving.rt:54:9
 enum-told : tie.Need-enum-told
 enum-told c = search needs
 
--- src/solving.rt:54:9
 same-length : tie.Need-same-length
 same-length c = search needs
 
--- src/solving.rt:54:9
 returns : tie.Need-returns
 returns c =
     let a = c .before .before .before .before .before .before .before .before .before .before .before .before .args in
     let p = c .before .before .before .before .before .before .before .before .before .before .before .before .pre in
     put-over (a .key) (a .value) (a .stack) (p .0) (p .1 .0 .4) (c .before .before .before .before .before .before .before .before .push-pair .ensures .0) (c .before .before .before .before .before .before .before .before .push-pair .ensures .1) (rw (c .enum-told .given .1) at (c .before .before .before .before .substitute-list .ensures))
 
--- src/solving.rt:31:1
 same-length-2 : tie.Need-same-length-2
 same-length-2 c = search needs
 
--- src/solving.rt:31:1
 returns-2 : tie.Need-returns-2
 returns-2 c =
     let a = c .before .before .before .before .before .before .before .before .before .before .before .before .before .args in

@@ -1,16 +1,9 @@
 use borrow.Author.Needs.{needs}
 use native.Mathlib.Omega.{arith}
-use Prim.Native.Nat.{ℕ, _<_}
 use Rattle.substitution.specs.Bindings.{bindings-at}
 use Rattle.substitution.proofs.Composing.{Holds, holds-start, holds-end, holds-value, holds-room, holds-over, holds-turn}
 use Rattle.substitution.proofs.solving.compose.Statement.{statement}
 use Rattle.substitution.proofs.solving.compose.Tie as tie
-use Rattle.substitution.proofs.solving.compose.Reads as reads
-use Rattle.substitution.proofs.solving.compose.Lts as lts
-use Rattle.substitution.proofs.bindings.rest_of.Reads as rest-of-reads
-use Rattle.substitution.proofs.bindings.value_of.Reads as value-of-reads
-use Rattle.substitution.proofs.instances.substitute.Reads as substitute-reads
-use Rattle.tree.proofs.cells.share.Reads as share-reads
 
 abbrev Inv-loop : tie.InvT-loop
 Inv-loop sheet work₀ free made left₀ end₀ composed₀ work left end composed = Holds sheet work₀ work free (bindings-at sheet work₀ made) left end composed
@@ -18,25 +11,21 @@ Inv-loop sheet work₀ free made left₀ end₀ composed₀ work left end compos
 abbrev μ-loop : tie.MeasureT-loop
 μ-loop sheet work₀ free made left₀ end₀ composed₀ work left end composed = left
 
--- src/solving.rt:82:5
 loop-holds : tie.Need-loop-holds Inv-loop μ-loop
 loop-holds c =
     let p = c .before .before .pre in
     holds-start (c .before .before .args .made) (p .0) (p .1 .0 .0) (p .1 .0 .1)
 
--- src/solving.rt:83:13
 value-of-requires : tie.Need-value-of-requires Inv-loop μ-loop
 value-of-requires c κs =
     let h = c .before .before .loop .inv in
     (h .arena .links, (omega arith, omega (arith, h .left, h .grew)))
 
--- src/solving.rt:84:13
 rest-of-requires : tie.Need-rest-of-requires Inv-loop μ-loop
 rest-of-requires c κs =
     let h = c .before .before .before .before .loop .inv in
     (h .arena .links, (holds-value h (c .before .value-of .result) (omega arith) (c .before .value-of .ensures .0), omega (arith, h .left, h .grew, c .before .value-of .ensures .1)))
 
--- src/solving.rt:85:13
 substitute-requires : tie.Need-substitute-requires Inv-loop μ-loop
 substitute-requires c κs =
     let p = c .before .before .before .before .before .before .before .before .before .pre in
@@ -44,23 +33,18 @@ substitute-requires c κs =
     let g = holds-room h (c .before .before .before .value-of .result) (omega arith) (c .before .before .before .value-of .ensures .0) (c .before .rest-of .result) (c .before .rest-of .ensures .0) in
     (h .arena, ((holds-value h (c .before .before .before .value-of .result) (omega arith) (c .before .before .before .value-of .ensures .0), omega (arith, h .left, h .grew, c .before .before .before .value-of .ensures .1), omega (arith, h .left, h .grew, h .inside, c .before .before .before .value-of .ensures .1, c .before .rest-of .ensures .1), h .inside), (omega (arith, g, p .1 .1 .0, h .grown .len), omega (arith, g, p .1 .1 .1), omega arith)))
 
--- src/solving.rt:87:13
 enum-known-built : tie.Need-enum-known-built Inv-loop μ-loop
 enum-known-built c = search needs
 
--- src/solving.rt:92:13
 enum-told : tie.Need-enum-told Inv-loop μ-loop
 enum-told c = search needs
 
--- src/solving.rt:92:13
 same-length : tie.Need-same-length Inv-loop μ-loop
 same-length c = search needs
 
--- src/solving.rt:92:13
 returns : tie.Need-returns Inv-loop μ-loop
 returns c = holds-over (c .before .before .before .before .before .before .before .before .before .before .before .loop .inv) (c .before .before .before .before .before .before .before .before .value-of .result) (omega arith) (c .before .before .before .before .before .before .before .before .value-of .ensures .0) (c .before .before .before .before .before .before .rest-of .result) (c .before .before .before .before .before .before .rest-of .ensures .0) (rw (c .enum-told .given .1) at (c .before .before .before .before .substitute .ensures))
 
--- src/solving.rt:94:13
 share-requires : tie.Need-share-requires Inv-loop μ-loop
 share-requires c κs =
     let p = c .before .before .before .before .before .before .before .before .before .before .before .before .before .before .before .before .pre in
@@ -69,19 +53,15 @@ share-requires c κs =
     let d = rw (c .before .before .built .given .1) at (c .before .before .before .before .before .before .substitute .ensures) in
     (d .before .arena, ((omega arith, omega (arith, h .left, h .grew, d .before .grew), d .before .inside), (omega (arith, g, p .1 .1 .0, h .grown .len, d .before .grown .len, d .used), omega (arith, g, p .1 .1 .1, d .used))))
 
--- src/solving.rt:82:5
 loop-less : tie.Need-loop-less Inv-loop μ-loop
 loop-less c = omega (arith, c .before .before .before .before .before .before .before .before .before .before .before .before .before .value-of .ensures .1, c .before .before .before .before .before .before .before .before .before .before .before .rest-of .ensures .1)
 
--- src/solving.rt:82:5
 loop-again : tie.Need-loop-again Inv-loop μ-loop
 loop-again c = holds-turn (c .before .before .before .before .before .before .before .before .before .before .before .before .before .before .before .before .loop .inv) (c .before .before .before .before .before .before .before .before .before .before .before .before .before .value-of .result) (omega arith) (c .before .before .before .before .before .before .before .before .before .before .before .before .before .value-of .ensures .0) (c .before .before .before .before .before .before .before .before .before .before .before .rest-of .result) (c .before .before .before .before .before .before .before .before .before .before .before .rest-of .ensures .0) (c .before .before .share .result) (rw (c .before .before .before .before .before .built .given .1) at (c .before .before .before .before .before .before .before .before .before .substitute .ensures)) (c .before .before .share .ensures .1) (c .before .before .share .ensures .0)
 
--- src/solving.rt:73:1
 same-length-2 : tie.Need-same-length-2 Inv-loop μ-loop
 same-length-2 c = search needs
 
--- src/solving.rt:73:1
 returns-2 : tie.Need-returns-2 Inv-loop μ-loop
 returns-2 c = holds-end (c .before .loop .inv) (c .loop-test .left)
 
