@@ -1,2 +1,3 @@
--- Variants: the count of schemes.
+-- Variants: the count of schemes, and the schemes one at a time.
 pub mod SchemeCount
+pub mod SchemeAt
