@@ -1,3 +1,6 @@
--- Variants: the count of schemes, and the schemes one at a time.
+-- Variants: the count of schemes, and the schemes one at a time; what the answers of sound, cover and complete mean.
 pub mod SchemeCount
 pub mod SchemeAt
+pub mod Readable
+pub mod Sound
+pub mod Covered
