@@ -4,3 +4,6 @@ pub mod SchemeAt
 pub mod Readable
 pub mod Sound
 pub mod Covered
+pub mod Waiting
+pub mod Targets
+pub mod Complete

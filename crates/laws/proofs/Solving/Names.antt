@@ -126,7 +126,7 @@ pub step-over : (ns : List Text) (l r : Tree) (ps : List Pair) → Over ns l →
 step-over ns l r ps p q h = go (step l r ps) (step-keep (Over ns) (over-kept ns) ps (over-sides ns ps h) l r p q)
   where
     go : (s : Step) → KeptStep (Over ns) ps s → StepOver ns s
-    go (goes-on qs) k = sides-over ns qs k
+    go (goes-on qs) k = sides-over ns qs (k .0)
     go (bind x v qs) k =
         let o = over-without x ns v (k .value) (k .apart) in
         record {
