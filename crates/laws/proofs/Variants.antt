@@ -1,4 +1,5 @@
--- Variants: the count of schemes, and the schemes one at a time; what the answers of sound, cover and complete mean.
+-- Variants: the count of schemes, and the schemes one at a time; what the answers of sound, cover and complete mean; the
+-- names that schemes and covers use.
 pub mod SchemeCount
 pub mod SchemeAt
 pub mod Readable
@@ -7,3 +8,5 @@ pub mod Covered
 pub mod Waiting
 pub mod Targets
 pub mod Complete
+pub mod FreshNames
+pub mod VariableNames

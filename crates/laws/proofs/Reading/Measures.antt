@@ -38,7 +38,7 @@ pub record Measure : Type 0 where
   pub leaf-token : (n : Text) → tree (leaf n) ≤ token n
   pub no-trees : trees none ≡ 0
   pub more-trees : (t : Tree) (ts : Trees) → trees (more t ts) ≡ tree t + delimiter + trees ts
-  pub closed : (n : Text) (ts : Trees) (t : Tree) → close n ts ≡ some t → tree t ≤ token n + trees ts
+  pub closed : (n : Text) (ts : Trees) (t : Tree) → close n ts ≡ some t → tree t ≤ token n + token (bytes "(") + trees ts
 
 abbrev Term : Type 0
 Term = Tree × List Text

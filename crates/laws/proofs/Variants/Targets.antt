@@ -27,24 +27,24 @@ use Rattle.laws.proofs.Variants.Waiting.{waits-after, unify-limit}
 -- Lists of which every element has a property
 
 module _ {A : Type 0} where
-  abbrev All : (A → Type 0) → List A → Type 0
+  abbrev pub All : (A → Type 0) → List A → Type 0
   All P [] = Unit {0}
   All P (a ∷ l) = P a × All P l
 
-  all-append : (P : A → Type 0) (l r : List A) → All P l → All P r → All P (l ++ r)
+  pub all-append : (P : A → Type 0) (l r : List A) → All P l → All P r → All P (l ++ r)
   all-append P [] r h k = k
   all-append P (a ∷ l) r h k = (h .0, all-append P l r (h .1) k)
 
-  all-at : (P : A → Type 0) (l : List A) (a : A) → List·Memᴰ a l → All P l → P a
+  pub all-at : (P : A → Type 0) (l : List A) (a : A) → List·Memᴰ a l → All P l → P a
   all-at P (b ∷ l) a (List·Memᴰ·head e) h = subst P (sym e) (h .0)
   all-at P (b ∷ l) a (List·Memᴰ·tail m) h = all-at P l a m (h .1)
 
 module _ {A B : Type 0} (P : A → Type 0) (Q : B → Type 0) where
-  all-map : (f : A → B) → ((a : A) → P a → Q (f a)) → (l : List A) → All P l → All Q (map f l)
+  pub all-map : (f : A → B) → ((a : A) → P a → Q (f a)) → (l : List A) → All P l → All Q (map f l)
   all-map f q [] h = tt
   all-map f q (a ∷ l) h = (q a (h .0), all-map f q l (h .1))
 
-  all-flat : (f : A → List B) → ((a : A) → P a → All Q (f a)) → (l : List A) → All P l → All Q (flatMap f l)
+  pub all-flat : (f : A → List B) → ((a : A) → P a → All Q (f a)) → (l : List A) → All P l → All Q (flatMap f l)
   unfolding flatMap
   all-flat f q [] h = tt
   all-flat f q (a ∷ l) h = all-append Q (f a) (flatMap f l) (q a (h .0)) (all-flat f q l (h .1))
@@ -102,16 +102,24 @@ Good t s = (size (s .value) ≤ size t) × Built (s .value) × BuiltPairs (s .eq
 abbrev GoodJoined : Trees → Joined → Type 0
 GoodJoined ts j = (sizes (j .values) ≤ sizes ts) × Alike ts (j .values) × BuiltPairs (j .equations)
 
+-- what a rule makes of one child, and of two
+module _ (P : Scheme → Type 0) where
+  pub one-all : (f : Tree → List Scheme) (us : Trees) → ((a : Tree) → us ≡ more a none → All P (f a)) → All P (only (arguments1 us) f)
+  one-all f none h = tt
+  one-all f (more a none) h = h a refl
+  one-all f (more a (more c us)) h = tt
+
+  pub two-all : (f : Tree × Tree → List Scheme) (us : Trees) → ((a c : Tree) → us ≡ more a (more c none) → All P (f (a, c))) → All P (only (arguments2 us) f)
+  two-all f none h = tt
+  two-all f (more a none) h = tt
+  two-all f (more a (more c none)) h = h a c refl
+  two-all f (more a (more c (more d us))) h = tt
+
 one-small : (f : Tree → List Scheme) → ((a : Tree) → Built a → All Small (f a)) → (us : Trees) → Builts us → All Small (only (arguments1 us) f)
-one-small f h none b = tt
-one-small f h (more a none) b = h a (built-first b)
-one-small f h (more a (more c us)) b = tt
+one-small f h us b = one-all Small f us (λ a e. h a (built-first (subst Builts e b)))
 
 two-small : (f : Tree × Tree → List Scheme) → ((a c : Tree) → Built a → Built c → All Small (f (a, c))) → (us : Trees) → Builts us → All Small (only (arguments2 us) f)
-two-small f h none b = tt
-two-small f h (more a none) b = tt
-two-small f h (more a (more c none)) b = h a c (built-first b) (built-first (built-rest b))
-two-small f h (more a (more c (more d us))) b = tt
+two-small f h us b = two-all Small f us (λ a c e. let k = subst Builts e b in h a c (built-first k) (built-first (built-rest k)))
 
 fresh-size : (n : ℕ) → size (fresh n) ≤ 1
 unfolding fresh size
