@@ -2,14 +2,14 @@
 -- children a bracket.
 use Prim.Native.Nat.{ℕ, zero, suc, _+_, _≤_}
 use native.Mathlib.Omega.{arith}
-use mathlib.Core.Path.{_≡_, refl, sym, _∙_, ap, subst}
-use mathlib.Core.List.{List, [], _∷_, _++_}
+use mathlib.Core.Path.{_≡_, refl, ap, subst}
+use mathlib.Core.List.{[], _∷_, _++_}
 use mathlib.Core.Option.{Option, some, none as nothing, Option·some-injective, Option·none-ne-some}
 use mathlib.Core.Bool.{Bool, true, false, cond, true≢false}
 use lib.Dec.{eqb}
 use lib.ListN.{length, length-append, getD}
 use Rattle.rules.specs.Bytes.{Text, same}
-use Rattle.rules.specs.Text.{bytes, count-of}
+use Rattle.rules.specs.Text.{count-of}
 use Rattle.rules.specs.Maybe.{guard}
 use Rattle.rules.specs.Names.{digit, all, letter-name}
 use Rattle.rules.specs.Tree.{Tree, variable, atom, apply, Trees, none, more, count, size, sizes, tamtplus}

@@ -2,7 +2,7 @@
 -- of tokens at most what they measure.
 use Prim.Native.Nat.{ℕ, zero, suc, _+_, _≤_}
 use native.Mathlib.Omega.{arith}
-use mathlib.Core.Path.{_≡_, refl, sym, _∙_, ap, subst}
+use mathlib.Core.Path.{_≡_, refl, ap, subst}
 use mathlib.Core.List.{List, [], _∷_}
 use mathlib.Core.Option.{Option, some, none as nothing, Option·some-injective, Option·none-ne-some}
 use mathlib.Core.Bool.{Bool, true, false, cond, not}

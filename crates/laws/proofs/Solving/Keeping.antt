@@ -2,14 +2,14 @@
 -- trees to their sum, holds of what is left where it held of what was there.
 use mathlib.Core.Path.{_≡_, refl, sym}
 use mathlib.Core.Bool.{Bool, true, false}
-use mathlib.Core.List.{List, [], _∷_, _++_}
+use mathlib.Core.List.{List, [], _∷_}
 use mathlib.Core.Option.{Option, some, none as nothing}
-use Prim.Native.Nat.{ℕ, _≤_}
+use Prim.Native.Nat.{_≤_}
 use lib.Dec.{leb}
 use Rattle.rules.specs.Bytes.{Text, same}
 use Rattle.rules.specs.Tree.{Tree, variable, atom, apply, Trees, none, more, head, children, same-tree, occurs, tamtplus, plus}
 use Rattle.rules.specs.Substitution.{Binding, Pair, instantiate-pairs, size-pairs}
-use Rattle.rules.specs.Sums.{unless-sum, summands, summands-of, rebuild, equivalent}
+use Rattle.rules.specs.Sums.{summands, summands-of, rebuild, equivalent}
 use Rattle.rules.specs.Sorts.{Sort, variable-sort, sorted, refinable, sort-refuted}
 use Rattle.rules.specs.Solving.{Step, goes-on, bind, fails, unknown, Rest, emptied, mismatch, stuck, equation, keep, remove-at, remove, cancel-at, cancel, remainder, cancel-sums, fits, bind-into, unless-refinable, swap-at, swap-for, swap-key, sort-check, occurs-check, eliminate-at, eliminate, push-children, if-refuted, sum-step, decompose-at, decompose, against, differ, step-at, step}
 use Rattle.rules.specs.Matching.{Move, onward, clash, beyond, bound, agree, bind-new, sort-new, match-key, match-rest, ground-eq, match-at, match-roots, move}

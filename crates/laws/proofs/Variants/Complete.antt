@@ -1,8 +1,8 @@
 -- What the answers of complete mean.
-use Prim.Native.Nat.{ℕ, suc, _≤_, _<_, max}
+use Prim.Native.Nat.{ℕ, suc, _≤_, max}
 use native.Mathlib.Omega.{arith}
 use mathlib.Core.Path.{_≡_, refl, sym, _∙_, ap, subst}
-use mathlib.Core.Bool.{Bool, true, false, true≢false, false≢true}
+use mathlib.Core.Bool.{Bool, true, false, true≢false}
 use mathlib.Core.List.{List, [], _∷_, _++_, map, List·Memᴰ, List·Memᴰ·head, List·Memᴰ·tail, List·Memᴰ·not-nil, List·Memᴰ·append-cases, Memᴰ·append-left, Memᴰ·append-right}
 use mathlib.Core.Logic.{_↔_, _⊎_, inl, inr}
 use mathlib.Core.Option.{Option, some, none as nothing, Option·some-injective, Option·none-ne-some}
@@ -12,12 +12,11 @@ use Rattle.rules.specs.Maybe.{_>>=_, guard, every}
 use Rattle.rules.specs.Tree.{Tree, variable, atom, apply, Trees, none, more, size}
 use Rattle.rules.specs.Substitution.{Binding, Pair, lookup, instantiate}
 use Rattle.rules.specs.Sums.{equivalent}
-use Rattle.rules.specs.Equality.{AC, reflexive, symmetric, transitive}
+use Rattle.rules.specs.Equality.{reflexive, symmetric, transitive}
 use Rattle.rules.specs.Sheet.{Member}
 use Rattle.rules.specs.Solving.{Verdict, solved, failed, unsupported, unify}
-use Rattle.rules.specs.Matching.{matcher}
 use Rattle.rules.specs.Reduction.{normalize}
-use Rattle.rules.specs.Rewriting.{NormalModulo, Reduced}
+use Rattle.rules.specs.Rewriting.{NormalModulo}
 use Rattle.rules.specs.Cover.{variables, covering}
 use Rattle.rules.specs.Variants.{Variant, read-member, instance-of, index-of, fresh-base, fresh-base-in, Scheme, schemes-from, scheme-count, schemes, system, solved-schemes, generalized, all-generalized, complete}
 use Rattle.rules.specs.Tidy.{Built}

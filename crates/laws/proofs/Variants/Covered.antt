@@ -4,7 +4,6 @@ use mathlib.Core.Bool.{Bool, true, false, not, true≢false, false≢true}
 use mathlib.Core.List.{List, [], _∷_, map, List·Memᴰ, List·Memᴰ·head, List·Memᴰ·tail}
 use mathlib.Core.Logic.{_↔_}
 use mathlib.Core.Option.{Option, some, none as nothing, Option·some-injective, Option·none-ne-some}
-use Prim.Native.Nat.{ℕ}
 use Rattle.rules.specs.Bytes.{Text}
 use Rattle.rules.specs.Maybe.{_>>=_, every}
 use Rattle.rules.specs.Tree.{Tree, variable}

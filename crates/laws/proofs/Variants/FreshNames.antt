@@ -2,9 +2,9 @@
 -- children.
 use Prim.Native.Nat.{ℕ, zero, suc, _+_, _-_, _*_, _≤_, _<_}
 use native.Mathlib.Omega.{arith}
-use mathlib.Core.Path.{_≡_, refl, sym, _∙_, ap, subst}
+use mathlib.Core.Path.{_≡_, refl, _∙_, ap, subst}
 use mathlib.Core.Bool.{Bool, true, false, _||_, false≢true}
-use mathlib.Core.List.{List, [], _∷_, _++_, map, flatMap, List·Memᴰ}
+use mathlib.Core.List.{List, [], _∷_, _++_, map, List·Memᴰ}
 use mathlib.Core.Option.{Option, some, none as nothing}
 use lib.ListN.{length, length-append}
 use Rattle.rules.specs.Bytes.{Text, same}
@@ -13,7 +13,7 @@ use Rattle.rules.specs.Tree.{Tree, variable, atom, apply, Trees, none, more}
 use Rattle.rules.specs.Substitution.{Pair}
 use Rattle.rules.specs.Reading.{parse}
 use Rattle.rules.specs.Reduction.{Rule, fst, snd, flip, sdec, kdec, rule-named}
-use Rattle.rules.specs.Variants.{Scheme, scheme, Joined, only, fresh, firings, before, root-schemes, join-first, schemes-from, joined, system}
+use Rattle.rules.specs.Variants.{Scheme, Joined, only, fresh, firings, before, root-schemes, join-first, schemes-from, joined, system}
 use Rattle.rules.specs.Schemes.{listing}
 use Rattle.rules.specs.Memory.{Over, Overs, OverPairs, fresh-name, some-children, rule-node, rule-nodes, rule-nodes-in}
 use Rattle.laws.proofs.Basics.Tests.{or-left, or-right, same-self}

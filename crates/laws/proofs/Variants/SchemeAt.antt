@@ -4,12 +4,10 @@ use native.Mathlib.Nat.{suc-mul, add-assoc, add-comm, zero-mul, zero-add, mod-lt
 use native.Mathlib.Omega.{arith}
 use mathlib.Core.Path.{_≡_, refl, sym, _∙_, ap, subst}
 use mathlib.Core.List.{List, [], _∷_, _++_, map, flatMap}
-use mathlib.Core.Option.{Option, some, none as nothing, Option·none-ne-some, Option·some-injective}
+use mathlib.Core.Option.{some, Option·none-ne-some, Option·some-injective}
 use lib.ListN.{length, length-map, getD, getElem?}
-use Rattle.rules.specs.Bytes.{Text}
-use Rattle.rules.specs.Tree.{Tree, variable, atom, apply, Trees, none, more, count}
-use Rattle.rules.specs.Reduction.{rule-named}
-use Rattle.rules.specs.Variants.{Scheme, scheme, Joined, root-schemes, schemes-from, joined, join-first, firing-count, scheme-count, scheme-counts}
+use Rattle.rules.specs.Tree.{Tree, variable, atom, apply, Trees, none, more}
+use Rattle.rules.specs.Variants.{root-schemes, schemes-from, joined, join-first, scheme-count, scheme-counts}
 use Rattle.rules.specs.Schemes.{root-count, root-at, scheme-at, joined-at, listing}
 use Rattle.laws.proofs.Variants.SchemeCount.{Each, each, children-kept, roots-count, schemes-counted, joined-counted}
 

@@ -1,14 +1,13 @@
 -- What the answers of sound mean.
 use mathlib.Core.Path.{_≡_, refl, sym, _∙_, ap, subst}
 use mathlib.Core.Bool.{Bool, true, false, true≢false}
-use mathlib.Core.List.{List}
 use mathlib.Core.Logic.{_↔_}
 use mathlib.Core.Option.{Option, some, none as nothing}
-use Prim.Native.Nat.{ℕ, _≤_, _<_}
+use Prim.Native.Nat.{_≤_}
 use lib.Dec.{leb}
 use Rattle.rules.specs.Maybe.{_>>=_, guard}
 use Rattle.rules.specs.Tree.{Tree, size}
-use Rattle.rules.specs.Substitution.{Binding, instantiate}
+use Rattle.rules.specs.Substitution.{instantiate}
 use Rattle.rules.specs.Sums.{equivalent}
 use Rattle.rules.specs.Equality.{AC}
 use Rattle.rules.specs.Sheet.{Member}

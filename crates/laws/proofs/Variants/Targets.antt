@@ -1,27 +1,27 @@
 -- The schemes of a tree as reading builds it: their values and equations are such too, and no value is larger than the tree. So the
 -- instance of a solved scheme's value is such a tree, and within the limit of nodes.
-use Prim.Native.Nat.{ℕ, suc, _+_, _≤_}
+use Prim.Native.Nat.{ℕ, _+_, _≤_}
 use native.Mathlib.Omega.{arith}
-use mathlib.Core.Path.{_≡_, refl, sym, _∙_, ap, subst}
-use mathlib.Core.Bool.{Bool, true, false, _&&_, _||_, false≢true}
+use mathlib.Core.Path.{_≡_, refl, sym, subst}
+use mathlib.Core.Bool.{true, false≢true}
 use mathlib.Core.List.{List, [], _∷_, _++_, map, flatMap, List·Memᴰ, List·Memᴰ·head, List·Memᴰ·tail}
 use mathlib.Core.Option.{Option, some, none as nothing}
 use Rattle.rules.specs.Bytes.{Text, same}
 use Rattle.rules.specs.Text.{bytes}
-use Rattle.rules.specs.Names.{digit, all, number, word, identifier, indexed, variable-token, letter-name}
+use Rattle.rules.specs.Names.{digit, all, number, word, indexed, variable-token, letter-name}
 use Rattle.rules.specs.Decimal.{decimal}
-use Rattle.rules.specs.Tree.{Tree, variable, atom, apply, Trees, none, more, size, sizes, tamtplus}
+use Rattle.rules.specs.Tree.{Tree, variable, atom, apply, Trees, none, more, size, sizes}
 use Rattle.rules.specs.Substitution.{Binding, Pair, instantiate}
-use Rattle.rules.specs.Solving.{Verdict, solved, unify}
-use Rattle.rules.specs.Reduction.{Rule, fst, snd, flip, sdec, kdec, rule-named, one, two, pair, senc, kem, role-a, role-b, arguments1, arguments2}
-use Rattle.rules.specs.Variants.{Scheme, scheme, Joined, only, fresh, firings, before, root-schemes, join-first, schemes-from, joined, system}
-use Rattle.rules.specs.Tidy.{Built, a-variable, an-atom, a-leaf, a-list, Builts, nil, both}
+use Rattle.rules.specs.Solving.{solved, unify}
+use Rattle.rules.specs.Reduction.{Rule, fst, snd, flip, sdec, kdec, rule-named, pair, senc, kem, role-a, role-b, arguments1, arguments2}
+use Rattle.rules.specs.Variants.{Scheme, Joined, only, fresh, firings, before, root-schemes, join-first, schemes-from, joined, system}
+use Rattle.rules.specs.Tidy.{Built, a-variable, a-leaf, a-list, Builts, nil, both}
 use Rattle.laws.proofs.Basics.Tests.{and-left, and-right, and-both}
 use Rattle.laws.proofs.Basics.Numerals.{decimal-number}
 use Rattle.laws.proofs.Reading.TokenKinds.{no-colon}
 use Rattle.laws.proofs.Equality.Building.{built-first, built-rest, built-children, Alike, no-more, one-more, builts, rebuilt}
 use Rattle.laws.proofs.Solving.Weights.{size-some}
-use Rattle.laws.proofs.Sheets.BuiltRun.{BuiltPairs, BuiltBindings, Writable, instance-built, unify-writable}
+use Rattle.laws.proofs.Sheets.BuiltRun.{BuiltPairs, Writable, instance-built, unify-writable}
 use Rattle.laws.proofs.Variants.Waiting.{waits-after, unify-limit}
 
 -- Lists of which every element has a property

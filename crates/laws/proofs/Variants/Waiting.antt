@@ -1,9 +1,9 @@
 -- A tree that waits beside itself, last on the stack, during every binding of unify: its instance under the bindings is within the
 -- limit of nodes.
-use Prim.Native.Nat.{ℕ, zero, suc, _+_, _≤_}
+use Prim.Native.Nat.{ℕ, zero, suc, _≤_}
 use native.Mathlib.Omega.{arith}
 use mathlib.Core.Path.{_≡_, refl, sym, _∙_, ap, subst, fun-ext}
-use mathlib.Core.Bool.{Bool, true, false, false≢true}
+use mathlib.Core.Bool.{Bool, true, false}
 use mathlib.Core.List.{List, [], _∷_, _++_}
 use mathlib.Core.Option.{Option, some, none as nothing, Option·some-injective, Option·none-ne-some}
 use lib.Dec.{leb}
@@ -13,7 +13,7 @@ use Rattle.rules.specs.Substitution.{Substitution, substitute, Binding, Pair, p
 use Rattle.rules.specs.Solving.{Step, goes-on, bind, fails, unknown, step-at, step, Verdict, solved, failed, unsupported, with-binding, after, run, extended, compose-over, compose, composed, finish, unify}
 use Rattle.laws.proofs.Solving.Substituting.{substitute-twice, substitute-nothing}
 use Rattle.laws.proofs.Solving.Rules.{same-tree-self}
-use Rattle.laws.proofs.Solving.Keeping.{AllIn, Sides, Kept, OnTop, all-waited, one-before, KeptStep, Bound, step-keep}
+use Rattle.laws.proofs.Solving.Keeping.{AllIn, Sides, Kept, OnTop, all-waited, one-before, KeptStep, step-keep}
 
 -- w beside itself is last
 pub data Waits (w : Tree) : List Pair → Type 0 where
