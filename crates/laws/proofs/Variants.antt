@@ -1,2 +1,12 @@
--- Variants: the count of schemes.
+-- Variants: the count of schemes, and the schemes one at a time; what the answers of sound, cover and complete mean; the
+-- names that schemes and covers use.
 pub mod SchemeCount
+pub mod SchemeAt
+pub mod Readable
+pub mod Sound
+pub mod Covered
+pub mod Waiting
+pub mod Targets
+pub mod Complete
+pub mod FreshNames
+pub mod VariableNames

@@ -3,16 +3,18 @@
 use mathlib.Core.Path.{_≡_}
 use mathlib.Core.Bool.{Bool, true, cond}
 use mathlib.Core.List.{List, [], _∷_, _++_}
-use mathlib.Core.Option.{some, none as nothing}
+use mathlib.Core.Option.{Option, some, none as nothing}
 use Prim.Native.Nat.{ℕ, suc, _+_}
 use lib.ListN.{length}
 use Rattle.rules.specs.Bytes.{Text, same}
-use Rattle.rules.specs.Text.{is-one-of}
+use Rattle.rules.specs.Text.{bytes, is-one-of}
+use Rattle.rules.specs.Decimal.{decimal}
 use Rattle.rules.specs.Tree.{Tree, variable, atom, apply, Trees, none, more, sizes}
 use Rattle.rules.specs.Substitution.{Binding, Pair}
 use Rattle.rules.specs.Sums.{summands}
 use Rattle.rules.specs.Solving.{cancel}
 use Rattle.rules.specs.Reading.{parse}
+use Rattle.rules.specs.Reduction.{Rule, rule-named}
 use Rattle.rules.specs.Sheet.{Sheet, Entry, Member, asks-equal, asks-unify, asks-match, asks-reduce, asks-cover, asks-sound, asks-complete}
 
 -- Names
@@ -58,6 +60,34 @@ OverPairs ns (p ∷ ps) = Over ns (p .0) × Over ns (p .1) × OverPairs ns ps
 abbrev pub OverBindings : List Text → List Binding → Type 0
 OverBindings ns [] = Unit {0}
 OverBindings ns (b ∷ bs) = Over ns (b .1) × OverBindings ns bs
+
+-- Fresh names
+
+-- the name of the fresh variable x<n>:Msg
+unfoldable pub fresh-name : ℕ → Text
+unfolding decimal
+fresh-name n = bytes "x" ++ decimal n ++ bytes ":Msg"
+
+abbrev pub some-children : Trees → ℕ
+some-children none = 0
+some-children (more t ts) = 1
+
+abbrev pub rule-node : Option Rule → Trees → ℕ
+rule-node nothing ts = 0
+rule-node (some r) ts = some-children ts
+
+-- the applications of the rules' functions that have children: a scheme takes at most two fresh variables for each
+unfoldable mutual
+  unfolding rule-named
+
+  pub rule-nodes : Tree → ℕ
+  rule-nodes (variable x) = 0
+  rule-nodes (atom c d) = 0
+  rule-nodes (apply f ts) = rule-node (rule-named f) ts + rule-nodes-in ts
+
+  pub rule-nodes-in : Trees → ℕ
+  rule-nodes-in none = 0
+  rule-nodes-in (more t ts) = rule-nodes t + rule-nodes-in ts
 
 -- Texts of a sheet
 

@@ -1,18 +1,20 @@
--- Each variable that is read has a colon of its own in the text, and each node a byte.
+-- Each variable that is read has a colon of its own in the text, each node a byte, and each application of a rule's function with
+-- children a bracket.
 use Prim.Native.Nat.{ℕ, zero, suc, _+_, _≤_}
 use native.Mathlib.Omega.{arith}
-use mathlib.Core.Path.{_≡_, refl, sym, _∙_, ap, subst}
-use mathlib.Core.List.{List, [], _∷_, _++_}
+use mathlib.Core.Path.{_≡_, refl, ap, subst}
+use mathlib.Core.List.{[], _∷_, _++_}
 use mathlib.Core.Option.{Option, some, none as nothing, Option·some-injective, Option·none-ne-some}
 use mathlib.Core.Bool.{Bool, true, false, cond, true≢false}
 use lib.Dec.{eqb}
 use lib.ListN.{length, length-append, getD}
 use Rattle.rules.specs.Bytes.{Text, same}
-use Rattle.rules.specs.Text.{bytes, count-of}
+use Rattle.rules.specs.Text.{count-of}
 use Rattle.rules.specs.Maybe.{guard}
 use Rattle.rules.specs.Names.{digit, all, letter-name}
 use Rattle.rules.specs.Tree.{Tree, variable, atom, apply, Trees, none, more, count, size, sizes, tamtplus}
-use Rattle.rules.specs.Memory.{variable-names, variable-names-in}
+use Rattle.rules.specs.Reduction.{Rule, rule-named}
+use Rattle.rules.specs.Memory.{variable-names, variable-names-in, rule-node, rule-nodes, rule-nodes-in}
 use Rattle.rules.specs.Reading.{leaf, single, constant-name, atom-of, nested, sum-of, close, parse}
 use Rattle.laws.proofs.Basics.Options.{bound}
 use Rattle.laws.proofs.Reading.Measures.{total, Measure, read-measured}
@@ -86,6 +88,11 @@ unfolding total count-of
 colons-total [] = refl
 colons-total (b ∷ s) = ap (λ (n : ℕ). colon b + n) (colons-total s)
 
+names-closed : (n : Text) (ts : Trees) (t : Tree) → close n ts ≡ some t → names-count t ≤ names-counts ts
+unfolding variable-names
+names-closed = closed-cases (λ n ts t. names-count t ≤ names-counts ts) (λ n ts c d. omega arith)
+    (λ n t u us. omega (arith, nested-names t (more u us), names-more t (more u us))) (λ n ts. omega arith)
+
 unfoldable colon-measure : Measure
 unfolding variable-names count-of
 colon-measure = record {
@@ -100,8 +107,7 @@ colon-measure = record {
   leaf-token = leaf-names;
   no-trees = refl;
   more-trees = λ t ts. omega (arith, names-more t ts);
-  closed = closed-cases (λ n ts t. names-count t ≤ count-of 58 n + names-counts ts) (λ n ts c d. omega arith)
-      (λ n t u us. omega (arith, nested-names t (more u us), names-more t (more u us))) (λ n ts. omega arith);
+  closed = λ n ts t h. omega (arith, names-closed n ts t h);
 }
 
 -- each variable of the tree has a colon of its own
@@ -129,6 +135,11 @@ unfolding total
 bytes-total [] = refl
 bytes-total (b ∷ s) = let h = bytes-total s in omega arith
 
+size-closed : (n : Text) (ts : Trees) (t : Tree) → close n ts ≡ some t → size t ≤ 1 + (sizes ts + count ts)
+unfolding size
+size-closed = closed-cases (λ n ts t. size t ≤ 1 + (sizes ts + count ts)) (λ n ts c d. omega arith) (λ n t u us. omega (arith, nested-size t (more u us)))
+    (λ n ts. omega arith)
+
 unfoldable node-measure : Measure
 unfolding size total
 node-measure = record {
@@ -143,11 +154,69 @@ node-measure = record {
   leaf-token = λ n. omega (arith, leaf-size n);
   no-trees = refl;
   more-trees = λ t ts. omega arith;
-  closed = closed-cases (λ n ts t. size t ≤ 1 + (sizes ts + count ts)) (λ n ts c d. omega arith) (λ n t u us. omega (arith, nested-size t (more u us)))
-      (λ n ts. omega arith);
+  closed = λ n ts t h. omega (arith, size-closed n ts t h);
 }
 
 -- each node of the tree has a byte of its own
 pub parse-size : (s : Text) (t : Tree) → parse s ≡ some t → size t ≤ length s
 unfolding node-measure
 parse-size s t h = omega (arith, read-measured node-measure s t h, bytes-total s)
+
+-- Brackets
+
+nested-rules : (t : Tree) (us : Trees) → rule-nodes (nested t us) ≡ rule-nodes t + rule-nodes-in us
+unfolding nested rule-nodes rule-named
+nested-rules t none = omega arith
+nested-rules t (more u us) = let h = nested-rules u us in omega arith
+
+leaf-rules : (n : Text) → rule-nodes (leaf n) ≡ 0
+unfolding leaf rule-nodes
+leaf-rules n = go (eqb (count-of 58 n) 0)
+  where
+    at : (o : Option Rule) → rule-node o none + 0 ≡ 0
+    at nothing = refl
+    at (some r) = refl
+
+    go : (b : Bool) → rule-nodes (cond b (apply n none) (variable n)) ≡ 0
+    go true = at (rule-named n)
+    go false = refl
+
+rule-upto : (o : Option Rule) (ts : Trees) → rule-node o ts ≤ 1
+rule-upto nothing ts = omega arith
+rule-upto (some r) none = omega arith
+rule-upto (some r) (more t ts) = omega arith
+
+rules-closed : (n : Text) (ts : Trees) (t : Tree) → close n ts ≡ some t → rule-nodes t ≤ 1 + rule-nodes-in ts
+unfolding rule-nodes
+rules-closed = closed-cases (λ n ts t. rule-nodes t ≤ 1 + rule-nodes-in ts) (λ n ts c d. omega arith)
+    (λ n t u us. omega (arith, nested-rules t (more u us))) (λ n ts. omega (arith, rule-upto (rule-named n) ts))
+
+abbrev opening : ℕ → ℕ
+opening b = cond (eqb b 40) 1 0
+
+openings-total : (s : Text) → total opening s ≡ count-of 40 s
+unfolding total count-of
+openings-total [] = refl
+openings-total (b ∷ s) = ap (λ (n : ℕ). opening b + n) (openings-total s)
+
+unfoldable bracket-measure : Measure
+unfolding rule-nodes count-of
+bracket-measure = record {
+  byte = opening;
+  token = count-of 40;
+  delimiter = 0;
+  tree = rule-nodes;
+  trees = rule-nodes-in;
+  token-bytes = λ b n. omega (arith, openings-total (b ∷ n));
+  comma-token = omega arith;
+  bracket-token = omega arith;
+  leaf-token = λ n. omega (arith, leaf-rules n);
+  no-trees = refl;
+  more-trees = λ t ts. omega arith;
+  closed = λ n ts t h. omega (arith, rules-closed n ts t h);
+}
+
+-- each application of a rule's function with children has a bracket of its own
+pub parse-brackets : (s : Text) (t : Tree) → parse s ≡ some t → rule-nodes t ≤ count-of 40 s
+unfolding bracket-measure
+parse-brackets s t h = omega (arith, read-measured bracket-measure s t h, openings-total s)

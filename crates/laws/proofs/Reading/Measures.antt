@@ -2,7 +2,7 @@
 -- of tokens at most what they measure.
 use Prim.Native.Nat.{ℕ, zero, suc, _+_, _≤_}
 use native.Mathlib.Omega.{arith}
-use mathlib.Core.Path.{_≡_, refl, sym, _∙_, ap, subst}
+use mathlib.Core.Path.{_≡_, refl, ap, subst}
 use mathlib.Core.List.{List, [], _∷_}
 use mathlib.Core.Option.{Option, some, none as nothing, Option·some-injective, Option·none-ne-some}
 use mathlib.Core.Bool.{Bool, true, false, cond, not}
@@ -38,7 +38,7 @@ pub record Measure : Type 0 where
   pub leaf-token : (n : Text) → tree (leaf n) ≤ token n
   pub no-trees : trees none ≡ 0
   pub more-trees : (t : Tree) (ts : Trees) → trees (more t ts) ≡ tree t + delimiter + trees ts
-  pub closed : (n : Text) (ts : Trees) (t : Tree) → close n ts ≡ some t → tree t ≤ token n + trees ts
+  pub closed : (n : Text) (ts : Trees) (t : Tree) → close n ts ≡ some t → tree t ≤ token n + token (bytes "(") + trees ts
 
 abbrev Term : Type 0
 Term = Tree × List Text

@@ -2,14 +2,14 @@
 -- trees to their sum, holds of what is left where it held of what was there.
 use mathlib.Core.Path.{_≡_, refl, sym}
 use mathlib.Core.Bool.{Bool, true, false}
-use mathlib.Core.List.{List, [], _∷_, _++_}
+use mathlib.Core.List.{List, [], _∷_}
 use mathlib.Core.Option.{Option, some, none as nothing}
-use Prim.Native.Nat.{ℕ, _≤_}
+use Prim.Native.Nat.{_≤_}
 use lib.Dec.{leb}
 use Rattle.rules.specs.Bytes.{Text, same}
 use Rattle.rules.specs.Tree.{Tree, variable, atom, apply, Trees, none, more, head, children, same-tree, occurs, tamtplus, plus}
 use Rattle.rules.specs.Substitution.{Binding, Pair, instantiate-pairs, size-pairs}
-use Rattle.rules.specs.Sums.{unless-sum, summands, summands-of, rebuild, equivalent}
+use Rattle.rules.specs.Sums.{summands, summands-of, rebuild, equivalent}
 use Rattle.rules.specs.Sorts.{Sort, variable-sort, sorted, refinable, sort-refuted}
 use Rattle.rules.specs.Solving.{Step, goes-on, bind, fails, unknown, Rest, emptied, mismatch, stuck, equation, keep, remove-at, remove, cancel-at, cancel, remainder, cancel-sums, fits, bind-into, unless-refinable, swap-at, swap-for, swap-key, sort-check, occurs-check, eliminate-at, eliminate, push-children, if-refuted, sum-step, decompose-at, decompose, against, differ, step-at, step}
 use Rattle.rules.specs.Matching.{Move, onward, clash, beyond, bound, agree, bind-new, sort-new, match-key, match-rest, ground-eq, match-at, match-roots, move}
@@ -126,8 +126,19 @@ pub record Bound (P : Tree → Type 0) (ps : List Pair) (x : Text) (v : Tree) (q
   pub put : qs ≡ instantiate-pairs ((x, v) ∷ []) ps
   pub limit : size-pairs qs ≤ 4096
 
+-- some pairs stand before those that waited
+pub data OnTop (ps : List Pair) : List Pair → Type 0 where
+  all-waited : OnTop ps ps
+  one-before : {p : Pair} {qs : List Pair} → OnTop ps qs → OnTop ps (p ∷ qs)
+
+push-top : (ts us : Trees) (ps : List Pair) → OnTop ps (push-children ts us ps)
+unfolding push-children
+push-top none us ps = all-waited
+push-top (more t ts) none ps = all-waited
+push-top (more t ts) (more u us) ps = one-before (push-top ts us ps)
+
 abbrev pub KeptStep : (Tree → Type 0) → List Pair → Step → Type 0
-KeptStep P ps (goes-on qs) = Sides P P qs
+KeptStep P ps (goes-on qs) = Sides P P qs × OnTop ps qs
 KeptStep P ps (bind x v qs) = Bound P ps x v qs
 KeptStep P ps fails = Unit {0}
 KeptStep P ps unknown = Unit {0}
@@ -184,15 +195,15 @@ module _ (P : Tree → Type 0) (k : Kept P) (ps : List Pair) (waiting : Sides P 
       refuted false = tt
 
       rest : (w : Rest) → KeptRest P P w → KeptStep P ps (sum-step w l r ps)
-      rest emptied m = waiting
+      rest emptied m = (waiting, all-waited)
       rest mismatch m = tt
-      rest (equation a b) m = (m .0, m .1, waiting)
+      rest (equation a b) m = ((m .0, m .1, waiting), one-before all-waited)
       rest stuck m = refuted (sort-refuted l r)
 
       go : (b c : Bool) → KeptStep P ps (decompose-at b c l r ps)
       go false c = tt
       go true true = rest (cancel-sums true equivalent l r) (sums-keep P P k k true equivalent l r p q)
-      go true false = push-keep P P (children l) (children r) ps (children-keep P k l p) (children-keep P k r q) waiting
+      go true false = (push-keep P P (children l) (children r) ps (children-keep P k l p) (children-keep P k r q) waiting, push-top (children l) (children r) ps)
 
   against-keep : (l r : Tree) → P l → P r → KeptStep P ps (against l r ps)
   against-keep l (variable y) p q = eliminate-keep y l q p
@@ -209,7 +220,7 @@ module _ (P : Tree → Type 0) (k : Kept P) (ps : List Pair) (waiting : Sides P 
   step-keep l r p q = go (same-tree l r)
     where
       go : (c : Bool) → KeptStep P ps (step-at c l r ps)
-      go true = waiting
+      go true = (waiting, all-waited)
       go false = differ-keep l r p q
 
 -- One move of match

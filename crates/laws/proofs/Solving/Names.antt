@@ -3,20 +3,20 @@
 use Prim.Native.Nat.{ℕ, zero, suc, _+_, _≤_, _<_}
 use native.Mathlib.Omega.{arith}
 use mathlib.Core.Path.{_≡_, refl, sym, _∙_, ap, subst}
-use mathlib.Core.Bool.{Bool, true, false, cond, _||_, true≢false, false≢true}
+use mathlib.Core.Bool.{Bool, true, false, cond, _||_, false≢true}
 use mathlib.Core.List.{List, [], _∷_}
 use mathlib.Core.Option.{Option, some, none as nothing, Option·none-ne-some}
 use lib.Dec.{leb}
 use lib.ListN.{length}
 use Rattle.rules.specs.Bytes.{Text, same}
 use Rattle.rules.specs.Text.{is-one-of}
-use Rattle.rules.specs.Tree.{Tree, variable, atom, apply, Trees, none, more, size, occurs, occurs-in, plus}
+use Rattle.rules.specs.Tree.{Tree, variable, atom, apply, Trees, none, more, size, occurs, occurs-in}
 use Rattle.rules.specs.Substitution.{substitute, substitutes, Binding, Pair, pick, lookup, instantiate, instantiate-pairs, size-pairs}
-use Rattle.rules.specs.Solving.{Step, goes-on, bind, fails, unknown, step, Verdict, solved, failed, unsupported, Answer, with-binding, after, run, extended, compose-over, compose, composed, finish, unify}
+use Rattle.rules.specs.Solving.{Step, goes-on, bind, fails, unknown, step, Verdict, solved, failed, unsupported, with-binding, after, run, extended, compose-over, compose, composed, finish, unify}
 use Rattle.rules.specs.Matching.{Move, onward, clash, beyond, or-else, bound, move, moved, matching, matcher}
 use Rattle.rules.specs.Memory.{without, Over, Overs, OverPairs, OverBindings}
-use Rattle.laws.proofs.Basics.Tests.{or-left, or-right, neither-left, neither-right, same-eq, same-self, ne-of-differ}
-use Rattle.laws.proofs.Solving.Keeping.{other-way, AllIn, Sides, Kept, Bound, KeptStep, step-keep, Extends, unchanged, added, KeptMove, move-keep}
+use Rattle.laws.proofs.Basics.Tests.{or-left, or-right, neither-left, neither-right, same-eq, ne-of-differ}
+use Rattle.laws.proofs.Solving.Keeping.{other-way, AllIn, Sides, Kept, KeptStep, step-keep, Extends, unchanged, added, KeptMove, move-keep}
 
 -- Names that are left
 
@@ -126,7 +126,7 @@ pub step-over : (ns : List Text) (l r : Tree) (ps : List Pair) → Over ns l →
 step-over ns l r ps p q h = go (step l r ps) (step-keep (Over ns) (over-kept ns) ps (over-sides ns ps h) l r p q)
   where
     go : (s : Step) → KeptStep (Over ns) ps s → StepOver ns s
-    go (goes-on qs) k = sides-over ns qs k
+    go (goes-on qs) k = sides-over ns qs (k .0)
     go (bind x v qs) k =
         let o = over-without x ns v (k .value) (k .apart) in
         record {
@@ -187,6 +187,104 @@ unify-names k ns ps h = go (run k ps .0) (run-names k ns ps h)
 
     go : (w : Verdict) → AtMost (length ns) w → AtMost (length ns) (finish w)
     go (solved es) a = weaker (length es) (length ns) (composed (compose es)) (composed-length es) a
+    go failed a = tt
+    go unsupported a = tt
+
+-- Values
+
+without-back : (x n : Text) (ns : List Text) → is-one-of (without x ns) n ≡ true → is-one-of ns n ≡ true
+unfolding is-one-of without
+without-back x n [] e = e
+without-back x n (m ∷ ms) e = go (same m x) e (without-back x n ms)
+  where
+    go : (a : Bool) → is-one-of (cond a (without x ms) (m ∷ without x ms)) n ≡ true → (is-one-of (without x ms) n ≡ true → is-one-of ms n ≡ true)
+        → (same n m || is-one-of ms n) ≡ true
+    go true k ih = ap (λ (b : Bool). same n m || b) (ih k) ∙ or-right (same n m)
+    go false k ih = at (same n m) k
+      where
+        at : (b : Bool) → (b || is-one-of (without x ms) n) ≡ true → (b || is-one-of ms n) ≡ true
+        at true j = refl
+        at false j = ih j
+
+module _ (x : Text) (ns : List Text) where
+  mutual
+    over-back : (t : Tree) → Over (without x ns) t → Over ns t
+    over-back (variable n) h = without-back x n ns h
+    over-back (atom c d) h = tt
+    over-back (apply f ts) h = overs-back ts h
+
+    overs-back : (ts : Trees) → Overs (without x ns) ts → Overs ns ts
+    overs-back none h = tt
+    overs-back (more t ts) h = (over-back t (h .0), overs-back ts (h .1))
+
+  values-back : (bs : List Binding) → OverBindings (without x ns) bs → OverBindings ns bs
+  values-back [] h = tt
+  values-back (b ∷ bs) h = (over-back (b .1) (h .0), values-back bs (h .1))
+
+pub lookup-over : (ns : List Text) (bs : List Binding) → OverBindings ns bs → (y : Text) → is-one-of ns y ≡ true → Over ns (lookup bs y)
+unfolding lookup
+lookup-over ns [] h y a = a
+lookup-over ns (b ∷ bs) h y a = go (same (b .0) y) (lookup-over ns bs (h .1) y a)
+  where
+    go : (c : Bool) → Over ns (lookup bs y) → Over ns (pick c (b .1) (lookup bs y))
+    go true k = h .0
+    go false k = k
+
+module _ (ns : List Text) (bs : List Binding) (values : OverBindings ns bs) where
+  mutual
+    unfolding substitute
+
+    pub instance-over : (t : Tree) → Over ns t → Over ns (instantiate bs t)
+    instance-over (variable y) h = lookup-over ns bs values y h
+    instance-over (atom c d) h = tt
+    instance-over (apply f ts) h = instances-over ts h
+
+    instances-over : (ts : Trees) → Overs ns ts → Overs ns (substitutes (lookup bs) ts)
+    instances-over none h = tt
+    instances-over (more t ts) h = (instance-over t (h .0), instances-over ts (h .1))
+
+abbrev pub ValuesOver : List Text → Verdict → Type 0
+ValuesOver ns (solved bs) = OverBindings ns bs
+ValuesOver ns failed = Unit {0}
+ValuesOver ns unsupported = Unit {0}
+
+run-values : (k : ℕ) (ns : List Text) (ps : List Pair) → OverPairs ns ps → ValuesOver ns (run k ps .0)
+unfolding run
+run-values zero ns ps h = tt
+run-values (suc k) ns [] h = tt
+run-values (suc k) ns (p ∷ ps) h = go (step (p .0) (p .1) ps) (step-over ns (p .0) (p .1) ps (h .0) (h .1) (h .2)) (λ ms qs o. run-values k ms qs o)
+  where
+    with-value : (x : Text) (v : Tree) (w : Verdict) → Over (without x ns) v → ValuesOver (without x ns) w → ValuesOver ns (with-binding x v w)
+    with-value x v (solved bs) a b = (over-back x ns v a, values-back x ns bs b)
+    with-value x v failed a b = tt
+    with-value x v unsupported a b = tt
+
+    go : (s : Step) → StepOver ns s → ((ms : List Text) (qs : List Pair) → OverPairs ms qs → ValuesOver ms (run k qs .0)) → ValuesOver ns (after s (λ qs. run k qs) .0)
+    go (goes-on qs) o ih = ih ns qs o
+    go (bind x v qs) o ih = with-value x v (run k qs .0) (o .value) (ih (without x ns) qs (o .waiting))
+    go fails o ih = tt
+    go unknown o ih = tt
+
+composed-values : (ns : List Text) (es : List Binding) → OverBindings ns es → ValuesOver ns (composed (compose es))
+unfolding compose
+composed-values ns [] h = tt
+composed-values ns (b ∷ es) h = go (compose es) (composed-values ns es (h .1))
+  where
+    go : (o : Option (List Binding)) → ValuesOver ns (composed o) → ValuesOver ns (composed (compose-over (b .0) (b .1) o))
+    go nothing k = tt
+    go (some bs) k = fit (leb (size (instantiate bs (b .1))) 4096)
+      where
+        fit : (c : Bool) → ValuesOver ns (composed (extended c (b .0) (instantiate bs (b .1)) bs))
+        fit true = (instance-over ns bs k (b .1) (h .0), k)
+        fit false = tt
+
+-- the values of unify's bindings keep to the names
+pub unify-values : (k : ℕ) (ns : List Text) (ps : List Pair) → OverPairs ns ps → ValuesOver ns (unify k ps .0)
+unfolding unify
+unify-values k ns ps h = go (run k ps .0) (run-values k ns ps h)
+  where
+    go : (w : Verdict) → ValuesOver ns w → ValuesOver ns (finish w)
+    go (solved es) a = composed-values ns es a
     go failed a = tt
     go unsupported a = tt
 

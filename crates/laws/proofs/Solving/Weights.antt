@@ -1,9 +1,9 @@
 -- What waiting pairs weigh: at most their nodes; pushing children lowers the weight by the cells of the pairs pushed, and what two sums
 -- leave weighs less than they did by the cells of the summands left.
-use Prim.Native.Nat.{ℕ, suc, _+_, _*_, _≤_}
+use Prim.Native.Nat.{ℕ, _+_, _*_, _≤_}
 use native.Mathlib.Omega.{arith}
 use mathlib.Core.Path.{_≡_, refl, sym, _∙_, ap, subst}
-use mathlib.Core.Bool.{Bool, true, false, cond, _&&_, true≢false, false≢true}
+use mathlib.Core.Bool.{Bool, true, false, cond, true≢false, false≢true}
 use mathlib.Core.List.{List, [], _∷_, _++_}
 use mathlib.Core.Option.{Option, some, none as nothing}
 use lib.Dec.{eqb}
@@ -16,9 +16,9 @@ use Rattle.rules.specs.Sums.{unless-sum, summands, summands-of, rebuild}
 use Rattle.rules.specs.Solving.{Rest, emptied, mismatch, stuck, equation, remove, cancel-at, cancel, remainder, cancel-sums, push-children}
 use Rattle.rules.specs.Tidy.{Built, a-variable, an-atom, a-leaf, a-list, a-sum}
 use Rattle.rules.specs.Memory.{load, weight, pushed, kept-summands}
-use Rattle.laws.proofs.Basics.Tests.{and-left, and-right, same-eq, same-self, same-of-eq}
+use Rattle.laws.proofs.Basics.Tests.{and-right, same-eq}
 use Rattle.laws.proofs.Equality.Summands.{AllOf, all-append, all-unless}
-use Rattle.laws.proofs.Sheets.BuiltMatch.{mass, summands-mass, rebuild-mass, cancel-mass}
+use Rattle.laws.proofs.Sheets.BuiltMatch.{mass, summands-mass, cancel-mass}
 use Rattle.laws.proofs.Solving.Keeping.{other-way, cancel-keep}
 
 pub size-some : (t : Tree) → 1 ≤ size t
@@ -68,7 +68,7 @@ push-weight (apply f ts) (apply g us) ps e = let h = push-paid ts us ps in let k
 -- Sums
 
 -- no sum
-abbrev Single : Tree → Type 0
+abbrev pub Single : Tree → Type 0
 Single (variable x) = Unit {0}
 Single (atom c d) = Unit {0}
 Single (apply f ts) = same f tamtplus ≡ false
