@@ -81,11 +81,9 @@ pub fn place(
         return Built::Over;
     }
     let kept = keep(sheet, work, free, i, next);
-    let index = kept.index;
-    let end = kept.free;
     Built::Done {
-        index: index,
-        free: end,
+        index: kept.index,
+        free: kept.free,
         budget: budget - count,
     }
 }
@@ -124,11 +122,9 @@ pub fn substitute(
     };
     if index == first {
         let kept = keep(sheet, work, end, i, next);
-        let at = kept.index;
-        let stop = kept.free;
         return Built::Done {
-            index: at,
-            free: stop,
+            index: kept.index,
+            free: kept.free,
             budget: left,
         };
     }

@@ -38,9 +38,7 @@ pub fn bind_into(
     ensures { λ r. ⌜ ((ps : List Pair) → trees-at (now (sheet .entry)) (now (work .entry)) stack ≡ flatten ps → BindsInto (now (sheet .entry)) (now (work .entry)) (now (work .exit)) free (name-at (now (sheet .entry)) (now (work .entry)) key) (tree-at (now (sheet .entry)) (now (work .entry)) value) ps r) ⌝ }
 {
     let one = push_pair(sheet, work, free, key, value, 0);
-    let b = one.index;
-    let start = one.free;
-    let built = substitute_list(sheet, work, start, stack, b, 4096);
+    let built = substitute_list(sheet, work, one.free, stack, one.index, 4096);
     let Built::Done {
         index,
         free: end,
