@@ -1,0 +1,5 @@
+pub mod Grammar
+pub mod Turns
+pub mod LeafLaws
+pub mod Ordering
+pub mod Making

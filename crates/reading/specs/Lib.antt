@@ -1,0 +1,4 @@
+pub mod Machine
+pub mod Words
+pub mod Leaves
+pub mod Closing
