@@ -3,3 +3,6 @@ pub mod Turns
 pub mod LeafLaws
 pub mod Ordering
 pub mod Making
+pub mod Atoms
+pub mod Summing
+pub mod Shutting

@@ -90,3 +90,6 @@ orders-is s w v n limit chain h e = subst (Orders s w v n limit chain) e h
 
 pub closes-is : (s : Text) (w v : List ℕ) (n limit next : ℕ) (o : Option Tree) {r q : Closed} → Closes s w v n limit next o r → r ≡ q → Closes s w v n limit next o q
 closes-is s w v n limit next o h e = subst (Closes s w v n limit next o) e h
+
+pub closes-of : (s : Text) (w v : List ℕ) (n limit next : ℕ) {o q : Option Tree} (r : Closed) → Closes s w v n limit next o r → o ≡ q → Closes s w v n limit next q r
+closes-of s w v n limit next r h e = subst (λ (p : Option Tree). Closes s w v n limit next p r) e h
