@@ -6,3 +6,6 @@ pub mod Making
 pub mod Atoms
 pub mod Summing
 pub mod Shutting
+pub mod Stacks
+pub mod NamePlaces
+pub mod Rounds

@@ -37,7 +37,7 @@ pub back-none : (s : Text) (w : List ℕ) {k : ℕ} (us : Trees) → k ≡ 0 →
 unfolding back
 back-none s w us e = ap (λ (x : Trees). back x us) (trees-none s w _ e)
 
-pub record Ordering (s : Text) (w₀ : List ℕ) (start limit chain : ℕ) (w : List ℕ) (free k first nodes : ℕ) : Type 0 where
+pub record Ordering (s : Text) (w₀ : List ℕ) (start chain : ℕ) (w : List ℕ) (free k first nodes : ℕ) : Type 0 where
   pub arena : Arena s w free
   pub grown : Grown w₀ w start free
   pub from : start ≤ free
@@ -48,8 +48,8 @@ pub record Ordering (s : Text) (w₀ : List ℕ) (start limit chain : ℕ) (w : 
   pub small : nodes ≤ 4095
   pub room : free + count (trees-at s w₀ k) ≤ start + count (trees-at s w₀ chain)
 
-module _ (s : Text) (w₀ : List ℕ) (start limit chain : ℕ) (a : Arena s w₀ start) (at : chain < start) where
-  pub ordering-starts : Ordering s w₀ start limit chain w₀ start chain 0 0
+module _ (s : Text) (w₀ : List ℕ) (start chain : ℕ) (a : Arena s w₀ start) (at : chain < start) where
+  pub ordering-starts : Ordering s w₀ start chain w₀ start chain 0 0
   unfolding size
   ordering-starts = record {
     arena = a;
@@ -63,7 +63,7 @@ module _ (s : Text) (w₀ : List ℕ) (start limit chain : ℕ) (a : Arena s w�
     room = omega arith;
   }
 
-  module _ {w : List ℕ} {free k first nodes : ℕ} (h : Ordering s w₀ start limit chain w free k first nodes) where
+  module _ {w : List ℕ} {free k first nodes : ℕ} (h : Ordering s w₀ start chain w free k first nodes) where
     -- where the chain's end is reached
     pub ordering-ends : k ≡ 0 → InOrder s w₀ w start free chain first nodes
     unfolding size
@@ -104,7 +104,7 @@ module _ (s : Text) (w₀ : List ℕ) (start limit chain : ℕ) (a : Arena s w�
 
       -- one tree more
       pub ordering-turn : {v : List ℕ} {r next end : ℕ} → r ≡ nodes-of w k → nodes + r ≤ 4095 → next ≡ next-of w k → end ≡ free + 1 → Linked s w v free first (tree-at s w k)
-          → Ordering s w₀ start limit chain v end next free (nodes + r)
+          → Ordering s w₀ start chain v end next free (nodes + r)
       unfolding size back
       ordering-turn {v} {r} {next} {end} e o f d x =
           rw d

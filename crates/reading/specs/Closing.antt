@@ -1,9 +1,10 @@
 -- What closing a list makes of its trees, which stand as cells, the last first. Definitions only.
 use Prim.Native.Nat.{ℕ, _+_, _*_, _≤_, _<_}
 use mathlib.Core.Path.{_≡_}
-use mathlib.Core.List.{List, _∷_}
+use mathlib.Core.List.{List}
 use mathlib.Core.Option.{Option, some, none as nothing}
 use mathlib.Core.Bool.{Bool, true, false}
+use lib.ListN.{getD}
 use Rattle.rules.specs.Bytes.{Text}
 use Rattle.rules.specs.Names.{digit, all}
 use Rattle.rules.specs.Tree.{Tree, Trees, apply, none, more, size, sizes, plus, count}
@@ -16,6 +17,10 @@ use Rattle.reading.specs.declared.closing.Closed.{Closed}
 use Rattle.reading.specs.declared.closing.Closed.the-variants.{At, Refused}
 use Rattle.reading.specs.Machine.{back}
 use Rattle.reading.specs.Words.{Made, Added, Outside}
+
+-- the cells that closing a list may take, with those below n
+abbrev pub most : Text → List ℕ → ℕ → ℕ → ℕ
+most s w n chain = n + 2 * count (trees-at s w chain) + 2
 
 -- the trees in their order: cells n to m - 1 are new
 pub record InOrder (s : Text) (w v : List ℕ) (n m chain first nodes : ℕ) : Type 0 where
@@ -57,3 +62,20 @@ summed t (more u us) = summed (plus u t) us
 abbrev pub Alone : Text → List ℕ → ℕ → Bool → Type 0
 Alone s w k true = (0 < k) × (trees-at s w k ≡ more (apply (name-at s w k) none) none) × (all digit (name-at s w k) ≡ true)
 Alone s w k false = (n : Text) → atom-of n (trees-at s w k) ≡ nothing
+
+-- the name and the trees of the level d + 1, closed
+abbrev pub closed-level : Text → List ℕ → ℕ → ℕ → Option Tree
+closed-level s w limit d = close (part s (getD w (4 * limit + 3 * d + 1) 0) (getD w (4 * limit + 3 * d + 2) 0)) (back (trees-at s w (getD w (4 * limit + 3 * d + 3) 0)) none)
+
+-- that tree put on the level d
+pub record Popped (s : Text) (w v : List ℕ) (n m limit d : ℕ) : Type 0 where
+  pub tree : Tree
+  pub is : closed-level s w limit d ≡ some tree
+  pub small : size tree ≤ 4096
+  pub grows : n < m
+  pub room : m ≤ most s w n (getD w (4 * limit + 3 * d + 3) 0)
+  pub added : Added s w v n m limit d tree
+
+abbrev pub Pops : Text → List ℕ → List ℕ → ℕ → ℕ → ℕ → Closed → Type 0
+Pops s w v n limit d (At m) = Popped s w v n m limit d
+Pops s w v n limit d Refused = NoTree (closed-level s w limit d) × Outside w v (4 * n) (4 * limit)

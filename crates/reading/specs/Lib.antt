@@ -2,3 +2,4 @@ pub mod Machine
 pub mod Words
 pub mod Leaves
 pub mod Closing
+pub mod Parsing

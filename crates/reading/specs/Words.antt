@@ -6,7 +6,7 @@ use mathlib.Core.Path.{_≡_}
 use mathlib.Core.List.{List}
 use lib.ListN.{length, getD}
 use Rattle.rules.specs.Bytes.{Text}
-use Rattle.rules.specs.Tree.{Tree, more}
+use Rattle.rules.specs.Tree.{Tree, none, more}
 use Rattle.tree.specs.Cells.{part, trees-at}
 use Rattle.tree.specs.Arena.{Arena, Grown}
 use Rattle.reading.specs.Machine.{Stack, bottom, level, add}
@@ -49,3 +49,9 @@ pub record Added (s : Text) (w v : List ℕ) (n m limit d : ℕ) (t : Tree) : Ty
   pub held : Held s v m limit d
   pub stack : stack-at s v limit d ≡ add t (stack-at s w limit d)
   pub outside : Outside w v (4 * n) (4 * limit + 3 * d + 1)
+
+-- a level is opened over the level d
+pub record Opened (s : Text) (w v : List ℕ) (n limit d : ℕ) (name : Text) : Type 0 where
+  pub held : Held s v n limit (d + 1)
+  pub stack : stack-at s v limit (d + 1) ≡ level name none (stack-at s w limit d)
+  pub outside : Outside w v (4 * n) (4 * limit + 3 * d + 4)

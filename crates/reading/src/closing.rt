@@ -22,7 +22,7 @@ ghost use Rattle.tree.specs.Cells.{part, name-at, next-of, tree-at, trees-at};
 ghost use Rattle.tree.specs.Arena.{Arena};
 ghost use Rattle.reading.specs.Machine.{back};
 ghost use Rattle.reading.specs.Words.{Placed};
-ghost use Rattle.reading.specs.Closing.{Orders, Closes, Alone, summed};
+ghost use Rattle.reading.specs.Closing.{most, Orders, Closes, Alone, summed};
 
 // The first of the new cells, the free end after them and their count of nodes.
 pub enum Ordered {
@@ -37,11 +37,11 @@ pub enum Closed {
 }
 
 // The trees of a chain once more, in their order, unless they have more than 4,095 nodes.
-fn in_order(sheet: &[u8], work: &mut [u32], start: usize, limit: usize, chain: usize) -> Ordered
+fn in_order(sheet: &[u8], work: &mut [u32], start: usize, chain: usize) -> Ordered
     requires { ⌜ Arena (now sheet) (now work) start ⌝ }
-    requires { ⌜ (chain < start) × (start + count (trees-at (now sheet) (now work) chain) ≤ limit) ⌝ }
-    requires { ⌜ (4 * limit ≤ length (now work)) × (limit < 2 ^ 32) ⌝ }
-    ensures { λ r. ⌜ Orders (now (sheet .entry)) (now (work .entry)) (now (work .exit)) start limit chain r ⌝ }
+    requires { ⌜ chain < start ⌝ }
+    requires { ⌜ (4 * most (now sheet) (now work) start chain ≤ length (now work)) × (most (now sheet) (now work) start chain < 2 ^ 32) ⌝ }
+    ensures { λ r. ⌜ Orders (now (sheet .entry)) (now (work .entry)) (now (work .exit)) start (most (now (sheet .entry)) (now (work .entry)) start chain) chain r ⌝ }
 {
     let mut free = start;
     let mut k = chain;
@@ -66,19 +66,18 @@ fn list(
     sheet: &[u8],
     work: &mut [u32],
     free: usize,
-    limit: usize,
     start: usize,
     len: usize,
     chain: usize,
     next: usize,
 ) -> Closed
     requires { ⌜ Arena (now sheet) (now work) free ⌝ }
-    requires { ⌜ (chain < free) × (next < free) × (free + 2 * count (trees-at (now sheet) (now work) chain) + 2 ≤ limit) ⌝ }
-    requires { ⌜ (4 * limit ≤ length (now work)) × (limit < 2 ^ 32) ⌝ }
+    requires { ⌜ (chain < free) × (next < free) ⌝ }
+    requires { ⌜ (4 * most (now sheet) (now work) free chain ≤ length (now work)) × (most (now sheet) (now work) free chain < 2 ^ 32) ⌝ }
     requires { ⌜ Placed (now sheet) start len × (length (now sheet) ≤ 65536) ⌝ }
-    ensures { λ r. ⌜ Closes (now (sheet .entry)) (now (work .entry)) (now (work .exit)) free limit next (some (apply (part (now (sheet .entry)) start len) (back (trees-at (now (sheet .entry)) (now (work .entry)) chain) none))) r ⌝ }
+    ensures { λ r. ⌜ Closes (now (sheet .entry)) (now (work .entry)) (now (work .exit)) free (most (now (sheet .entry)) (now (work .entry)) free chain) next (some (apply (part (now (sheet .entry)) start len) (back (trees-at (now (sheet .entry)) (now (work .entry)) chain) none))) r ⌝ }
 {
-    let children = in_order(sheet, work, free, limit, chain);
+    let children = in_order(sheet, work, free, chain);
     let Ordered::Upto(first, end, nodes) = children else {
         return Closed::Refused;
     };
@@ -114,17 +113,16 @@ fn sum(
     sheet: &[u8],
     work: &mut [u32],
     start: usize,
-    limit: usize,
     at: usize,
     len: usize,
     chain: usize,
     next: usize,
 ) -> Closed
     requires { ⌜ Arena (now sheet) (now work) start ⌝ }
-    requires { ⌜ (chain < start) × (next < start) × (start + 2 * count (trees-at (now sheet) (now work) chain) + 2 ≤ limit) ⌝ }
-    requires { ⌜ (4 * limit ≤ length (now work)) × (limit < 2 ^ 32) ⌝ }
+    requires { ⌜ (chain < start) × (next < start) ⌝ }
+    requires { ⌜ (4 * most (now sheet) (now work) start chain ≤ length (now work)) × (most (now sheet) (now work) start chain < 2 ^ 32) ⌝ }
     requires { ⌜ Placed (now sheet) at len × (length (now sheet) ≤ 65536) × (part (now sheet) at len ≡ tamtplus) ⌝ }
-    ensures { λ r. ⌜ Closes (now (sheet .entry)) (now (work .entry)) (now (work .exit)) start limit next (sum-of (back (trees-at (now (sheet .entry)) (now (work .entry)) chain) none)) r ⌝ }
+    ensures { λ r. ⌜ Closes (now (sheet .entry)) (now (work .entry)) (now (work .exit)) start (most (now (sheet .entry)) (now (work .entry)) start chain) next (sum-of (back (trees-at (now (sheet .entry)) (now (work .entry)) chain) none)) r ⌝ }
 {
     if chain == 0 {
         return Closed::Refused;
@@ -174,16 +172,15 @@ fn atom(
     sheet: &[u8],
     work: &mut [u32],
     free: usize,
-    limit: usize,
     letter: usize,
     chain: usize,
     next: usize,
 ) -> Closed
     requires { ⌜ Arena (now sheet) (now work) free ⌝ }
-    requires { ⌜ (chain < free) × (next < free) × (free + 1 ≤ limit) ⌝ }
-    requires { ⌜ (4 * limit ≤ length (now work)) × (limit < 2 ^ 32) ⌝ }
+    requires { ⌜ (chain < free) × (next < free) ⌝ }
+    requires { ⌜ (4 * most (now sheet) (now work) free chain ≤ length (now work)) × (most (now sheet) (now work) free chain < 2 ^ 32) ⌝ }
     requires { ⌜ (7 ≤ letter) × (letter < 256) ⌝ }
-    ensures { λ r. ⌜ Closes (now (sheet .entry)) (now (work .entry)) (now (work .exit)) free limit next (atom-of (letter ∷ []) (back (trees-at (now (sheet .entry)) (now (work .entry)) chain) none)) r ⌝ }
+    ensures { λ r. ⌜ Closes (now (sheet .entry)) (now (work .entry)) (now (work .exit)) free (most (now (sheet .entry)) (now (work .entry)) free chain) next (atom-of (letter ∷ []) (back (trees-at (now (sheet .entry)) (now (work .entry)) chain) none)) r ⌝ }
 {
     if !is_number(sheet, work, free, chain) {
         return Closed::Refused;
@@ -200,28 +197,27 @@ fn wide(b: u8) -> usize
 }
 
 // What a name and its list are (unifier.rs, `close`), before the list at a link.
-fn shut(
+pub fn shut(
     sheet: &[u8],
     work: &mut [u32],
     free: usize,
-    limit: usize,
     at: usize,
     len: usize,
     chain: usize,
     next: usize,
 ) -> Closed
     requires { ⌜ Arena (now sheet) (now work) free ⌝ }
-    requires { ⌜ (chain < free) × (next < free) × (free + 2 * count (trees-at (now sheet) (now work) chain) + 2 ≤ limit) ⌝ }
-    requires { ⌜ (4 * limit ≤ length (now work)) × (limit < 2 ^ 32) ⌝ }
+    requires { ⌜ (chain < free) × (next < free) ⌝ }
+    requires { ⌜ (4 * most (now sheet) (now work) free chain ≤ length (now work)) × (most (now sheet) (now work) free chain < 2 ^ 32) ⌝ }
     requires { ⌜ Placed (now sheet) at len × (length (now sheet) ≤ 65536) ⌝ }
-    ensures { λ r. ⌜ Closes (now (sheet .entry)) (now (work .entry)) (now (work .exit)) free limit next (close (part (now (sheet .entry)) at len) (back (trees-at (now (sheet .entry)) (now (work .entry)) chain) none)) r ⌝ }
+    ensures { λ r. ⌜ Closes (now (sheet .entry)) (now (work .entry)) (now (work .exit)) free (most (now (sheet .entry)) (now (work .entry)) free chain) next (close (part (now (sheet .entry)) at len) (back (trees-at (now (sheet .entry)) (now (work .entry)) chain) none)) r ⌝ }
 {
     let end = at + len;
     if is_letter_name(&sheet[at..end]) {
-        return atom(sheet, work, free, limit, wide(sheet[at]), chain, next);
+        return atom(sheet, work, free, wide(sheet[at]), chain, next);
     }
     if same(&sheet[at..end], b"tamtplus") {
-        return sum(sheet, work, free, limit, at, len, chain, next);
+        return sum(sheet, work, free, at, len, chain, next);
     }
-    list(sheet, work, free, limit, at, len, chain, next)
+    list(sheet, work, free, at, len, chain, next)
 }
