@@ -1,0 +1,78 @@
+use Rattle.reading.specs.Closing.{most}
+use mathlib.Core.Path.{_≡_, refl, sym}
+use native.Mathlib.Omega.{arith}
+use Rattle.reading.proofs.Making.{list-done, list-over, orders-is}
+use borrow.Author.Needs.{needs}
+use Rattle.reading.proofs.closing.list.Statement.{statement}
+use Rattle.reading.proofs.closing.list.Tie as tie
+use Rattle.reading.proofs.closing.list.Reads as reads
+use Rattle.reading.proofs.closing.list.Lts as lts
+use Rattle.reading.proofs.closing.in_order.Reads as in-order-reads
+use Rattle.tree.proofs.cells.push_cell.Reads as push-cell-reads
+
+-- src/closing.rt:80:9
+in-order-requires : tie.Need-in-order-requires
+in-order-requires c κs = search needs
+
+-- src/closing.rt:81:23
+enum-known-children : tie.Need-enum-known-children
+enum-known-children c = search needs
+
+-- src/closing.rt:82:9
+enum-told : tie.Need-enum-told
+enum-told c = search needs
+
+-- src/closing.rt:82:9
+same-length : tie.Need-same-length
+same-length c = search needs
+
+-- src/closing.rt:82:9
+returns : tie.Need-returns
+returns c =
+    let a = c .before .before .before .before .before .before .before .before .args in
+    let o = orders-is (a .sheet .now) (a .work .now) (c .before .before .before .before .in-order .last .1 .0) (a .free) (most (a .sheet .now) (a .work .now) (a .free) (a .chain)) (a .chain) (c .before .before .before .before .in-order .ensures) (c .enum-told .given .1) in
+    (list-over (a .sheet .now) (a .work .now) (a .chain) (a .start) (a .len) (o .0), o .1)
+
+-- src/closing.rt:84:65
+add-push-cell : tie.Need-add-push-cell
+add-push-cell c =
+    let a = c .before .before .before .before .before .before .before .before .before .before .args in
+    let o = orders-is (a .sheet .now) (a .work .now) (c .before .before .before .before .before .before .in-order .last .1 .0) (a .free) (most (a .sheet .now) (a .work .now) (a .free) (a .chain)) (a .chain) (c .before .before .before .before .before .before .in-order .ensures) (c .before .before .children .given .1) in
+    omega (arith, o .small)
+
+-- src/closing.rt:84:16
+push-cell-requires : tie.Need-push-cell-requires
+push-cell-requires c κs =
+    let a = c .before .before .before .before .before .before .before .before .before .before .args in
+    let q = c .before .before .before .before .before .before .before .before .before .before .pre in
+    let o = orders-is (a .sheet .now) (a .work .now) (c .before .before .before .before .before .before .in-order .last .1 .0) (a .free) (most (a .sheet .now) (a .work .now) (a .free) (a .chain)) (a .chain) (c .before .before .before .before .before .before .in-order .ensures) (c .before .before .children .given .1) in
+    let r = o .room in
+    let p = q .1 .1 .1 .0 in
+    (omega (arith, o .grown .len), ((omega (arith, p .inside, p .some), p .short, omega arith, omega (arith, o .small)), (omega (arith, o .placed), omega arith)))
+
+-- src/closing.rt:65:1
+same-length-2 : tie.Need-same-length-2
+same-length-2 c = search needs
+
+-- src/closing.rt:65:1
+returns-2 : tie.Need-returns-2
+returns-2 c =
+    let a = c .before .before .before .before .before .before .before .before .before .before .before .before .before .args in
+    let q = c .before .before .before .before .before .before .before .before .before .before .before .before .before .pre in
+    let o = orders-is (a .sheet .now) (a .work .now) (c .before .before .before .before .before .before .before .before .before .in-order .last .1 .0) (a .free) (most (a .sheet .now) (a .work .now) (a .free) (a .chain)) (a .chain) (c .before .before .before .before .before .before .before .before .before .in-order .ensures) (c .before .before .before .before .before .children .given .1) in
+    let r = o .room in
+    list-done (a .sheet .now) (q .0) (q .1 .0 .1) o (q .1 .1 .1 .0) (omega (arith, o .grown .len)) (omega arith) (c .before .before .push-cell .ensures .0) (c .before .before .push-cell .ensures .1)
+
+pub list-spec : {M : Type 1} → statement M
+list-spec =
+    tie.close
+    (tie.spec
+    in-order-requires
+    enum-known-children
+    enum-told
+    same-length
+    returns
+    add-push-cell
+    push-cell-requires
+    same-length-2
+    returns-2)

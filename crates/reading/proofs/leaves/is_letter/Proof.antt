@@ -1,0 +1,16 @@
+use Rattle.reading.proofs.LeafLaws.{a-letter, other-letter}
+use Rattle.reading.proofs.leaves.is_letter.Statement.{statement}
+use Rattle.reading.proofs.leaves.is_letter.Tie as tie
+use Rattle.reading.proofs.leaves.is_letter.Reads as reads
+use Rattle.reading.proofs.leaves.is_letter.Lts as lts
+
+-- src/leaves.rt:46:1
+returns : tie.Need-returns
+returns c = a-letter _ (c .match .keys1)
+
+-- src/leaves.rt:46:1
+returns-2 : tie.Need-returns-2
+returns-2 c = other-letter _ (c .match .rest .1)
+
+pub is-letter-spec : {M : Type 1} → statement M
+is-letter-spec = tie.close (tie.spec returns returns-2)

@@ -1,0 +1,28 @@
+use mathlib.Core.Path.{_≡_, refl, sym, _∙_}
+use Rattle.reading.proofs.LeafLaws.{no-letter, one-letter}
+use borrow.Author.Needs.{needs}
+use Rattle.reading.proofs.leaves.is_letter_name.Statement.{statement}
+use Rattle.reading.proofs.leaves.is_letter_name.Tie as tie
+use Rattle.reading.proofs.leaves.is_letter_name.Reads as reads
+use Rattle.reading.proofs.leaves.is_letter_name.Lts as lts
+use Rattle.reading.proofs.leaves.is_letter.Reads as is-letter-reads
+
+-- src/leaves.rt:57:9
+returns : tie.Need-returns
+returns c = no-letter _ (c .if1 .taken)
+
+-- src/leaves.rt:59:15
+shared-slice-read-is-letter : tie.Need-shared-slice-read-is-letter
+shared-slice-read-is-letter c = search needs
+
+-- src/leaves.rt:59:5
+is-letter-requires : tie.Need-is-letter-requires
+is-letter-requires c κs = search needs
+
+-- src/leaves.rt:53:1
+returns-2 : tie.Need-returns-2
+returns-2 c = c .is-letter .ensures ∙ one-letter _ (c .before .before .if1 .left)
+
+pub is-letter-name-spec : {M : Type 1} → statement M
+is-letter-name-spec =
+    tie.close (tie.spec returns shared-slice-read-is-letter is-letter-requires returns-2)
