@@ -94,17 +94,17 @@ module _ (s : Text) where
   list-words true t ts = inner (each (splice s t (splices s ts none)))
   list-words false t ts = inner (words (flatten s t) ∷ each (flattens s ts))
 
-  leaf-words : (b : Bool) (x : ℕ) → term-words b (node x none) ≡ x ∷ []
+  pub leaf-words : (b : Bool) (x : ℕ) → term-words b (node x none) ≡ x ∷ []
   unfolding flatten words headed inner
   leaf-words true x = refl
   leaf-words false x = refl
 
-  one-words : (b : Bool) (t : Term) → list-words b t none ≡ term-words b t
+  pub one-words : (b : Bool) (t : Term) → list-words b t none ≡ term-words b t
   unfolding flatten words inner
   one-words true t = refl
   one-words false t = refl
 
-  more-words : (b : Bool) (t u : Term) (us : Terms) → list-words b t (more u us) ≡ term-words b t ++ (2883584 ∷ list-words b u us)
+  pub more-words : (b : Bool) (t u : Term) (us : Terms) → list-words b t (more u us) ≡ term-words b t ++ (2883584 ∷ list-words b u us)
   unfolding flatten words inner
   more-words true t u us =
       ap inner (splice-rest t (splice s u (splices s us none)))
@@ -112,7 +112,7 @@ module _ (s : Text) where
   more-words false t u us = refl
 
   -- a name with its list
-  node-words : (a b : Bool) (x : ℕ) (t : Term) (ts : Terms) → adds s x ≡ a
+  pub node-words : (a b : Bool) (x : ℕ) (t : Term) (ts : Terms) → adds s x ≡ a
       → opening a b x ++ (list-words (not (eqb (bracket a b) 0)) t ts ++ closing (bracket a b)) ≡ term-words b (node x (more t ts))
   unfolding flatten words headed inner
   node-words true true x t ts e = append-nil _ ∙ ap (λ (a : Bool). inner (each (splice-by a x (more (flatten s t) (flattens s ts)) (splice s t (splices s ts none)) none))) (sym e)
