@@ -13,13 +13,13 @@ use Rattle.certificate.specs.Texts.{texts, Token}
 use Rattle.certificate.specs.Settle.{settled}
 use Rattle.certificate.specs.Terms.{Term, node, Terms, none, more, inner, headed, words, words-each}
 use Rattle.certificate.specs.Items.{adds}
-use Rattle.certificate.proofs.Summands.{Plain}
 use Rattle.certificate.proofs.Canonicals.{PlainTerm, PlainTerms}
 use Rattle.certificate.proofs.Canonicals as canonicals
 use Rattle.certificate.proofs.CanonTexts.{settled-text}
 use Rattle.certificate.proofs.Settling.{Each, each-append}
 use Rattle.certificate.proofs.Settling as settling
-use Rattle.certificate.proofs.Flattening.{flat-by, splice-by, flatten, flattens, splice, splices, Word, Spells, as-variable, as-atom, as-apply, SpellsAll, spell-none, spell-more, flatten-text}
+use Rattle.certificate.specs.Spelling.{Plain, flat-by, splice-by, flatten, flattens, splice, splices, Word, Spells, as-variable, as-atom, as-apply, SpellsAll, spell-none, spell-more}
+use Rattle.certificate.proofs.Flattening.{flatten-text}
 
 module _ (P : ℕ → Type 0) where
   mutual

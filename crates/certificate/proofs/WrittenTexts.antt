@@ -18,7 +18,8 @@ use Rattle.certificate.specs.Terms.{Term, node, Terms, none, more, words
 use Rattle.certificate.specs.Items.{Item, begin, shut, comma, name, wanting, having, write, writes, items-at, adds, written}
 use Rattle.certificate.proofs.ItemTokens.{item-text, Named, Proper, tokens-items, items-proper}
 use Rattle.certificate.proofs.ItemTerms.{Read, item-term, tree-of, term-read, good-term, GoodTerm, NamedTerm}
-use Rattle.certificate.proofs.Flattening.{flatten, named-spells}
+use Rattle.certificate.specs.Spelling.{flatten}
+use Rattle.certificate.proofs.Flattening.{named-spells}
 use Rattle.certificate.proofs.NameWords.{spelled-settled}
 use Rattle.certificate.proofs.ItemWords.{term-written, after-term}
 
