@@ -99,7 +99,7 @@ module _ (s : Text) where
 
   -- an atom is a letter with its digits in brackets, and no sum
   module _ (x y c : ℕ) (d : Text) (h : Word s x) (e : word-text s x ≡ c ∷ []) (f : word-text s y ≡ d) where
-    atom-adds : adds s x ≡ false
+    pub atom-adds : adds s x ≡ false
     unfolding adds same
     atom-adds = ap (λ (n : Text). same n tamtplus) e ∙ go (eqb c 116)
       where

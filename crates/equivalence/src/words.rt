@@ -5,9 +5,7 @@ use certificate::writer::put_closing;
 use certificate::writer::put_opening;
 use tree::cells::first_of;
 use tree::cells::kind_of;
-use tree::cells::length_of;
 use tree::cells::next_of;
-use tree::cells::start_of;
 use tree::names::name_is;
 ghost use mathlib.Core.Path.{_≡_};
 ghost use mathlib.Core.Bool.{Bool};
@@ -27,12 +25,11 @@ fn word_of(sheet: &[u8], work: &[u32], free: usize, k: usize) -> u32
     requires { ⌜ (0 < k) × (k < free) ⌝ }
     ensures { λ r. ⌜ Word (now (sheet .entry)) r × (word-text (now (sheet .entry)) r ≡ name-at (now (sheet .entry)) (now (work .entry)) k) ⌝ }
 {
-    let start = start_of(work, k);
-    let len = length_of(work, k);
-    if len == 0 {
-        return ((256 + start) * 65536) as u32;
+    let place = work[4 * k];
+    if place % 65536 == 0 {
+        return place + 16777216;
     }
-    (start * 65536 + len) as u32
+    place
 }
 
 // The first child of cell k, 0 for a leaf.
