@@ -21,7 +21,6 @@ use Rattle.certificate.specs.Texts.{code-text, word-text, Token}
 use Rattle.certificate.specs.Terms.{Term, node, Terms, none, more, inner, headed, words, words-each, canon-text, canon-texts}
 use Rattle.certificate.specs.Items.{adds}
 use Rattle.certificate.specs.Spelling.{flat-by, splice-by, flatten, flattens, splice, splices, Word, Spells, as-variable, as-atom, as-apply, SpellsAll, spell-none, spell-more}
-
 use Rattle.certificate.proofs.ItemTokens.{Named}
 use Rattle.certificate.proofs.ItemTerms.{tree-by, tree-of, trees-of, NamedTerm, of, NamedTerms, nil, both}
 

@@ -31,7 +31,7 @@ module _ (s w v : List ℕ) (t : Tree) (base end : ℕ) (g : Spelled s w v false
       let z : base + (p - base) ≡ p = omega arith in
       let q : p - base < length (words (flatten s (g .term))) = omega arith in
       let x : getD (words (flatten s (g .term))) (p - base) 0 ≡ getD v p 0 =
-          ap (λ (l : List ℕ). getD l (p - base) 0) (sym written) ∙ slice-at base end (p - base) v (omega arith) ∙ ap (λ (i : ℕ). getD v i 0) z in
+      ap (λ (l : List ℕ). getD l (p - base) 0) (sym written) ∙ slice-at base end (p - base) v (omega arith) ∙ ap (λ (i : ℕ). getD v i 0) z in
       rw x at (each-at (Token s) (p - base) (spelled-tokens s (g .spells)) q)
 
   pub canon-of : (u : List ℕ) → Arranges v u base end end (settled s 16777216 base (end - base) (slice base end v)) × Tokens s u base end → Canon s w u t base end

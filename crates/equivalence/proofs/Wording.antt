@@ -50,12 +50,14 @@ module _ (s : Text) (w : List ℕ) (k x : ℕ) (h : Cell s w k) (e : x ≡ getD 
   unfolding start-of length-of name-at named
   word-placed z =
       let p = h .placed .inside in
-      let q : getD w (4 * k) 0 % 65536 ≡ 0 → ⊥ = λ f. z (ap (λ (x : ℕ). x % 65536) e ∙ f) in
-      (record {
-        token = record { placed = λ f. (let g = p (omega arith) in omega arith) };
-        plain = record { no-open = λ f. z (omega arith); no-shut = λ f. z (omega arith); no-comma = λ f. z (omega arith) };
-        other = λ f. z (omega arith);
-      }, text-place s x z ∙ rw (e, ne-eqb (getD w (4 * k) 0 % 65536) 0 q))
+      let q : getD w (4 * k) 0 % 65536 ≡ 0 → ⊥ = λ f. z (ap (λ (x : ℕ). x % 65536) e ∙ f) in (
+        record {
+          token = record { placed = λ f. (let g = p (omega arith) in omega arith) };
+          plain = record { no-open = λ f. z (omega arith); no-shut = λ f. z (omega arith); no-comma = λ f. z (omega arith) };
+          other = λ f. z (omega arith);
+        },
+        text-place s x z ∙ rw (e, ne-eqb (getD w (4 * k) 0 % 65536) 0 q),
+      )
 
   pub code-small : x % 65536 ≡ 0 → (0 < x / 65536) × (x / 65536 < 7)
   unfolding start-of length-of
@@ -116,7 +118,7 @@ module _ (s w : List ℕ) (n i out x : ℕ) (a : Arena s w n) (p : 0 < i) (q : i
       let t = node y (more (node x none) none) in
       let ad : adds s y ≡ false = atom-adds s y x c (name-at s w i) lw lt e in
       let z : y ∷ 2621440 ∷ x ∷ 2686976 ∷ [] ≡ term-words s b t =
-          ap (λ (m : List ℕ). y ∷ 2621440 ∷ (m ++ (2686976 ∷ []))) (sym (one-words s false (node x none) ∙ leaf-words s false x)) ∙ node-words s false b y (node x none) none ad in
+      ap (λ (m : List ℕ). y ∷ 2621440 ∷ (m ++ (2686976 ∷ []))) (sym (one-words s false (node x none) ∙ leaf-words s false x)) ∙ node-words s false b y (node x none) none ad in
       let k : 4 ≡ length (term-words s b t) = ap length z in
       let l₁ = length-set w out y in
       let l₂ = length-set (set w out y) (out + 1) 2621440 in
@@ -180,7 +182,7 @@ module _ (s w v : List ℕ) (n i first x out start : ℕ) (sum inside : Bool) (a
         let m = list-words s sum t ts in
         let ad : adds s x ≡ sum = adds-is in
         let z : o ++ (m ++ closing c) ≡ term-words s inside (node x (more t ts)) =
-            ap₂ (λ (b : Bool) (c : ℕ). o ++ (list-words s b t ts ++ closing c)) (sym (in-list sum inside)) ec ∙ node-words s sum inside x t ts ad in
+        ap₂ (λ (b : Bool) (c : ℕ). o ++ (list-words s b t ts ++ closing c)) (sym (in-list sum inside)) ec ∙ node-words s sum inside x t ts ad in
         let lz : length (o ++ (m ++ closing c)) ≡ length (term-words s inside (node x (more t ts))) = ap length z in
         let l₁ = length-append o (m ++ closing c) in
         let l₂ = length-append m (closing c) in

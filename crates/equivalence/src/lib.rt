@@ -9,9 +9,8 @@ ghost use Rattle.rules.specs.Sums.{equivalent};
 ghost use Rattle.tree.specs.Cells.{tree-at};
 ghost use Rattle.tree.specs.Arena.{Arena};
 ghost use Rattle.certificate.specs.Writer.{Kept};
-use certificate::Order;
-use certificate::compare;
 use tree::equality::same_tree;
+use words::same_text;
 use words::tree_words;
 
 // Whether the trees of cells i and j are equal up to order and grouping of sums. The words from `at` on, fifteen for each node of the
@@ -39,9 +38,5 @@ pub fn equivalent(
     }
     let mid = tree_words(sheet, work, free, i, at);
     let end = tree_words(sheet, work, free, j, mid);
-    let order = compare(sheet, work, at, mid, mid, end);
-    match order {
-        Order::Equal => true,
-        _ => false,
-    }
+    same_text(sheet, work, at, mid, mid, end)
 }

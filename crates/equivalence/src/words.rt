@@ -1,4 +1,6 @@
 // The words of a tree: the tokens of its text, in which a sum inside a sum loses its name and brackets, and its canonical words.
+use certificate::Order;
+use certificate::compare;
 use certificate::settle;
 use certificate::writer::bracket_of;
 use certificate::writer::put_closing;
@@ -11,12 +13,13 @@ ghost use mathlib.Core.Path.{_≡_};
 ghost use mathlib.Core.Bool.{Bool};
 ghost use Prim.Native.Nat.{_+_, _*_, _<_, _≤_};
 ghost use lib.ListN.{length};
+ghost use lib.Seq.{slice};
+ghost use Rattle.rules.specs.Bytes.{same};
 ghost use Rattle.rules.specs.Tree.{size, sizes};
 ghost use Rattle.tree.specs.Cells.{kind-of, first-of, name-at, tree-at, trees-at};
 ghost use Rattle.tree.specs.Arena.{Links, Arena};
-ghost use Rattle.certificate.specs.Texts.{word-text};
+ghost use Rattle.certificate.specs.Texts.{word-text, texts, Tokens};
 ghost use Rattle.certificate.specs.Spelling.{Word};
-ghost use Rattle.certificate.specs.Writer.{Kept};
 ghost use Rattle.equivalence.specs.Words.{Spelled, SpelledAll, Canon};
 
 // The word of the name of cell k: its place, or the code of a fixed name.
@@ -65,7 +68,14 @@ fn put_leaf(sheet: &[u8], work: &mut [u32], free: usize, i: usize, out: usize) -
 }
 
 // Writes the words of the tree of cell i, in a sum or not, and answers where they end.
-fn put_term(sheet: &[u8], work: &mut [u32], free: usize, i: usize, inside: bool, out: usize) -> usize
+fn put_term(
+    sheet: &[u8],
+    work: &mut [u32],
+    free: usize,
+    i: usize,
+    inside: bool,
+    out: usize,
+) -> usize
     requires { ⌜ Arena (now sheet) (now work) free ⌝ }
     requires { ⌜ (0 < i) × (i < free) ⌝ }
     requires { ⌜ (4 * free ≤ out) × (out + 5 * size (tree-at (now sheet) (now work) i) ≤ length (now work)) ⌝ }
@@ -83,7 +93,14 @@ fn put_term(sheet: &[u8], work: &mut [u32], free: usize, i: usize, inside: bool,
 }
 
 // Writes the words of the trees of the list from cell i on, with commas between them.
-fn put_list(sheet: &[u8], work: &mut [u32], free: usize, i: usize, inside: bool, out: usize) -> usize
+fn put_list(
+    sheet: &[u8],
+    work: &mut [u32],
+    free: usize,
+    i: usize,
+    inside: bool,
+    out: usize,
+) -> usize
     requires { ⌜ Arena (now sheet) (now work) free ⌝ }
     requires { ⌜ (0 < i) × (i < free) ⌝ }
     requires { ⌜ (4 * free ≤ out) × (out + 5 * sizes (trees-at (now sheet) (now work) i) ≤ length (now work)) ⌝ }
@@ -109,4 +126,26 @@ pub fn tree_words(sheet: &[u8], work: &mut [u32], free: usize, i: usize, base: u
     let end = put_term(sheet, work, free, i, false, base);
     settle(sheet, work, 16777216, base, end, end);
     end
+}
+
+// Whether the words from `from` to `to` have the text of the words from `start` to `end`.
+pub fn same_text(
+    sheet: &[u8],
+    work: &[u32],
+    from: usize,
+    to: usize,
+    start: usize,
+    end: usize,
+) -> bool
+    requires { ⌜ (from ≤ to) × (to ≤ length (now work)) ⌝ }
+    requires { ⌜ (start ≤ end) × (end ≤ length (now work)) ⌝ }
+    requires { ⌜ Tokens (now sheet) (now work) from to ⌝ }
+    requires { ⌜ Tokens (now sheet) (now work) start end ⌝ }
+    ensures { λ r. ⌜ r ≡ same (texts (now (sheet .entry)) (slice from to (now (work .entry)))) (texts (now (sheet .entry)) (slice start end (now (work .entry)))) ⌝ }
+{
+    let order = compare(sheet, work, from, to, start, end);
+    match order {
+        Order::Equal => true,
+        _ => false,
+    }
 }

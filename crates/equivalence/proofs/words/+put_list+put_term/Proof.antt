@@ -112,9 +112,10 @@ put-list-put-list-requires t c κs =
     let s = a .sheet .now in
     let j = c .before .before .next-of .result in
     let k = next-kept (a .sheet .now) (a .work .now) (c .before .before .before .before .before .before .put-term .last .1 .0) (a .free) (a .i) (c .before .before .next-of .result) (a .out) (c .before .before .before .before .before .before .put-term .result) (a .inside) (p .0) (p .1 .0 .0) (p .1 .0 .1) (p .1 .1 .0) (c .before .before .before .before .before .before .put-term .ensures) (c .before .before .next-of .ensures .0) in
-    let f = next-falls (a .sheet .now) (a .work .now) (c .before .before .before .before .before .before .put-term .last .1 .0) (a .free) (a .i) (c .before .before .next-of .result) (a .out) (c .before .before .before .before .before .before .put-term .result) (a .inside) (p .0) (p .1 .0 .0) (p .1 .0 .1) (p .1 .1 .0) (c .before .before .before .before .before .before .put-term .ensures) (c .before .before .next-of .ensures .0) in
-    (omega (arith, c .before .before .before .before .before .before .before .before .before .before .pre .0, ap sizes (rest-kept (a .sheet .now) (a .work .now) (c .before .before .before .before .before .before .put-term .last .1 .0) (a .free) (a .i) (c .before .before .next-of .result) (a .out) (c .before .before .before .before .before .before .put-term .result) (a .inside) (p .0) (p .1 .0 .0) (p .1 .0 .1) (p .1 .1 .0) (c .before .before .before .before .before .before .put-term .ensures) (c .before .before .next-of .ensures .0) (p .1 .1 .1) (omega (arith, c .before .if1 .left))), rest-falls s (p .0 .links) (a .i) j (p .1 .0 .0) (p .1 .0 .1) k),
-    (comma-arena (a .sheet .now) (a .work .now) (c .before .before .before .before .before .before .put-term .last .1 .0) (a .free) (a .i) (c .before .before .next-of .result) (a .out) (c .before .before .before .before .before .before .put-term .result) (a .inside) (p .0) (p .1 .0 .0) (p .1 .0 .1) (p .1 .1 .0) (c .before .before .before .before .before .before .put-term .ensures) (c .before .before .next-of .ensures .0) (p .1 .1 .1) (omega (arith, c .before .if1 .left)), ((omega (arith, c .before .if1 .left), omega (arith, f, p .1 .0 .1)), (omega (arith, p .1 .1 .0, c .before .before .before .before .before .before .put-term .ensures .end), rest-room (a .sheet .now) (a .work .now) (c .before .before .before .before .before .before .put-term .last .1 .0) (a .free) (a .i) (c .before .before .next-of .result) (a .out) (c .before .before .before .before .before .before .put-term .result) (a .inside) (p .0) (p .1 .0 .0) (p .1 .0 .1) (p .1 .1 .0) (c .before .before .before .before .before .before .put-term .ensures) (c .before .before .next-of .ensures .0) (p .1 .1 .1) (omega (arith, c .before .if1 .left))))))
+    let f = next-falls (a .sheet .now) (a .work .now) (c .before .before .before .before .before .before .put-term .last .1 .0) (a .free) (a .i) (c .before .before .next-of .result) (a .out) (c .before .before .before .before .before .before .put-term .result) (a .inside) (p .0) (p .1 .0 .0) (p .1 .0 .1) (p .1 .1 .0) (c .before .before .before .before .before .before .put-term .ensures) (c .before .before .next-of .ensures .0) in (
+      omega (arith, c .before .before .before .before .before .before .before .before .before .before .pre .0, ap sizes (rest-kept (a .sheet .now) (a .work .now) (c .before .before .before .before .before .before .put-term .last .1 .0) (a .free) (a .i) (c .before .before .next-of .result) (a .out) (c .before .before .before .before .before .before .put-term .result) (a .inside) (p .0) (p .1 .0 .0) (p .1 .0 .1) (p .1 .1 .0) (c .before .before .before .before .before .before .put-term .ensures) (c .before .before .next-of .ensures .0) (p .1 .1 .1) (omega (arith, c .before .if1 .left))), rest-falls s (p .0 .links) (a .i) j (p .1 .0 .0) (p .1 .0 .1) k),
+      (comma-arena (a .sheet .now) (a .work .now) (c .before .before .before .before .before .before .put-term .last .1 .0) (a .free) (a .i) (c .before .before .next-of .result) (a .out) (c .before .before .before .before .before .before .put-term .result) (a .inside) (p .0) (p .1 .0 .0) (p .1 .0 .1) (p .1 .1 .0) (c .before .before .before .before .before .before .put-term .ensures) (c .before .before .next-of .ensures .0) (p .1 .1 .1) (omega (arith, c .before .if1 .left)), ((omega (arith, c .before .if1 .left), omega (arith, f, p .1 .0 .1)), (omega (arith, p .1 .1 .0, c .before .before .before .before .before .before .put-term .ensures .end), rest-room (a .sheet .now) (a .work .now) (c .before .before .before .before .before .before .put-term .last .1 .0) (a .free) (a .i) (c .before .before .next-of .result) (a .out) (c .before .before .before .before .before .before .put-term .result) (a .inside) (p .0) (p .1 .0 .0) (p .1 .0 .1) (p .1 .1 .0) (c .before .before .before .before .before .before .put-term .ensures) (c .before .before .next-of .ensures .0) (p .1 .1 .1) (omega (arith, c .before .if1 .left))))),
+    )
 
 -- src/words.rt:89:1
 put-list-same-length-2 : (t : ℕ) → put-list-lts.Need-same-length-2 (put-list-calls t) (put-list-at t) put-list.Post
@@ -173,9 +174,10 @@ put-term-put-list-requires t c κs =
     let s = a .sheet .now in
     let w = a .work .now in
     let j = c .before .before .before .before .before .before .before .before .before .before .before .child-of .result in
-    let k = c .before .before .before .before .before .before .before .before .before .before .before .child-of .ensures .1 (omega (arith, c .before .before .before .before .before .before .before .before .before .before .if1 .left)) in
-    (omega (arith, c .before .before .before .before .before .before .before .before .before .before .before .before .before .before .before .pre .0, ap sizes (children-kept (a .sheet .now) (a .work .now) (c .before .before .before .put-opening .last .0) (a .free) (a .i) (c .before .before .before .before .before .before .before .before .before .before .before .child-of .result) (c .before .before .before .before .before .word-of .result) (a .out) (c .before .before .before .put-opening .result) (c .before .before .before .before .before .before .before .name-is .result) (a .inside) (p .0) (p .1 .0 .0) (p .1 .0 .1) (p .1 .1 .0) (p .1 .1 .1) (c .before .before .before .before .before .before .before .before .before .before .before .child-of .ensures .1 (omega (arith, c .before .before .before .before .before .before .before .before .before .before .if1 .left)) .0) (c .before .before .before .before .before .before .before .before .before .before .before .child-of .ensures .1 (omega (arith, c .before .before .before .before .before .before .before .before .before .before .if1 .left)) .1) (c .before .before .before .before .before .before .before .name-is .ensures) (c .before .before .before .before .before .word-of .ensures .0) (c .before .before .before .before .before .word-of .ensures .1) (c .before .before .before .put-opening .ensures .0) (c .before .before .before .put-opening .ensures .1)), children-fall s w (a .i) j (k .0) (k .1)),
-    (wrote-arena (c .before .before .before .put-opening .ensures .0) s (a .free) (p .1 .1 .0) (p .0), ((omega (arith, c .before .before .before .before .before .before .before .before .before .before .if1 .left), omega (arith, c .before .before .before .before .before .before .before .before .before .before .before .child-of .ensures .0, p .1 .0 .1)), (omega (arith, p .1 .1 .0, c .before .before .before .put-opening .ensures .1), list-room (a .sheet .now) (a .work .now) (c .before .before .before .put-opening .last .0) (a .free) (a .i) (c .before .before .before .before .before .before .before .before .before .before .before .child-of .result) (c .before .before .before .before .before .word-of .result) (a .out) (c .before .before .before .put-opening .result) (c .before .before .before .before .before .before .before .name-is .result) (a .inside) (p .0) (p .1 .0 .0) (p .1 .0 .1) (p .1 .1 .0) (p .1 .1 .1) (c .before .before .before .before .before .before .before .before .before .before .before .child-of .ensures .1 (omega (arith, c .before .before .before .before .before .before .before .before .before .before .if1 .left)) .0) (c .before .before .before .before .before .before .before .before .before .before .before .child-of .ensures .1 (omega (arith, c .before .before .before .before .before .before .before .before .before .before .if1 .left)) .1) (c .before .before .before .before .before .before .before .name-is .ensures) (c .before .before .before .before .before .word-of .ensures .0) (c .before .before .before .before .before .word-of .ensures .1) (c .before .before .before .put-opening .ensures .0) (c .before .before .before .put-opening .ensures .1)))))
+    let k = c .before .before .before .before .before .before .before .before .before .before .before .child-of .ensures .1 (omega (arith, c .before .before .before .before .before .before .before .before .before .before .if1 .left)) in (
+      omega (arith, c .before .before .before .before .before .before .before .before .before .before .before .before .before .before .before .pre .0, ap sizes (children-kept (a .sheet .now) (a .work .now) (c .before .before .before .put-opening .last .0) (a .free) (a .i) (c .before .before .before .before .before .before .before .before .before .before .before .child-of .result) (c .before .before .before .before .before .word-of .result) (a .out) (c .before .before .before .put-opening .result) (c .before .before .before .before .before .before .before .name-is .result) (a .inside) (p .0) (p .1 .0 .0) (p .1 .0 .1) (p .1 .1 .0) (p .1 .1 .1) (c .before .before .before .before .before .before .before .before .before .before .before .child-of .ensures .1 (omega (arith, c .before .before .before .before .before .before .before .before .before .before .if1 .left)) .0) (c .before .before .before .before .before .before .before .before .before .before .before .child-of .ensures .1 (omega (arith, c .before .before .before .before .before .before .before .before .before .before .if1 .left)) .1) (c .before .before .before .before .before .before .before .name-is .ensures) (c .before .before .before .before .before .word-of .ensures .0) (c .before .before .before .before .before .word-of .ensures .1) (c .before .before .before .put-opening .ensures .0) (c .before .before .before .put-opening .ensures .1)), children-fall s w (a .i) j (k .0) (k .1)),
+      (wrote-arena (c .before .before .before .put-opening .ensures .0) s (a .free) (p .1 .1 .0) (p .0), ((omega (arith, c .before .before .before .before .before .before .before .before .before .before .if1 .left), omega (arith, c .before .before .before .before .before .before .before .before .before .before .before .child-of .ensures .0, p .1 .0 .1)), (omega (arith, p .1 .1 .0, c .before .before .before .put-opening .ensures .1), list-room (a .sheet .now) (a .work .now) (c .before .before .before .put-opening .last .0) (a .free) (a .i) (c .before .before .before .before .before .before .before .before .before .before .before .child-of .result) (c .before .before .before .before .before .word-of .result) (a .out) (c .before .before .before .put-opening .result) (c .before .before .before .before .before .before .before .name-is .result) (a .inside) (p .0) (p .1 .0 .0) (p .1 .0 .1) (p .1 .1 .0) (p .1 .1 .1) (c .before .before .before .before .before .before .before .before .before .before .before .child-of .ensures .1 (omega (arith, c .before .before .before .before .before .before .before .before .before .before .if1 .left)) .0) (c .before .before .before .before .before .before .before .before .before .before .before .child-of .ensures .1 (omega (arith, c .before .before .before .before .before .before .before .before .before .before .if1 .left)) .1) (c .before .before .before .before .before .before .before .name-is .ensures) (c .before .before .before .before .before .word-of .ensures .0) (c .before .before .before .before .before .word-of .ensures .1) (c .before .before .before .put-opening .ensures .0) (c .before .before .before .put-opening .ensures .1)))),
+    )
 
 -- src/words.rt:85:28
 put-term-bracket-of-requires : (t : ℕ) → put-term-lts.Need-bracket-of-requires (put-term-calls t) (put-term-at t) put-term.Post
