@@ -20,7 +20,6 @@ const MEETS: [[bool; 5]; 5] = [
 ];
 
 const MSG: usize = 2;
-
 const TAM_NAT: usize = 3;
 
 // Whether two sorts meet.

@@ -110,10 +110,9 @@ write-list-write-list-requires t c κs =
     let w = a .work .now in
     let q : 0 < a .i = omega (arith, c .before .before .before .before .before .before .before .before .before .before .if1 .left) in
     let j = c .before .next-of .result in
-    let n = more-length s w (a .free) (a .i) j (a .mark) (p .0 .links) q (p .1 .0) (c .before .next-of .ensures .0) in (
-      omega (arith, c .before .before .before .before .before .before .before .before .before .before .before .before .before .before .pre .0, rest-falls s (p .0 .links) (a .i) j q (p .1 .0) (c .before .next-of .ensures .0)),
-      (p .0, (omega (arith, c .before .next-of .ensures .1, p .1 .0), omega (arith, p .1 .1, n, c .before .before .before .before .before .before .before .before .print-byte2 .ensures .end, c .before .before .before .before .before .before .before .before .print-byte2 .kept .0, c .before .before .before .before .write-term .ensures .end, c .before .before .before .before .write-term .kept .1 .1 .1 .1 .0))),
-    )
+    let n = more-length s w (a .free) (a .i) j (a .mark) (p .0 .links) q (p .1 .0) (c .before .next-of .ensures .0) in
+    (omega (arith, c .before .before .before .before .before .before .before .before .before .before .before .before .before .before .pre .0, rest-falls s (p .0 .links) (a .i) j q (p .1 .0) (c .before .next-of .ensures .0)),
+    (p .0, (omega (arith, c .before .next-of .ensures .1, p .1 .0), omega (arith, p .1 .1, n, c .before .before .before .before .before .before .before .before .print-byte2 .ensures .end, c .before .before .before .before .before .before .before .before .print-byte2 .kept .0, c .before .before .before .before .write-term .ensures .end, c .before .before .before .before .write-term .kept .1 .1 .1 .1 .0))))
 
 -- src/writing.rt:65:1
 write-list-same-length-2 : (t : ℕ) → write-list-lts.Need-same-length-2 (write-list-calls t) (write-list-at t) write-list.Post
@@ -179,10 +178,9 @@ write-term-write-list-requires t c κs =
     let s = a .sheet .now in
     let w = a .work .now in
     let j = c .before .first-of .result in
-    let k : kind-of w (a .i) ≡ 0 = omega (arith, c .before .before .before .before .before .before .before .before .kind-of .ensures, c .before .before .if2 .left) in (
-      omega (arith, c .before .before .before .before .before .before .before .before .before .before .before .before .pre .0, children-fall s w (a .i) j k (c .before .first-of .ensures .0)),
-      (p .0, (omega (arith, c .before .first-of .ensures .1, p .1 .0), omega (arith, p .1 .1, c .before .before .before .before .before .print-name .ensures .end, c .before .before .before .before .before .print-name .kept .1 .1 .1 .1 .0, apply-length s w (a .i) j k (c .before .first-of .ensures .0)))),
-    )
+    let k : kind-of w (a .i) ≡ 0 = omega (arith, c .before .before .before .before .before .before .before .before .kind-of .ensures, c .before .before .if2 .left) in
+    (omega (arith, c .before .before .before .before .before .before .before .before .before .before .before .before .pre .0, children-fall s w (a .i) j k (c .before .first-of .ensures .0)),
+    (p .0, (omega (arith, c .before .first-of .ensures .1, p .1 .0), omega (arith, p .1 .1, c .before .before .before .before .before .print-name .ensures .end, c .before .before .before .before .before .print-name .kept .1 .1 .1 .1 .0, apply-length s w (a .i) j k (c .before .first-of .ensures .0)))))
 
 -- src/writing.rt:39:1
 write-term-same-length-3 : (t : ℕ) → write-term-lts.Need-same-length-3 (write-term-calls t) (write-term-at t) write-term.Post
