@@ -23,8 +23,8 @@ use Rattle.certificate.specs.Items.{written}
 use Rattle.certificate.specs.Writer as writer
 use Rattle.certificate.specs.Writer.{Kept, Done}
 use Rattle.certificate.specs.Comparing.{Settled, Outcome, ordered-as, order-of, equivalence-of}
-use Rattle.certificate.specs.declared.Order.{Order}
-use Rattle.certificate.specs.declared.Order.the-variants.{Less, Equal, Greater}
+use Rattle.certificate.specs.declared.order.Order.{Order}
+use Rattle.certificate.specs.declared.order.Order.the-variants.{Less, Equal, Greater}
 use Rattle.certificate.specs.declared.Ordered.{Ordered}
 use Rattle.certificate.specs.declared.Ordered.the-variants as ordered
 use Rattle.certificate.specs.declared.Equivalence.{Equivalence}

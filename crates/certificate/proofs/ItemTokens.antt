@@ -18,7 +18,7 @@ use Rattle.syntax.proofs.TokenList.{joined as joined-token}
 use Rattle.syntax.proofs.SymbolLaws.{Marks, Names, Means, means}
 use Rattle.certificate.specs.Texts.{word-text, Token}
 use Rattle.certificate.specs.Items.{Item, begin, shut, comma, name, place, before, items-by, items, items-at}
-use Rattle.certificate.proofs.Laws.{text-place}
+use Rattle.certificate.proofs.WordTexts.{text-place}
 
 -- ---- more room for items changes nothing
 

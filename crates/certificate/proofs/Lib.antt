@@ -1,6 +1,6 @@
-pub mod Laws
+pub mod WordTexts
 pub mod Parts
-pub mod Runs
+pub mod RunLaws
 pub mod RunSorting
 pub mod Dividing
 pub mod Joining

@@ -15,7 +15,7 @@ use Rattle.text.proofs.Slices.{slice-none, slice-set, slice-same}
 use Rattle.certificate.specs.Texts.{word-text}
 use Rattle.certificate.specs.Items.{place, adds, in-sum, opening, bracket, closing, brackets}
 use Rattle.certificate.specs.Writer.{Opened, Closed}
-use Rattle.certificate.proofs.Laws.{text-place}
+use Rattle.certificate.proofs.WordTexts.{text-place}
 
 -- ---- words written
 

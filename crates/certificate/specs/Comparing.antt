@@ -8,8 +8,8 @@ use lib.Seq.{slice}
 use Rattle.rules.specs.Bytes.{Text, same}
 use Rattle.rules.specs.Reading.{canonical-text}
 use Rattle.certificate.specs.Texts.{texts, Tokens, lex}
-use Rattle.certificate.specs.declared.Order.{Order}
-use Rattle.certificate.specs.declared.Order.the-variants.{Less, Equal, Greater}
+use Rattle.certificate.specs.declared.order.Order.{Order}
+use Rattle.certificate.specs.declared.order.Order.the-variants.{Less, Equal, Greater}
 use Rattle.certificate.specs.declared.Ordered.{Ordered}
 use Rattle.certificate.specs.declared.Ordered.the-variants as ordered
 use Rattle.certificate.specs.declared.Equivalence.{Equivalence}

@@ -9,9 +9,9 @@ use lib.Dec.{eqb, ltb}
 use lib.ListN.{length, getD, take, drop}
 use Rattle.rules.specs.Tree.{tamtplus}
 use Rattle.tree.specs.Cells.{fixed-names}
-use Rattle.certificate.specs.declared.Order.{Order}
-use Rattle.certificate.specs.declared.Order.the-variants.{Less, Equal, Greater}
-use Rattle.certificate.specs.declared.Spot.{Spot}
+use Rattle.certificate.specs.declared.order.Order.{Order}
+use Rattle.certificate.specs.declared.order.Order.the-variants.{Less, Equal, Greater}
+use Rattle.certificate.specs.declared.order.Spot.{Spot}
 
 -- the name of sums, and the fixed names
 abbrev pub code-name : ℕ → List ℕ

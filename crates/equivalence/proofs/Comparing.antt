@@ -19,9 +19,9 @@ use Rattle.tree.specs.Arena.{Arena}
 use Rattle.tree.proofs.Decoding.{Agree, frame-tree}
 use Rattle.certificate.specs.Texts.{texts, Tokens, lex}
 use Rattle.certificate.specs.Writer.{Kept}
-use Rattle.certificate.specs.declared.Order.{Order}
-use Rattle.certificate.proofs.Order.{the-type}
-use Rattle.certificate.specs.declared.Order.the-variants.{Less, Equal, Greater}
+use Rattle.certificate.specs.declared.order.Order.{Order}
+use Rattle.certificate.proofs.order.Order.{the-type}
+use Rattle.certificate.specs.declared.order.Order.the-variants.{Less, Equal, Greater}
 use Rattle.certificate.proofs.Comparisons.{equal-as, same-lex}
 use Rattle.equivalence.specs.Words.{Canon}
 use Rattle.equivalence.proofs.Scratch.{arena-frame}

@@ -18,7 +18,7 @@ use Rattle.certificate.specs.Texts.{code-name, word-text, Token}
 use Rattle.certificate.specs.Terms.{Term, node, Terms, none, more}
 use Rattle.certificate.specs.Items.{adds, opening, bracket, closing}
 use Rattle.certificate.specs.Spelling.{Word, Spells, as-variable, as-atom, as-apply, SpellsAll, spell-none, spell-more, term-words, list-words}
-use Rattle.certificate.proofs.Laws.{code-named, code-byte, text-mark, text-place}
+use Rattle.certificate.proofs.WordTexts.{code-named, code-byte, text-mark, text-place}
 use Rattle.certificate.proofs.Flattening.{atom-adds}
 use Rattle.certificate.proofs.ItemWords.{leaf-words, one-words, more-words, node-words}
 use Rattle.equivalence.specs.Words.{Spelled, SpelledAll}

@@ -1,7 +1,7 @@
 // The words of a tree: the tokens of its text, in which a sum inside a sum loses its name and brackets, and its canonical words.
-use certificate::Order;
-use certificate::compare;
-use certificate::settle;
+use certificate::order::Order;
+use certificate::order::compare;
+use certificate::sums::settle;
 use certificate::writer::bracket_of;
 use certificate::writer::put_closing;
 use certificate::writer::put_opening;

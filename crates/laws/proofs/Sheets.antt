@@ -7,6 +7,8 @@ pub mod AnswerText
 pub mod Calls
 pub mod Refusals
 pub mod Answers
+pub mod SheetTexts
+pub mod NamesRead
 pub mod Alike
 pub mod Table
 mod Example

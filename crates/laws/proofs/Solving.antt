@@ -14,3 +14,6 @@ pub mod Fuel
 pub mod Rules
 pub mod OnlyRules
 pub mod Taken
+pub mod Keeping
+pub mod Names
+pub mod Weights

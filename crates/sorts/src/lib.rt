@@ -20,6 +20,7 @@ const MEETS: [[bool; 5]; 5] = [
 ];
 
 const MSG: usize = 2;
+
 const TAM_NAT: usize = 3;
 
 // Whether two sorts meet.
@@ -94,7 +95,8 @@ pub fn naturals(sheet: &[u8], work: &[u32], free: usize, i: usize) -> bool
         return true;
     }
     if natural(sheet, work, free, i) {
-        return naturals(sheet, work, free, next_of(work, free, i));
+        let next = next_of(work, free, i);
+        return naturals(sheet, work, free, next);
     }
     false
 }
@@ -131,7 +133,8 @@ pub fn messages(sheet: &[u8], work: &[u32], free: usize, i: usize) -> bool
         return true;
     }
     if message(sheet, work, free, i) {
-        return messages(sheet, work, free, next_of(work, free, i));
+        let next = next_of(work, free, i);
+        return messages(sheet, work, free, next);
     }
     false
 }
@@ -219,7 +222,8 @@ pub fn refinables(sheet: &[u8], work: &[u32], free: usize, sort: usize, i: usize
         return true;
     }
     if refinable(sheet, work, free, sort, i) {
-        return refinables(sheet, work, free, sort, next_of(work, free, i));
+        let next = next_of(work, free, i);
+        return refinables(sheet, work, free, sort, next);
     }
     false
 }

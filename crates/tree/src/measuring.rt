@@ -45,14 +45,7 @@ pub fn measure_term(sheet: &[u8], work: &[u32], free: usize, i: usize, room: usi
     if room < n {
         return Measured::Over;
     }
-    let list = measure_list(
-        sheet,
-        work,
-        free,
-        first_of(work, free, i),
-        40,
-        room - n,
-    );
+    let list = measure_list(sheet, work, free, first_of(work, free, i), 40, room - n);
     let Measured::Fits(m) = list else {
         return Measured::Over;
     };
@@ -85,14 +78,7 @@ fn measure_list(
     let Measured::Fits(n) = term else {
         return Measured::Over;
     };
-    let rest = measure_list(
-        sheet,
-        work,
-        free,
-        next_of(work, free, i),
-        44,
-        room - 1 - n,
-    );
+    let rest = measure_list(sheet, work, free, next_of(work, free, i), 44, room - 1 - n);
     let Measured::Fits(m) = rest else {
         return Measured::Over;
     };

@@ -165,7 +165,14 @@ fn print_fixed(out: &mut [u8], at: usize, code: usize) -> usize
 }
 
 // Writes the name of cell k.
-pub fn print_name(sheet: &[u8], work: &[u32], free: usize, k: usize, out: &mut [u8], at: usize) -> usize
+pub fn print_name(
+    sheet: &[u8],
+    work: &[u32],
+    free: usize,
+    k: usize,
+    out: &mut [u8],
+    at: usize,
+) -> usize
     requires { ⌜ Arena (now sheet) (now work) free ⌝ }
     requires { ⌜ (0 < k) × (k < free) ⌝ }
     requires { ⌜ at + length (name-at (now sheet) (now work) k) ≤ length (now out) ⌝ }

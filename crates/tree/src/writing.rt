@@ -14,14 +14,7 @@ ghost use Rattle.tree.specs.Output.{Printed};
 ghost use Rattle.tree.specs.Marked.{marked};
 
 // Writes the atom of cell i: its letter, and its digits in brackets.
-fn write_atom(
-    sheet: &[u8],
-    work: &[u32],
-    free: usize,
-    i: usize,
-    out: &mut [u8],
-    at: usize,
-) -> usize
+fn write_atom(sheet: &[u8], work: &[u32], free: usize, i: usize, out: &mut [u8], at: usize) -> usize
     requires { ⌜ Arena (now sheet) (now work) free ⌝ }
     requires { ⌜ (0 < i) × (i < free) ⌝ }
     requires { ⌜ 7 ≤ kind-of (now work) i ⌝ }

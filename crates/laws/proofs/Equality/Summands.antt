@@ -21,7 +21,7 @@ AllOf P [] = Unit {0}
 AllOf P (x ∷ xs) = P x × AllOf P xs
 
 module _ (P : Tree → Type 0) where
-  all-append : (xs ys : List Tree) → AllOf P xs → AllOf P ys → AllOf P (xs ++ ys)
+  pub all-append : (xs ys : List Tree) → AllOf P xs → AllOf P ys → AllOf P (xs ++ ys)
   all-append [] ys p q = q
   all-append (x ∷ xs) ys p q = (p .0, all-append xs ys (p .1) q)
 
@@ -33,7 +33,7 @@ module _ (P : Tree → Type 0) where
   all-right [] ys p = p
   all-right (x ∷ xs) ys p = all-right xs ys (p .1)
 
-  all-unless : (b : Bool) (ts : List Tree) (t : Tree) → AllOf P ts → P t → AllOf P (unless-sum b ts t)
+  pub all-unless : (b : Bool) (ts : List Tree) (t : Tree) → AllOf P ts → P t → AllOf P (unless-sum b ts t)
   all-unless true ts t p q = p
   all-unless false ts t p q = (q, tt)
 

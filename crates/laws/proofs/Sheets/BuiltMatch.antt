@@ -19,7 +19,7 @@ use Rattle.laws.proofs.Sheets.BuiltRun.{BuiltPairs, SmallPairs, BuiltBi
 
 -- Sizes of sums: each summand counts one node more than it has
 
-abbrev mass : List Tree → ℕ
+abbrev pub mass : List Tree → ℕ
 mass [] = 0
 mass (t ∷ ts) = suc (size t) + mass ts
 
@@ -27,7 +27,7 @@ append-mass : (ts us : List Tree) → mass (ts ++ us) ≡ mass ts + mass us
 append-mass [] us = omega arith
 append-mass (t ∷ ts) us = let h = append-mass ts us in omega arith
 
-summands-mass : {t : Tree} → Built t → mass (summands t) ≤ suc (size t)
+pub summands-mass : {t : Tree} → Built t → mass (summands t) ≤ suc (size t)
 unfolding summands size same
 summands-mass (a-variable v) = omega arith
 summands-mass (an-atom l n) = omega arith
@@ -48,7 +48,7 @@ summands-mass (a-sum {a} {b} p q) =
     let j = append-mass (summands b) [] in
     omega arith
 
-rebuild-mass : (t : Tree) (ts : List Tree) → suc (size (rebuild t ts)) ≡ suc (size t) + mass ts
+pub rebuild-mass : (t : Tree) (ts : List Tree) → suc (size (rebuild t ts)) ≡ suc (size t) + mass ts
 unfolding rebuild size
 rebuild-mass t [] = omega arith
 rebuild-mass t (u ∷ us) = let h = rebuild-mass u us in omega arith
@@ -70,7 +70,7 @@ remove-mass test t (u ∷ us) = go (test t u) (remove test t us) (remove-mass te
     go true o m = omega arith
     go false o m = kept o m
 
-cancel-mass : (test : Tree → Tree → Bool) (ts us : List Tree) → mass (cancel test ts us .1) ≤ mass us
+pub cancel-mass : (test : Tree → Tree → Bool) (ts us : List Tree) → mass (cancel test ts us .1) ≤ mass us
 unfolding cancel
 cancel-mass test [] us = omega arith
 cancel-mass test (t ∷ ts) us = go (remove test t us) (remove-mass test t us) (λ vs. cancel-mass test ts vs)

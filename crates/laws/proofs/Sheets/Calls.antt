@@ -76,7 +76,7 @@ call-answer s words room sheet a r e =
 
 -- The pairs
 
-pair-read : (e : Entry) (p : Pair) → read-pair e ≡ some p → (parse (e .0) ≡ some (p .0)) × (parse (e .1) ≡ some (p .1))
+pub pair-read : (e : Entry) (p : Pair) → read-pair e ≡ some p → (parse (e .0) ≡ some (p .0)) × (parse (e .1) ≡ some (p .1))
 unfolding read-pair
 pair-read e p h =
     let (l, k, h₁) = bound (parse (e .0)) _ p h in

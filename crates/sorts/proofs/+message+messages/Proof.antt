@@ -51,45 +51,35 @@ message-calls t = (kind-of-reads.Asked, kind-of-reads.Learnt, symbol-of-reads.As
 abbrev messages-calls : ℕ → messages-lts.Claims
 messages-calls t = (message-below t, message.Post, next-of-reads.Asked, next-of-reads.Learnt, messages-below t, messages.Post)
 
--- src/lib.rt:108:9
 message-kind-of-requires : (t : ℕ) → message-lts.Need-kind-of-requires (message-calls t) (message-at t) message.Post
 message-kind-of-requires t c κs = search needs
 
--- src/lib.rt:110:9
 message-returns : (t : ℕ) → message-lts.Need-returns (message-calls t) (message-at t) message.Post
 message-returns t c = message-atom _ _ _ (c .before .kind-of .ensures) (c .if1 .taken)
 
--- src/lib.rt:113:9
 message-returns-2 : (t : ℕ) → message-lts.Need-returns-2 (message-calls t) (message-at t) message.Post
 message-returns-2 t c =
     let p = c .before .before .before .before .before .pre .1 in
     message-variable _ _ _ (c .before .before .kind-of .ensures) (p .0 .cell (c .before .before .before .before .before .args .i) (p .1 .0) (p .1 .1)) (c .if2 .taken) (c .before .if1 .left)
 
--- src/lib.rt:115:9
 message-symbol-of-requires : (t : ℕ) → message-lts.Need-symbol-of-requires (message-calls t) (message-at t) message.Post
 message-symbol-of-requires t c κs = search needs
 
--- src/lib.rt:117:57
 message-enum-told : (t : ℕ) → message-lts.Need-enum-told (message-calls t) (message-at t) message.Post
 message-enum-told t c = search needs
 
--- src/lib.rt:117:57
 message-first-of-requires : (t : ℕ) → message-lts.Need-first-of-requires (message-calls t) (message-at t) message.Post
 message-first-of-requires t c κs = search needs
 
--- src/lib.rt:117:29
 message-naturals-requires : (t : ℕ) → message-lts.Need-naturals-requires (message-calls t) (message-at t) message.Post
 message-naturals-requires t c κs = search needs
 
--- src/lib.rt:118:53
 message-enum-told-2 : (t : ℕ) → message-lts.Need-enum-told-2 (message-calls t) (message-at t) message.Post
 message-enum-told-2 t c = search needs
 
--- src/lib.rt:118:53
 message-first-of-requires-2 : (t : ℕ) → message-lts.Need-first-of-requires-2 (message-calls t) (message-at t) message.Post
 message-first-of-requires-2 t c κs = search needs
 
--- src/lib.rt:118:25
 message-messages-requires : (t : ℕ) → message-lts.Need-messages-requires (message-calls t) (message-at t) message.Post
 message-messages-requires t c κs =
     let a = c .before .before .before .before .before .before .before .before .before .args in
@@ -97,19 +87,15 @@ message-messages-requires t c κs =
     let k : kind-of (a .work .now) (a .i) ≡ 0 = omega (arith, c .before .before .before .before .if2 .left, c .before .before .before .before .before .before .kind-of .ensures) in
     (omega (arith, c .before .before .before .before .before .before .before .before .before .pre .0, children-fall (a .sheet .now) (a .work .now) (a .i) (c .first-of2 .result) k (c .first-of2 .ensures .0)), (p .0, omega (arith, c .first-of2 .ensures .1, p .1)))
 
--- src/lib.rt:119:26
 message-enum-told-3 : (t : ℕ) → message-lts.Need-enum-told-3 (message-calls t) (message-at t) message.Post
 message-enum-told-3 t c = search needs
 
--- src/lib.rt:120:53
 message-enum-told-4 : (t : ℕ) → message-lts.Need-enum-told-4 (message-calls t) (message-at t) message.Post
 message-enum-told-4 t c = search needs
 
--- src/lib.rt:120:53
 message-first-of-requires-3 : (t : ℕ) → message-lts.Need-first-of-requires-3 (message-calls t) (message-at t) message.Post
 message-first-of-requires-3 t c κs = search needs
 
--- src/lib.rt:120:25
 message-messages-requires-2 : (t : ℕ) → message-lts.Need-messages-requires-2 (message-calls t) (message-at t) message.Post
 message-messages-requires-2 t c κs =
     let a = c .before .before .before .before .before .before .before .before .before .args in
@@ -117,50 +103,40 @@ message-messages-requires-2 t c κs =
     let k : kind-of (a .work .now) (a .i) ≡ 0 = omega (arith, c .before .before .before .before .if2 .left, c .before .before .before .before .before .before .kind-of .ensures) in
     (omega (arith, c .before .before .before .before .before .before .before .before .before .pre .0, children-fall (a .sheet .now) (a .work .now) (a .i) (c .first-of3 .result) k (c .first-of3 .ensures .0)), (p .0, omega (arith, c .first-of3 .ensures .1, p .1)))
 
--- src/lib.rt:103:1
 message-returns-3 : (t : ℕ) → message-lts.Need-returns-3 (message-calls t) (message-at t) message.Post
 message-returns-3 t c = c .naturals .ensures ∙ message-apply _ _ _ (c .before .before .before .before .before .before .before .kind-of .ensures) addition (c .before .before .before .before .before .if2 .left) (symbol-is (symbol (name-at (c .before .before .before .before .before .before .before .before .before .before .args .sheet .now) (c .before .before .before .before .before .before .before .before .before .before .args .work .now) (c .before .before .before .before .before .before .before .before .before .before .args .i))) (c .before .before .before .before .symbol-of .ensures) (c .before .before .enum-told .given .1)) (c .before .first-of .ensures .0)
 
--- src/lib.rt:103:1
 message-returns-4 : (t : ℕ) → message-lts.Need-returns-4 (message-calls t) (message-at t) message.Post
 message-returns-4 t c = c .messages .ensures ∙ message-apply _ _ _ (c .before .before .before .before .before .before .before .kind-of .ensures) unit (c .before .before .before .before .before .if2 .left) (symbol-is (symbol (name-at (c .before .before .before .before .before .before .before .before .before .before .args .sheet .now) (c .before .before .before .before .before .before .before .before .before .before .args .work .now) (c .before .before .before .before .before .before .before .before .before .before .args .i))) (c .before .before .before .before .symbol-of .ensures) (c .before .before .enum-told2 .given .1)) (c .before .first-of2 .ensures .0)
 
--- src/lib.rt:103:1
 message-returns-5 : (t : ℕ) → message-lts.Need-returns-5 (message-calls t) (message-at t) message.Post
 message-returns-5 t c = message-apply _ _ _ (c .before .before .before .before .before .kind-of .ensures) frame (c .before .before .before .if2 .left) (symbol-is (symbol (name-at (c .before .before .before .before .before .before .before .before .args .sheet .now) (c .before .before .before .before .before .before .before .before .args .work .now) (c .before .before .before .before .before .before .before .before .args .i))) (c .before .before .symbol-of .ensures) (c .enum-told3 .given .1)) refl
 
--- src/lib.rt:103:1
 message-returns-6 : (t : ℕ) → message-lts.Need-returns-6 (message-calls t) (message-at t) message.Post
 message-returns-6 t c = c .messages2 .ensures ∙ message-apply _ _ _ (c .before .before .before .before .before .before .before .kind-of .ensures) free (c .before .before .before .before .before .if2 .left) (symbol-is (symbol (name-at (c .before .before .before .before .before .before .before .before .before .before .args .sheet .now) (c .before .before .before .before .before .before .before .before .before .before .args .work .now) (c .before .before .before .before .before .before .before .before .before .before .args .i))) (c .before .before .before .before .symbol-of .ensures) (c .before .before .enum-told4 .given .1)) (c .before .first-of3 .ensures .0)
 
--- src/lib.rt:131:9
 messages-returns : (t : ℕ) → messages-lts.Need-returns (messages-calls t) (messages-at t) messages.Post
 messages-returns t c = messages-none _ _ _ (c .if1 .taken)
 
--- src/lib.rt:133:8
 messages-message-requires : (t : ℕ) → messages-lts.Need-message-requires (messages-calls t) (messages-at t) messages.Post
 messages-message-requires t c κs =
     let p = c .before .before .before .pre .1 in
     let q : 0 < c .before .before .before .args .i = omega arith in
     (omega (arith, c .before .before .before .pre .0, head-falls (c .before .before .before .args .sheet .now) (p .0 .links) (c .before .before .before .args .i) q (p .1)), (p .0, (q, p .1)))
 
--- src/lib.rt:134:44
 messages-next-of-requires : (t : ℕ) → messages-lts.Need-next-of-requires (messages-calls t) (messages-at t) messages.Post
 messages-next-of-requires t c κs = search needs
 
--- src/lib.rt:134:9
 messages-messages-requires : (t : ℕ) → messages-lts.Need-messages-requires (messages-calls t) (messages-at t) messages.Post
 messages-messages-requires t c κs =
     let p = c .before .before .before .before .before .before .pre .1 in
     (omega (arith, c .before .before .before .before .before .before .pre .0, rest-falls (c .before .before .before .before .before .before .args .sheet .now) (p .0 .links) (c .before .before .before .before .before .before .args .i) (c .next-of .result) (omega arith) (p .1) (c .next-of .ensures .0)), (p .0, omega (arith, c .next-of .ensures .1, p .1)))
 
--- src/lib.rt:134:9
 messages-returns-2 : (t : ℕ) → messages-lts.Need-returns-2 (messages-calls t) (messages-at t) messages.Post
 messages-returns-2 t c =
     let p = c .before .before .before .before .before .before .before .pre .1 in
     all-more is-message are-messages messages-step (c .before .before .before .before .before .before .before .args .sheet .now) (c .before .before .before .before .before .before .before .args .i) (c .before .next-of .result) true (c .messages .result) (p .0 .links) (omega arith) (p .1) (c .before .next-of .ensures .0) (sym (c .before .before .if2 .taken) ∙ c .before .before .before .message .ensures) (c .messages .ensures)
 
--- src/lib.rt:125:1
 messages-returns-3 : (t : ℕ) → messages-lts.Need-returns-3 (messages-calls t) (messages-at t) messages.Post
 messages-returns-3 t c =
     let p = c .before .before .before .before .before .pre .1 in

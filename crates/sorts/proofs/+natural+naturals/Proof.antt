@@ -50,33 +50,26 @@ natural-calls t = (kind-of-reads.Asked, kind-of-reads.Learnt, symbol-of-reads.As
 abbrev naturals-calls : ℕ → naturals-lts.Claims
 naturals-calls t = (natural-below t, natural.Post, next-of-reads.Asked, next-of-reads.Learnt, naturals-below t, naturals.Post)
 
--- src/lib.rt:71:9
 natural-kind-of-requires : (t : ℕ) → natural-lts.Need-kind-of-requires (natural-calls t) (natural-at t) natural.Post
 natural-kind-of-requires t c κs = search needs
 
--- src/lib.rt:73:9
 natural-returns : (t : ℕ) → natural-lts.Need-returns (natural-calls t) (natural-at t) natural.Post
 natural-returns t c = natural-atom _ _ _ (c .before .kind-of .ensures) (c .if1 .taken)
 
--- src/lib.rt:76:9
 natural-returns-2 : (t : ℕ) → natural-lts.Need-returns-2 (natural-calls t) (natural-at t) natural.Post
 natural-returns-2 t c =
     let p = c .before .before .before .before .before .pre .1 in
     natural-variable _ _ _ (c .before .before .kind-of .ensures) (p .0 .cell (c .before .before .before .before .before .args .i) (p .1 .0) (p .1 .1)) (c .if2 .taken) (c .before .if1 .left)
 
--- src/lib.rt:78:9
 natural-symbol-of-requires : (t : ℕ) → natural-lts.Need-symbol-of-requires (natural-calls t) (natural-at t) natural.Post
 natural-symbol-of-requires t c κs = search needs
 
--- src/lib.rt:80:57
 natural-enum-told : (t : ℕ) → natural-lts.Need-enum-told (natural-calls t) (natural-at t) natural.Post
 natural-enum-told t c = search needs
 
--- src/lib.rt:80:57
 natural-first-of-requires : (t : ℕ) → natural-lts.Need-first-of-requires (natural-calls t) (natural-at t) natural.Post
 natural-first-of-requires t c κs = search needs
 
--- src/lib.rt:80:29
 natural-naturals-requires : (t : ℕ) → natural-lts.Need-naturals-requires (natural-calls t) (natural-at t) natural.Post
 natural-naturals-requires t c κs =
     let a = c .before .before .before .before .before .before .before .before .before .args in
@@ -84,62 +77,49 @@ natural-naturals-requires t c κs =
     let k : kind-of (a .work .now) (a .i) ≡ 0 = omega (arith, c .before .before .before .before .if2 .left, c .before .before .before .before .before .before .kind-of .ensures) in
     (omega (arith, c .before .before .before .before .before .before .before .before .before .pre .0, children-fall (a .sheet .now) (a .work .now) (a .i) (c .first-of .result) k (c .first-of .ensures .0)), (p .0, omega (arith, c .first-of .ensures .1, p .1)))
 
--- src/lib.rt:81:25
 natural-enum-told-2 : (t : ℕ) → natural-lts.Need-enum-told-2 (natural-calls t) (natural-at t) natural.Post
 natural-enum-told-2 t c = search needs
 
--- src/lib.rt:82:26
 natural-enum-told-3 : (t : ℕ) → natural-lts.Need-enum-told-3 (natural-calls t) (natural-at t) natural.Post
 natural-enum-told-3 t c = search needs
 
--- src/lib.rt:83:25
 natural-enum-told-4 : (t : ℕ) → natural-lts.Need-enum-told-4 (natural-calls t) (natural-at t) natural.Post
 natural-enum-told-4 t c = search needs
 
--- src/lib.rt:66:1
 natural-returns-3 : (t : ℕ) → natural-lts.Need-returns-3 (natural-calls t) (natural-at t) natural.Post
 natural-returns-3 t c = c .naturals .ensures ∙ natural-apply _ _ _ (c .before .before .before .before .before .before .before .kind-of .ensures) addition (c .before .before .before .before .before .if2 .left) (symbol-is (symbol (name-at (c .before .before .before .before .before .before .before .before .before .before .args .sheet .now) (c .before .before .before .before .before .before .before .before .before .before .args .work .now) (c .before .before .before .before .before .before .before .before .before .before .args .i))) (c .before .before .before .before .symbol-of .ensures) (c .before .before .enum-told .given .1)) (c .before .first-of .ensures .0)
 
--- src/lib.rt:66:1
 natural-returns-4 : (t : ℕ) → natural-lts.Need-returns-4 (natural-calls t) (natural-at t) natural.Post
 natural-returns-4 t c = natural-apply _ _ _ (c .before .before .before .before .before .kind-of .ensures) unit (c .before .before .before .if2 .left) (symbol-is (symbol (name-at (c .before .before .before .before .before .before .before .before .args .sheet .now) (c .before .before .before .before .before .before .before .before .args .work .now) (c .before .before .before .before .before .before .before .before .args .i))) (c .before .before .symbol-of .ensures) (c .enum-told2 .given .1)) refl
 
--- src/lib.rt:66:1
 natural-returns-5 : (t : ℕ) → natural-lts.Need-returns-5 (natural-calls t) (natural-at t) natural.Post
 natural-returns-5 t c = natural-apply _ _ _ (c .before .before .before .before .before .kind-of .ensures) frame (c .before .before .before .if2 .left) (symbol-is (symbol (name-at (c .before .before .before .before .before .before .before .before .args .sheet .now) (c .before .before .before .before .before .before .before .before .args .work .now) (c .before .before .before .before .before .before .before .before .args .i))) (c .before .before .symbol-of .ensures) (c .enum-told3 .given .1)) refl
 
--- src/lib.rt:66:1
 natural-returns-6 : (t : ℕ) → natural-lts.Need-returns-6 (natural-calls t) (natural-at t) natural.Post
 natural-returns-6 t c = natural-apply _ _ _ (c .before .before .before .before .before .kind-of .ensures) free (c .before .before .before .if2 .left) (symbol-is (symbol (name-at (c .before .before .before .before .before .before .before .before .args .sheet .now) (c .before .before .before .before .before .before .before .before .args .work .now) (c .before .before .before .before .before .before .before .before .args .i))) (c .before .before .symbol-of .ensures) (c .enum-told4 .given .1)) refl
 
--- src/lib.rt:94:9
 naturals-returns : (t : ℕ) → naturals-lts.Need-returns (naturals-calls t) (naturals-at t) naturals.Post
 naturals-returns t c = naturals-none _ _ _ (c .if1 .taken)
 
--- src/lib.rt:96:8
 naturals-natural-requires : (t : ℕ) → naturals-lts.Need-natural-requires (naturals-calls t) (naturals-at t) naturals.Post
 naturals-natural-requires t c κs =
     let p = c .before .before .before .pre .1 in
     let q : 0 < c .before .before .before .args .i = omega arith in
     (omega (arith, c .before .before .before .pre .0, head-falls (c .before .before .before .args .sheet .now) (p .0 .links) (c .before .before .before .args .i) q (p .1)), (p .0, (q, p .1)))
 
--- src/lib.rt:97:44
 naturals-next-of-requires : (t : ℕ) → naturals-lts.Need-next-of-requires (naturals-calls t) (naturals-at t) naturals.Post
 naturals-next-of-requires t c κs = search needs
 
--- src/lib.rt:97:9
 naturals-naturals-requires : (t : ℕ) → naturals-lts.Need-naturals-requires (naturals-calls t) (naturals-at t) naturals.Post
 naturals-naturals-requires t c κs =
     let p = c .before .before .before .before .before .before .pre .1 in
     (omega (arith, c .before .before .before .before .before .before .pre .0, rest-falls (c .before .before .before .before .before .before .args .sheet .now) (p .0 .links) (c .before .before .before .before .before .before .args .i) (c .next-of .result) (omega arith) (p .1) (c .next-of .ensures .0)), (p .0, omega (arith, c .next-of .ensures .1, p .1)))
 
--- src/lib.rt:97:9
 naturals-returns-2 : (t : ℕ) → naturals-lts.Need-returns-2 (naturals-calls t) (naturals-at t) naturals.Post
 naturals-returns-2 t c =
     let p = c .before .before .before .before .before .before .before .pre .1 in
     all-more is-natural are-natural naturals-step (c .before .before .before .before .before .before .before .args .sheet .now) (c .before .before .before .before .before .before .before .args .i) (c .before .next-of .result) true (c .naturals .result) (p .0 .links) (omega arith) (p .1) (c .before .next-of .ensures .0) (sym (c .before .before .if2 .taken) ∙ c .before .before .before .natural .ensures) (c .naturals .ensures)
 
--- src/lib.rt:88:1
 naturals-returns-3 : (t : ℕ) → naturals-lts.Need-returns-3 (naturals-calls t) (naturals-at t) naturals.Post
 naturals-returns-3 t c =
     let p = c .before .before .before .before .before .pre .1 in

@@ -86,53 +86,42 @@ below-six r h n = omega arith
 below-five : (r : ℕ) → r < 7 → (6 ≡ r → ⊥) → 0 < r → r - 1 < 5
 below-five r h n p = omega arith
 
--- src/lib.rt:176:9
 refinable-kind-of-requires : (t : ℕ) → refinable-lts.Need-kind-of-requires (refinable-calls t) (refinable-at t) refinable.Post
 refinable-kind-of-requires t c κs = search needs
 
--- src/lib.rt:178:9
 refinable-sorted-requires : (t : ℕ) → refinable-lts.Need-sorted-requires (refinable-calls t) (refinable-at t) refinable.Post
 refinable-sorted-requires t c κs = search needs
 
--- src/lib.rt:178:9
 refinable-returns : (t : ℕ) → refinable-lts.Need-returns (refinable-calls t) (refinable-at t) refinable.Post
 refinable-returns t c = c .sorted .ensures ∙ refinable-atom _ _ _ (c .before .before .kind-of .ensures) (numbered (c .before .before .before .before .before .args .sort)) (c .before .if1 .taken)
 
--- src/lib.rt:181:9
 refinable-returns-2 : (t : ℕ) → refinable-lts.Need-returns-2 (refinable-calls t) (refinable-at t) refinable.Post
 refinable-returns-2 t c =
     let p = c .before .before .before .before .before .pre .1 in
     refinable-unknown _ _ _ (c .before .before .kind-of .ensures) (numbered (c .before .before .before .before .before .args .sort)) (p .0 .cell (c .before .before .before .before .before .args .i) (p .1 .0 .0) (p .1 .0 .1)) (sym (c .if2 .taken))
 
--- src/lib.rt:184:22
 refinable-sub-meets : (t : ℕ) → refinable-lts.Need-sub-meets (refinable-calls t) (refinable-at t) refinable.Post
 refinable-sub-meets t c = search needs
 
--- src/lib.rt:184:9
 refinable-meets-requires : (t : ℕ) → refinable-lts.Need-meets-requires (refinable-calls t) (refinable-at t) refinable.Post
 refinable-meets-requires t c κs =
     let p = c .before .before .before .before .before .before .pre .1 in
     (below-five _ (c .before .before .if1 .left) (c .before .if2 .left) (c .if3 .taken), p .1 .1)
 
--- src/lib.rt:184:9
 refinable-returns-3 : (t : ℕ) → refinable-lts.Need-returns-3 (refinable-calls t) (refinable-at t) refinable.Post
 refinable-returns-3 t c =
     let p = c .before .before .before .before .before .before .before .pre .1 in
     c .meets .ensures ∙ refinable-variable _ _ _ (c .before .before .before .before .kind-of .ensures) (numbered (c .before .before .before .before .before .before .before .args .sort)) (p .0 .cell (c .before .before .before .before .before .before .before .args .i) (p .1 .0 .0) (p .1 .0 .1)) (c .before .if3 .taken) (below-six _ (c .before .before .before .if1 .left) (c .before .before .if2 .left))
 
--- src/lib.rt:186:9
 refinable-first-of-requires : (t : ℕ) → refinable-lts.Need-first-of-requires (refinable-calls t) (refinable-at t) refinable.Post
 refinable-first-of-requires t c κs = search needs
 
--- src/lib.rt:187:9
 refinable-symbol-of-requires : (t : ℕ) → refinable-lts.Need-symbol-of-requires (refinable-calls t) (refinable-at t) refinable.Post
 refinable-symbol-of-requires t c κs = search needs
 
--- src/lib.rt:190:16
 refinable-enum-told : (t : ℕ) → refinable-lts.Need-enum-told (refinable-calls t) (refinable-at t) refinable.Post
 refinable-enum-told t c = search needs
 
--- src/lib.rt:191:17
 refinable-refinables-requires : (t : ℕ) → refinable-lts.Need-refinables-requires (refinable-calls t) (refinable-at t) refinable.Post
 refinable-refinables-requires t c κs =
     let a = c .before .before .before .before .before .before .before .before .before .before .before .args in
@@ -140,13 +129,11 @@ refinable-refinables-requires t c κs =
     let k : kind-of (a .work .now) (a .i) ≡ 0 = omega (arith, c .before .before .before .before .before .if3 .left, c .before .before .before .before .before .before .before .before .kind-of .ensures) in
     (omega (arith, c .before .before .before .before .before .before .before .before .before .before .before .pre .0, children-fall (a .sheet .now) (a .work .now) (a .i) (c .before .before .before .before .first-of .result) k (c .before .before .before .before .first-of .ensures .0)), (p .0, (omega (arith, c .before .before .before .before .first-of .ensures .1, p .1), omega arith)))
 
--- src/lib.rt:191:17
 refinable-returns-4 : (t : ℕ) → refinable-lts.Need-returns-4 (refinable-calls t) (refinable-at t) refinable.Post
 refinable-returns-4 t c =
     let a = c .before .before .before .before .before .before .before .before .before .before .before .before .args in
     refinable-sum _ _ _ (c .before .before .before .before .before .before .before .before .before .kind-of .ensures) (a .sort) true (c .refinables .result) (c .before .before .before .before .before .before .before .before .before .before .before .before .pre .1 .1 .1) (c .before .before .before .before .before .before .if3 .left) (symbol-is (symbol (name-at (a .sheet .now) (a .work .now) (a .i))) (c .before .before .before .before .symbol-of .ensures) (c .before .before .enum-told .given .1)) (c .before .before .before .before .before .first-of .ensures .0) (is-3 (a .sort) (c .before .if4 .taken)) (c .refinables .ensures)
 
--- src/lib.rt:194:17
 refinable-refinables-requires-2 : (t : ℕ) → refinable-lts.Need-refinables-requires-2 (refinable-calls t) (refinable-at t) refinable.Post
 refinable-refinables-requires-2 t c κs =
     let a = c .before .before .before .before .before .before .before .before .before .before .before .before .args in
@@ -154,28 +141,23 @@ refinable-refinables-requires-2 t c κs =
     let k : kind-of (a .work .now) (a .i) ≡ 0 = omega (arith, c .before .before .before .before .before .before .if3 .left, c .before .before .before .before .before .before .before .before .before .kind-of .ensures) in
     (omega (arith, c .before .before .before .before .before .before .before .before .before .before .before .before .pre .0, children-fall (a .sheet .now) (a .work .now) (a .i) (c .before .before .before .before .before .first-of .result) k (c .before .before .before .before .before .first-of .ensures .0)), (p .0, (omega (arith, c .before .before .before .before .before .first-of .ensures .1, p .1), omega arith)))
 
--- src/lib.rt:194:17
 refinable-returns-5 : (t : ℕ) → refinable-lts.Need-returns-5 (refinable-calls t) (refinable-at t) refinable.Post
 refinable-returns-5 t c =
     let a = c .before .before .before .before .before .before .before .before .before .before .before .before .before .args in
     refinable-sum _ _ _ (c .before .before .before .before .before .before .before .before .before .before .kind-of .ensures) (a .sort) true (c .refinables2 .result) (c .before .before .before .before .before .before .before .before .before .before .before .before .before .pre .1 .1 .1) (c .before .before .before .before .before .before .before .if3 .left) (symbol-is (symbol (name-at (a .sheet .now) (a .work .now) (a .i))) (c .before .before .before .before .before .symbol-of .ensures) (c .before .before .before .enum-told .given .1)) (c .before .before .before .before .before .before .first-of .ensures .0) (is-2 (a .sort) (c .before .before .if4 .left) (c .before .if5 .taken)) (c .refinables2 .ensures)
 
--- src/lib.rt:198:26
 refinable-enum-told-2 : (t : ℕ) → refinable-lts.Need-enum-told-2 (refinable-calls t) (refinable-at t) refinable.Post
 refinable-enum-told-2 t c = search needs
 
--- src/lib.rt:201:17
 refinable-sorted-requires-2 : (t : ℕ) → refinable-lts.Need-sorted-requires-2 (refinable-calls t) (refinable-at t) refinable.Post
 refinable-sorted-requires-2 t c κs = search needs
 
--- src/lib.rt:201:17
 refinable-returns-6 : (t : ℕ) → refinable-lts.Need-returns-6 (refinable-calls t) (refinable-at t) refinable.Post
 refinable-returns-6 t c =
     let a = c .before .before .before .before .before .before .before .before .before .before .before .args in
     let y = c .before .before .before .symbol-of .result in
     c .sorted2 .ensures ∙ refinable-leaf _ _ _ (c .before .before .before .before .before .before .before .before .kind-of .ensures) (numbered (a .sort)) (decoded y) (c .before .before .before .before .before .if3 .left) (symbol-is (symbol (name-at (a .sheet .now) (a .work .now) (a .i))) (c .before .before .before .symbol-of .ensures) refl) (unit-or-free y (c .before .before .match .keys3)) (c .before .before .before .before .first-of .ensures .0) (c .before .if6 .taken)
 
--- src/lib.rt:204:17
 refinable-refinables-requires-3 : (t : ℕ) → refinable-lts.Need-refinables-requires-3 (refinable-calls t) (refinable-at t) refinable.Post
 refinable-refinables-requires-3 t c κs =
     let a = c .before .before .before .before .before .before .before .before .before .before .before .args in
@@ -183,7 +165,6 @@ refinable-refinables-requires-3 t c κs =
     let k : kind-of (a .work .now) (a .i) ≡ 0 = omega (arith, c .before .before .before .before .before .if3 .left, c .before .before .before .before .before .before .before .before .kind-of .ensures) in
     (omega (arith, c .before .before .before .before .before .before .before .before .before .before .before .pre .0, children-fall (a .sheet .now) (a .work .now) (a .i) (c .before .before .before .before .first-of .result) k (c .before .before .before .before .first-of .ensures .0)), (p .0, (omega (arith, c .before .before .before .before .first-of .ensures .1, p .1), omega arith)))
 
--- src/lib.rt:204:17
 refinable-returns-7 : (t : ℕ) → refinable-lts.Need-returns-7 (refinable-calls t) (refinable-at t) refinable.Post
 refinable-returns-7 t c =
     let a = c .before .before .before .before .before .before .before .before .before .before .before .before .args in
@@ -191,19 +172,16 @@ refinable-returns-7 t c =
     let y = c .before .before .before .before .symbol-of .result in
     refinable-list _ _ _ (c .before .before .before .before .before .before .before .before .before .kind-of .ensures) (a .sort) (a .free) (decoded y) true (c .refinables3 .result) (p .1 .1) (p .0 .links) (c .before .before .before .before .before .before .if3 .left) (symbol-is (symbol (name-at (a .sheet .now) (a .work .now) (a .i))) (c .before .before .before .before .symbol-of .ensures) refl) (unit-or-free y (c .before .before .before .match .keys3)) (c .before .before .before .before .before .first-of .ensures .0) (omega (arith, c .before .before .if6 .left)) (omega (arith, c .before .before .before .before .before .first-of .ensures .1, p .1 .0)) (sym (eq-eqb (a .sort) 2 (c .before .if7 .taken))) (c .refinables3 .ensures)
 
--- src/lib.rt:170:1
 refinable-returns-8 : (t : ℕ) → refinable-lts.Need-returns-8 (refinable-calls t) (refinable-at t) refinable.Post
 refinable-returns-8 t c =
     let a = c .before .before .before .before .before .before .before .before .before .before .before .before .args in
     refinable-sum _ _ _ (c .before .before .before .before .before .before .before .before .before .kind-of .ensures) (a .sort) false _ (c .before .before .before .before .before .before .before .before .before .before .before .before .pre .1 .1 .1) (c .before .before .before .before .before .before .if3 .left) (symbol-is (symbol (name-at (a .sheet .now) (a .work .now) (a .i))) (c .before .before .before .before .symbol-of .ensures) (c .before .before .enum-told .given .1)) (c .before .before .before .before .before .first-of .ensures .0) (neither (a .sort) (c .before .if4 .left) (c .if5 .left)) refl
 
--- src/lib.rt:170:1
 refinable-returns-9 : (t : ℕ) → refinable-lts.Need-returns-9 (refinable-calls t) (refinable-at t) refinable.Post
 refinable-returns-9 t c =
     let a = c .before .before .before .before .before .before .before .before .before .before .args in
     refinable-apply _ _ _ (c .before .before .before .before .before .before .before .kind-of .ensures) (numbered (a .sort)) frame (c .before .before .before .before .if3 .left) (symbol-is (symbol (name-at (a .sheet .now) (a .work .now) (a .i))) (c .before .before .symbol-of .ensures) (c .enum-told2 .given .1)) (c .before .before .before .first-of .ensures .0)
 
--- src/lib.rt:170:1
 refinable-returns-10 : (t : ℕ) → refinable-lts.Need-returns-10 (refinable-calls t) (refinable-at t) refinable.Post
 refinable-returns-10 t c =
     let a = c .before .before .before .before .before .before .before .before .before .before .before .args in
@@ -211,35 +189,29 @@ refinable-returns-10 t c =
     let y = c .before .before .before .symbol-of .result in
     refinable-list _ _ _ (c .before .before .before .before .before .before .before .before .kind-of .ensures) (a .sort) (a .free) (decoded y) false _ (p .1 .1) (p .0 .links) (c .before .before .before .before .before .if3 .left) (symbol-is (symbol (name-at (a .sheet .now) (a .work .now) (a .i))) (c .before .before .before .symbol-of .ensures) refl) (unit-or-free y (c .before .before .match .keys3)) (c .before .before .before .before .first-of .ensures .0) (omega (arith, c .before .if6 .left)) (omega (arith, c .before .before .before .before .first-of .ensures .1, p .1 .0)) (sym (ne-eqb (a .sort) 2 (c .if7 .left))) refl
 
--- src/lib.rt:219:9
 refinables-returns : (t : ℕ) → refinables-lts.Need-returns (refinables-calls t) (refinables-at t) refinables.Post
 refinables-returns t c = refinables-none _ _ _ _ (c .if1 .taken)
 
--- src/lib.rt:221:8
 refinables-refinable-requires : (t : ℕ) → refinables-lts.Need-refinable-requires (refinables-calls t) (refinables-at t) refinables.Post
 refinables-refinable-requires t c κs =
     let p = c .before .before .before .pre .1 in
     let q : 0 < c .before .before .before .args .i = omega arith in
     (omega (arith, c .before .before .before .pre .0, head-falls (c .before .before .before .args .sheet .now) (p .0 .links) (c .before .before .before .args .i) q (p .1 .0)), (p .0, ((q, p .1 .0), p .1 .1)))
 
--- src/lib.rt:222:52
 refinables-next-of-requires : (t : ℕ) → refinables-lts.Need-next-of-requires (refinables-calls t) (refinables-at t) refinables.Post
 refinables-next-of-requires t c κs = search needs
 
--- src/lib.rt:222:9
 refinables-refinables-requires : (t : ℕ) → refinables-lts.Need-refinables-requires (refinables-calls t) (refinables-at t) refinables.Post
 refinables-refinables-requires t c κs =
     let p = c .before .before .before .before .before .before .pre .1 in
     (omega (arith, c .before .before .before .before .before .before .pre .0, rest-falls (c .before .before .before .before .before .before .args .sheet .now) (p .0 .links) (c .before .before .before .before .before .before .args .i) (c .next-of .result) (omega arith) (p .1 .0) (c .next-of .ensures .0)), (p .0, (omega (arith, c .next-of .ensures .1, p .1), p .1 .1)))
 
--- src/lib.rt:222:9
 refinables-returns-2 : (t : ℕ) → refinables-lts.Need-returns-2 (refinables-calls t) (refinables-at t) refinables.Post
 refinables-returns-2 t c =
     let p = c .before .before .before .before .before .before .before .pre .1 in
     let n = numbered (c .before .before .before .before .before .before .before .args .sort) in
     all-more (is-refinable n) (are-refinable n) (refinables-step n) (c .before .before .before .before .before .before .before .args .sheet .now) (c .before .before .before .before .before .before .before .args .i) (c .before .next-of .result) true (c .refinables .result) (p .0 .links) (omega arith) (p .1 .0) (c .before .next-of .ensures .0) (sym (c .before .before .if2 .taken) ∙ c .before .before .before .refinable .ensures) (c .refinables .ensures)
 
--- src/lib.rt:212:1
 refinables-returns-3 : (t : ℕ) → refinables-lts.Need-returns-3 (refinables-calls t) (refinables-at t) refinables.Post
 refinables-returns-3 t c =
     let p = c .before .before .before .before .before .pre .1 in

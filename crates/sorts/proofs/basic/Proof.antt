@@ -8,19 +8,15 @@ use Rattle.sorts.proofs.basic.Reads as reads
 use Rattle.sorts.proofs.basic.Lts as lts
 use Rattle.tree.proofs.cells.kind_of.Reads as kind-of-reads
 
--- src/lib.rt:146:9
 kind-of-requires : tie.Need-kind-of-requires
 kind-of-requires c κs = search needs
 
--- src/lib.rt:148:9
 returns : tie.Need-returns
 returns c = basic-atom _ _ _ (c .before .kind-of .ensures) (numbered (c .before .before .before .before .args .sort)) (c .before .before .before .before .args .letter) (c .if1 .taken)
 
--- src/lib.rt:150:13
 add-result : tie.Need-add-result
 add-result c = search needs
 
--- src/lib.rt:140:1
 returns-2 : tie.Need-returns-2
 returns-2 c =
     let p = c .before .before .before .before .pre in

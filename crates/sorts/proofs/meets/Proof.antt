@@ -11,19 +11,15 @@ use Rattle.sorts.proofs.meets.Tie as tie
 use Rattle.sorts.proofs.meets.Reads as reads
 use Rattle.sorts.proofs.meets.Lts as lts
 
--- src/lib.rt:30:5
 mul-result : tie.Need-mul-result
 mul-result c = search needs
 
--- src/lib.rt:30:5
 index-1-result : tie.Need-index-1-result
 index-1-result c = search needs
 
--- src/lib.rt:30:5
 index-2-result : tie.Need-index-2-result
 index-2-result c = search needs
 
--- src/lib.rt:26:1
 returns : tie.Need-returns
 returns c = ap₂ (λ (x y : ℕ). getD (getD square x []) y false) (sym (number-is (c .before .args .a) (c .before .pre .0))) (sym (number-is (c .before .args .b) (c .before .pre .1)))
 

@@ -17,55 +17,45 @@ use Rattle.sorts.proofs.natural.Reads as natural-reads
 last : (n : ℕ) → n < 5 → (n ≡ 0 → ⊥) → (n ≡ 1 → ⊥) → (n ≡ 2 → ⊥) → (n ≡ 3 → ⊥) → n ≡ 4
 last n h p q r t = omega arith
 
--- src/lib.rt:161:14
 basic-requires : tie.Need-basic-requires
 basic-requires c κs = search needs
 
--- src/lib.rt:162:14
 basic-requires-2 : tie.Need-basic-requires-2
 basic-requires-2 c κs = search needs
 
--- src/lib.rt:163:16
 message-requires : tie.Need-message-requires
 message-requires c κs = search needs
 
--- src/lib.rt:164:20
 natural-requires : tie.Need-natural-requires
 natural-requires c κs = search needs
 
--- src/lib.rt:165:14
 basic-requires-3 : tie.Need-basic-requires-3
 basic-requires-3 c κs = search needs
 
--- src/lib.rt:154:1
 returns : tie.Need-returns
 unfolding sorted
 returns c =
     let t = tree-at (c .before .before .before .before .args .sheet .now) (c .before .before .before .before .args .work .now) (c .before .before .before .before .args .i) in
     c .basic .ensures ∙ ap (λ (n : ℕ). sorted (numbered n) t) (sym (c .before .match .keys1))
 
--- src/lib.rt:154:1
 returns-2 : tie.Need-returns-2
 unfolding sorted
 returns-2 c =
     let t = tree-at (c .before .before .before .before .args .sheet .now) (c .before .before .before .before .args .work .now) (c .before .before .before .before .args .i) in
     c .basic2 .ensures ∙ ap (λ (n : ℕ). sorted (numbered n) t) (sym (c .before .match .keys2))
 
--- src/lib.rt:154:1
 returns-3 : tie.Need-returns-3
 unfolding sorted
 returns-3 c =
     let t = tree-at (c .before .before .before .before .args .sheet .now) (c .before .before .before .before .args .work .now) (c .before .before .before .before .args .i) in
     c .message .ensures ∙ ap (λ (n : ℕ). sorted (numbered n) t) (sym (c .before .match .keys3))
 
--- src/lib.rt:154:1
 returns-4 : tie.Need-returns-4
 unfolding sorted
 returns-4 c =
     let t = tree-at (c .before .before .before .before .args .sheet .now) (c .before .before .before .before .args .work .now) (c .before .before .before .before .args .i) in
     c .natural .ensures ∙ ap (λ (n : ℕ). sorted (numbered n) t) (sym (c .before .match .keys4))
 
--- src/lib.rt:154:1
 returns-5 : tie.Need-returns-5
 unfolding sorted
 returns-5 c =

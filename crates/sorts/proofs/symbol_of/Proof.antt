@@ -8,72 +8,56 @@ use Rattle.sorts.proofs.symbol_of.Reads as reads
 use Rattle.sorts.proofs.symbol_of.Lts as lts
 use Rattle.tree.proofs.names.name_is.Reads as name-is-reads
 
--- src/lib.rt:47:38
 slice-aggregate-name-is : tie.Need-slice-aggregate-name-is
 slice-aggregate-name-is c = search needs
 
--- src/lib.rt:47:8
 name-is-requires : tie.Need-name-is-requires
 name-is-requires c κs = search needs
 
--- src/lib.rt:48:9
 returns : tie.Need-returns
 unfolding symbol
 returns c = rw (sym (c .before .name-is .ensures) ∙ c .if1 .taken)
 
--- src/lib.rt:50:38
 slice-aggregate-name-is-2 : tie.Need-slice-aggregate-name-is-2
 slice-aggregate-name-is-2 c = search needs
 
--- src/lib.rt:50:8
 name-is-requires-2 : tie.Need-name-is-requires-2
 name-is-requires-2 c κs = search needs
 
--- src/lib.rt:51:9
 returns-2 : tie.Need-returns-2
 unfolding symbol
 returns-2 c = rw (sym (c .before .before .before .before .name-is .ensures) ∙ c .before .before .before .if1 .left, sym (c .before .name-is2 .ensures) ∙ c .if2 .taken)
 
--- src/lib.rt:53:38
 slice-aggregate-name-is-3 : tie.Need-slice-aggregate-name-is-3
 slice-aggregate-name-is-3 c = search needs
 
--- src/lib.rt:53:8
 name-is-requires-3 : tie.Need-name-is-requires-3
 name-is-requires-3 c κs = search needs
 
--- src/lib.rt:54:9
 returns-3 : tie.Need-returns-3
 unfolding symbol is-frame
 returns-3 c = rw (sym (c .before .before .before .before .before .before .before .name-is .ensures) ∙ c .before .before .before .before .before .before .if1 .left, sym (c .before .before .before .before .name-is2 .ensures) ∙ c .before .before .before .if2 .left, sym (c .before .name-is3 .ensures) ∙ c .if3 .taken)
 
--- src/lib.rt:56:38
 slice-aggregate-name-is-4 : tie.Need-slice-aggregate-name-is-4
 slice-aggregate-name-is-4 c = search needs
 
--- src/lib.rt:56:8
 name-is-requires-4 : tie.Need-name-is-requires-4
 name-is-requires-4 c κs = search needs
 
--- src/lib.rt:57:9
 returns-4 : tie.Need-returns-4
 unfolding symbol is-frame
 returns-4 c = rw (sym (c .before .before .before .before .before .before .before .before .before .before .name-is .ensures) ∙ c .before .before .before .before .before .before .before .before .before .if1 .left, sym (c .before .before .before .before .before .before .before .name-is2 .ensures) ∙ c .before .before .before .before .before .before .if2 .left, sym (c .before .before .before .before .name-is3 .ensures) ∙ c .before .before .before .if3 .left, sym (c .before .name-is4 .ensures) ∙ c .if4 .taken)
 
--- src/lib.rt:59:38
 slice-aggregate-name-is-5 : tie.Need-slice-aggregate-name-is-5
 slice-aggregate-name-is-5 c = search needs
 
--- src/lib.rt:59:8
 name-is-requires-5 : tie.Need-name-is-requires-5
 name-is-requires-5 c κs = search needs
 
--- src/lib.rt:60:9
 returns-5 : tie.Need-returns-5
 unfolding symbol is-frame
 returns-5 c = rw (sym (c .before .before .before .before .before .before .before .before .before .before .before .before .before .name-is .ensures) ∙ c .before .before .before .before .before .before .before .before .before .before .before .before .if1 .left, sym (c .before .before .before .before .before .before .before .before .before .before .name-is2 .ensures) ∙ c .before .before .before .before .before .before .before .before .before .if2 .left, sym (c .before .before .before .before .before .before .before .name-is3 .ensures) ∙ c .before .before .before .before .before .before .if3 .left, sym (c .before .before .before .before .name-is4 .ensures) ∙ c .before .before .before .if4 .left, sym (c .before .name-is5 .ensures) ∙ c .if5 .taken)
 
--- src/lib.rt:42:1
 returns-6 : tie.Need-returns-6
 unfolding symbol is-frame
 returns-6 c = rw (sym (c .before .before .before .before .before .before .before .before .before .before .before .before .before .name-is .ensures) ∙ c .before .before .before .before .before .before .before .before .before .before .before .before .if1 .left, sym (c .before .before .before .before .before .before .before .before .before .before .name-is2 .ensures) ∙ c .before .before .before .before .before .before .before .before .before .if2 .left, sym (c .before .before .before .before .before .before .before .name-is3 .ensures) ∙ c .before .before .before .before .before .before .if3 .left, sym (c .before .before .before .before .name-is4 .ensures) ∙ c .before .before .before .if4 .left, sym (c .before .name-is5 .ensures) ∙ c .if5 .left)

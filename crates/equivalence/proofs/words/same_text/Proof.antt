@@ -6,7 +6,7 @@ use Rattle.equivalence.proofs.words.same_text.Statement.{statement}
 use Rattle.equivalence.proofs.words.same_text.Tie as tie
 use Rattle.equivalence.proofs.words.same_text.Reads as reads
 use Rattle.equivalence.proofs.words.same_text.Lts as lts
-use Rattle.certificate.proofs.compare.Reads as compare-reads
+use Rattle.certificate.proofs.order.compare.Reads as compare-reads
 
 -- src/words.rt:132:9
 compare-requires : tie.Need-compare-requires

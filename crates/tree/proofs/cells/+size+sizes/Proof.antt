@@ -49,19 +49,15 @@ sizes-calls t = (size-below t, size.Post, next-of-reads.Asked, next-of-reads.Lea
 size-leaf-is : (s : Text) (w : List ℕ) (k : ℕ) {r : ℕ} → r ≡ kind-of w k → 0 < r → 1 ≡ tree-size (tree-at s w k)
 size-leaf-is s w k e p = sym (size-leaf s w k (omega arith) (kind (kind-of w k)))
 
--- src/cells.rt:134:12
 size-kind-of-requires : (t : ℕ) → size-lts.Need-kind-of-requires (size-calls t) (size-at t) size.Post
 size-kind-of-requires t c κs = search needs
 
--- src/cells.rt:135:9
 size-returns : (t : ℕ) → size-lts.Need-returns (size-calls t) (size-at t) size.Post
 size-returns t c = size-leaf-is _ _ _ (c .before .kind-of .ensures) (c .if1 .taken)
 
--- src/cells.rt:137:34
 size-first-of-requires : (t : ℕ) → size-lts.Need-first-of-requires (size-calls t) (size-at t) size.Post
 size-first-of-requires t c κs = search needs
 
--- src/cells.rt:137:9
 size-sizes-requires : (t : ℕ) → size-lts.Need-sizes-requires (size-calls t) (size-at t) size.Post
 size-sizes-requires t c κs =
     let a = c .before .before .before .before .before .args in
@@ -72,7 +68,6 @@ size-sizes-requires t c κs =
     let e = sizes-is (a .sheet .now) (a .work .now) (c .first-of .ensures .0) in
     (omega (arith, c .before .before .before .before .before .pre .0, n, e), (p .0, (omega (arith, c .first-of .ensures .1, p .1), omega (arith, n, e, h .counted, count-small (a .work .now) (a .i)))))
 
--- src/cells.rt:137:5
 size-add-result : (t : ℕ) → size-lts.Need-add-result (size-calls t) (size-at t) size.Post
 size-add-result t c =
     let a = c .before .before .before .before .before .before .args in
@@ -80,29 +75,24 @@ size-add-result t c =
     let k : kind-of (a .work .now) (a .i) ≡ 0 = omega (arith, c .before .before .if1 .left, c .before .before .before .kind-of .ensures) in
     omega (arith, c .sizes .ensures, sizes-is (a .sheet .now) (a .work .now) (c .before .first-of .ensures .0), size-apply (a .sheet .now) (a .work .now) (a .i) k, p .0 .cell (a .i) (p .1 .0) (p .1 .1) .counted, count-small (a .work .now) (a .i))
 
--- src/cells.rt:129:1
 size-returns-2 : (t : ℕ) → size-lts.Need-returns-2 (size-calls t) (size-at t) size.Post
 size-returns-2 t c =
     let a = c .before .before .before .before .before .before .args in
     let k : kind-of (a .work .now) (a .i) ≡ 0 = omega (arith, c .before .before .if1 .left, c .before .before .before .kind-of .ensures) in
     omega (arith, c .sizes .ensures, sizes-is (a .sheet .now) (a .work .now) (c .before .first-of .ensures .0), size-apply (a .sheet .now) (a .work .now) (a .i) k)
 
--- src/cells.rt:148:9
 sizes-returns : (t : ℕ) → sizes-lts.Need-returns (sizes-calls t) (sizes-at t) sizes.Post
 sizes-returns t c = sym (sizes-none _ _ _ (c .if1 .taken))
 
--- src/cells.rt:150:5
 sizes-size-requires : (t : ℕ) → sizes-lts.Need-size-requires (sizes-calls t) (sizes-at t) sizes.Post
 sizes-size-requires t c κs =
     let p = c .before .before .before .pre .1 in
     let q : 0 < c .before .before .before .args .i = omega arith in
     (omega (arith, c .before .before .before .pre .0, head-falls (c .before .before .before .args .sheet .now) (p .0 .links) (c .before .before .before .args .i) q (p .1 .0)), (p .0, (q, p .1 .0)))
 
--- src/cells.rt:150:59
 sizes-next-of-requires : (t : ℕ) → sizes-lts.Need-next-of-requires (sizes-calls t) (sizes-at t) sizes.Post
 sizes-next-of-requires t c κs = search needs
 
--- src/cells.rt:150:34
 sizes-sizes-requires : (t : ℕ) → sizes-lts.Need-sizes-requires (sizes-calls t) (sizes-at t) sizes.Post
 sizes-sizes-requires t c κs =
     let a = c .before .before .before .before .before .args in
@@ -111,14 +101,12 @@ sizes-sizes-requires t c κs =
     let e = sizes-is (a .sheet .now) (a .work .now) (c .next-of .ensures .0) in
     (omega (arith, c .before .before .before .before .before .pre .0, m, e, size-pos (tree-at (a .sheet .now) (a .work .now) (a .i))), (p .0, (omega (arith, c .next-of .ensures .1, p .1), omega (arith, p .1 .1, m, e))))
 
--- src/cells.rt:150:5
 sizes-add-result : (t : ℕ) → sizes-lts.Need-add-result (sizes-calls t) (sizes-at t) sizes.Post
 sizes-add-result t c =
     let a = c .before .before .before .before .before .before .args in
     let p = c .before .before .before .before .before .before .pre .1 in
     omega (arith, c .before .before .size .ensures, c .sizes .ensures, p .1 .1, sizes-more (a .sheet .now) (p .0 .links) (a .i) (omega arith) (p .1 .0), sizes-is (a .sheet .now) (a .work .now) (c .before .next-of .ensures .0))
 
--- src/cells.rt:141:1
 sizes-returns-2 : (t : ℕ) → sizes-lts.Need-returns-2 (sizes-calls t) (sizes-at t) sizes.Post
 sizes-returns-2 t c =
     let a = c .before .before .before .before .before .before .args in

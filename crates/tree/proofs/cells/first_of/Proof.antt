@@ -6,27 +6,21 @@ use Rattle.tree.proofs.cells.first_of.Reads as reads
 use Rattle.tree.proofs.cells.first_of.Lts as lts
 use Rattle.tree.proofs.cells.wide.Reads as wide-reads
 
--- src/cells.rt:53:15
 mul-wide : tie.Need-mul-wide
 mul-wide c = search needs
 
--- src/cells.rt:53:15
 add-wide : tie.Need-add-wide
 add-wide c = search needs
 
--- src/cells.rt:53:10
 mul-wide-2 : tie.Need-mul-wide-2
 mul-wide-2 c = search needs
 
--- src/cells.rt:53:10
 shared-slice-read-wide : tie.Need-shared-slice-read-wide
 shared-slice-read-wide c = search needs
 
--- src/cells.rt:53:5
 wide-requires : tie.Need-wide-requires
 wide-requires c κs = search needs
 
--- src/cells.rt:48:1
 returns : tie.Need-returns
 returns c = (search needs, omega (arith, c .before .before .before .pre .0 .first (c .before .before .before .args .k) (c .before .before .before .pre .1 .0) (c .before .before .before .pre .1 .1)))
 

@@ -8,23 +8,18 @@ use Rattle.tree.proofs.cells.length_of.Reads as reads
 use Rattle.tree.proofs.cells.length_of.Lts as lts
 use Rattle.tree.proofs.cells.wide.Reads as wide-reads
 
--- src/cells.rt:29:15
 mul-wide : tie.Need-mul-wide
 mul-wide c = search needs
 
--- src/cells.rt:29:10
 mul-wide-2 : tie.Need-mul-wide-2
 mul-wide-2 c = search needs
 
--- src/cells.rt:29:10
 shared-slice-read-wide : tie.Need-shared-slice-read-wide
 shared-slice-read-wide c = search needs
 
--- src/cells.rt:29:5
 wide-requires : tie.Need-wide-requires
 wide-requires c κs = search needs
 
--- src/cells.rt:25:1
 returns : tie.Need-returns
 unfolding length-of
 returns c = ap (λ (x : ℕ). x % 65536) (c .wide .ensures .0)

@@ -8,95 +8,72 @@ use Rattle.tree.proofs.cells.push_cell.Tie as tie
 use Rattle.tree.proofs.cells.push_cell.Reads as reads
 use Rattle.tree.proofs.cells.push_cell.Lts as lts
 
--- src/cells.rt:81:14
 mul-at : tie.Need-mul-at
 mul-at c = search needs
 
--- src/cells.rt:82:17
 mul-work : tie.Need-mul-work
 mul-work c = search needs
 
--- src/cells.rt:82:17
 add-work : tie.Need-add-work
 add-work c = search needs
 
--- src/cells.rt:82:16
 cast-work : tie.Need-cast-work
 cast-work c = search needs
 
--- src/cells.rt:82:5
 mul-work-2 : tie.Need-mul-work-2
 mul-work-2 c = search needs
 
--- src/cells.rt:82:5
 slice-write-work : tie.Need-slice-write-work
 slice-write-work c = search needs
 
--- src/cells.rt:83:21
 mul-work-3 : tie.Need-mul-work-3
 mul-work-3 c = search needs
 
--- src/cells.rt:83:21
 add-work-2 : tie.Need-add-work-2
 add-work-2 c = search needs
 
--- src/cells.rt:83:20
 cast-work-2 : tie.Need-cast-work-2
 cast-work-2 c = search needs
 
--- src/cells.rt:83:10
 add-work-3 : tie.Need-add-work-3
 add-work-3 c = search needs
 
--- src/cells.rt:83:5
 mul-work-4 : tie.Need-mul-work-4
 mul-work-4 c = search needs
 
--- src/cells.rt:83:5
 slice-write-work-2 : tie.Need-slice-write-work-2
 slice-write-work-2 c = simp length-set (omega arith)
 
--- src/cells.rt:84:20
 cast-work-3 : tie.Need-cast-work-3
 cast-work-3 c = search needs
 
--- src/cells.rt:84:10
 add-work-4 : tie.Need-add-work-4
 add-work-4 c = search needs
 
--- src/cells.rt:84:5
 mul-work-5 : tie.Need-mul-work-5
 mul-work-5 c = search needs
 
--- src/cells.rt:84:5
 slice-write-work-3 : tie.Need-slice-write-work-3
 slice-write-work-3 c = simp length-set (omega arith)
 
--- src/cells.rt:85:20
 cast-work-4 : tie.Need-cast-work-4
 cast-work-4 c = search needs
 
--- src/cells.rt:85:10
 add-work-5 : tie.Need-add-work-5
 add-work-5 c = search needs
 
--- src/cells.rt:85:5
 mul-work-6 : tie.Need-mul-work-6
 mul-work-6 c = search needs
 
--- src/cells.rt:85:5
 slice-write-work-4 : tie.Need-slice-write-work-4
 slice-write-work-4 c = simp length-set (omega arith)
 
--- src/cells.rt:86:5
 add-result : tie.Need-add-result
 add-result c = search needs
 
--- src/cells.rt:66:1
 same-length : tie.Need-same-length
 same-length c = search needs
 
--- src/cells.rt:66:1
 returns : tie.Need-returns
 returns c =
     let a = c .args in

@@ -9,51 +9,39 @@ use Rattle.tree.proofs.cells.push_like.Lts as lts
 use Rattle.tree.proofs.cells.push_cell.Reads as push-cell-reads
 use Rattle.tree.proofs.cells.wide.Reads as wide-reads
 
--- src/cells.rt:102:27
 mul-wide : tie.Need-mul-wide
 mul-wide c = search needs
 
--- src/cells.rt:102:22
 mul-wide-2 : tie.Need-mul-wide-2
 mul-wide-2 c = search needs
 
--- src/cells.rt:102:22
 slice-read-wide : tie.Need-slice-read-wide
 slice-read-wide c = search needs
 
--- src/cells.rt:102:9
 wide-requires : tie.Need-wide-requires
 wide-requires c κs = search needs
 
--- src/cells.rt:103:26
 mul-wide-3 : tie.Need-mul-wide-3
 mul-wide-3 c = search needs
 
--- src/cells.rt:103:26
 add-wide : tie.Need-add-wide
 add-wide c = search needs
 
--- src/cells.rt:103:21
 mul-wide-4 : tie.Need-mul-wide-4
 mul-wide-4 c = search needs
 
--- src/cells.rt:103:21
 slice-read-wide-2 : tie.Need-slice-read-wide-2
 slice-read-wide-2 c = search needs
 
--- src/cells.rt:103:9
 wide-requires-2 : tie.Need-wide-requires-2
 wide-requires-2 c κs = search needs
 
--- src/cells.rt:104:5
 push-cell-requires : tie.Need-push-cell-requires
 push-cell-requires c κs = search needs
 
--- src/cells.rt:90:1
 same-length : tie.Need-same-length
 same-length c = search needs
 
--- src/cells.rt:90:1
 returns : tie.Need-returns
 unfolding start-of length-of kind-of
 returns c = (c .before .before .push-cell .ensures .0, rw (c .before .before .before .before .before .before .wide .ensures .0, c .before .before .before .before .wide2 .ensures .0) at (c .before .before .push-cell .ensures .1))

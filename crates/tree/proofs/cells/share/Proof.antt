@@ -8,23 +8,18 @@ use Rattle.tree.proofs.cells.count_of.Reads as count-of-reads
 use Rattle.tree.proofs.cells.first_of.Reads as first-of-reads
 use Rattle.tree.proofs.cells.push_like.Reads as push-like-reads
 
--- src/cells.rt:123:9
 count-of-requires : tie.Need-count-of-requires
 count-of-requires c κs = search needs
 
--- src/cells.rt:124:9
 first-of-requires : tie.Need-first-of-requires
 first-of-requires c κs = search needs
 
--- src/cells.rt:125:5
 push-like-requires : tie.Need-push-like-requires
 push-like-requires c κs = search needs
 
--- src/cells.rt:117:1
 same-length : tie.Need-same-length
 same-length c = search needs
 
--- src/cells.rt:117:1
 returns : tie.Need-returns
 returns c =
     let p = c .before .before .before .before .before .before .before .before .before .before .pre in

@@ -51,15 +51,12 @@ same-tree-calls t = (kind-of-reads.Asked, kind-of-reads.Learnt, same-name-reads.
 abbrev same-trees-calls : ℕ → same-trees-lts.Claims
 same-trees-calls t = (same-tree-below t, same-tree.Post, next-of-reads.Asked, next-of-reads.Learnt, same-trees-below t, same-trees.Post)
 
--- src/equality.rt:19:9
 same-tree-kind-of-requires : (t : ℕ) → same-tree-lts.Need-kind-of-requires (same-tree-calls t) (same-tree-at t) same-tree.Post
 same-tree-kind-of-requires t c κs = search needs
 
--- src/equality.rt:20:16
 same-tree-kind-of-requires-2 : (t : ℕ) → same-tree-lts.Need-kind-of-requires-2 (same-tree-calls t) (same-tree-at t) same-tree.Post
 same-tree-kind-of-requires-2 t c κs = search needs
 
--- src/equality.rt:21:9
 same-tree-returns : (t : ℕ) → same-tree-lts.Need-returns (same-tree-calls t) (same-tree-at t) same-tree.Post
 same-tree-returns t c =
     let a = c .before .before .before .before .before .args in
@@ -67,33 +64,27 @@ same-tree-returns t c =
     let w = a .work .now in
     kinds-differ (a .sheet .now) w (a .i) (a .j) (p .0 .cell (a .i) (p .1 .0 .0) (p .1 .0 .1)) (p .0 .cell (a .j) (p .1 .1 .0) (p .1 .1 .1)) (λ e. c .if1 .taken (c .before .before .kind-of .ensures ∙ e ∙ sym (c .before .kind-of2 .ensures))) (kind (kind-of w (a .i))) (kind (kind-of w (a .j)))
 
--- src/equality.rt:23:9
 same-tree-same-name-requires : (t : ℕ) → same-tree-lts.Need-same-name-requires (same-tree-calls t) (same-tree-at t) same-tree.Post
 same-tree-same-name-requires t c κs = search needs
 
--- src/equality.rt:24:9
 same-tree-returns-2 : (t : ℕ) → same-tree-lts.Need-returns-2 (same-tree-calls t) (same-tree-at t) same-tree.Post
 same-tree-returns-2 t c =
     let a = c .before .before .before .before .before .before .before .args in
     let w = a .work .now in
     names-differ (a .sheet .now) w (a .i) (a .j) (sym (c .before .before .before .before .kind-of .ensures) ∙ c .before .before .if1 .left ∙ c .before .before .before .kind-of2 .ensures) (sym (c .before .same-name .ensures) ∙ not-true _ (c .if2 .taken)) (kind (kind-of w (a .i)))
 
--- src/equality.rt:27:9
 same-tree-returns-3 : (t : ℕ) → same-tree-lts.Need-returns-3 (same-tree-calls t) (same-tree-at t) same-tree.Post
 same-tree-returns-3 t c =
     let a = c .before .before .before .before .before .before .before .before .args in
     let w = a .work .now in
     sym (not-false _ (c .before .if2 .left)) ∙ c .before .before .same-name .ensures ∙ leaves (a .sheet .now) w (a .i) (a .j) (omega (arith, c .if3 .taken, c .before .before .before .before .before .kind-of .ensures)) (sym (c .before .before .before .before .before .kind-of .ensures) ∙ c .before .before .before .if1 .left ∙ c .before .before .before .before .kind-of2 .ensures) (kind (kind-of w (a .i)))
 
--- src/equality.rt:33:9
 same-tree-first-of-requires : (t : ℕ) → same-tree-lts.Need-first-of-requires (same-tree-calls t) (same-tree-at t) same-tree.Post
 same-tree-first-of-requires t c κs = search needs
 
--- src/equality.rt:34:9
 same-tree-first-of-requires-2 : (t : ℕ) → same-tree-lts.Need-first-of-requires-2 (same-tree-calls t) (same-tree-at t) same-tree.Post
 same-tree-first-of-requires-2 t c κs = search needs
 
--- src/equality.rt:29:5
 same-tree-same-trees-requires : (t : ℕ) → same-tree-lts.Need-same-trees-requires (same-tree-calls t) (same-tree-at t) same-tree.Post
 same-tree-same-trees-requires t c κs =
     let a = c .before .before .before .before .before .before .before .before .before .before .args in
@@ -101,7 +92,6 @@ same-tree-same-trees-requires t c κs =
     let k : kind-of (a .work .now) (a .i) ≡ 0 = omega (arith, c .before .before .if3 .left, c .before .before .before .before .before .before .before .kind-of .ensures) in
     (omega (arith, c .before .before .before .before .before .before .before .before .before .before .pre .0, children-fall (a .sheet .now) (a .work .now) (a .i) (c .before .first-of .result) k (c .before .first-of .ensures .0)), (p .0, (omega (arith, c .before .first-of .ensures .1, p .1), omega (arith, c .first-of2 .ensures .1, p .1))))
 
--- src/equality.rt:13:1
 same-tree-returns-4 : (t : ℕ) → same-tree-lts.Need-returns-4 (same-tree-calls t) (same-tree-at t) same-tree.Post
 same-tree-returns-4 t c =
     let a = c .before .before .before .before .before .before .before .before .before .before .before .args in
@@ -109,21 +99,18 @@ same-tree-returns-4 t c =
     let k : kind-of w (a .i) ≡ 0 = omega (arith, c .before .before .before .if3 .left, c .before .before .before .before .before .before .before .before .kind-of .ensures) in
     applications (a .sheet .now) w (a .i) (a .j) _ _ true (c .same-trees .result) k (sym (c .before .before .before .before .before .before .before .kind-of2 .ensures) ∙ sym (c .before .before .before .before .before .before .if1 .left) ∙ c .before .before .before .before .before .before .before .before .kind-of .ensures ∙ k) (c .before .before .first-of .ensures .0) (c .before .first-of2 .ensures .0) (sym (not-false _ (c .before .before .before .before .if2 .left)) ∙ c .before .before .before .before .before .same-name .ensures) (c .same-trees .ensures)
 
--- src/equality.rt:45:9
 same-trees-returns : (t : ℕ) → same-trees-lts.Need-returns (same-trees-calls t) (same-trees-at t) same-trees.Post
 same-trees-returns t c =
     let a = c .before .before .before .args in
     let p = c .before .before .before .pre .1 in
     none-first (a .sheet .now) (a .work .now) (a .i) (a .j) (a .free) (p .0 .links) (c .if1 .taken) (p .1 .1)
 
--- src/equality.rt:48:9
 same-trees-returns-2 : (t : ℕ) → same-trees-lts.Need-returns-2 (same-trees-calls t) (same-trees-at t) same-trees.Post
 same-trees-returns-2 t c =
     let a = c .before .before .before .before .args in
     let p = c .before .before .before .before .pre .1 in
     none-second (a .sheet .now) (a .work .now) (a .i) (a .j) (a .free) (p .0 .links) (omega arith) (p .1 .0) (c .if2 .taken)
 
--- src/equality.rt:50:8
 same-trees-same-tree-requires : (t : ℕ) → same-trees-lts.Need-same-tree-requires (same-trees-calls t) (same-trees-at t) same-trees.Post
 same-trees-same-tree-requires t c κs =
     let a = c .before .before .before .before .args in
@@ -131,29 +118,24 @@ same-trees-same-tree-requires t c κs =
     let q : 0 < a .i = omega arith in
     (omega (arith, c .before .before .before .before .pre .0, head-falls (a .sheet .now) (p .0 .links) (a .i) q (p .1 .0)), (p .0, ((q, p .1 .0), (omega arith, p .1 .1))))
 
--- src/equality.rt:55:13
 same-trees-next-of-requires : (t : ℕ) → same-trees-lts.Need-next-of-requires (same-trees-calls t) (same-trees-at t) same-trees.Post
 same-trees-next-of-requires t c κs = search needs
 
--- src/equality.rt:56:13
 same-trees-next-of-requires-2 : (t : ℕ) → same-trees-lts.Need-next-of-requires-2 (same-trees-calls t) (same-trees-at t) same-trees.Post
 same-trees-next-of-requires-2 t c κs = search needs
 
--- src/equality.rt:51:9
 same-trees-same-trees-requires : (t : ℕ) → same-trees-lts.Need-same-trees-requires (same-trees-calls t) (same-trees-at t) same-trees.Post
 same-trees-same-trees-requires t c κs =
     let a = c .before .before .before .before .before .before .before .before .args in
     let p = c .before .before .before .before .before .before .before .before .pre .1 in
     (omega (arith, c .before .before .before .before .before .before .before .before .pre .0, rest-falls (a .sheet .now) (p .0 .links) (a .i) (c .before .next-of .result) (omega arith) (p .1 .0) (c .before .next-of .ensures .0)), (p .0, (omega (arith, c .before .next-of .ensures .1, p .1), omega (arith, c .next-of2 .ensures .1, p .1))))
 
--- src/equality.rt:51:9
 same-trees-returns-3 : (t : ℕ) → same-trees-lts.Need-returns-3 (same-trees-calls t) (same-trees-at t) same-trees.Post
 same-trees-returns-3 t c =
     let a = c .before .before .before .before .before .before .before .before .before .args in
     let p = c .before .before .before .before .before .before .before .before .before .pre .1 in
     lists (a .sheet .now) (a .work .now) (a .i) (a .j) (a .free) _ _ true (c .same-trees .result) (p .0 .links) (omega arith) (p .1 .0) (omega arith) (p .1 .1) (c .before .before .next-of .ensures .0) (c .before .next-of2 .ensures .0) (sym (c .before .before .before .if3 .taken) ∙ c .before .before .before .before .same-tree .ensures) (c .same-trees .ensures)
 
--- src/equality.rt:39:1
 same-trees-returns-4 : (t : ℕ) → same-trees-lts.Need-returns-4 (same-trees-calls t) (same-trees-at t) same-trees.Post
 same-trees-returns-4 t c =
     let a = c .before .before .before .before .before .before .args in

@@ -62,35 +62,29 @@ measure-list-calls t = (within-reads.Asked, within-reads.Learnt, measure-term-be
 abbrev measure-term-calls : ℕ → measure-term-lts.Claims
 measure-term-calls t = (kind-of-reads.Asked, kind-of-reads.Learnt, name-len-reads.Asked, name-len-reads.Learnt, within-reads.Asked, within-reads.Learnt, first-of-reads.Asked, first-of-reads.Learnt, measure-list-below t, measure-list.Post)
 
--- src/measuring.rt:77:13
 measure-list-returns : (t : ℕ) → measure-list-lts.Need-returns (measure-list-calls t) (measure-list-at t) measure-list.Post
 measure-list-returns t c =
     let a = c .before .before .before .before .args in
     let e = ap length (marked-open (a .sheet .now) (a .work .now) (a .i) (a .mark) (c .before .if1 .taken) (c .if2 .taken)) in
     fits-is (omega (arith, e)) (omega (arith, e))
 
--- src/measuring.rt:79:9
 measure-list-within-requires : (t : ℕ) → measure-list-lts.Need-within-requires (measure-list-calls t) (measure-list-at t) measure-list.Post
 measure-list-within-requires t c κs = search needs
 
--- src/measuring.rt:79:9
 measure-list-returns-2 : (t : ℕ) → measure-list-lts.Need-returns-2 (measure-list-calls t) (measure-list-at t) measure-list.Post
 measure-list-returns-2 t c =
     let a = c .before .before .before .before .before .args in
     c .within .ensures ∙ ap (λ (x : ℕ). measured x (a .room)) (sym (ap length (marked-close (a .sheet .now) (a .work .now) (a .i) (a .mark) (c .before .before .if1 .taken) (c .before .if2 .left))))
 
--- src/measuring.rt:82:9
 measure-list-returns-3 : (t : ℕ) → measure-list-lts.Need-returns-3 (measure-list-calls t) (measure-list-at t) measure-list.Post
 measure-list-returns-3 t c =
     let a = c .before .before .before .before .args in
     let p = c .before .before .before .before .pre .1 in
     over-is (omega (arith, c .if3 .taken, more-length (a .sheet .now) (a .work .now) (a .free) (a .i) _ (a .mark) (p .0 .links) (omega (arith, c .before .if1 .left)) (p .1) refl))
 
--- src/measuring.rt:84:51
 measure-list-sub-measure-term : (t : ℕ) → measure-list-lts.Need-sub-measure-term (measure-list-calls t) (measure-list-at t) measure-list.Post
 measure-list-sub-measure-term t c = omega (arith, c .if3 .left)
 
--- src/measuring.rt:84:9
 measure-list-measure-term-requires : (t : ℕ) → measure-list-lts.Need-measure-term-requires (measure-list-calls t) (measure-list-at t) measure-list.Post
 measure-list-measure-term-requires t c κs =
     let a = c .before .before .before .before .args in
@@ -98,36 +92,29 @@ measure-list-measure-term-requires t c κs =
     let q : 0 < a .i = omega (arith, c .before .if1 .left) in
     (omega (arith, c .before .before .before .before .pre .0, head-falls (a .sheet .now) (p .0 .links) (a .i) q (p .1)), (p .0, (q, p .1)))
 
--- src/measuring.rt:85:24
 measure-list-enum-known-term : (t : ℕ) → measure-list-lts.Need-enum-known-term (measure-list-calls t) (measure-list-at t) measure-list.Post
 measure-list-enum-known-term t c = search needs
 
--- src/measuring.rt:86:9
 measure-list-enum-told : (t : ℕ) → measure-list-lts.Need-enum-told (measure-list-calls t) (measure-list-at t) measure-list.Post
 measure-list-enum-told t c = search needs
 
--- src/measuring.rt:86:9
 measure-list-returns-4 : (t : ℕ) → measure-list-lts.Need-returns-4 (measure-list-calls t) (measure-list-at t) measure-list.Post
 measure-list-returns-4 t c =
     let a = c .before .before .before .before .before .before .before .args in
     let p = c .before .before .before .before .before .before .before .pre .1 in
     over-is (omega (arith, c .before .before .before .if3 .left, told-over (c .before .before .measure-term .ensures) (c .enum-told .given .1), more-length (a .sheet .now) (a .work .now) (a .free) (a .i) _ (a .mark) (p .0 .links) (omega (arith, c .before .before .before .before .if1 .left)) (p .1) refl))
 
--- src/measuring.rt:92:9
 measure-list-next-of-requires : (t : ℕ) → measure-list-lts.Need-next-of-requires (measure-list-calls t) (measure-list-at t) measure-list.Post
 measure-list-next-of-requires t c κs = search needs
 
--- src/measuring.rt:94:9
 measure-list-sub-measure-list : (t : ℕ) → measure-list-lts.Need-sub-measure-list (measure-list-calls t) (measure-list-at t) measure-list.Post
 measure-list-sub-measure-list t c = omega (arith, c .before .before .before .before .before .if3 .left)
 
--- src/measuring.rt:94:9
 measure-list-sub-measure-list-2 : (t : ℕ) → measure-list-lts.Need-sub-measure-list-2 (measure-list-calls t) (measure-list-at t) measure-list.Post
 measure-list-sub-measure-list-2 t c =
     let n = told (c .before .before .before .before .measure-term .ensures) (c .before .before .term .given .1) in
     omega (arith, n, c .before .before .before .before .before .if3 .left)
 
--- src/measuring.rt:88:9
 measure-list-measure-list-requires : (t : ℕ) → measure-list-lts.Need-measure-list-requires (measure-list-calls t) (measure-list-at t) measure-list.Post
 measure-list-measure-list-requires t c κs =
     let a = c .before .before .before .before .before .before .before .before .before .args in
@@ -135,15 +122,12 @@ measure-list-measure-list-requires t c κs =
     let q : 0 < a .i = omega (arith, c .before .before .before .before .before .before .if1 .left) in
     (omega (arith, c .before .before .before .before .before .before .before .before .before .pre .0, rest-falls (a .sheet .now) (p .0 .links) (a .i) (c .next-of .result) q (p .1) (c .next-of .ensures .0)), (p .0, omega (arith, c .next-of .ensures .1, p .1)))
 
--- src/measuring.rt:96:24
 measure-list-enum-known-rest : (t : ℕ) → measure-list-lts.Need-enum-known-rest (measure-list-calls t) (measure-list-at t) measure-list.Post
 measure-list-enum-known-rest t c = search needs
 
--- src/measuring.rt:97:9
 measure-list-enum-told-2 : (t : ℕ) → measure-list-lts.Need-enum-told-2 (measure-list-calls t) (measure-list-at t) measure-list.Post
 measure-list-enum-told-2 t c = search needs
 
--- src/measuring.rt:97:9
 measure-list-returns-5 : (t : ℕ) → measure-list-lts.Need-returns-5 (measure-list-calls t) (measure-list-at t) measure-list.Post
 measure-list-returns-5 t c =
     let a = c .before .before .before .before .before .before .before .before .before .before .before .before .args in
@@ -152,20 +136,17 @@ measure-list-returns-5 t c =
     let l = more-length (a .sheet .now) (a .work .now) (a .free) (a .i) (c .before .before .before .next-of .result) (a .mark) (p .0 .links) (omega (arith, c .before .before .before .before .before .before .before .before .before .if1 .left)) (p .1) (c .before .before .before .next-of .ensures .0) in
     over-is (omega (arith, c .before .before .before .before .before .before .before .before .if3 .left, n, l, told-over (c .before .before .measure-list .ensures) (c .enum-told2 .given .1)))
 
--- src/measuring.rt:99:20
 measure-list-add-t13 : (t : ℕ) → measure-list-lts.Need-add-t13 (measure-list-calls t) (measure-list-at t) measure-list.Post
 measure-list-add-t13 t c =
     let n = told (c .before .before .before .before .before .before .before .before .measure-term .ensures) (c .before .before .before .before .before .before .term .given .1) in
     omega (arith, n, c .before .before .before .before .before .before .before .before .before .if3 .left)
 
--- src/measuring.rt:99:20
 measure-list-add-t15 : (t : ℕ) → measure-list-lts.Need-add-t15 (measure-list-calls t) (measure-list-at t) measure-list.Post
 measure-list-add-t15 t c =
     let n = told (c .before .before .before .before .before .before .before .before .measure-term .ensures) (c .before .before .before .before .before .before .term .given .1) in
     let m = told (c .before .before .before .measure-list .ensures) (c .before .rest .given .1) in
     omega (arith, n, m, c .before .before .before .before .before .before .before .before .before .if3 .left)
 
--- src/measuring.rt:63:1
 measure-list-returns-6 : (t : ℕ) → measure-list-lts.Need-returns-6 (measure-list-calls t) (measure-list-at t) measure-list.Post
 measure-list-returns-6 t c =
     let a = c .before .before .before .before .before .before .before .before .before .before .before .before .before .args in
@@ -175,52 +156,42 @@ measure-list-returns-6 t c =
     let l = more-length (a .sheet .now) (a .work .now) (a .free) (a .i) (c .before .before .before .before .next-of .result) (a .mark) (p .0 .links) (omega (arith, c .before .before .before .before .before .before .before .before .before .before .if1 .left)) (p .1) (c .before .before .before .before .next-of .ensures .0) in
     fits-is (omega (arith, n, m, l)) (omega (arith, n, m, l, c .before .before .before .before .before .before .before .before .before .if3 .left))
 
--- src/measuring.rt:37:9
 measure-term-kind-of-requires : (t : ℕ) → measure-term-lts.Need-kind-of-requires (measure-term-calls t) (measure-term-at t) measure-term.Post
 measure-term-kind-of-requires t c κs = search needs
 
--- src/measuring.rt:38:9
 measure-term-name-len-requires : (t : ℕ) → measure-term-lts.Need-name-len-requires (measure-term-calls t) (measure-term-at t) measure-term.Post
 measure-term-name-len-requires t c κs = search needs
 
--- src/measuring.rt:40:23
 measure-term-add-within : (t : ℕ) → measure-term-lts.Need-add-within (measure-term-calls t) (measure-term-at t) measure-term.Post
 measure-term-add-within t c = omega (arith, c .before .name-len .ensures .1)
 
--- src/measuring.rt:40:9
 measure-term-within-requires : (t : ℕ) → measure-term-lts.Need-within-requires (measure-term-calls t) (measure-term-at t) measure-term.Post
 measure-term-within-requires t c κs = search needs
 
--- src/measuring.rt:40:9
 measure-term-returns : (t : ℕ) → measure-term-lts.Need-returns (measure-term-calls t) (measure-term-at t) measure-term.Post
 measure-term-returns t c =
     let a = c .before .before .before .before .before .before .args in
     let e = atom-length (a .sheet .now) (a .work .now) (a .i) (omega (arith, c .before .before .before .kind-of .ensures, c .before .if1 .taken)) in
     c .within .ensures ∙ ap (λ (x : ℕ). measured x (a .room)) (omega (arith, e, c .before .before .name-len .ensures .0))
 
--- src/measuring.rt:43:9
 measure-term-within-requires-2 : (t : ℕ) → measure-term-lts.Need-within-requires-2 (measure-term-calls t) (measure-term-at t) measure-term.Post
 measure-term-within-requires-2 t c κs = search needs
 
--- src/measuring.rt:43:9
 measure-term-returns-2 : (t : ℕ) → measure-term-lts.Need-returns-2 (measure-term-calls t) (measure-term-at t) measure-term.Post
 measure-term-returns-2 t c =
     let a = c .before .before .before .before .before .before .before .args in
     let k = c .before .before .before .before .kind-of .ensures in
     c .within2 .ensures ∙ ap (λ (x : ℕ). measured x (a .room)) (c .before .before .before .name-len .ensures .0 ∙ sym (ap length (render-variable (a .sheet .now) (a .work .now) (a .i) (omega (arith, c .before .if2 .taken)) (omega (arith, c .before .before .if1 .left)))))
 
--- src/measuring.rt:46:9
 measure-term-returns-3 : (t : ℕ) → measure-term-lts.Need-returns-3 (measure-term-calls t) (measure-term-at t) measure-term.Post
 measure-term-returns-3 t c =
     let a = c .before .before .before .before .before .before .before .args in
     let k : kind-of (a .work .now) (a .i) ≡ 0 = omega (arith, c .before .before .before .before .kind-of .ensures, c .before .if2 .left) in
     over-is (omega (arith, c .if3 .taken, c .before .before .before .name-len .ensures .0, apply-length (a .sheet .now) (a .work .now) (a .i) _ k refl))
 
--- src/measuring.rt:52:9
 measure-term-first-of-requires : (t : ℕ) → measure-term-lts.Need-first-of-requires (measure-term-calls t) (measure-term-at t) measure-term.Post
 measure-term-first-of-requires t c κs = search needs
 
--- src/measuring.rt:48:9
 measure-term-measure-list-requires : (t : ℕ) → measure-term-lts.Need-measure-list-requires (measure-term-calls t) (measure-term-at t) measure-term.Post
 measure-term-measure-list-requires t c κs =
     let a = c .before .before .before .before .before .before .before .before .args in
@@ -228,28 +199,23 @@ measure-term-measure-list-requires t c κs =
     let k : kind-of (a .work .now) (a .i) ≡ 0 = omega (arith, c .before .before .before .before .before .kind-of .ensures, c .before .before .if2 .left) in
     (omega (arith, c .before .before .before .before .before .before .before .before .pre .0, children-fall (a .sheet .now) (a .work .now) (a .i) (c .first-of .result) k (c .first-of .ensures .0)), (p .0, omega (arith, c .first-of .ensures .1, p .1)))
 
--- src/measuring.rt:56:24
 measure-term-enum-known-list : (t : ℕ) → measure-term-lts.Need-enum-known-list (measure-term-calls t) (measure-term-at t) measure-term.Post
 measure-term-enum-known-list t c = search needs
 
--- src/measuring.rt:57:9
 measure-term-enum-told : (t : ℕ) → measure-term-lts.Need-enum-told (measure-term-calls t) (measure-term-at t) measure-term.Post
 measure-term-enum-told t c = search needs
 
--- src/measuring.rt:57:9
 measure-term-returns-4 : (t : ℕ) → measure-term-lts.Need-returns-4 (measure-term-calls t) (measure-term-at t) measure-term.Post
 measure-term-returns-4 t c =
     let a = c .before .before .before .before .before .before .before .before .before .before .before .args in
     let k : kind-of (a .work .now) (a .i) ≡ 0 = omega (arith, c .before .before .before .before .before .before .before .before .kind-of .ensures, c .before .before .before .before .before .if2 .left) in
     over-is (omega (arith, told-over (c .before .before .measure-list .ensures) (c .enum-told .given .1), c .before .before .before .before .before .before .before .name-len .ensures .0, apply-length (a .sheet .now) (a .work .now) (a .i) (c .before .before .before .first-of .result) k (c .before .before .before .first-of .ensures .0)))
 
--- src/measuring.rt:59:20
 measure-term-add-t12 : (t : ℕ) → measure-term-lts.Need-add-t12 (measure-term-calls t) (measure-term-at t) measure-term.Post
 measure-term-add-t12 t c =
     let m = told (c .before .before .before .measure-list .ensures) (c .before .list .given .1) in
     omega (arith, m, c .before .before .before .before .before .if3 .left)
 
--- src/measuring.rt:32:1
 measure-term-returns-5 : (t : ℕ) → measure-term-lts.Need-returns-5 (measure-term-calls t) (measure-term-at t) measure-term.Post
 measure-term-returns-5 t c =
     let a = c .before .before .before .before .before .before .before .before .before .before .before .before .args in

@@ -5,11 +5,9 @@ use Rattle.tree.proofs.measuring.within.Tie as tie
 use Rattle.tree.proofs.measuring.within.Reads as reads
 use Rattle.tree.proofs.measuring.within.Lts as lts
 
--- src/measuring.rt:26:9
 returns : tie.Need-returns
 returns c = fits-is refl (c .if1 .taken)
 
--- src/measuring.rt:22:1
 returns-2 : tie.Need-returns-2
 returns-2 c = over-is (c .if1 .left)
 

@@ -8,31 +8,24 @@ use Rattle.tree.proofs.names.fixed_len.Tie as tie
 use Rattle.tree.proofs.names.fixed_len.Reads as reads
 use Rattle.tree.proofs.names.fixed_len.Lts as lts
 
--- src/names.rt:100:1
 returns : tie.Need-returns
 returns c = search needs
 
--- src/names.rt:100:1
 returns-2 : tie.Need-returns-2
 returns-2 c = search needs
 
--- src/names.rt:100:1
 returns-3 : tie.Need-returns-3
 returns-3 c = search needs
 
--- src/names.rt:100:1
 returns-4 : tie.Need-returns-4
 returns-4 c = search needs
 
--- src/names.rt:100:1
 returns-5 : tie.Need-returns-5
 returns-5 c = search needs
 
--- src/names.rt:100:1
 returns-6 : tie.Need-returns-6
 returns-6 c = search needs
 
--- src/names.rt:100:1
 returns-7 : tie.Need-returns-7
 returns-7 c =
     let r = c .match .rest in

@@ -16,31 +16,24 @@ use Rattle.tree.proofs.cells.start_of.Reads as start-of-reads
 use Rattle.tree.proofs.names.fixed_is.Reads as fixed-is-reads
 use Rattle.tree.proofs.names.name_of.Reads as name-of-reads
 
--- src/names.rt:50:8
 length-of-requires : tie.Need-length-of-requires
 length-of-requires c κs = search needs
 
--- src/names.rt:51:25
 start-of-requires : tie.Need-start-of-requires
 start-of-requires c κs = search needs
 
--- src/names.rt:51:9
 fixed-is-requires : tie.Need-fixed-is-requires
 fixed-is-requires c κs = search needs
 
--- src/names.rt:51:9
 returns : tie.Need-returns
 returns c = c .fixed-is .ensures ∙ ap (λ (x : List ℕ). same x (c .before .before .before .before .before .before .before .args .text .now)) (ap fixed-name (c .before .start-of .ensures) ∙ sym (name-fixed _ _ _ (sym (c .before .before .before .length-of .ensures) ∙ c .before .before .if1 .taken)))
 
--- src/names.rt:53:10
 name-of-requires : tie.Need-name-of-requires
 name-of-requires c κs = search needs
 
--- src/names.rt:53:5
 same-requires : tie.Need-same-requires
 same-requires c κs = search needs
 
--- src/names.rt:45:1
 returns-2 : tie.Need-returns-2
 returns-2 c = c .same .ensures ∙ ap (λ (x : List ℕ). same x (c .before .before .before .before .before .before .before .args .text .now)) (c .before .name-of .ensures)
 

@@ -10,23 +10,18 @@ use Rattle.tree.proofs.cells.length_of.Reads as length-of-reads
 use Rattle.tree.proofs.cells.start_of.Reads as start-of-reads
 use Rattle.tree.proofs.names.fixed_len.Reads as fixed-len-reads
 
--- src/names.rt:120:9
 length-of-requires : tie.Need-length-of-requires
 length-of-requires c κs = search needs
 
--- src/names.rt:122:26
 start-of-requires : tie.Need-start-of-requires
 start-of-requires c κs = search needs
 
--- src/names.rt:122:9
 fixed-len-requires : tie.Need-fixed-len-requires
 fixed-len-requires c κs = search needs
 
--- src/names.rt:122:9
 returns : tie.Need-returns
 returns c = (fixed-length _ _ _ (sym (c .before .before .before .length-of .ensures) ∙ c .before .before .if1 .taken) (c .before .start-of .ensures) (c .fixed-len .ensures .0), c .fixed-len .ensures .1)
 
--- src/names.rt:115:1
 returns-2 : tie.Need-returns-2
 returns-2 c =
     let p = c .before .before .before .before .pre in

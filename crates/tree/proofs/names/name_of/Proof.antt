@@ -8,31 +8,24 @@ use Rattle.tree.proofs.names.name_of.Lts as lts
 use Rattle.tree.proofs.cells.length_of.Reads as length-of-reads
 use Rattle.tree.proofs.cells.start_of.Reads as start-of-reads
 
--- src/names.rt:24:9
 start-of-requires : tie.Need-start-of-requires
 start-of-requires c κs = search needs
 
--- src/names.rt:25:17
 length-of-requires : tie.Need-length-of-requires
 length-of-requires c κs = search needs
 
--- src/names.rt:25:13
 add-e : tie.Need-add-e
 add-e c = omega (arith, c .before .before .before .before .pre .0 .cell (c .before .before .before .before .args .k) (c .before .before .before .before .pre .1 .0 .0) (c .before .before .before .before .pre .1 .0 .1) .placed .inside (c .before .before .before .before .pre .1 .1))
 
--- src/names.rt:26:5
 sub-result : tie.Need-sub-result
 sub-result c = search needs
 
--- src/names.rt:26:5
 part-result-start : tie.Need-part-result-start
 part-result-start c = search needs
 
--- src/names.rt:26:5
 part-result-end : tie.Need-part-result-end
 part-result-end c = omega (arith, c .before .before .before .before .pre .0 .cell (c .before .before .before .before .args .k) (c .before .before .before .before .pre .1 .0 .0) (c .before .before .before .before .pre .1 .0 .1) .placed .inside (c .before .before .before .before .pre .1 .1))
 
--- src/names.rt:18:1
 returns : tie.Need-returns
 returns c = part-to _ _ (c .before .before .before .before .before .args .k) (c .before .before .before .before .before .pre .1 .1) (c .before .before .start-of .ensures) (c .before .length-of .ensures)
 

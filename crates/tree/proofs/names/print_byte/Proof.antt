@@ -6,19 +6,15 @@ use Rattle.tree.proofs.names.print_byte.Tie as tie
 use Rattle.tree.proofs.names.print_byte.Reads as reads
 use Rattle.tree.proofs.names.print_byte.Lts as lts
 
--- src/names.rt:132:5
 slice-write-out : tie.Need-slice-write-out
 slice-write-out c = search needs
 
--- src/names.rt:133:5
 add-result : tie.Need-add-result
 add-result c = search needs
 
--- src/names.rt:128:1
 same-length : tie.Need-same-length
 same-length c = search needs
 
--- src/names.rt:128:1
 returns : tie.Need-returns
 returns c = record { bytes = written-byte (c .args .out .now) (c .args .at) (c .args .b) (c .pre); end = refl }
 

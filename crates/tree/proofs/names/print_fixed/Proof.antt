@@ -13,103 +13,78 @@ use Rattle.tree.proofs.names.print_fixed.Reads as reads
 use Rattle.tree.proofs.names.print_fixed.Lts as lts
 use Rattle.tree.proofs.names.print_text.Reads as print-text-reads
 
--- src/names.rt:157:34
 slice-aggregate-print-text : tie.Need-slice-aggregate-print-text
 slice-aggregate-print-text c = search needs
 
--- src/names.rt:157:14
 print-text-requires : tie.Need-print-text-requires
 print-text-requires c κs = omega (arith, c .before .before .before .before .pre, ap (λ (x : ℕ). length (fixed-name x)) (c .before .before .match .keys1))
 
--- src/names.rt:158:34
 slice-aggregate-print-text-2 : tie.Need-slice-aggregate-print-text-2
 slice-aggregate-print-text-2 c = search needs
 
--- src/names.rt:158:14
 print-text-requires-2 : tie.Need-print-text-requires-2
 print-text-requires-2 c κs = omega (arith, c .before .before .before .before .pre, ap (λ (x : ℕ). length (fixed-name x)) (c .before .before .match .keys2))
 
--- src/names.rt:159:34
 slice-aggregate-print-text-3 : tie.Need-slice-aggregate-print-text-3
 slice-aggregate-print-text-3 c = search needs
 
--- src/names.rt:159:14
 print-text-requires-3 : tie.Need-print-text-requires-3
 print-text-requires-3 c κs = omega (arith, c .before .before .before .before .pre, ap (λ (x : ℕ). length (fixed-name x)) (c .before .before .match .keys3))
 
--- src/names.rt:160:34
 slice-aggregate-print-text-4 : tie.Need-slice-aggregate-print-text-4
 slice-aggregate-print-text-4 c = search needs
 
--- src/names.rt:160:14
 print-text-requires-4 : tie.Need-print-text-requires-4
 print-text-requires-4 c κs = omega (arith, c .before .before .before .before .pre, ap (λ (x : ℕ). length (fixed-name x)) (c .before .before .match .keys4))
 
--- src/names.rt:161:34
 slice-aggregate-print-text-5 : tie.Need-slice-aggregate-print-text-5
 slice-aggregate-print-text-5 c = search needs
 
--- src/names.rt:161:14
 print-text-requires-5 : tie.Need-print-text-requires-5
 print-text-requires-5 c κs = omega (arith, c .before .before .before .before .pre, ap (λ (x : ℕ). length (fixed-name x)) (c .before .before .match .keys5))
 
--- src/names.rt:162:34
 slice-aggregate-print-text-6 : tie.Need-slice-aggregate-print-text-6
 slice-aggregate-print-text-6 c = search needs
 
--- src/names.rt:162:14
 print-text-requires-6 : tie.Need-print-text-requires-6
 print-text-requires-6 c κs = omega (arith, c .before .before .before .before .pre, ap (λ (x : ℕ). length (fixed-name x)) (c .before .before .match .keys6))
 
--- src/names.rt:152:1
 same-length : tie.Need-same-length
 same-length c = search needs
 
--- src/names.rt:152:1
 returns : tie.Need-returns
 returns c = printed-at fixed-name (c .before .before .before .before .before .match .keys1) (c .before .before .print-text .ensures)
 
--- src/names.rt:152:1
 same-length-2 : tie.Need-same-length-2
 same-length-2 c = search needs
 
--- src/names.rt:152:1
 returns-2 : tie.Need-returns-2
 returns-2 c = printed-at fixed-name (c .before .before .before .before .before .match .keys2) (c .before .before .print-text2 .ensures)
 
--- src/names.rt:152:1
 same-length-3 : tie.Need-same-length-3
 same-length-3 c = search needs
 
--- src/names.rt:152:1
 returns-3 : tie.Need-returns-3
 returns-3 c = printed-at fixed-name (c .before .before .before .before .before .match .keys3) (c .before .before .print-text3 .ensures)
 
--- src/names.rt:152:1
 same-length-4 : tie.Need-same-length-4
 same-length-4 c = search needs
 
--- src/names.rt:152:1
 returns-4 : tie.Need-returns-4
 returns-4 c = printed-at fixed-name (c .before .before .before .before .before .match .keys4) (c .before .before .print-text4 .ensures)
 
--- src/names.rt:152:1
 same-length-5 : tie.Need-same-length-5
 same-length-5 c = search needs
 
--- src/names.rt:152:1
 returns-5 : tie.Need-returns-5
 returns-5 c = printed-at fixed-name (c .before .before .before .before .before .match .keys5) (c .before .before .print-text5 .ensures)
 
--- src/names.rt:152:1
 same-length-6 : tie.Need-same-length-6
 same-length-6 c = search needs
 
--- src/names.rt:152:1
 returns-6 : tie.Need-returns-6
 returns-6 c = printed-at fixed-name (c .before .before .before .before .before .match .keys6) (c .before .before .print-text6 .ensures)
 
--- src/names.rt:152:1
 returns-7 : tie.Need-returns-7
 returns-7 c =
     let r = c .match .rest in

@@ -14,39 +14,30 @@ use Rattle.tree.proofs.names.name_of.Reads as name-of-reads
 use Rattle.tree.proofs.names.print_fixed.Reads as print-fixed-reads
 use Rattle.tree.proofs.names.print_text.Reads as print-text-reads
 
--- src/names.rt:174:8
 length-of-requires : tie.Need-length-of-requires
 length-of-requires c κs = search needs
 
--- src/names.rt:175:37
 start-of-requires : tie.Need-start-of-requires
 start-of-requires c κs = search needs
 
--- src/names.rt:175:9
 print-fixed-requires : tie.Need-print-fixed-requires
 print-fixed-requires c κs = omega (arith, c .before .before .before .before .before .before .before .pre .1 .1, ap length (name-fixed (c .before .before .before .before .before .before .before .args .sheet .now) (c .before .before .before .before .before .before .before .args .work .now) (c .before .before .before .before .before .before .before .args .k) (sym (c .before .before .before .length-of .ensures) ∙ c .before .before .if1 .taken) ∙ ap fixed-name (sym (c .start-of .ensures))))
 
--- src/names.rt:175:9
 same-length : tie.Need-same-length
 same-length c = search needs
 
--- src/names.rt:175:9
 returns : tie.Need-returns
 returns c = rw (name-fixed (c .before .before .before .before .before .before .before .before .before .before .args .sheet .now) (c .before .before .before .before .before .before .before .before .before .before .args .work .now) (c .before .before .before .before .before .before .before .before .before .before .args .k) (sym (c .before .before .before .before .before .before .length-of .ensures) ∙ c .before .before .before .before .before .if1 .taken) ∙ ap fixed-name (sym (c .before .before .before .start-of .ensures))) (c .before .before .print-fixed .ensures)
 
--- src/names.rt:177:25
 name-of-requires : tie.Need-name-of-requires
 name-of-requires c κs = search needs
 
--- src/names.rt:177:5
 print-text-requires : tie.Need-print-text-requires
 print-text-requires c κs = omega (arith, c .before .before .before .before .before .before .before .pre .1 .1, ap length (c .name-of .ensures))
 
--- src/names.rt:168:1
 same-length-2 : tie.Need-same-length-2
 same-length-2 c = search needs
 
--- src/names.rt:168:1
 returns-2 : tie.Need-returns-2
 returns-2 c = rw (sym (c .before .before .before .name-of .ensures)) (c .before .before .print-text .ensures)
 

@@ -17,46 +17,36 @@ Inv-loop out₀ at text i₀ out i = (i ≤ length text) × (length out ≡ leng
 abbrev μ-loop : tie.MeasureT-loop
 μ-loop out₀ at text i₀ out i = length text - i
 
--- src/names.rt:142:5
 loop-holds : tie.Need-loop-holds Inv-loop μ-loop
 loop-holds c = (omega arith, refl, sym (written-none _ _))
 
--- src/names.rt:143:23
 shared-slice-read-out : tie.Need-shared-slice-read-out Inv-loop μ-loop
 shared-slice-read-out c = omega arith
 
--- src/names.rt:143:13
 add-out : tie.Need-add-out Inv-loop μ-loop
 add-out c = omega arith
 
--- src/names.rt:143:9
 slice-write-out : tie.Need-slice-write-out Inv-loop μ-loop
 slice-write-out c = omega arith
 
--- src/names.rt:144:9
 add-i : tie.Need-add-i Inv-loop μ-loop
 add-i c = omega arith
 
--- src/names.rt:142:5
 loop-less : tie.Need-loop-less Inv-loop μ-loop
 loop-less c = omega arith
 
--- src/names.rt:142:5
 loop-again : tie.Need-loop-again Inv-loop μ-loop
 loop-again c =
     let a = c .before .before .before .args in
     let l = c .before .before .loop in
     (omega arith, simp length-set (l .inv .1), ap (λ (o : List ℕ). set o (a .at + l .i) (getD (a .text .now) (l .i) 0)) (l .inv .2) ∙ written-more (a .out .now) (a .text .now) (a .at) (l .i) (c .before .before .before .pre) (omega arith))
 
--- src/names.rt:146:5
 add-result : tie.Need-add-result Inv-loop μ-loop
 add-result c = omega arith
 
--- src/names.rt:137:1
 same-length : tie.Need-same-length Inv-loop μ-loop
 same-length c = c .before .loop .inv .1
 
--- src/names.rt:137:1
 returns : tie.Need-returns Inv-loop μ-loop
 returns c =
     let a = c .before .before .args in

@@ -10,33 +10,27 @@ use Rattle.tree.proofs.names.same_head.Lts as lts
 use Rattle.tree.proofs.cells.kind_of.Reads as kind-of-reads
 use Rattle.tree.proofs.names.same_name.Reads as same-name-reads
 
--- src/names.rt:86:9
 kind-of-requires : tie.Need-kind-of-requires
 kind-of-requires c κs = search needs
 
--- src/names.rt:87:9
 kind-of-requires-2 : tie.Need-kind-of-requires-2
 kind-of-requires-2 c κs = search needs
 
--- src/names.rt:90:13
 returns : tie.Need-returns
 returns c =
     let a = c .before .before .before .before .before .before .args in
     let p = c .before .before .before .before .before .before .pre in
     heads-differ _ _ _ _ (p .0 .cell (a .i) (p .1 .0 .0) (p .1 .0 .1)) (p .0 .cell (a .j) (p .1 .1 .0) (p .1 .1 .1)) (λ e. c .before .if1 .taken (c .before .before .before .kind-of .ensures ∙ e ∙ sym (c .before .before .kind-of2 .ensures))) (inl (omega (arith, c .before .before .before .kind-of .ensures, c .if2 .taken)))
 
--- src/names.rt:93:13
 returns-2 : tie.Need-returns-2
 returns-2 c =
     let a = c .before .before .before .before .before .before .before .args in
     let p = c .before .before .before .before .before .before .before .pre in
     heads-differ _ _ _ _ (p .0 .cell (a .i) (p .1 .0 .0) (p .1 .0 .1)) (p .0 .cell (a .j) (p .1 .1 .0) (p .1 .1 .1)) (λ e. c .before .before .if1 .taken (c .before .before .before .before .kind-of .ensures ∙ e ∙ sym (c .before .before .before .kind-of2 .ensures))) (inr (omega (arith, c .before .before .before .kind-of2 .ensures, c .if3 .taken)))
 
--- src/names.rt:96:5
 same-name-requires : tie.Need-same-name-requires
 same-name-requires c κs = search needs
 
--- src/names.rt:80:1
 returns-3 : tie.Need-returns-3
 returns-3 c =
     let a = c .before .before .before .before .before .before .args in

@@ -15,51 +15,39 @@ use Rattle.tree.proofs.cells.start_of.Reads as start-of-reads
 use Rattle.tree.proofs.names.name_is.Reads as name-is-reads
 use Rattle.tree.proofs.names.name_of.Reads as name-of-reads
 
--- src/names.rt:63:9
 start-of-requires : tie.Need-start-of-requires
 start-of-requires c κs = search needs
 
--- src/names.rt:64:9
 length-of-requires : tie.Need-length-of-requires
 length-of-requires c κs = search needs
 
--- src/names.rt:65:9
 start-of-requires-2 : tie.Need-start-of-requires-2
 start-of-requires-2 c κs = search needs
 
--- src/names.rt:66:9
 length-of-requires-2 : tie.Need-length-of-requires-2
 length-of-requires-2 c κs = search needs
 
--- src/names.rt:70:17
 returns : tie.Need-returns
 returns c = same-places _ _ _ _ (c .before .before .before .before .before .before .start-of .ensures) (c .before .before .before .before .start-of2 .ensures) (c .before .if2 .taken) (c .before .before .before .before .before .length-of .ensures) (c .before .before .before .length-of2 .ensures) (c .if3 .taken)
 
--- src/names.rt:73:46
 name-of-requires : tie.Need-name-of-requires
 name-of-requires c κs = search needs
 
--- src/names.rt:73:9
 name-is-requires : tie.Need-name-is-requires
 name-is-requires c κs = search needs
 
--- src/names.rt:73:9
 returns-2 : tie.Need-returns-2
 returns-2 c = c .name-is .ensures ∙ ap (same (name-at (c .before .before .before .before .before .before .before .before .before .before .args .sheet .now) (c .before .before .before .before .before .before .before .before .before .before .args .work .now) (c .before .before .before .before .before .before .before .before .before .before .args .i))) (c .before .name-of .ensures)
 
--- src/names.rt:76:46
 name-of-requires-2 : tie.Need-name-of-requires-2
 name-of-requires-2 c κs = search needs
 
--- src/names.rt:76:9
 name-is-requires-2 : tie.Need-name-is-requires-2
 name-is-requires-2 c κs = search needs
 
--- src/names.rt:76:9
 returns-3 : tie.Need-returns-3
 returns-3 c = c .name-is2 .ensures ∙ same-swap _ _ ∙ ap (λ (x : List ℕ). same x (name-at (c .before .before .before .before .before .before .before .before .before .before .args .sheet .now) (c .before .before .before .before .before .before .before .before .before .before .args .work .now) (c .before .before .before .before .before .before .before .before .before .before .args .j))) (c .before .name-of2 .ensures)
 
--- src/names.rt:57:1
 returns-4 : tie.Need-returns-4
 returns-4 c =
     let a = c .before .before .before .before .before .before .before .before .args in

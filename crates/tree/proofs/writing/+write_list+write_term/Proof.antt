@@ -55,29 +55,24 @@ write-list-calls t = (print-byte-reads.Asked, print-byte-reads.Learnt, write-ter
 abbrev write-term-calls : ℕ → write-term-lts.Claims
 write-term-calls t = (kind-of-reads.Asked, kind-of-reads.Learnt, write-atom-reads.Asked, write-atom-reads.Learnt, print-name-reads.Asked, print-name-reads.Learnt, first-of-reads.Asked, first-of-reads.Learnt, write-list-below t, write-list.Post)
 
--- src/writing.rt:81:13
 write-list-returns : (t : ℕ) → write-list-lts.Need-returns (write-list-calls t) (write-list-at t) write-list.Post
 write-list-returns t c =
     let a = c .before .before .before .before .before .args in
     printed-none _ _ (marked-open (a .sheet .now) (a .work .now) (a .i) (a .mark) (c .before .if1 .taken) (c .if2 .taken))
 
--- src/writing.rt:83:9
 write-list-print-byte-requires : (t : ℕ) → write-list-lts.Need-print-byte-requires (write-list-calls t) (write-list-at t) write-list.Post
 write-list-print-byte-requires t c κs =
     let a = c .before .before .before .before .before .before .args in
     omega (arith, c .before .before .before .before .before .before .pre .1 .1 .1, ap length (marked-close (a .sheet .now) (a .work .now) (a .i) (a .mark) (c .before .before .if1 .taken) (c .before .if2 .left)))
 
--- src/writing.rt:83:9
 write-list-same-length : (t : ℕ) → write-list-lts.Need-same-length (write-list-calls t) (write-list-at t) write-list.Post
 write-list-same-length t c = search needs
 
--- src/writing.rt:83:9
 write-list-returns-2 : (t : ℕ) → write-list-lts.Need-returns-2 (write-list-calls t) (write-list-at t) write-list.Post
 write-list-returns-2 t c =
     let a = c .before .before .before .before .before .before .before .before .before .args in
     rw (marked-close (a .sheet .now) (a .work .now) (a .i) (a .mark) (c .before .before .before .before .before .if1 .taken) (c .before .before .before .before .if2 .left)) (c .before .before .print-byte .ensures)
 
--- src/writing.rt:85:9
 write-list-print-byte-requires-2 : (t : ℕ) → write-list-lts.Need-print-byte-requires-2 (write-list-calls t) (write-list-at t) write-list.Post
 write-list-print-byte-requires-2 t c κs =
     let a = c .before .before .before .before .before .args in
@@ -86,7 +81,6 @@ write-list-print-byte-requires-2 t c κs =
     let w = a .work .now in
     omega (arith, p .1 .1, more-length s w (a .free) (a .i) (next-of w (a .i)) (a .mark) (p .0 .links) (omega (arith, c .before .if1 .left)) (p .1 .0) refl)
 
--- src/writing.rt:86:9
 write-list-write-term-requires : (t : ℕ) → write-list-lts.Need-write-term-requires (write-list-calls t) (write-list-at t) write-list.Post
 write-list-write-term-requires t c κs =
     let a = c .before .before .before .before .before .before .before .before .before .args in
@@ -97,11 +91,9 @@ write-list-write-term-requires t c κs =
     let n = more-length s w (a .free) (a .i) (next-of w (a .i)) (a .mark) (p .0 .links) q (p .1 .0) refl in
     (omega (arith, c .before .before .before .before .before .before .before .before .before .pre .0, head-falls s (p .0 .links) (a .i) q (p .1 .0)), (p .0, ((q, p .1 .0), omega (arith, p .1 .1, n, c .before .before .before .print-byte2 .ensures .end, c .before .before .before .print-byte2 .kept .0))))
 
--- src/writing.rt:87:9
 write-list-next-of-requires : (t : ℕ) → write-list-lts.Need-next-of-requires (write-list-calls t) (write-list-at t) write-list.Post
 write-list-next-of-requires t c κs = search needs
 
--- src/writing.rt:88:5
 write-list-write-list-requires : (t : ℕ) → write-list-lts.Need-write-list-requires (write-list-calls t) (write-list-at t) write-list.Post
 write-list-write-list-requires t c κs =
     let a = c .before .before .before .before .before .before .before .before .before .before .before .before .before .before .args in
@@ -110,15 +102,14 @@ write-list-write-list-requires t c κs =
     let w = a .work .now in
     let q : 0 < a .i = omega (arith, c .before .before .before .before .before .before .before .before .before .before .if1 .left) in
     let j = c .before .next-of .result in
-    let n = more-length s w (a .free) (a .i) j (a .mark) (p .0 .links) q (p .1 .0) (c .before .next-of .ensures .0) in
-    (omega (arith, c .before .before .before .before .before .before .before .before .before .before .before .before .before .before .pre .0, rest-falls s (p .0 .links) (a .i) j q (p .1 .0) (c .before .next-of .ensures .0)),
-    (p .0, (omega (arith, c .before .next-of .ensures .1, p .1 .0), omega (arith, p .1 .1, n, c .before .before .before .before .before .before .before .before .print-byte2 .ensures .end, c .before .before .before .before .before .before .before .before .print-byte2 .kept .0, c .before .before .before .before .write-term .ensures .end, c .before .before .before .before .write-term .kept .1 .1 .1 .1 .0))))
+    let n = more-length s w (a .free) (a .i) j (a .mark) (p .0 .links) q (p .1 .0) (c .before .next-of .ensures .0) in (
+      omega (arith, c .before .before .before .before .before .before .before .before .before .before .before .before .before .before .pre .0, rest-falls s (p .0 .links) (a .i) j q (p .1 .0) (c .before .next-of .ensures .0)),
+      (p .0, (omega (arith, c .before .next-of .ensures .1, p .1 .0), omega (arith, p .1 .1, n, c .before .before .before .before .before .before .before .before .print-byte2 .ensures .end, c .before .before .before .before .before .before .before .before .print-byte2 .kept .0, c .before .before .before .before .write-term .ensures .end, c .before .before .before .before .write-term .kept .1 .1 .1 .1 .0))),
+    )
 
--- src/writing.rt:65:1
 write-list-same-length-2 : (t : ℕ) → write-list-lts.Need-same-length-2 (write-list-calls t) (write-list-at t) write-list.Post
 write-list-same-length-2 t c = search needs
 
--- src/writing.rt:65:1
 write-list-returns-3 : (t : ℕ) → write-list-lts.Need-returns-3 (write-list-calls t) (write-list-at t) write-list.Post
 write-list-returns-3 t c =
     let a = c .before .before .before .before .before .before .before .before .before .before .before .before .before .before .before .before .before .args in
@@ -131,46 +122,37 @@ write-list-returns-3 t c =
     let r = p .1 .1 in
     rw (marked-more s w (a .free) (a .i) j (a .mark) (p .0 .links) q (p .1 .0) (c .before .before .before .before .next-of .ensures .0)) (printed-then (omega (arith, r, n)) (printed-then (omega (arith, r, n)) (c .before .before .before .before .before .before .before .before .before .before .before .print-byte2 .ensures) (c .before .before .before .before .before .before .before .write-term .ensures)) (c .before .before .write-list .ensures))
 
--- src/writing.rt:52:9
 write-term-kind-of-requires : (t : ℕ) → write-term-lts.Need-kind-of-requires (write-term-calls t) (write-term-at t) write-term.Post
 write-term-kind-of-requires t c κs = search needs
 
--- src/writing.rt:54:9
 write-term-write-atom-requires : (t : ℕ) → write-term-lts.Need-write-atom-requires (write-term-calls t) (write-term-at t) write-term.Post
 write-term-write-atom-requires t c κs =
     let p = c .before .before .before .before .before .before .pre .1 in
     (p .0, (p .1 .0, (omega (arith, c .before .before .kind-of .ensures, c .before .if1 .taken), p .1 .1)))
 
--- src/writing.rt:54:9
 write-term-same-length : (t : ℕ) → write-term-lts.Need-same-length (write-term-calls t) (write-term-at t) write-term.Post
 write-term-same-length t c = search needs
 
--- src/writing.rt:54:9
 write-term-returns : (t : ℕ) → write-term-lts.Need-returns (write-term-calls t) (write-term-at t) write-term.Post
 write-term-returns t c = search needs
 
--- src/writing.rt:56:9
 write-term-print-name-requires : (t : ℕ) → write-term-lts.Need-print-name-requires (write-term-calls t) (write-term-at t) write-term.Post
 write-term-print-name-requires t c κs =
     let p = c .before .before .before .before .before .before .pre .1 in
     (p .0, (p .1 .0, omega (arith, p .1 .1, render-name (c .before .before .before .before .before .before .args .sheet .now) (c .before .before .before .before .before .before .args .work .now) (c .before .before .before .before .before .before .args .i) (omega (arith, c .before .before .kind-of .ensures, c .before .if1 .left)))))
 
--- src/writing.rt:58:9
 write-term-same-length-2 : (t : ℕ) → write-term-lts.Need-same-length-2 (write-term-calls t) (write-term-at t) write-term.Post
 write-term-same-length-2 t c = search needs
 
--- src/writing.rt:58:9
 write-term-returns-2 : (t : ℕ) → write-term-lts.Need-returns-2 (write-term-calls t) (write-term-at t) write-term.Post
 write-term-returns-2 t c =
     let a = c .before .before .before .before .before .before .before .before .before .before .args in
     let k = c .before .before .before .before .before .before .kind-of .ensures in
     rw (render-variable (a .sheet .now) (a .work .now) (a .i) (omega (arith, c .if2 .taken)) (omega (arith, c .before .before .before .before .before .if1 .left))) (c .before .before .before .print-name .ensures)
 
--- src/writing.rt:60:9
 write-term-first-of-requires : (t : ℕ) → write-term-lts.Need-first-of-requires (write-term-calls t) (write-term-at t) write-term.Post
 write-term-first-of-requires t c κs = search needs
 
--- src/writing.rt:61:5
 write-term-write-list-requires : (t : ℕ) → write-term-lts.Need-write-list-requires (write-term-calls t) (write-term-at t) write-term.Post
 write-term-write-list-requires t c κs =
     let a = c .before .before .before .before .before .before .before .before .before .before .before .before .args in
@@ -178,15 +160,14 @@ write-term-write-list-requires t c κs =
     let s = a .sheet .now in
     let w = a .work .now in
     let j = c .before .first-of .result in
-    let k : kind-of w (a .i) ≡ 0 = omega (arith, c .before .before .before .before .before .before .before .before .kind-of .ensures, c .before .before .if2 .left) in
-    (omega (arith, c .before .before .before .before .before .before .before .before .before .before .before .before .pre .0, children-fall s w (a .i) j k (c .before .first-of .ensures .0)),
-    (p .0, (omega (arith, c .before .first-of .ensures .1, p .1 .0), omega (arith, p .1 .1, c .before .before .before .before .before .print-name .ensures .end, c .before .before .before .before .before .print-name .kept .1 .1 .1 .1 .0, apply-length s w (a .i) j k (c .before .first-of .ensures .0)))))
+    let k : kind-of w (a .i) ≡ 0 = omega (arith, c .before .before .before .before .before .before .before .before .kind-of .ensures, c .before .before .if2 .left) in (
+      omega (arith, c .before .before .before .before .before .before .before .before .before .before .before .before .pre .0, children-fall s w (a .i) j k (c .before .first-of .ensures .0)),
+      (p .0, (omega (arith, c .before .first-of .ensures .1, p .1 .0), omega (arith, p .1 .1, c .before .before .before .before .before .print-name .ensures .end, c .before .before .before .before .before .print-name .kept .1 .1 .1 .1 .0, apply-length s w (a .i) j k (c .before .first-of .ensures .0)))),
+    )
 
--- src/writing.rt:39:1
 write-term-same-length-3 : (t : ℕ) → write-term-lts.Need-same-length-3 (write-term-calls t) (write-term-at t) write-term.Post
 write-term-same-length-3 t c = search needs
 
--- src/writing.rt:39:1
 write-term-returns-3 : (t : ℕ) → write-term-lts.Need-returns-3 (write-term-calls t) (write-term-at t) write-term.Post
 write-term-returns-3 t c =
     let a = c .before .before .before .before .before .before .before .before .before .before .before .before .before .before .before .args in

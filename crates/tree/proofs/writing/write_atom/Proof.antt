@@ -17,39 +17,31 @@ use Rattle.tree.proofs.cells.kind_of.Reads as kind-of-reads
 use Rattle.tree.proofs.names.print_byte.Reads as print-byte-reads
 use Rattle.tree.proofs.names.print_name.Reads as print-name-reads
 
--- src/writing.rt:31:18
 kind-of-requires : tie.Need-kind-of-requires
 kind-of-requires c κs = search needs
 
--- src/writing.rt:31:18
 cast-letter : tie.Need-cast-letter
 cast-letter c =
     let p = c .before .before .before .before .pre in
     omega (arith, p .0 .cell (c .before .before .before .before .args .i) (p .1 .0 .0) (p .1 .0 .1), c .kind-of .ensures)
 
--- src/writing.rt:32:9
 print-byte-requires : tie.Need-print-byte-requires
 print-byte-requires c κs = omega (arith, c .before .before .before .before .before .pre .1 .1, atom-length (c .before .before .before .before .before .args .sheet .now) (c .before .before .before .before .before .args .work .now) (c .before .before .before .before .before .args .i) (c .before .before .before .before .before .pre .1 .1 .0))
 
--- src/writing.rt:33:9
 print-byte-requires-2 : tie.Need-print-byte-requires-2
 print-byte-requires-2 c κs = omega (arith, c .before .before .before .before .before .before .before .before .before .pre .1 .1, c .before .before .before .print-byte .ensures .end, c .before .before .before .print-byte .kept .0, atom-length (c .before .before .before .before .before .before .before .before .before .args .sheet .now) (c .before .before .before .before .before .before .before .before .before .args .work .now) (c .before .before .before .before .before .before .before .before .before .args .i) (c .before .before .before .before .before .before .before .before .before .pre .1 .1 .0))
 
--- src/writing.rt:34:9
 print-name-requires : tie.Need-print-name-requires
 print-name-requires c κs =
     let p = c .before .before .before .before .before .before .before .before .before .before .before .before .before .pre in
     (p .0, (p .1 .0, omega (arith, p .1 .1, c .before .before .before .before .before .before .before .print-byte .ensures .end, c .before .before .before .before .before .before .before .print-byte .kept .0, c .before .before .before .print-byte2 .ensures .end, c .before .before .before .print-byte2 .kept .0, atom-length (c .before .before .before .before .before .before .before .before .before .before .before .before .before .args .sheet .now) (c .before .before .before .before .before .before .before .before .before .before .before .before .before .args .work .now) (c .before .before .before .before .before .before .before .before .before .before .before .before .before .args .i) (p .1 .1 .0))))
 
--- src/writing.rt:35:5
 print-byte-requires-3 : tie.Need-print-byte-requires-3
 print-byte-requires-3 c κs = omega (arith, c .before .before .before .before .before .before .before .before .before .before .before .before .before .before .before .before .before .pre .1 .1, c .before .before .before .before .before .before .before .before .before .before .before .print-byte .ensures .end, c .before .before .before .before .before .before .before .before .before .before .before .print-byte .kept .0, c .before .before .before .before .before .before .before .print-byte2 .ensures .end, c .before .before .before .before .before .before .before .print-byte2 .kept .0, c .before .before .before .print-name .ensures .end, c .before .before .before .print-name .kept .1 .1 .1 .1 .0, atom-length (c .before .before .before .before .before .before .before .before .before .before .before .before .before .before .before .before .before .args .sheet .now) (c .before .before .before .before .before .before .before .before .before .before .before .before .before .before .before .before .before .args .work .now) (c .before .before .before .before .before .before .before .before .before .before .before .before .before .before .before .before .before .args .i) (c .before .before .before .before .before .before .before .before .before .before .before .before .before .before .before .before .before .pre .1 .1 .0))
 
--- src/writing.rt:17:1
 same-length : tie.Need-same-length
 same-length c = search needs
 
--- src/writing.rt:17:1
 returns : tie.Need-returns
 returns c =
     let a = c .before .before .before .before .before .before .before .before .before .before .before .before .before .before .before .before .before .before .before .before .args in

@@ -1,0 +1,150 @@
+-- What the memory of a run is measured by: the names of the variables in its trees, and the weight of its waiting pairs (01, "A
+-- sheet comes in": the words needed).
+use mathlib.Core.Path.{_≡_}
+use mathlib.Core.Bool.{Bool, true, cond}
+use mathlib.Core.List.{List, [], _∷_, _++_}
+use mathlib.Core.Option.{some, none as nothing}
+use Prim.Native.Nat.{ℕ, suc, _+_}
+use lib.ListN.{length}
+use Rattle.rules.specs.Bytes.{Text, same}
+use Rattle.rules.specs.Text.{is-one-of}
+use Rattle.rules.specs.Tree.{Tree, variable, atom, apply, Trees, none, more, sizes}
+use Rattle.rules.specs.Substitution.{Binding, Pair}
+use Rattle.rules.specs.Sums.{summands}
+use Rattle.rules.specs.Solving.{cancel}
+use Rattle.rules.specs.Reading.{parse}
+use Rattle.rules.specs.Sheet.{Sheet, Entry, Member, asks-equal, asks-unify, asks-match, asks-reduce, asks-cover, asks-sound, asks-complete}
+
+-- Names
+
+-- the variables of a tree, each as often as it occurs
+unfoldable mutual
+  pub variable-names : Tree → List Text
+  variable-names (variable x) = x ∷ []
+  variable-names (atom c d) = []
+  variable-names (apply f ts) = variable-names-in ts
+
+  pub variable-names-in : Trees → List Text
+  variable-names-in none = []
+  variable-names-in (more t ts) = variable-names t ++ variable-names-in ts
+
+unfoldable pub variable-names-of-pairs : List Pair → List Text
+unfolding variable-names
+variable-names-of-pairs [] = []
+variable-names-of-pairs (p ∷ ps) = variable-names (p .0) ++ (variable-names (p .1) ++ variable-names-of-pairs ps)
+
+-- the names other than x
+unfoldable pub without : Text → List Text → List Text
+unfolding same
+without x [] = []
+without x (n ∷ ns) = cond (same n x) (without x ns) (n ∷ without x ns)
+
+-- each variable of the tree is one of the names
+abbrev mutual
+  pub Over : List Text → Tree → Type 0
+  Over ns (variable x) = is-one-of ns x ≡ true
+  Over ns (atom c d) = Unit {0}
+  Over ns (apply f ts) = Overs ns ts
+
+  pub Overs : List Text → Trees → Type 0
+  Overs ns none = Unit {0}
+  Overs ns (more t ts) = Over ns t × Overs ns ts
+
+abbrev pub OverPairs : List Text → List Pair → Type 0
+OverPairs ns [] = Unit {0}
+OverPairs ns (p ∷ ps) = Over ns (p .0) × Over ns (p .1) × OverPairs ns ps
+
+-- each variable of the values is one of the names
+abbrev pub OverBindings : List Text → List Binding → Type 0
+OverBindings ns [] = Unit {0}
+OverBindings ns (b ∷ bs) = Over ns (b .1) × OverBindings ns bs
+
+-- Texts of a sheet
+
+-- left, right, left, right
+unfoldable pub side-texts : List Entry → List Text
+side-texts [] = []
+side-texts (e ∷ es) = e .0 ∷ e .1 ∷ side-texts es
+
+unfoldable pub entry-keys : List Entry → List Text
+entry-keys [] = []
+entry-keys (e ∷ es) = e .0 ∷ entry-keys es
+
+unfoldable pub entry-values : List Entry → List Text
+entry-values [] = []
+entry-values (e ∷ es) = e .1 ∷ entry-values es
+
+-- a member's texts are those of its `member` and `value` lines, not its keys
+unfoldable pub member-texts : List Member → List Text
+unfolding entry-values
+member-texts [] = []
+member-texts (m ∷ ms) = m .0 ∷ (entry-values (m .1) ++ member-texts ms)
+
+unfoldable pub member-keys : List Member → List Text
+unfolding entry-keys
+member-keys [] = []
+member-keys (m ∷ ms) = entry-keys (m .1) ++ member-keys ms
+
+-- the texts that are read as terms
+unfoldable pub sheet-texts : Sheet → List Text
+unfolding side-texts member-texts
+sheet-texts (asks-equal l r) = l ∷ r ∷ []
+sheet-texts (asks-unify fuel es) = side-texts es
+sheet-texts (asks-match fuel es) = side-texts es
+sheet-texts (asks-reduce t) = t ∷ []
+sheet-texts (asks-cover es ms) = side-texts es ++ member-texts ms
+sheet-texts (asks-sound t m) = t ∷ member-texts (m ∷ [])
+sheet-texts (asks-complete t ms) = t ∷ member-texts ms
+
+unfoldable pub sheet-keys : Sheet → List Text
+unfolding member-keys
+sheet-keys (asks-equal l r) = []
+sheet-keys (asks-unify fuel es) = []
+sheet-keys (asks-match fuel es) = []
+sheet-keys (asks-reduce t) = []
+sheet-keys (asks-cover es ms) = member-keys ms
+sheet-keys (asks-sound t m) = member-keys (m ∷ [])
+sheet-keys (asks-complete t ms) = member-keys ms
+
+-- the pairs of the sheet, if its kind has some
+abbrev pub sheet-pairs : Sheet → List Entry
+sheet-pairs (asks-equal l r) = []
+sheet-pairs (asks-unify fuel es) = es
+sheet-pairs (asks-match fuel es) = es
+sheet-pairs (asks-reduce t) = []
+sheet-pairs (asks-cover es ms) = es
+sheet-pairs (asks-sound t m) = []
+sheet-pairs (asks-complete t ms) = []
+
+-- the variables of the trees that texts read as; a text that does not read has none
+unfoldable pub names-read : List Text → List Text
+unfolding parse variable-names
+names-read [] = []
+names-read (s ∷ ss) = elim (parse s) [ nothing ↦ names-read ss | some t ↦ variable-names t ++ names-read ss ]
+
+-- Weights
+
+-- the nodes under two applications with the same name: what taking such a pair may still cost
+unfoldable pub load : Tree → Tree → ℕ
+unfolding same
+load (variable x) u = 0
+load (atom c d) u = 0
+load (apply f ts) (variable y) = 0
+load (apply f ts) (atom c d) = 0
+load (apply f ts) (apply g us) = cond (same f g) (sizes ts + sizes us) 0
+
+unfoldable pub weight : List Pair → ℕ
+unfolding load
+weight [] = 0
+weight (p ∷ ps) = load (p .0) (p .1) + weight ps
+
+-- how many pairs two lists of children make
+unfoldable pub pushed : Trees → Trees → ℕ
+pushed none us = 0
+pushed (more t ts) none = 0
+pushed (more t ts) (more u us) = suc (pushed ts us)
+
+-- how many summands cancelling leaves on both sides
+unfoldable pub kept-summands : (Tree → Tree → Bool) → Tree → Tree → ℕ
+unfolding cancel summands
+kept-summands test l r = let c = cancel test (summands l) (summands r) in length (c .0) + length (c .1)

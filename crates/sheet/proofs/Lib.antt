@@ -1,0 +1,7 @@
+pub mod LineLaws
+pub mod PairLaws
+pub mod Distinct
+pub mod MemberLaws
+pub mod KeyLaws
+pub mod FormLaws
+pub mod SheetLaws
