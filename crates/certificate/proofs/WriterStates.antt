@@ -22,13 +22,9 @@ use Rattle.text.specs.Sorting.{Wrote}
 use Rattle.text.proofs.Slices.{slice-same, slice-join, slice-none}
 use Rattle.certificate.specs.Texts.{Token, Tokens}
 use Rattle.certificate.specs.Items.{Item, begin, shut, comma, name, place, before, items-by, items-at, Mode, wanting, naming, having, emits, adds, in-sum, opening, bracket, closing, write, writes, brackets, written}
-<<<<<<< HEAD
 use Rattle.certificate.specs.Writer.{Opened, Closed, Kept, Done, Outcome, finished}
 use Rattle.certificate.specs.declared.writer.Written.{Written}
-=======
-use Rattle.certificate.specs.Writer.{Opened, Closed, Kept, Done}
 use Rattle.certificate.proofs.NameWords.{code-token}
->>>>>>> f5a245768e6aaea193cfecb82f1392228930a307
 use Rattle.certificate.proofs.Settling.{Each, none as no-words, more as more-words, each-at, slice-at}
 use Rattle.certificate.proofs.ItemTokens.{items-is}
 use Rattle.certificate.proofs.ItemWords.{emits-emits}
