@@ -4,11 +4,15 @@ use mathlib.Core.Option.{Option, some, none}
 use mathlib.Core.Bool.{true, false}
 use Prim.Native.Nat.{ℕ, _+_, _<_, _≤_}
 use lib.Dec.{leb}
-use lib.ListN.{length, drop}
+use mathlib.Core.List.{[], _∷_}
+use lib.ListN.{length, drop, length-append}
+use native.Mathlib.Omega.{arith}
 use native.Mathlib.Nat.{zero-add}
 use borrow.Author.Tests.{le-leb, lt-leb}
 use Rattle.rules.specs.Bytes.{Text}
 use Rattle.rules.specs.Call.{Reply, refused, passed, refusal-number, written, overwritten}
+use Rattle.rules.specs.Answer.{line}
+use Rattle.tree.proofs.Printing.{printed-then}
 use Rattle.tree.specs.Output as Output
 use Rattle.tree.specs.Output.{Printed}
 use Rattle.archive.specs.Settling.{settles, Settles}
@@ -44,3 +48,15 @@ written-settles a out v n h p =
 
 pub settles-as : {o p : Option Text} {out v : Text} {r : Settled} → o ≡ p → Settles p out v r → Settles o out v r
 settles-as {out = out} {v = v} {r = r} e h = subst (λ (z : Option Text). Settles z out v r) (sym e) h
+
+-- a line
+
+pub line-length : (key v : Text) → length (line key v) ≡ length key + length v + 1
+line-length key v = simp length-append
+
+pub line-settles : (key v out a b c : Text) {i j n : ℕ} → length key + length v + 1 ≤ length out → Printed out a 0 key i → Printed a b i v j → Printed b c j (10 ∷ []) n
+    → Settles (some (line key v)) out c (Written n)
+line-settles key v out a b c {n = n} h p q r =
+    let e = line-length key v in
+    let f = length-append key v in
+    written-settles (line key v) out c n (omega arith) (printed-then (omega arith) (printed-then (omega arith) p q) r)

@@ -1,6 +1,15 @@
 // Answers in the output: written where they fit.
+use tree::measuring::Measured;
+use tree::measuring::measure_term;
+use tree::names::print_byte;
 use tree::names::print_text;
+use tree::writing::write_term;
 ghost use mathlib.Core.Option.{some};
+ghost use Prim.Native.Nat.{_<_};
+ghost use Rattle.rules.specs.Writing.{render};
+ghost use Rattle.rules.specs.Answer.{line};
+ghost use Rattle.tree.specs.Cells.{tree-at};
+ghost use Rattle.tree.specs.Arena.{Arena};
 ghost use Rattle.archive.specs.Settling.{Settles};
 
 // What a sheet that is admitted gives: the count of bytes written, or refusal 4 or 12.
@@ -19,4 +28,31 @@ pub fn give(output: &mut [u8], text: &[u8]) -> Settled
     }
     let end = print_text(output, 0, text);
     Settled::Written(end)
+}
+
+// Writes a line of a key and the term of cell i as the whole answer, if it fits. The term is measured before a byte is written.
+pub fn give_term(
+    sheet: &[u8],
+    work: &[u32],
+    free: usize,
+    i: usize,
+    output: &mut [u8],
+    key: &[u8],
+) -> Settled
+    requires { ⌜ Arena (now sheet) (now work) free ⌝ }
+    requires { ⌜ (0 < i) × (i < free) ⌝ }
+    ensures { λ r. ⌜ Settles (some (line (now (key .entry)) (render (tree-at (now (sheet .entry)) (now (work .entry)) i)))) (now (output .entry)) (now (output .exit)) r ⌝ }
+{
+    let room = output.len();
+    if room <= key.len() {
+        return Settled::Short;
+    }
+    let measured = measure_term(sheet, work, free, i, room - key.len() - 1);
+    let Measured::Fits(_) = measured else {
+        return Settled::Short;
+    };
+    let start = print_text(output, 0, key);
+    let end = write_term(sheet, work, free, i, output, start);
+    let last = print_byte(output, end, 10);
+    Settled::Written(last)
 }
