@@ -1,0 +1,4 @@
+// Reduction: children first, then one rule at the root.
+pub mod building;
+pub mod firing;
+pub mod naming;
