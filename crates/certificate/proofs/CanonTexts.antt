@@ -11,7 +11,7 @@ use Rattle.certificate.specs.Texts.{word-text, texts}
 use Rattle.certificate.specs.Settle.{settled}
 use Rattle.certificate.specs.Terms.{Term, node, Terms, none, more, inner, insert-words, sort-words, headed, words, canonical, canonicals, canon-text, canon-texts}
 use Rattle.rules.specs.Writing.{commas, listed}
-use Rattle.certificate.proofs.Summands.{Plain}
+use Rattle.certificate.specs.Spelling.{Plain}
 use Rattle.certificate.proofs.Canonicals.{PlainTerm, settle-term}
 
 module _ (s : List ℕ) where

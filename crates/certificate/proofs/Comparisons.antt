@@ -153,12 +153,12 @@ module _ (s w v₁ : List ℕ) (base from to start end : ℕ) (a₁ : from ≤ t
 
 -- ---- equal or not
 
-abbrev equal-as : Order → Bool
+abbrev pub equal-as : Order → Bool
 equal-as Less = false
 equal-as Equal = true
 equal-as Greater = false
 
-same-lex : (a b : Text) → same a b ≡ equal-as (lex a b)
+pub same-lex : (a b : Text) → same a b ≡ equal-as (lex a b)
 unfolding same lex
 same-lex [] [] = refl
 same-lex [] (y ∷ b) = refl

@@ -13,7 +13,7 @@ use Rattle.certificate.specs.Terms.{Term, node, Terms, none, more, inner
 use Rattle.certificate.specs.Items.{Item, begin, shut, comma, name, Mode, wanting, naming, having, emits, adds, in-sum, opening, bracket, closing, finish, write}
 use Rattle.certificate.proofs.ItemTokens.{Proper, begins, shuts, commas, names}
 use Rattle.certificate.proofs.ItemTerms.{Read, opened, delimited, named, item-term, item-list, GoodTerm, GoodList, good-term, good-list}
-use Rattle.certificate.proofs.Flattening.{flat-by, splice-by, flatten, flattens, splice, splices}
+use Rattle.certificate.specs.Spelling.{flat-by, splice-by, flatten, flattens, splice, splices, term-words, list-words}
 
 -- ---- words in front
 
@@ -86,25 +86,17 @@ module _ (s : Text) where
 
   -- ---- the words of a term, and of a list, in a sum or not
 
-  abbrev pub term-words : Bool → Term → List ℕ
-  term-words true t = inner (each (splice s t none))
-  term-words false t = words (flatten s t)
-
-  abbrev pub list-words : Bool → Term → Terms → List ℕ
-  list-words true t ts = inner (each (splice s t (splices s ts none)))
-  list-words false t ts = inner (words (flatten s t) ∷ each (flattens s ts))
-
-  leaf-words : (b : Bool) (x : ℕ) → term-words b (node x none) ≡ x ∷ []
+  pub leaf-words : (b : Bool) (x : ℕ) → term-words s b (node x none) ≡ x ∷ []
   unfolding flatten words headed inner
   leaf-words true x = refl
   leaf-words false x = refl
 
-  one-words : (b : Bool) (t : Term) → list-words b t none ≡ term-words b t
+  pub one-words : (b : Bool) (t : Term) → list-words s b t none ≡ term-words s b t
   unfolding flatten words inner
   one-words true t = refl
   one-words false t = refl
 
-  more-words : (b : Bool) (t u : Term) (us : Terms) → list-words b t (more u us) ≡ term-words b t ++ (2883584 ∷ list-words b u us)
+  pub more-words : (b : Bool) (t u : Term) (us : Terms) → list-words s b t (more u us) ≡ term-words s b t ++ (2883584 ∷ list-words s b u us)
   unfolding flatten words inner
   more-words true t u us =
       ap inner (splice-rest t (splice s u (splices s us none)))
@@ -112,8 +104,8 @@ module _ (s : Text) where
   more-words false t u us = refl
 
   -- a name with its list
-  node-words : (a b : Bool) (x : ℕ) (t : Term) (ts : Terms) → adds s x ≡ a
-      → opening a b x ++ (list-words (not (eqb (bracket a b) 0)) t ts ++ closing (bracket a b)) ≡ term-words b (node x (more t ts))
+  pub node-words : (a b : Bool) (x : ℕ) (t : Term) (ts : Terms) → adds s x ≡ a
+      → opening a b x ++ (list-words s (not (eqb (bracket a b) 0)) t ts ++ closing (bracket a b)) ≡ term-words s b (node x (more t ts))
   unfolding flatten words headed inner
   node-words true true x t ts e = append-nil _ ∙ ap (λ (a : Bool). inner (each (splice-by a x (more (flatten s t) (flattens s ts)) (splice s t (splices s ts none)) none))) (sym e)
   node-words true false x t ts e =
@@ -125,10 +117,10 @@ module _ (s : Text) where
   -- ---- what is written, by what is read
 
   abbrev pub after-term : Read Term → List ℕ → Option (List ℕ)
-  after-term o cs = o >>= λ (t, is). emits (term-words (in-sum cs) t) (write s is having cs)
+  after-term o cs = o >>= λ (t, is). emits (term-words s (in-sum cs) t) (write s is having cs)
 
   abbrev pub after-list : Read (Term × Terms) → ℕ → List ℕ → Option (List ℕ)
-  after-list o c cs = o >>= λ ((t, ts), is). emits (list-words (not (eqb c 0)) t ts) (emits (closing c) (write s is having cs))
+  after-list o c cs = o >>= λ ((t, ts), is). emits (list-words s (not (eqb c 0)) t ts) (emits (closing c) (write s is having cs))
 
   node-written : (x : ℕ) (cs : List ℕ) (o : Read (Term × Terms))
       → emits (opening (adds s x) (in-sum cs) x) (after-list o (bracket (adds s x) (in-sum cs)) cs) ≡ after-term (o >>= λ ((t, ts), is). some (node x (more t ts), is)) cs
@@ -136,12 +128,12 @@ module _ (s : Text) where
   node-written x cs (some ((t, ts), is)) =
       let a = adds s x in
       let b = in-sum cs in
-      let l = list-words (not (eqb (bracket a b) 0)) t ts in
+      let l = list-words s (not (eqb (bracket a b) 0)) t ts in
       let c = closing (bracket a b) in
       ap (emits (opening a b x)) (emits-emits l c (write s is having cs)) ∙ emits-emits (opening a b x) (l ++ c) (write s is having cs)
       ∙ ap (λ (m : List ℕ). emits m (write s is having cs)) (node-words a b x t ts refl)
 
-  leaf-written : (x : ℕ) (cs : List ℕ) (o : Option (List ℕ)) → emits (x ∷ []) o ≡ emits (term-words (in-sum cs) (node x none)) o
+  leaf-written : (x : ℕ) (cs : List ℕ) (o : Option (List ℕ)) → emits (x ∷ []) o ≡ emits (term-words s (in-sum cs) (node x none)) o
   leaf-written x cs o = ap (λ (m : List ℕ). emits m o) (sym (leaf-words (in-sum cs) x))
 
   -- a name and what follows it
@@ -159,13 +151,13 @@ module _ (s : Text) where
   name-written x (name y ∷ is) cs go p f = refl
 
   more-written : (t : Term) (c : ℕ) (cs : List ℕ) (o : Read (Term × Terms))
-      → emits (term-words (not (eqb c 0)) t) (emits (2883584 ∷ []) (after-list o c cs)) ≡ after-list (o >>= λ ((u, us), ls). some ((t, more u us), ls)) c cs
+      → emits (term-words s (not (eqb c 0)) t) (emits (2883584 ∷ []) (after-list o c cs)) ≡ after-list (o >>= λ ((u, us), ls). some ((t, more u us), ls)) c cs
   more-written t c cs nothing = refl
   more-written t c cs (some ((u, us), is)) =
       let b = not (eqb c 0) in
       let m = emits (closing c) (write s is having cs) in
-      emits-emits (term-words b t) (2883584 ∷ []) (emits (list-words b u us) m) ∙ emits-emits (term-words b t ++ (2883584 ∷ [])) (list-words b u us) m
-      ∙ ap (λ (l : List ℕ). emits l m) (append-assoc (term-words b t) (2883584 ∷ []) (list-words b u us) ∙ sym (more-words b t u us))
+      emits-emits (term-words s b t) (2883584 ∷ []) (emits (list-words s b u us) m) ∙ emits-emits (term-words s b t ++ (2883584 ∷ [])) (list-words s b u us) m
+      ∙ ap (λ (l : List ℕ). emits l m) (append-assoc (term-words s b t) (2883584 ∷ []) (list-words s b u us) ∙ sym (more-words b t u us))
 
   -- a term of a list and what follows it
   rest-written : (n c : ℕ) (cs : List ℕ) (go : List Item → Read (Term × Terms)) → ((js : List Item) → Proper s js → length js + 1 < n → write s js wanting (c ∷ cs) ≡ after-list (go js) c cs)
@@ -177,7 +169,7 @@ module _ (s : Text) where
   rest-written n c cs go f (some (t, begin ∷ is)) g = refl
   rest-written n c cs go f (some (t, shut ∷ is)) g = ap (λ (l : List ℕ). emits l (emits (closing c) (write s is having cs))) (sym (one-words (not (eqb c 0)) t))
   rest-written n c cs go f (some (t, comma ∷ is)) (h, commas p, l) =
-      ap (λ (o : Option (List ℕ)). emits (term-words (not (eqb c 0)) t) (emits (2883584 ∷ []) o)) (f is p (omega arith)) ∙ more-written t c cs (go is)
+      ap (λ (o : Option (List ℕ)). emits (term-words s (not (eqb c 0)) t) (emits (2883584 ∷ []) o)) (f is p (omega arith)) ∙ more-written t c cs (go is)
   rest-written n c cs go f (some (t, name x ∷ is)) g = refl
 
   mutual

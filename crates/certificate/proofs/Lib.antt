@@ -12,6 +12,7 @@ pub mod CanonTexts
 pub mod ItemTokens
 pub mod ItemTerms
 pub mod Flattening
+pub mod NameWords
 pub mod ItemWords
 pub mod WrittenTexts
 pub mod WriterSteps

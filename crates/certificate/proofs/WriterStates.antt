@@ -23,6 +23,7 @@ use Rattle.text.proofs.Slices.{slice-same, slice-join, slice-none}
 use Rattle.certificate.specs.Texts.{Token, Tokens}
 use Rattle.certificate.specs.Items.{Item, begin, shut, comma, name, place, before, items-by, items-at, Mode, wanting, naming, having, emits, adds, in-sum, opening, bracket, closing, write, writes, brackets, written}
 use Rattle.certificate.specs.Writer.{Opened, Closed, Kept, Done}
+use Rattle.certificate.proofs.NameWords.{code-token}
 use Rattle.certificate.proofs.Settling.{Each, none as no-words, more as more-words, each-at, slice-at}
 use Rattle.certificate.proofs.ItemTokens.{items-is}
 use Rattle.certificate.proofs.ItemWords.{emits-emits}
@@ -73,9 +74,6 @@ module _ {s w : List ℕ} {from to base stack : ℕ} {v : List ℕ} {at depth ou
   }
 
 -- ---- the words of a turn are tokens
-
-code-token : (s : List ℕ) (x : ℕ) → x % 65536 ≡ 0 → Token s x
-code-token s x e = record { placed = λ p. absurd (omega arith) }
 
 place-token : (s : List ℕ) (f t : ℕ) → f ≤ t → t ≤ length s → t < 65536 → Token s (place f t)
 place-token s f t a b c = record { placed = λ p. omega arith }

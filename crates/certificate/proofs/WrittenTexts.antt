@@ -16,51 +16,14 @@ use Rattle.certificate.specs.Texts.{texts}
 use Rattle.certificate.specs.Settle.{settled}
 use Rattle.certificate.specs.Terms.{Term, node, Terms, none, more, words}
 use Rattle.certificate.specs.Items.{Item, begin, shut, comma, name, wanting, having, write, writes, items-at, adds, written}
-use Rattle.certificate.proofs.Summands.{Plain}
-use Rattle.certificate.proofs.Canonicals.{PlainTerm, PlainTerms, plain, nil, both}
-use Rattle.certificate.proofs.CanonTexts.{settled-text}
 use Rattle.certificate.proofs.ItemTokens.{item-text, Named, Proper, tokens-items, items-proper}
-use Rattle.certificate.proofs.ItemTerms.{Read, item-term, tree-of, term-read, good-term, GoodTerm, NamedTerm, NamedTerms}
-use Rattle.certificate.proofs.ItemTerms as terms
-use Rattle.certificate.proofs.Flattening.{flat-by, splice-by, flatten, flattens, splice, splices, flatten-text}
+use Rattle.certificate.proofs.ItemTerms.{Read, item-term, tree-of, term-read, good-term, GoodTerm, NamedTerm}
+use Rattle.certificate.specs.Spelling.{flatten}
+use Rattle.certificate.proofs.Flattening.{named-spells}
+use Rattle.certificate.proofs.NameWords.{spelled-settled}
 use Rattle.certificate.proofs.ItemWords.{term-written, after-term}
 
--- ---- the names of a flattened term are no marks
-
-pub plus-plain : Plain 16777216
-plus-plain = record { no-open = λ e. omega arith; no-shut = λ e. omega arith; no-comma = λ e. omega arith }
-
 module _ (s : Text) where
-  name-plain : (x : ℕ) → Named s x → Plain x
-  name-plain x h = let l = h .long in record { no-open = λ e. omega arith; no-shut = λ e. omega arith; no-comma = λ e. omega arith }
-
-  flat-plain : (b : Bool) (x : ℕ) (ts us : Terms) → Named s x → PlainTerms ts → PlainTerms us → PlainTerm (flat-by b x ts us)
-  flat-plain b x none us h p q = plain (name-plain x h) nil
-  flat-plain true x (more t ts) us h p q = plain plus-plain q
-  flat-plain false x (more t ts) us h p q = plain (name-plain x h) p
-
-  splice-plain : (b : Bool) (x : ℕ) (ts us rest : Terms) → Named s x → PlainTerms ts → PlainTerms us → PlainTerms rest → PlainTerms (splice-by b x ts us rest)
-  splice-plain b x none us rest h p q r = both (plain (name-plain x h) nil) r
-  splice-plain true x (more t ts) us rest h p q r = q
-  splice-plain false x (more t ts) us rest h p q r = both (plain (name-plain x h) p) r
-
-  mutual
-    unfolding flatten
-
-    flatten-plain : (t : Term) → NamedTerm s t → PlainTerm (flatten s t)
-    flatten-plain (node x ts) (terms.of h hs) = flat-plain (adds s x) x (flattens s ts) (splices s ts none) h (flattens-plain ts hs) (splices-plain ts hs none nil)
-
-    flattens-plain : (ts : Terms) → NamedTerms s ts → PlainTerms (flattens s ts)
-    flattens-plain none terms.nil = nil
-    flattens-plain (more t ts) (terms.both h hs) = both (flatten-plain t h) (flattens-plain ts hs)
-
-    spliced-plain : (t : Term) → NamedTerm s t → (rest : Terms) → PlainTerms rest → PlainTerms (splice s t rest)
-    spliced-plain (node x ts) (terms.of h hs) rest r = splice-plain (adds s x) x (flattens s ts) (splices s ts rest) rest h (flattens-plain ts hs) (splices-plain ts hs rest r) r
-
-    splices-plain : (ts : Terms) → NamedTerms s ts → (rest : Terms) → PlainTerms rest → PlainTerms (splices s ts rest)
-    splices-plain none terms.nil rest r = r
-    splices-plain (more t ts) (terms.both h hs) rest r = spliced-plain t h (splices s ts rest) (splices-plain ts hs rest r)
-
   -- ---- a whole text
 
   length-texts : (is : List Item) → length (map (item-text s) is) ≡ length is
@@ -110,7 +73,7 @@ module _ (s : Text) where
     canonical-of (some t) (some vs) (u, h, f, g) ws e l base =
         let z : words (flatten s u) ≡ ws = cc in
         let k : length (words (flatten s u)) < 65536 = rw z l in
-        ap some (ap canonical (sym f) ∙ sym (flatten-text s u h) ∙ sym (settled-text s 16777216 base plus-plain (flatten s u) (flatten-plain u h) k) ∙ rw z)
+        ap some (ap canonical (sym f) ∙ sym (spelled-settled s (named-spells s h) k base) ∙ rw z)
 
     pub readable : (ws : List ℕ) → written s (take to s) at ≡ some ws → length ws < 65536 → (base : ℕ)
         → canonical-text (drop at (take to s)) ≡ some (texts s (settled s 16777216 base (length ws) ws))

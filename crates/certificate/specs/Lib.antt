@@ -3,5 +3,6 @@ pub mod Runs
 pub mod Settle
 pub mod Terms
 pub mod Items
+pub mod Spelling
 pub mod Writer
 pub mod Comparing

@@ -1,23 +1,29 @@
 -- Texts as runs of words. A word is start * 65536 + length, a place of the sheet; with length 0 the start is a code: below 256 it
--- is a mark, that one byte, and from 256 on a fixed name, of which the name of sums is the only one.
+-- is a mark, that one byte; from 256 on it is the name of sums or a fixed name; from 512 on it is one byte that is no mark.
 -- Definitions only.
-use Prim.Native.Nat.{ℕ, zero, suc, _+_, _*_, _<_, _≤_, _/_, _%_}
+use Prim.Native.Nat.{ℕ, zero, suc, _+_, _-_, _*_, _<_, _≤_, _/_, _%_}
 use mathlib.Core.Path.{_≡_}
 use mathlib.Core.Bool.{Bool, true, false, cond}
 use mathlib.Core.List.{List, [], _∷_, _++_}
 use lib.Dec.{eqb, ltb}
 use lib.ListN.{length, getD, take, drop}
 use Rattle.rules.specs.Tree.{tamtplus}
+use Rattle.tree.specs.Cells.{fixed-names}
 use Rattle.certificate.specs.declared.order.Order.{Order}
 use Rattle.certificate.specs.declared.order.Order.the-variants.{Less, Equal, Greater}
 use Rattle.certificate.specs.declared.order.Spot.{Spot}
 
+-- the name of sums, and the fixed names
+abbrev pub code-name : ℕ → List ℕ
+code-name n = getD (tamtplus ∷ fixed-names) n tamtplus
+
 -- the text of a code
 unfoldable pub code-text : ℕ → List ℕ
-code-text c = cond (ltb c 256) (c ∷ []) tamtplus
+code-text c = cond (ltb c 256) (c ∷ []) (cond (ltb c 512) (code-name (c - 256)) (c % 256 ∷ []))
 
 unfoldable pub code-width : ℕ → ℕ
-code-width c = cond (ltb c 256) 1 8
+unfolding code-text
+code-width c = length (code-text c)
 
 -- the text of a word
 unfoldable pub word-text : List ℕ → ℕ → List ℕ

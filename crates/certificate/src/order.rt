@@ -3,7 +3,7 @@ ghost use mathlib.Core.Path.{_≡_};
 ghost use Prim.Native.Nat.{_+_, _<_, _≤_};
 ghost use lib.ListN.{length, getD};
 ghost use lib.Seq.{slice};
-ghost use Rattle.certificate.specs.Texts.{code-text, code-width, Token, Tokens, width-of, word-text, texts, after, lex};
+ghost use Rattle.certificate.specs.Texts.{code-name, code-text, code-width, Token, Tokens, width-of, word-text, texts, after, lex};
 use text::places;
 
 // How a text stands to another by their bytes.
@@ -19,8 +19,50 @@ pub struct Spot {
     pub byte: usize,
 }
 
-// The name of sums.
+// The name of sums, and the fixed names.
 const SUM: [u8; 8] = [116, 97, 109, 116, 112, 108, 117, 115];
+
+const ROLE_A: [u8; 10] = [116, 97, 109, 88, 67, 114, 111, 108, 101, 65];
+
+const ROLE_B: [u8; 10] = [116, 97, 109, 88, 67, 114, 111, 108, 101, 66];
+
+const PAIR: [u8; 9] = [116, 97, 109, 88, 67, 112, 97, 105, 114];
+
+const SENC: [u8; 9] = [116, 97, 109, 88, 67, 115, 101, 110, 99];
+
+const KEM: [u8; 8] = [116, 97, 109, 88, 67, 107, 101, 109];
+
+const PK: [u8; 7] = [116, 97, 109, 88, 67, 112, 107];
+
+// How many bytes the name has that is n-th among them.
+fn name_width(n: usize) -> usize
+    ensures { λ r. ⌜ r ≡ length (code-name n) ⌝ }
+{
+    match n {
+        1 => 10,
+        2 => 10,
+        3 => 9,
+        4 => 9,
+        6 => 7,
+        _ => 8,
+    }
+}
+
+// A byte of that name.
+fn name_byte(n: usize, a: usize) -> u8
+    requires { ⌜ a < length (code-name n) ⌝ }
+    ensures { λ r. ⌜ r ≡ getD (code-name n) a 0 ⌝ }
+{
+    match n {
+        1 => ROLE_A[a],
+        2 => ROLE_B[a],
+        3 => PAIR[a],
+        4 => SENC[a],
+        5 => KEM[a],
+        6 => PK[a],
+        _ => SUM[a],
+    }
+}
 
 // How many bytes the text of a code has.
 fn code_width(code: usize) -> usize
@@ -29,7 +71,10 @@ fn code_width(code: usize) -> usize
     if code < 256 {
         return 1;
     }
-    8
+    if code < 512 {
+        return name_width(code - 256);
+    }
+    1
 }
 
 // A byte of the text of a code.
@@ -40,7 +85,10 @@ fn code_byte(code: usize, a: usize) -> u8
     if code < 256 {
         return code as u8;
     }
-    SUM[a]
+    if code < 512 {
+        return name_byte(code - 256, a);
+    }
+    (code % 256) as u8
 }
 
 // How many bytes the text of a word has.

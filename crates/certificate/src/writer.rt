@@ -41,7 +41,7 @@ fn in_sum(work: &[u32], stack: usize, depth: usize) -> bool
 }
 
 // Which bracket a name opens.
-fn bracket_of(sum: bool, inside: bool) -> u32
+pub fn bracket_of(sum: bool, inside: bool) -> u32
     ensures { λ r. ⌜ r ≡ bracket sum inside ⌝ }
 {
     if sum {
@@ -54,7 +54,7 @@ fn bracket_of(sum: bool, inside: bool) -> u32
 }
 
 // Writes a name and its opening bracket, and answers where the next word goes.
-fn put_opening(work: &mut [u32], out: usize, sum: bool, inside: bool, word: u32) -> usize
+pub fn put_opening(work: &mut [u32], out: usize, sum: bool, inside: bool, word: u32) -> usize
     requires { ⌜ out + 2 ≤ length (now work) ⌝ }
     ensures { λ r. ⌜ Wrote (now (work .entry)) (now (work .exit)) out (opening sum inside word) × (r ≡ out + length (opening sum inside word)) ⌝ }
 {
@@ -72,7 +72,7 @@ fn put_opening(work: &mut [u32], out: usize, sum: bool, inside: bool, word: u32)
 }
 
 // Writes a closing bracket, unless it is that of a sum inside a sum.
-fn put_closing(work: &mut [u32], out: usize, bracket: u32) -> usize
+pub fn put_closing(work: &mut [u32], out: usize, bracket: u32) -> usize
     requires { ⌜ out + 1 ≤ length (now work) ⌝ }
     ensures { λ r. ⌜ Wrote (now (work .entry)) (now (work .exit)) out (closing bracket) × (r ≡ out + length (closing bracket)) ⌝ }
 {

@@ -50,12 +50,12 @@ mutual
       ap₂ (λ (o : Option (Tree × ℕ)) (F : ℕ → Option (Trees × ℕ)). and-then o (λ u j. and-then (F j) (λ us i. some (more u us, i)))) (substitute-within-is bs t k) (fun-ext (λ j. substitutes-within-are bs ts j))
       ∙ paid-twice (size (instantiate bs t)) (sizes (substitutes (lookup bs) ts)) k (instantiate bs t) (substitutes (lookup bs) ts) more
 
-flatten-instance : (bs : List Binding) (ps : List Pair) → substitutes (lookup bs) (flatten ps) ≡ flatten (instantiate-pairs bs ps)
+pub flatten-instance : (bs : List Binding) (ps : List Pair) → substitutes (lookup bs) (flatten ps) ≡ flatten (instantiate-pairs bs ps)
 unfolding flatten substitute instantiate-pairs
 flatten-instance bs [] = refl
 flatten-instance bs (p ∷ ps) = ap (λ (ts : Trees). more (instantiate bs (p .0)) (more (instantiate bs (p .1)) ts)) (flatten-instance bs ps)
 
-flatten-size : (ps : List Pair) → sizes (flatten ps) ≡ size-pairs ps
+pub flatten-size : (ps : List Pair) → sizes (flatten ps) ≡ size-pairs ps
 unfolding flatten size size-pairs
 flatten-size [] = refl
 flatten-size (p ∷ ps) = let h = flatten-size ps in omega arith

@@ -1,15 +1,20 @@
 use native.Mathlib.Omega.{arith}
-use mathlib.Core.Path.{_≡_, sym}
-use Rattle.certificate.proofs.WordTexts.{code-mark, code-name}
+use mathlib.Core.Path.{_≡_, sym, ap, _∙_}
+use mathlib.Core.List.{List}
+use lib.ListN.{getD}
+use Rattle.certificate.proofs.WordTexts.{code-mark, code-named, code-byte}
 use borrow.Author.Needs.{needs}
 use Rattle.certificate.proofs.order.code_byte.Statement.{statement}
 use Rattle.certificate.proofs.order.code_byte.Tie as tie
 use Rattle.certificate.proofs.order.code_byte.Reads as reads
 use Rattle.certificate.proofs.order.code_byte.Lts as lts
+use Rattle.certificate.proofs.order.name_byte.Reads as name-byte-reads
 
+-- src/lib.rt:95:16
 cast-result : tie.Need-cast-result
 cast-result c = search needs
 
+-- src/lib.rt:95:9
 returns : tie.Need-returns
 returns c =
     let a = c .before .args in
@@ -17,15 +22,30 @@ returns c =
     let z : a .a ≡ 0 = omega arith in
     sym (rw (m .0, z))
 
-array-read-result : tie.Need-array-read-result
-array-read-result c =
-    let m = code-name (c .before .args .code) (c .if1 .left) in
-    omega arith
+-- src/lib.rt:98:9
+name-byte-requires : tie.Need-name-byte-requires
+name-byte-requires c κs =
+    let m = code-named (c .before .before .args .code) (c .before .if1 .left) (c .if2 .taken) in
+    omega (arith, m .1)
 
+-- src/lib.rt:98:9
 returns-2 : tie.Need-returns-2
 returns-2 c =
-    let m = code-name (c .before .args .code) (c .if1 .left) in
-    sym (rw (m .0))
+    let a = c .before .before .before .args in
+    c .name-byte .ensures ∙ sym (ap (λ (l : List _). getD l (a .a) 0) (code-named (a .code) (c .before .before .if1 .left) (c .before .if2 .taken) .0))
+
+-- src/lib.rt:100:5
+cast-result-2 : tie.Need-cast-result-2
+cast-result-2 c = search needs
+
+-- src/lib.rt:90:1
+returns-3 : tie.Need-returns-3
+returns-3 c =
+    let a = c .before .before .args in
+    let m = code-byte (a .code) (c .if2 .left) in
+    let z : a .a ≡ 0 = omega arith in
+    sym (rw (m .0, z))
 
 pub code-byte-spec : {M : Type 1} → statement M
-code-byte-spec = tie.close (tie.spec cast-result returns array-read-result returns-2)
+code-byte-spec =
+    tie.close (tie.spec cast-result returns name-byte-requires returns-2 cast-result-2 returns-3)

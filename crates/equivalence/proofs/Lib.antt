@@ -1,0 +1,4 @@
+pub mod Scratch
+pub mod Wording
+pub mod Canons
+pub mod Comparing

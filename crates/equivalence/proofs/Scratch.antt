@@ -1,0 +1,57 @@
+-- Words after the cells: what is written there leaves the cells as they are, and one after another the words of two writers are one
+-- list. Assumes nothing.
+use Prim.Native.Nat.{ℕ, _+_, _*_, _<_, _≤_}
+use mathlib.Core.Path.{_≡_, refl, sym, ap, ap₂, _∙_}
+use mathlib.Core.List.{List, [], _∷_, _++_}
+use lib.ListN.{length, getD, set, length-append, length-set}
+use lib.Seq.{slice, getD-set-other}
+use native.Mathlib.Omega.{arith}
+use Rattle.rules.specs.Bytes.{Text}
+use Rattle.text.specs.Sorting.{Wrote}
+use Rattle.text.proofs.Slices.{slice-same, slice-set, slice-join, slice-none}
+use Rattle.tree.specs.Arena.{Links, Cell, Arena}
+use Rattle.tree.proofs.Decoding.{Agree, same-first, same-next}
+use Rattle.tree.proofs.Pushing.{cell-frame}
+
+-- an area that agrees on the cells has the same cells
+pub arena-frame : {w v : List ℕ} {n : ℕ} (s : Text) → Arena s w n → length v ≡ length w → Agree w v n → Arena s v n
+arena-frame {w} {v} s a e g =
+    let l = a .links in
+    record {
+      links = record {
+        some = l .some;
+        room = (let r = l .room in omega arith);
+        first = λ k p q. (let f = l .first k p q in let h = same-first w v g k q in omega arith);
+        next = λ k p q. (let f = l .next k p q in let h = same-next w v g k q in omega arith);
+      };
+      cell = λ k p q. cell-frame s l g k p q (a .cell k p q);
+    }
+
+module _ {w v : List ℕ} {to : ℕ} {l : List ℕ} (g : Wrote w v to l) where
+  pub wrote-agree : (n : ℕ) → 4 * n ≤ to → Agree w v n
+  wrote-agree n h p q = sym (g .below p (omega arith))
+
+  pub wrote-arena : (s : Text) (n : ℕ) → 4 * n ≤ to → Arena s w n → Arena s v n
+  wrote-arena s n h a = arena-frame s a (g .len) (wrote-agree n h)
+
+  pub wrote-append : {u : List ℕ} {at : ℕ} {m : List ℕ} → Wrote v u at m → at ≡ to + length l → at + length m ≤ length w → Wrote w u to (l ++ m)
+  wrote-append {u} {at} {m} h e room =
+      let n = length-append l m in
+      let a = g .len in
+      let b = h .len in
+      let z : slice to at u ≡ l = slice-same to at u v (omega arith) (omega arith) (λ p x y. h .below p y) ∙ ap (λ (t : ℕ). slice to t v) e ∙ g .words in
+      let f : to + length (l ++ m) ≡ at + length m = omega arith in
+      record {
+        len = b ∙ a;
+        below = λ p q. h .below p (omega arith) ∙ g .below p q;
+        above = λ p q. h .above p (omega arith) ∙ g .above p (omega arith);
+        words = ap (λ (t : ℕ). slice to t u) f ∙ sym (slice-join to at (at + length m) u (omega arith) (omega arith) (omega arith)) ∙ ap₂ (λ (x y : List ℕ). x ++ y) z (h .words);
+      }
+
+pub wrote-one : (w : List ℕ) (to x : ℕ) → to < length w → Wrote w (set w to x) to (x ∷ [])
+wrote-one w to x h = record {
+  len = length-set w to x;
+  below = λ p q. getD-set-other w to p x 0 (λ e. omega arith);
+  above = λ p q. getD-set-other w to p x 0 (λ e. omega arith);
+  words = slice-set to to w x (omega arith) h ∙ ap (λ (l : List ℕ). l ++ (x ∷ [])) (slice-none to to w (omega arith));
+}
