@@ -175,12 +175,12 @@ key-less true t p e =
     let z : size key ≡ size (p .1) = ap (λ (r : Tree × Tree). size (r .1)) (Option·some-injective (q .0, key) p k) in
     omega arith
 
--- the key of the cipher and the other key have no more nodes than the two children
-pub cells-less : (b : Bool) (ts : Trees) {t o p k : Tree} → arguments2 ts ≡ some (t, o) → sealed b t ≡ some (p, k) → (size k ≤ sizes ts) × (size o ≤ sizes ts)
+-- the key of the cipher and the other key together have no more nodes than the two children
+pub cells-less : (b : Bool) (ts : Trees) {t o p k : Tree} → arguments2 ts ≡ some (t, o) → sealed b t ≡ some (p, k) → size k + size o ≤ sizes ts
 unfolding size
 cells-less b ts {t} {o} {p} {k} e f = go ts e
   where
-    go : (ts : Trees) → arguments2 ts ≡ some (t, o) → (size k ≤ sizes ts) × (size o ≤ sizes ts)
+    go : (ts : Trees) → arguments2 ts ≡ some (t, o) → size k + size o ≤ sizes ts
     go none h = absurd (Option·none-ne-some (t, o) h)
     go (more x none) h = absurd (Option·none-ne-some (t, o) h)
     go (more x (more y none)) h =
@@ -188,7 +188,7 @@ cells-less b ts {t} {o} {p} {k} e f = go ts e
         let g = Option·some-injective (x, y) (t, o) h in
         let e₁ : size x ≡ size t = ap (λ (q : Tree × Tree). size (q .0)) g in
         let e₂ : size y ≡ size o = ap (λ (q : Tree × Tree). size (q .1)) g in
-        (omega arith, omega arith)
+        omega arith
     go (more x (more y (more z us))) h = absurd (Option·none-ne-some (t, o) h)
 
 -- the test of a cipher, one part after the other

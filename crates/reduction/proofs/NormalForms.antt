@@ -12,11 +12,11 @@ use Rattle.laws.proofs.Reduction.Shapes.{Shape, fst-shape, snd-shape, a-shape, 
 use Rattle.tree.specs.Cells.{kind-of, first-of, next-of, name-at, fixed-name, tree-at, trees-at}
 use Rattle.tree.specs.Arena.{Links, Arena}
 use Rattle.tree.proofs.Decoding.{Agree, Kind, application, a-variable, an-atom, kind, same-name, tree-variable, tree-atom, tree-apply, trees-none, trees-more, frame-tree, frame-trees, size-leaf, size-apply, sizes-more}
-use Rattle.reduction.specs.Building.{Kept, Before, Made}
+use Rattle.reduction.specs.Building.{Kept, NewTree, NewTrees}
 use Rattle.reduction.specs.Held.{coded, held, fixed}
 use Rattle.reduction.specs.declared.naming.RuleName.{RuleName}
 use Rattle.reduction.specs.declared.naming.RuleName.the-variants.{Fst, Snd, Flip, Sdec, Kdec, None}
-use Rattle.reduction.proofs.Placing.{kept-same, kept-then, before-later}
+use Rattle.reduction.proofs.Placing.{kept-same, kept-then, new-later}
 
 -- rules as the code has them
 abbrev pub decoded : RuleName → Option Rule
@@ -60,11 +60,11 @@ held-frame s v l e (suc k) q = ap some (frame-tree s v l e (suc k) (omega arith)
 
 -- what a node becomes, read in the area before its keys were compared
 pub becomes-later : {s : Text} {w v u : List ℕ} {n next j m : ℕ} (k i first : ℕ) → Arena s w n → Kept w v n → k < n → i < n → first < n → next < n
-    → Before s v u n 1 next (otherwise (held s v k) (apply (name-at s v i) (trees-at s v first))) j m
-    → Before s w u n 1 next (otherwise (held s w k) (apply (name-at s w i) (trees-at s w first))) j m
+    → NewTree s v u n 1 next (otherwise (held s v k) (apply (name-at s v i) (trees-at s v first))) j m
+    → NewTree s w u n 1 next (otherwise (held s w k) (apply (name-at s w i) (trees-at s w first))) j m
 becomes-later {s} {w} {v} k i first a h p q r l x =
     rw (held-frame s v (a .links) (h .below) k p, same-name w v (h .below) i q s, frame-trees s v (a .links) (h .below) first r)
-    (before-later a l h (omega arith) (omega arith) x)
+    (new-later a l h (omega arith) (omega arith) x)
 
 -- normal forms have no more nodes
 shape-size : {r : Rule} {ts : Trees} {u : Tree} → Shape r ts u → size u ≤ sizes ts
@@ -126,22 +126,22 @@ module _ (s : Text) (w : List ℕ) where
   normals-more k l p q e = ap normalizes (trees-more s l k p q) ∙ rw e
 
 -- a leaf is its own normal form
-pub before-leaf : {s : Text} {w v : List ℕ} {n next i m : ℕ} (k : ℕ) → 0 < kind-of w k → Before s w v n 1 next (tree-at s w k) i m
-    → Before s w v n (size (tree-at s w k)) next (normalize (tree-at s w k)) i m
-before-leaf {s} {w} k p x = rw (normal-leaf s w k p, size-leaf s w k p (kind (kind-of w k))) x
+pub new-leaf : {s : Text} {w v : List ℕ} {n next i m : ℕ} (k : ℕ) → 0 < kind-of w k → NewTree s w v n 1 next (tree-at s w k) i m
+    → NewTree s w v n (size (tree-at s w k)) next (normalize (tree-at s w k)) i m
+new-leaf {s} {w} k p x = rw (normal-leaf s w k p, size-leaf s w k p (kind (kind-of w k))) x
 
 -- the root over children that were made
-pub before-root : {s : Text} {w v u : List ℕ} {n next j m i e : ℕ} (k first : ℕ) → Arena s w n → 0 < k → k < n → next < n → kind-of w k ≡ 0 → first ≡ first-of w k
-    → Made s w v n (sizes (trees-at s w first)) (normalizes (trees-at s w first)) j m → Before s v u m 1 next (root (name-at s v k) (trees-at s v j)) i e
-    → Before s w u n (size (tree-at s w k)) next (normalize (tree-at s w k)) i e
-before-root {s} {w} {v} {j = j} k first a p q l z f d x =
+pub new-root : {s : Text} {w v u : List ℕ} {n next j m i e : ℕ} (k first : ℕ) → Arena s w n → 0 < k → k < n → next < n → kind-of w k ≡ 0 → first ≡ first-of w k
+    → NewTrees s w v n (sizes (trees-at s w first)) (normalizes (trees-at s w first)) j m → NewTree s v u m 1 next (root (name-at s v k) (trees-at s v j)) i e
+    → NewTree s w u n (size (tree-at s w k)) next (normalize (tree-at s w k)) i e
+new-root {s} {w} {v} {j = j} k first a p q l z f d x =
     let h = ap₂ root (same-name w v (d .kept .below) k q s) (sym (d .trees)) in
     let g = normal-apply s w k z f ∙ h in
-    rw g (before-later a l (d .kept) (d .grew) (omega (arith, d .used, size-apply s w k z, ap (λ (i : ℕ). sizes (trees-at s w i)) f)) x)
+    rw g (new-later a l (d .kept) (d .grew) (omega (arith, d .used, size-apply s w k z, ap (λ (i : ℕ). sizes (trees-at s w i)) f)) x)
 
 -- the empty list
-pub made-none : {s : Text} {w : List ℕ} {n : ℕ} (b k : ℕ) → Arena s w n → k ≡ 0 → Made s w w n b (normalizes (trees-at s w k)) 0 n
-made-none {s} {w} {n} b k a e = record {
+pub new-none : {s : Text} {w : List ℕ} {n : ℕ} (b k : ℕ) → Arena s w n → k ≡ 0 → NewTrees s w w n b (normalizes (trees-at s w k)) 0 n
+new-none {s} {w} {n} b k a e = record {
   arena = a;
   kept = kept-same w n;
   grew = omega arith;
@@ -151,10 +151,10 @@ made-none {s} {w} {n} b k a e = record {
 }
 
 -- a tree before a list that was made
-pub made-more : {s : Text} {w v u : List ℕ} {n j m i e : ℕ} (k next : ℕ) → Arena s w n → 0 < k → k < n → next ≡ next-of w k
-    → Made s w v n (sizes (trees-at s w next)) (normalizes (trees-at s w next)) j m → Before s v u m (size (tree-at s v k)) j (normalize (tree-at s v k)) i e
-    → Made s w u n (sizes (trees-at s w k)) (normalizes (trees-at s w k)) i e
-made-more {s} {w} {v} k next a p q f d x =
+pub new-more : {s : Text} {w v u : List ℕ} {n j m i e : ℕ} (k next : ℕ) → Arena s w n → 0 < k → k < n → next ≡ next-of w k
+    → NewTrees s w v n (sizes (trees-at s w next)) (normalizes (trees-at s w next)) j m → NewTree s v u m (size (tree-at s v k)) j (normalize (tree-at s v k)) i e
+    → NewTrees s w u n (sizes (trees-at s w k)) (normalizes (trees-at s w k)) i e
+new-more {s} {w} {v} k next a p q f d x =
     let t = frame-tree s v (a .links) (d .kept .below) k p q in
     record {
       arena = x .arena;

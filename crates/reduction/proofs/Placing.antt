@@ -10,12 +10,14 @@ use borrow.Author.Tests.{not-true, eqb-false}
 use Rattle.rules.specs.Bytes.{Text}
 use Rattle.rules.specs.Tree.{Tree, apply, Trees, more, size, sizes}
 use Rattle.rules.specs.Reduction.{constant}
-use Rattle.tree.specs.Cells.{start-of, length-of, kind-of, nodes-of, next-of, named, name-at, fixed-name, made, tree-at, trees-at}
+use Rattle.tree.specs.Cells.{start-of, length-of, kind-of, nodes-of, next-of, named, name-at, fixed-name, made, trees-at}
 use Rattle.tree.specs.Arena.{Place, Arena, Grown, Wrote, Linked}
 use Rattle.tree.proofs.Bounded.{every-below, below-holds}
-use Rattle.tree.proofs.Decoding.{same-first, same-next, made-apply, trees-none, trees-more, frame-trees, sizes-more}
+use Rattle.tree.proofs.Decoding.{same-first, same-next, made-apply, trees-none, frame-trees, sizes-more}
 use Rattle.tree.proofs.Pushing.{cell-frame, name-push, arena-push, linked, linked-like}
-use Rattle.reduction.specs.Building.{Kept, Before}
+use Rattle.substitution.specs.Building.{Before}
+use Rattle.substitution.proofs.Placing.{before-linked}
+use Rattle.reduction.specs.Building.{Kept, NewTree}
 
 pub kept-same : (w : List ℕ) (n : ℕ) → Kept w w n
 kept-same w n = record { len = refl; below = λ p h. refl }
@@ -42,35 +44,25 @@ arena-kept {s} {w} {v} {n} a k = record {
   cell = λ j p q. cell-frame s (a .links) (k .below) j p q (a .cell j p q);
 }
 
--- a cell that has the link already
-pub before-same : {s : Text} {w : List ℕ} {n : ℕ} (k next : ℕ) → Arena s w n → 0 < k → k < n → next-of w k ≡ next → Before s w w n 1 next (tree-at s w k) k n
-before-same {s} {w} {n} k next a p q e = record {
-  arena = a;
-  kept = kept-same w n;
-  grew = omega arith;
-  used = omega arith;
-  some-cell = p;
-  inside = q;
-  tree = refl;
-  trees = trees-more s (a .links) k p q ∙ ap (λ (j : ℕ). more (tree-at s w k) (trees-at s w j)) e;
-}
-
--- a cell that was written
-pub before-linked : {s : Text} {w v : List ℕ} {n next : ℕ} {t : Tree} (e : ℕ) → 0 < n → Linked s w v n next t → e ≡ n + 1 → Before s w v n 1 next t n e
-before-linked e p x f = record {
-  arena = rw f (x .arena);
+-- one new cell at most
+pub new-kept : {s : Text} {w v : List ℕ} {n next i m : ℕ} {t : Tree} → Before s w v n next t i m → m ≤ n + 1 → NewTree s w v n 1 next t i m
+new-kept x h = record {
+  arena = x .arena;
   kept = kept-grown (x .grown);
-  grew = omega arith;
-  used = omega arith;
-  some-cell = p;
-  inside = omega arith;
+  grew = x .grew;
+  used = h;
+  some-cell = x .some-cell;
+  inside = x .inside;
   tree = x .tree;
   trees = x .trees;
 }
 
+pub new-linked : {s : Text} {w v : List ℕ} {n next : ℕ} {t : Tree} (e : ℕ) → 0 < n → Linked s w v n next t → e ≡ n + 1 → NewTree s w v n 1 next t n e
+new-linked e p x f = new-kept (before-linked e p x f) (omega arith)
+
 -- after other cells were written
-pub before-later : {s : Text} {w v u : List ℕ} {n m b d next i e : ℕ} {t : Tree} → Arena s w n → next < n → Kept w v n → n ≤ m → m + b ≤ n + d → Before s v u m b next t i e → Before s w u n d next t i e
-before-later {s} {w} {v} {next = next} {t = t} a q k p r x = record {
+pub new-later : {s : Text} {w v u : List ℕ} {n m b d next i e : ℕ} {t : Tree} → Arena s w n → next < n → Kept w v n → n ≤ m → m + b ≤ n + d → NewTree s v u m b next t i e → NewTree s w u n d next t i e
+new-later {s} {w} {v} {next = next} {t = t} a q k p r x = record {
   arena = x .arena;
   kept = kept-then k (x .kept) p;
   grew = omega (arith, x .grew);

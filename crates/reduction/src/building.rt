@@ -1,53 +1,28 @@
-// What a node becomes, before the list of its later siblings: a tree that is there, a fixed name, or its name over its new children.
+// What a node becomes, before the list of its later siblings: a fixed name, a tree that is there, or its name over its new children.
+use substitution::bindings::Pushed;
+use substitution::instances::keep;
 use tree::cells::count_of;
 use tree::cells::first_of;
 use tree::cells::next_of;
 use tree::cells::push_cell;
 use tree::cells::push_like;
-use tree::cells::share;
 ghost use mathlib.Core.Path.{_≡_};
 ghost use Prim.Native.Nat.{_+_, _*_, _<_, _≤_, _^_};
 ghost use lib.ListN.{length};
 ghost use Rattle.rules.specs.Tree.{apply, sizes};
 ghost use Rattle.rules.specs.Maybe.{otherwise};
 ghost use Rattle.rules.specs.Reduction.{constant};
-ghost use Rattle.tree.specs.Cells.{kind-of, name-at, fixed-name, tree-at, trees-at};
+ghost use Rattle.tree.specs.Cells.{kind-of, name-at, fixed-name, trees-at};
 ghost use Rattle.tree.specs.Arena.{Arena};
-ghost use Rattle.reduction.specs.Building.{Before};
+ghost use Rattle.reduction.specs.Building.{NewTree};
 ghost use Rattle.reduction.specs.Held.{held};
-
-// A cell, and the free end after it.
-pub struct Pushed {
-    pub index: usize,
-    pub free: usize,
-}
-
-// The tree of cell k before the list from cell next on: cell k itself, if that is its link, or a new cell.
-pub fn keep(sheet: &[u8], work: &mut [u32], free: usize, k: usize, next: usize) -> Pushed
-    requires { ⌜ Arena (now sheet) (now work) free ⌝ }
-    requires { ⌜ (0 < k) × (k < free) × (next < free) ⌝ }
-    requires { ⌜ (4 * free + 4 ≤ length (now work)) × (free < 2 ^ 32) ⌝ }
-    ensures { λ r. ⌜ Before (now (sheet .entry)) (now (work .entry)) (now (work .exit)) free 1 next (tree-at (now (sheet .entry)) (now (work .entry)) k) (r .index) (r .free) ⌝ }
-{
-    if next_of(work, free, k) == next {
-        return Pushed {
-            index: k,
-            free: free,
-        };
-    }
-    let end = share(sheet, work, free, k, next);
-    Pushed {
-        index: free,
-        free: end,
-    }
-}
 
 // A fixed name without arguments, by its code.
 pub fn leaf(sheet: &[u8], work: &mut [u32], free: usize, code: usize, next: usize) -> Pushed
     requires { ⌜ Arena (now sheet) (now work) free ⌝ }
     requires { ⌜ (0 < code) × (code < 7) × (next < free) ⌝ }
     requires { ⌜ (4 * free + 4 ≤ length (now work)) × (free < 2 ^ 32) ⌝ }
-    ensures { λ r. ⌜ Before (now (sheet .entry)) (now (work .entry)) (now (work .exit)) free 1 next (constant (fixed-name code)) (r .index) (r .free) ⌝ }
+    ensures { λ r. ⌜ NewTree (now (sheet .entry)) (now (work .entry)) (now (work .exit)) free 1 next (constant (fixed-name code)) (r .index) (r .free) ⌝ }
 {
     let end = push_cell(work, free, code, 0, 0, 0, next, 1);
     Pushed {
@@ -84,7 +59,7 @@ pub fn stay(
     requires { ⌜ (0 < i) × (i < free) × (first < free) × (next < free) ⌝ }
     requires { ⌜ (kind-of (now work) i ≡ 0) × (sizes (trees-at (now sheet) (now work) first) < 65535) ⌝ }
     requires { ⌜ (4 * free + 4 ≤ length (now work)) × (free < 2 ^ 32) ⌝ }
-    ensures { λ r. ⌜ Before (now (sheet .entry)) (now (work .entry)) (now (work .exit)) free 1 next (apply (name-at (now (sheet .entry)) (now (work .entry)) i) (trees-at (now (sheet .entry)) (now (work .entry)) first)) (r .index) (r .free) ⌝ }
+    ensures { λ r. ⌜ NewTree (now (sheet .entry)) (now (work .entry)) (now (work .exit)) free 1 next (apply (name-at (now (sheet .entry)) (now (work .entry)) i) (trees-at (now (sheet .entry)) (now (work .entry)) first)) (r .index) (r .free) ⌝ }
 {
     if first_of(work, free, i) == first {
         return keep(sheet, work, free, i, next);
@@ -111,7 +86,7 @@ pub fn becomes(
     requires { ⌜ (0 < i) × (i < free) × (first < free) × (next < free) ⌝ }
     requires { ⌜ (kind-of (now work) i ≡ 0) × (sizes (trees-at (now sheet) (now work) first) < 65535) ⌝ }
     requires { ⌜ (4 * free + 4 ≤ length (now work)) × (free < 2 ^ 32) × (k < free) ⌝ }
-    ensures { λ r. ⌜ Before (now (sheet .entry)) (now (work .entry)) (now (work .exit)) free 1 next (otherwise (held (now (sheet .entry)) (now (work .entry)) k) (apply (name-at (now (sheet .entry)) (now (work .entry)) i) (trees-at (now (sheet .entry)) (now (work .entry)) first))) (r .index) (r .free) ⌝ }
+    ensures { λ r. ⌜ NewTree (now (sheet .entry)) (now (work .entry)) (now (work .exit)) free 1 next (otherwise (held (now (sheet .entry)) (now (work .entry)) k) (apply (name-at (now (sheet .entry)) (now (work .entry)) i) (trees-at (now (sheet .entry)) (now (work .entry)) first))) (r .index) (r .free) ⌝ }
 {
     if k == 0 {
         return stay(sheet, work, free, i, first, next);

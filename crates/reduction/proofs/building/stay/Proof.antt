@@ -3,14 +3,14 @@ use mathlib.Core.Path.{sym, ap, _∙_}
 use Rattle.rules.specs.Tree.{apply}
 use Rattle.tree.specs.Cells.{name-at, trees-at}
 use Rattle.tree.proofs.Decoding.{tree-apply}
-use Rattle.reduction.proofs.Placing.{before-linked, linked-over}
+use Rattle.reduction.proofs.Placing.{new-kept, new-linked, linked-over}
 use borrow.Author.Needs.{needs}
 use Rattle.reduction.proofs.building.stay.Statement.{statement}
 use Rattle.reduction.proofs.building.stay.Tie as tie
 use Rattle.reduction.proofs.building.stay.Reads as reads
 use Rattle.reduction.proofs.building.stay.Lts as lts
-use Rattle.reduction.proofs.building.keep.Reads as keep-reads
 use Rattle.reduction.proofs.building.nodes.Reads as nodes-reads
+use Rattle.substitution.proofs.instances.keep.Reads as keep-reads
 use Rattle.tree.proofs.cells.first_of.Reads as first-of-reads
 use Rattle.tree.proofs.cells.push_like.Reads as push-like-reads
 
@@ -29,7 +29,7 @@ returns c =
     let s = a .sheet .now in
     let w = a .work .now in
     let e = tree-apply s w (a .i) (c .before .before .before .before .before .before .before .before .before .pre .1 .1 .0 .0) ∙ ap (λ j. apply (name-at s w (a .i)) (trees-at s w j)) (sym (c .before .before .before .before .before .first-of .ensures .0) ∙ c .before .before .before .before .if1 .taken) in
-    rw e at (c .before .before .keep .ensures)
+    rw e at (new-kept (c .before .before .keep .ensures .0) (c .before .before .keep .ensures .1))
 
 nodes-requires : tie.Need-nodes-requires
 nodes-requires c κs = search needs
@@ -49,7 +49,7 @@ returns-2 : tie.Need-returns-2
 returns-2 c =
     let a = c .before .before .before .before .before .before .before .before .before .before .before .args in
     let p = c .before .before .before .before .before .before .before .before .before .before .before .pre in
-    before-linked (c .before .before .push-like .result) (p .0 .links .some) (linked-over (a .sheet .now) (a .i) (p .0) (p .1 .0 .0) (p .1 .0 .1) (p .1 .1 .0 .0) (p .1 .0 .2) (p .1 .0 .3) (p .1 .1 .1 .0) (c .before .before .before .before .nodes .ensures) (c .before .before .push-like .ensures .1)) (c .before .before .push-like .ensures .0)
+    new-linked (c .before .before .push-like .result) (p .0 .links .some) (linked-over (a .sheet .now) (a .i) (p .0) (p .1 .0 .0) (p .1 .0 .1) (p .1 .1 .0 .0) (p .1 .0 .2) (p .1 .0 .3) (p .1 .1 .1 .0) (c .before .before .before .before .nodes .ensures) (c .before .before .push-like .ensures .1)) (c .before .before .push-like .ensures .0)
 
 pub stay-spec : {M : Type 1} → statement M
 stay-spec =
