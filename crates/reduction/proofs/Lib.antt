@@ -1,0 +1,4 @@
+pub mod Holding
+pub mod Fired
+pub mod Placing
+pub mod NormalForms

@@ -1,0 +1,101 @@
+-- Trees and lists at the free end, before others. Assumes nothing.
+use Prim.Native.Nat.{ℕ, _+_, _*_, _<_, _≤_}
+use mathlib.Core.Path.{_≡_, refl, sym, ap, ap₂, _∙_}
+use mathlib.Core.Bool.{not}
+use mathlib.Core.List.{List}
+use lib.Dec.{eqb}
+use lib.ListN.{length, getD}
+use native.Mathlib.Omega.{arith}
+use borrow.Author.Tests.{not-true, eqb-false}
+use Rattle.rules.specs.Bytes.{Text}
+use Rattle.rules.specs.Tree.{Tree, apply, Trees, more, size, sizes}
+use Rattle.rules.specs.Reduction.{constant}
+use Rattle.tree.specs.Cells.{start-of, length-of, kind-of, nodes-of, next-of, named, name-at, fixed-name, made, trees-at}
+use Rattle.tree.specs.Arena.{Place, Arena, Grown, Wrote, Linked}
+use Rattle.tree.proofs.Bounded.{every-below, below-holds}
+use Rattle.tree.proofs.Decoding.{same-first, same-next, made-apply, trees-none, frame-trees, sizes-more}
+use Rattle.tree.proofs.Pushing.{cell-frame, name-push, arena-push, linked, linked-like}
+use Rattle.substitution.specs.Building.{Before}
+use Rattle.substitution.proofs.Placing.{before-linked}
+use Rattle.reduction.specs.Building.{Kept, NewTree}
+
+pub kept-same : (w : List ℕ) (n : ℕ) → Kept w w n
+kept-same w n = record { len = refl; below = λ p h. refl }
+
+-- a growth keeps the cells below it
+pub kept-grown : {w v : List ℕ} {n m : ℕ} → Grown w v n m → Kept w v n
+kept-grown g = record { len = g .len; below = g .below }
+
+pub kept-then : {w v u : List ℕ} {n m : ℕ} → Kept w v n → Kept v u m → n ≤ m → Kept w u n
+kept-then g h p = record {
+  len = h .len ∙ g .len;
+  below = λ k l. g .below k l ∙ h .below k (omega arith);
+}
+
+-- an area that keeps the cells holds the same trees
+pub arena-kept : {s : Text} {w v : List ℕ} {n : ℕ} → Arena s w n → Kept w v n → Arena s v n
+arena-kept {s} {w} {v} {n} a k = record {
+  links = record {
+    some = a .links .some;
+    room = omega (arith, a .links .room, k .len);
+    first = λ j p q. omega (arith, same-first w v (k .below) j q, a .links .first j p q);
+    next = λ j p q. omega (arith, same-next w v (k .below) j q, a .links .next j p q);
+  };
+  cell = λ j p q. cell-frame s (a .links) (k .below) j p q (a .cell j p q);
+}
+
+-- one new cell at most
+pub new-kept : {s : Text} {w v : List ℕ} {n next i m : ℕ} {t : Tree} → Before s w v n next t i m → m ≤ n + 1 → NewTree s w v n 1 next t i m
+new-kept x h = record {
+  arena = x .arena;
+  kept = kept-grown (x .grown);
+  grew = x .grew;
+  used = h;
+  some-cell = x .some-cell;
+  inside = x .inside;
+  tree = x .tree;
+  trees = x .trees;
+}
+
+pub new-linked : {s : Text} {w v : List ℕ} {n next : ℕ} {t : Tree} (e : ℕ) → 0 < n → Linked s w v n next t → e ≡ n + 1 → NewTree s w v n 1 next t n e
+new-linked e p x f = new-kept (before-linked e p x f) (omega arith)
+
+-- after other cells were written
+pub new-later : {s : Text} {w v u : List ℕ} {n m b d next i e : ℕ} {t : Tree} → Arena s w n → next < n → Kept w v n → n ≤ m → m + b ≤ n + d → NewTree s v u m b next t i e → NewTree s w u n d next t i e
+new-later {s} {w} {v} {next = next} {t = t} a q k p r x = record {
+  arena = x .arena;
+  kept = kept-then k (x .kept) p;
+  grew = omega (arith, x .grew);
+  used = omega (arith, x .used);
+  some-cell = x .some-cell;
+  inside = x .inside;
+  tree = x .tree;
+  trees = x .trees ∙ ap (more t) (sym (frame-trees s v (a .links) (k .below) next q));
+}
+
+-- a fixed name is no atom's text
+fixed-plain : (c : ℕ) → c < 7 → getD (fixed-name c) 1 0 ≡ 40 → ⊥
+unfolding every-below
+fixed-plain c h = eqb-false (getD (fixed-name c) 1 0) 40 (not-true (eqb (getD (fixed-name c) 1 0) 40) (below-holds 7 (λ m. not (eqb (getD (fixed-name m) 1 0) 40)) refl c h))
+
+-- a fixed name written
+pub linked-fixed : (s : Text) {w v : List ℕ} {n code next : ℕ} → Arena s w n → 0 < code → code < 7 → next < n → 4 * n + 4 ≤ length w
+    → Wrote w v n code 0 0 0 next 1 → Linked s w v n next (constant (fixed-name code))
+unfolding named made size
+linked-fixed s {w} {v} {n} {code} {next} a p q g room x =
+    let m : name-at s v n ≡ fixed-name code = name-push x s in
+    let o = a .links .some in
+    let e : made 0 (name-at s v n) (trees-at s w 0) ≡ constant (fixed-name code) = ap₂ apply m (trees-none s w 0 refl) in
+    let here : Place s code 0 = record { inside = λ h. absurd (omega arith); code = λ h. (p, q) } in
+    linked x s (a .links) g o (arena-push x s a room o g here (omega arith) (λ h. absurd (omega arith)) (λ h k. fixed-plain code q (ap (λ (y : Text). getD y 1 0) (sym m) ∙ k)) (sym (ap size e))) e
+
+-- the name of cell i over other children
+pub linked-over : (s : Text) {w v : List ℕ} {n first next count : ℕ} (i : ℕ) → Arena s w n → 0 < i → i < n → kind-of w i ≡ 0 → first < n → next < n → 4 * n + 4 ≤ length w
+    → count ≡ sizes (trees-at s w first) → Wrote w v n (start-of w i) (length-of w i) (kind-of w i) first next (1 + count) → Linked s w v n next (apply (name-at s w i) (trees-at s w first))
+unfolding size
+linked-over s {w} {v} {n} {first} i a p q k f g room c x =
+    linked-like s i x a p q room f g (made-apply (kind-of w i) (name-at s w i) (trees-at s w first) k) (ap (λ (m : ℕ). 1 + m) c)
+
+-- the nodes of a list, cell by cell
+pub nodes-more : {w : List ℕ} {n : ℕ} (s : Text) → Arena s w n → (k j : ℕ) {c : ℕ} → 0 < k → k < n → j ≡ next-of w k → c ≡ nodes-of w k → c + sizes (trees-at s w j) ≡ sizes (trees-at s w k)
+nodes-more {w} s a k j p q e f = rw (e, f, a .cell k p q .counted) (sym (sizes-more s (a .links) k p q))
