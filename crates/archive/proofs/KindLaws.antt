@@ -2,7 +2,7 @@
 use mathlib.Core.Path.{_≡_, refl, sym, subst, ap, _∙_}
 use mathlib.Core.List.{List, [], _∷_}
 use mathlib.Core.Option.{Option, some, none}
-use Prim.Native.Nat.{ℕ, _*_, _<_}
+use Prim.Native.Nat.{ℕ, _+_, _*_, _≤_}
 use lib.ListN.{length}
 use native.Mathlib.Omega.{arith}
 use denote.Enum.Declared.{tagOf}
@@ -35,19 +35,26 @@ equal-settled s l r f {out} {v} {x} e h sheet g =
     let z : asks-equal (text-of s l) (text-of s r) ≡ sheet = cc (ap (sheet-of s) e) in
     subst (λ (t : Sheet). Settles (answer-now t) out v x) z h
 
--- the kinds that are not answered yet
-not-now : (s : Text) (f : Form) (sheet : Sheet) → OneOf (1 ∷ 2 ∷ 3 ∷ 4 ∷ 5 ∷ 6 ∷ 7 ∷ []) (tagOf the-type f) → sheet-of s f ≡ some sheet → answer-now sheet ≡ none
+pub reduce-settled : (s : Text) (t : Place) (f : Form) {out v : Text} {x : Settled} → f ≡ form.Reduce t
+    → Settles (answer-of (asks-reduce (text-of s t))) out v x → SettlesForm (sheet-of s f) out v x
 unfolding sheet-of answer-now
-not-now s (form.Equal l r) sheet h e = absurd (miss (1 ∷ 2 ∷ 3 ∷ 4 ∷ 5 ∷ 6 ∷ 7 ∷ []) 0 tt h)
+reduce-settled s t f {out} {v} {x} e h sheet g =
+    let z : asks-reduce (text-of s t) ≡ sheet = cc (ap (sheet-of s) e) in
+    subst (λ (t : Sheet). Settles (answer-now t) out v x) z h
+
+-- the kinds that are not answered yet
+not-now : (s : Text) (f : Form) (sheet : Sheet) → OneOf (1 ∷ 2 ∷ 4 ∷ 5 ∷ 6 ∷ 7 ∷ []) (tagOf the-type f) → sheet-of s f ≡ some sheet → answer-now sheet ≡ none
+unfolding sheet-of answer-now
+not-now s (form.Equal l r) sheet h e = absurd (miss (1 ∷ 2 ∷ 4 ∷ 5 ∷ 6 ∷ 7 ∷ []) 0 tt h)
 not-now s (form.Unify fuel c) sheet h e = ap answer-now (unify-pairs s fuel c sheet e .1)
 not-now s (form.Match fuel c) sheet h e = ap answer-now (match-pairs s fuel c sheet e .1)
-not-now s (form.Reduce t) sheet h e = let z : sheet ≡ asks-reduce (text-of s t) = cc in ap answer-now z
+not-now s (form.Reduce t) sheet h e = absurd (miss (1 ∷ 2 ∷ 4 ∷ 5 ∷ 6 ∷ 7 ∷ []) 3 tt h)
 not-now s (form.Cover c d) sheet h e = ap answer-now (cover-parts s c d sheet e .3)
 not-now s (form.Sound t c) sheet h e = ap answer-now (sound-member s t c sheet e .1)
 not-now s (form.Complete t c) sheet h e = ap answer-now (complete-members s t c sheet e .1)
 not-now s form.Three sheet h e = let z : _≡_ {A = ℕ} 0 1 = cc in absurd (omega arith)
 
-pub other-settled : (s : Text) (f : Form) (out : Text) → OneOf (1 ∷ 2 ∷ 3 ∷ 4 ∷ 5 ∷ 6 ∷ 7 ∷ []) (tagOf the-type f) → SettlesForm (sheet-of s f) out out Unreadable
+pub other-settled : (s : Text) (f : Form) (out : Text) → OneOf (1 ∷ 2 ∷ 4 ∷ 5 ∷ 6 ∷ 7 ∷ []) (tagOf the-type f) → SettlesForm (sheet-of s f) out out Unreadable
 other-settled s f out h sheet e = settles-as (not-now s f sheet h e) (unreadable-settles out)
 
 -- the whole call, by what was admitted and settled
@@ -64,7 +71,7 @@ module _ (s : Text) (w : List ℕ) (out : Text) where
       }
 
   module _ (f : Form) (needed : ℕ) (a : Stands s (length w) f needed) where
-    pub roomy : 4 * length s < needed
+    pub roomy : 1048576 + 16 * length s ≤ needed
     unfolding words-needed
     roomy = omega (arith, a .need)
 

@@ -3,4 +3,5 @@ pub mod Giving
 pub mod Screening
 pub mod Admitting
 pub mod Equals
+pub mod Reduces
 pub mod KindLaws

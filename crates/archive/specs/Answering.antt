@@ -20,7 +20,7 @@ unfolding answer-of
 answer-now (asks-equal l r) = answer-of (asks-equal l r)
 answer-now (asks-unify fuel ps) = none
 answer-now (asks-match fuel ps) = none
-answer-now (asks-reduce t) = none
+answer-now (asks-reduce t) = answer-of (asks-reduce t)
 answer-now (asks-cover ps ms) = none
 answer-now (asks-sound t m) = none
 answer-now (asks-complete t ms) = none

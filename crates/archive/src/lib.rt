@@ -12,7 +12,7 @@ use clearing::clear;
 use kinds::settle;
 use sheet::form::Form;
 ghost use mathlib.Core.Path.{_≡_};
-ghost use Prim.Native.Nat.{_*_, _<_, _≤_};
+ghost use Prim.Native.Nat.{_+_, _*_, _≤_};
 ghost use lib.ListN.{length};
 ghost use Rattle.sheet.specs.Form.{Within, sheet-of};
 ghost use Rattle.archive.specs.Settling.{settled-number, settled-count};
@@ -34,7 +34,7 @@ fn settle_and_clear(
     form: Form,
     needed: usize,
 ) -> Settled
-    requires { ⌜ (length (now sheet) ≤ 65536) × (4 * length (now sheet) < needed) × (needed ≤ length (now work)) ⌝ }
+    requires { ⌜ (length (now sheet) ≤ 65536) × (1048576 + 16 * length (now sheet) ≤ needed) × (needed ≤ length (now work)) ⌝ }
     requires { ⌜ Within (now sheet) form ⌝ }
     ensures { λ r. ⌜ SettlesForm (sheet-of (now (sheet .entry)) form) (now (output .entry)) (now (output .exit)) r ⌝ }
     ensures { λ _. ⌜ now (work .exit) ≡ zeroed needed (now (work .entry)) ⌝ }

@@ -1,9 +1,8 @@
-use lib.ListN.{length, take}
-use Rattle.archive.proofs.Zeroing.{zeroed-over}
 use mathlib.Core.Path.{_≡_, sym, _∙_}
 use native.Mathlib.Omega.{arith}
-use lib.ListN.{length, take, length-take}
+use lib.ListN.{length, take}
 use lib.Seq.{length-take-le}
+use Rattle.archive.proofs.Zeroing.{zeroed-over}
 use borrow.Author.Needs.{needs}
 use Rattle.archive.proofs.settle_and_clear.Statement.{statement}
 use Rattle.archive.proofs.settle_and_clear.Tie as tie
@@ -12,33 +11,33 @@ use Rattle.archive.proofs.settle_and_clear.Lts as lts
 use Rattle.archive.proofs.clearing.clear.Reads as clear-reads
 use Rattle.archive.proofs.kinds.settle.Reads as settle-reads
 
--- src/lib.rt:41:33
+-- src/lib.rt:42:33
 slice-relend-prefix-settle : tie.Need-slice-relend-prefix-settle
 slice-relend-prefix-settle c = search needs
 
--- src/lib.rt:41:33
+-- src/lib.rt:42:33
 slice-aggregate-settle : tie.Need-slice-aggregate-settle
 slice-aggregate-settle c = sym (length-take-le (c .before .before .before .before .args .needed) (c .before .before .before .before .args .work .now) (c .before .before .before .before .pre .0 .2))
 
--- src/lib.rt:41:9
+-- src/lib.rt:42:9
 settle-requires : tie.Need-settle-requires
 settle-requires c κs =
     let e = length-take-le (c .before .before .before .before .before .args .needed) (c .before .before .before .before .before .args .work .now) (c .before .before .before .before .before .pre .0 .2) in
     ((c .before .before .before .before .before .pre .0 .0, omega arith), c .before .before .before .before .before .pre .1)
 
--- src/lib.rt:42:5
+-- src/lib.rt:43:5
 clear-requires : tie.Need-clear-requires
 clear-requires c κs = search needs
 
--- src/lib.rt:29:1
+-- src/lib.rt:30:1
 same-length : tie.Need-same-length
 same-length c = search needs
 
--- src/lib.rt:29:1
+-- src/lib.rt:30:1
 same-length-2 : tie.Need-same-length-2
 same-length-2 c = search needs
 
--- src/lib.rt:29:1
+-- src/lib.rt:30:1
 returns : tie.Need-returns
 returns c =
     let a = c .before .before .before .before .before .before .before .before .before .before .before .before .before .before .args in
