@@ -19,10 +19,13 @@ pub const STACK: usize = 2 << 20;
 pub const MOST_WORDS: usize = 1 << 26;
 const MARGIN: usize = 1_024;
 const SEED: u64 = 11;
+/// The words, and the bytes, after which the garbage is the same again.
+const PERIOD: usize = 4_093;
 
 /// The lent memory. Between calls both halves of each pair are the same.
 pub struct Lent {
-    rng: Rng,
+    words: Vec<u32>,
+    bytes: Vec<u8>,
     work_before: Vec<u32>,
     work: Vec<u32>,
     output_before: Vec<u8>,
@@ -31,8 +34,10 @@ pub struct Lent {
 
 impl Default for Lent {
     fn default() -> Self {
+        let mut rng = Rng::new(SEED);
         Self {
-            rng: Rng::new(SEED),
+            words: (0..PERIOD).map(|_| garbage(&mut rng)).collect(),
+            bytes: (0..PERIOD).map(|_| rng.number() as u8).collect(),
             work_before: Vec::new(),
             work: Vec::new(),
             output_before: Vec::new(),
@@ -81,22 +86,23 @@ fn garbage(rng: &mut Rng) -> u32 {
 impl Lent {
     fn grow(&mut self, words: usize, room: usize) {
         while self.work.len() < words + MARGIN {
-            let word = garbage(&mut self.rng);
-            self.work_before.push(word);
-            self.work.push(word);
+            self.work_before.extend_from_slice(&self.words);
+            self.work.extend_from_slice(&self.words);
         }
         while self.output.len() < room + MARGIN {
-            let byte = self.rng.number() as u8;
-            self.output_before.push(byte);
-            self.output.push(byte);
+            self.output_before.extend_from_slice(&self.bytes);
+            self.output.extend_from_slice(&self.bytes);
         }
     }
 
     // Writes the garbage again over what the call may have changed.
     fn refill(&mut self, words: usize, room: usize) {
-        let (words, room) = (words + MARGIN, room + MARGIN);
-        self.work[..words].copy_from_slice(&self.work_before[..words]);
-        self.output[..room].copy_from_slice(&self.output_before[..room]);
+        for part in self.work[..words + MARGIN].chunks_mut(PERIOD) {
+            part.copy_from_slice(&self.words[..part.len()]);
+        }
+        for part in self.output[..room + MARGIN].chunks_mut(PERIOD) {
+            part.copy_from_slice(&self.bytes[..part.len()]);
+        }
     }
 
     /// Calls the library with so many words and bytes lent. What is not as the reply says, if
