@@ -18,6 +18,8 @@ pub const STACK: usize = 2 << 20;
 /// The most words that are lent.
 pub const MOST_WORDS: usize = 1 << 26;
 const MARGIN: usize = 1_024;
+/// The words after those that a call clears that are looked at, if so many are lent.
+const SEEN: usize = 1 << 21;
 const SEED: u64 = 11;
 /// The words, and the bytes, after which the garbage is the same again.
 const PERIOD: usize = 4_093;
@@ -144,8 +146,8 @@ impl Lent {
     }
 
     fn work_right(&self, words: usize, bytes: &[u8]) -> bool {
-        let end = words + MARGIN;
-        reference::work_right(bytes, &self.work_before[..words], &self.work[..words])
+        let (seen, end) = (words.min(changed(bytes, words) + SEEN), words + MARGIN);
+        reference::work_right(bytes, &self.work_before[..seen], &self.work[..seen])
             && self.work_before[words..end] == self.work[words..end]
     }
 }
