@@ -194,12 +194,18 @@ fn compare_library(words: &[String]) -> Outcome {
 
 fn measured(words: &[String]) -> Outcome {
     let options = options(words, &["--bytes"], 0)?;
+    if !(1_000..=sheet::LONGEST).contains(&options.bytes) {
+        return Err(format!("--bytes takes 1000 to {}", sheet::LONGEST));
+    }
     if !library::present() {
         return Err(format!("{}; nothing was measured", library::notice()));
     }
     notice::absent("the library is measured alone");
-    measure::print(options.bytes);
-    Ok(ExitCode::SUCCESS)
+    if measure::print(options.bytes) {
+        Ok(ExitCode::SUCCESS)
+    } else {
+        Ok(ExitCode::FAILURE)
+    }
 }
 
 fn write_definitions(words: &[String]) -> Outcome {

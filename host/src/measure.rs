@@ -210,12 +210,10 @@ fn milliseconds(time: Duration) -> String {
     format!("{:.2}", time.as_secs_f64() * 1e3)
 }
 
-// A row of the table, and whether the two answers are the same.
-fn row(sample: &Sample) -> String {
+// Prints a row of the table; whether the two answers are the same.
+fn row(sample: &Sample) -> bool {
     let bytes = sample.sheet.as_bytes();
-    let Ok(read) = sheet::read(bytes) else {
-        return format!("| {} | not a sheet |", sample.name);
-    };
+    let read = sheet::read(bytes).expect("a sample is a sheet");
     let words = sheet::words_needed(bytes, &read) as usize;
     let (library, answer) = by_library(sample.name, bytes, words);
     let (rust, agreed) = if oracle::present() {
@@ -225,22 +223,22 @@ fn row(sample: &Sample) -> String {
         ("-".to_owned(), true)
     };
     let short: String = answer.trim_end().chars().take(24).collect();
-    format!(
+    println!(
         "| {} | {} | {} | {} | {rust} | {short}{} |",
         read.kind(),
         sample.name,
         bytes.len(),
         milliseconds(library),
         if agreed { "" } else { ", NOT the Rust's" },
-    )
+    );
+    io::stdout().flush().expect("standard output takes a row");
+    agreed
 }
 
-/// Prints the table, each row once it is known.
-pub fn print(bytes: usize) {
+/// Prints the table, each row once it is known; whether every answer is the Rust's.
+pub fn print(bytes: usize) -> bool {
     println!("| kind | terms | bytes | library ms | Rust ms | answer |");
     println!("|---|---|---|---|---|---|");
-    for sample in samples(bytes) {
-        println!("{}", row(&sample));
-        io::stdout().flush().expect("standard output takes a row");
-    }
+    let agreed: Vec<bool> = samples(bytes).iter().map(row).collect();
+    agreed.into_iter().all(|same| same)
 }

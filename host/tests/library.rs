@@ -41,7 +41,7 @@ fn the_library_replies_to_generated_sheets() {
     let comparison = deep::run(|| {
         let mut comparison = Comparison::default();
         comparison.add_generated(1_000, 21, &KINDS);
-        comparison.add_generated(1_000, 22, &ANSWERED);
+        comparison.add_generated(1_000, 22, ANSWERED);
         comparison
     });
     assert_eq!(comparison.calls, 2_000);
