@@ -103,11 +103,15 @@ fn deep_sums(half: usize) -> Vec<Sample> {
     let under = filled("f(tamtplus(a,", "b", "))", half);
     let swapped = filled("f(tamtplus(", "b", ",a))", half);
     let other = filled("f(tamtplus(", "c", ",a))", half);
+    let ones = filled("tamtplus(", "b", ")", half);
+    let ones_under = filled("f(tamtplus(", "b", "))", half);
     let fits = |depth: &usize| balanced(*depth, 1, false).len() <= half;
     let depth = (0..12).take_while(fits).last().unwrap_or(0);
     vec![
         equal("sums of two to the right", &to_right, &to_right),
         equal("sums of two, right and left", &to_right, &to_left),
+        equal("sums of one", &ones, &ones),
+        equal("sums of one under f", &ones_under, &ones_under),
         equal("sums under f", &under, &under),
         equal("sums under f, swapped", &under, &swapped),
         equal("sums under f, swapped, leaf differs", &under, &other),
