@@ -3,8 +3,9 @@ use std::{collections::BTreeSet, fs, process::ExitCode};
 
 use crate::{
     deep, definitions,
-    generate::{self, Size},
-    notice,
+    generate::{self, KINDS, Size},
+    linked::Comparison,
+    measure, notice,
     reference::{self, Reply},
     rng::Rng,
     sheet, store,
@@ -20,6 +21,11 @@ host: the reference of the call, generated sheets and the stored list
   host store                            write the stored list anew
   host replay                           check the stored list against the reference
   host compare [--count N] [--seed S]   the model against the Rust on generated sheets
+  host library [--count N] [--seed S] [--kinds equal,unify,..]
+                                        the linked library against the reference, on the stored
+                                        list and on generated sheets of these kinds
+  host measure [--bytes B]              times of the linked library and of the Rust on sheets
+                                        of about B bytes
   host definitions [--count N] [--seed S] [--chunk K] --out FILE
                                         write rows for the definitions, K rows to a theorem
   host --help                           this text
@@ -31,6 +37,8 @@ struct Options {
     count: usize,
     seed: u64,
     chunk: usize,
+    bytes: usize,
+    kinds: Vec<&'static str>,
     out: Option<String>,
 }
 
@@ -40,11 +48,19 @@ fn number<T: std::str::FromStr>(name: &str, value: &str) -> Result<T, String> {
         .map_err(|_| format!("{name} takes a number, not '{value}'"))
 }
 
+fn kinds(value: &str) -> Result<Vec<&'static str>, String> {
+    let known = |name: &str| KINDS.iter().copied().find(|kind| *kind == name);
+    let found = |name| known(name).ok_or_else(|| format!("--kinds takes no '{name}'"));
+    value.split(',').map(found).collect()
+}
+
 fn options(words: &[String], allowed: &[&str], count: usize) -> Result<Options, String> {
     let mut found = Options {
         count,
         seed: 1,
         chunk: 25,
+        bytes: 65_000,
+        kinds: KINDS.to_vec(),
         out: None,
     };
     let mut words = words.iter();
@@ -59,6 +75,8 @@ fn options(words: &[String], allowed: &[&str], count: usize) -> Result<Options, 
             "--count" => found.count = number(name, value)?,
             "--seed" => found.seed = number(name, value)?,
             "--chunk" => found.chunk = number::<usize>(name, value)?.max(1),
+            "--bytes" => found.bytes = number(name, value)?,
+            "--kinds" => found.kinds = kinds(value)?,
             _ => found.out = Some(value.clone()),
         }
     }
@@ -149,6 +167,47 @@ fn compare(words: &[String]) -> Outcome {
     Ok(ExitCode::SUCCESS)
 }
 
+fn compare_library(words: &[String]) -> Outcome {
+    let options = options(words, &["--count", "--seed", "--kinds"], 10_000)?;
+    if !library::present() {
+        return Err(format!("{}; nothing was compared", library::notice()));
+    }
+    notice::absent("the library is compared with the model alone");
+    let records = store::stored()?;
+    let compared = deep::run(|| {
+        let mut comparison = Comparison::default();
+        comparison.add_stored(&records);
+        comparison.add_generated(options.count, options.seed, &options.kinds);
+        comparison
+    });
+    print!("{}", compared.tally);
+    let Comparison {
+        calls, differences, ..
+    } = compared;
+    println!("{calls} calls: {differences} not as the reference says");
+    let Some(smallest) = compared.smallest else {
+        return Ok(ExitCode::SUCCESS);
+    };
+    print!("the smallest sheet of them:\n{smallest}");
+    Ok(ExitCode::FAILURE)
+}
+
+fn measured(words: &[String]) -> Outcome {
+    let options = options(words, &["--bytes"], 0)?;
+    if !(1_000..=sheet::LONGEST).contains(&options.bytes) {
+        return Err(format!("--bytes takes 1000 to {}", sheet::LONGEST));
+    }
+    if !library::present() {
+        return Err(format!("{}; nothing was measured", library::notice()));
+    }
+    notice::absent("the library is measured alone");
+    if measure::print(options.bytes) {
+        Ok(ExitCode::SUCCESS)
+    } else {
+        Ok(ExitCode::FAILURE)
+    }
+}
+
 fn write_definitions(words: &[String]) -> Outcome {
     let allowed = ["--count", "--seed", "--chunk", "--out"];
     let options = options(words, &allowed, 1_200)?;
@@ -179,6 +238,8 @@ pub fn run(words: &[String]) -> Outcome {
             Err(format!("{name} takes no '{word}'"))
         }
         ("compare", rest) => compare(rest),
+        ("library", rest) => compare_library(rest),
+        ("measure", rest) => measured(rest),
         ("definitions", rest) => write_definitions(rest),
         (name, _) => Err(format!("unknown subcommand '{name}'; see host --help")),
     }

@@ -11,6 +11,7 @@ mod terms;
 use crate::{
     reference::{self, Admitted, Reply},
     rng::Rng,
+    sheet,
 };
 
 /// A sheet, the words and the bytes of output lent with it, and the reply.
@@ -35,18 +36,44 @@ pub const KINDS: [&str; 7] = [
     "equal", "unify", "match", "reduce", "cover", "sound", "complete",
 ];
 
+const WEIGHTS: [usize; 7] = [10, 28, 22, 10, 12, 10, 12];
+
 /// A sheet, damaged now and then.
 pub fn sheet(rng: &mut Rng, size: Size) -> Vec<u8> {
+    sheet_for(rng, size, &KINDS)
+}
+
+/// A sheet of one of these kinds, of which there is one, damaged now and then.
+pub fn sheet_for(rng: &mut Rng, size: Size, kinds: &[&str]) -> Vec<u8> {
     if size == Size::Any && rng.once_in(50) {
-        return limits::sheet(rng);
+        return at_limits(rng, kinds);
     }
-    let kind = KINDS[rng.weighted(&[10, 28, 22, 10, 12, 10, 12])];
+    let weight = |index: usize| {
+        if kinds.contains(&KINDS[index]) {
+            WEIGHTS[index]
+        } else {
+            0
+        }
+    };
+    let kind = KINDS[rng.weighted(&std::array::from_fn::<_, 7, _>(weight))];
     let text = kinds::sheet(rng, kind);
     if rng.once_in(9) {
         damage::damaged(rng, text)
     } else {
         text.into_bytes()
     }
+}
+
+// A sheet at the limits; one of the kinds, unless many tries give none.
+fn at_limits(rng: &mut Rng, kinds: &[&str]) -> Vec<u8> {
+    let mut sheet = limits::sheet(rng);
+    for _ in 0..60 {
+        if sheet::read(&sheet).map_or(true, |sheet| kinds.contains(&sheet.kind())) {
+            break;
+        }
+        sheet = limits::sheet(rng);
+    }
+    sheet
 }
 
 fn words(rng: &mut Rng, needed: u64) -> u64 {

@@ -1,13 +1,24 @@
-// What is said where the Rust sources were not found.
+// What is said where the Rust sources or the proved library were not found.
 use std::io::{self, Write};
 
-/// Tells on standard error that the sources are absent and what that leaves out, if they are. The
-/// test harness does not hold this back.
+// The test harness does not hold this back.
+fn tell(line: String) {
+    io::stderr()
+        .write_all(line.as_bytes())
+        .expect("standard error takes a line");
+}
+
+/// Tells on standard error that the sources are absent and what that leaves out, if they are.
 pub fn absent(left_out: &str) {
     if !oracle::present() {
-        let line = format!("{}; {left_out}\n", oracle::notice());
-        io::stderr()
-            .write_all(line.as_bytes())
-            .expect("standard error takes a line");
+        tell(format!("{}; {left_out}\n", oracle::notice()));
     }
+}
+
+/// The same for the library; whether it is absent.
+pub fn library_absent(left_out: &str) -> bool {
+    if !library::present() {
+        tell(format!("{}; {left_out}\n", library::notice()));
+    }
+    !library::present()
 }

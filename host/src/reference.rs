@@ -268,6 +268,6 @@ pub fn work_right(bytes: &[u8], before: &[u32], after: &[u32]) -> bool {
         _ => 0,
     };
     before.len() == after.len()
-        && after[..cleared].iter().all(|word| *word == 0)
+        && after[..cleared].iter().fold(0, |all, word| all | word) == 0
         && after[cleared..] == before[cleared..]
 }

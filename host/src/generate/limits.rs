@@ -1,5 +1,10 @@
-// Sheets at the limits: nodes, bytes, fuel, waiting pairs, composed bindings, schemes.
-use crate::rng::Rng;
+// Sheets at the limits: nodes, bytes, fuel, waiting pairs, composed bindings, schemes, large terms.
+use super::{
+    pairs::changed,
+    spelling::{shuffled, spelled, sum},
+    terms::{apply, atom},
+};
+use crate::{model::Term, rng::Rng};
 
 fn leaves(name: &str, leaf: &str, count: usize) -> String {
     format!("{name}({})", vec![leaf; count].join(","))
@@ -184,8 +189,45 @@ fn members(rng: &mut Rng) -> String {
     format!("kind={kind}\nmember=a\n{keys}key=x{last}:Msg\nvalue=a\n")
 }
 
+// A term with so many nodes and no variable.
+fn large(rng: &mut Rng, nodes: usize) -> Term {
+    if nodes < 3 {
+        let letter = ['c', 't'][rng.below(2)];
+        return atom(letter, rng.below(4));
+    }
+    let first = if rng.once_in(2) {
+        1 + rng.below(nodes - 2)
+    } else {
+        1
+    };
+    match rng.below(6) {
+        0 => apply("h", vec![large(rng, nodes - 1)]),
+        1 => apply("tamtplus", vec![large(rng, nodes - 1)]),
+        2 => {
+            let (left, right) = (large(rng, first), large(rng, nodes - 1 - first));
+            apply("g", vec![left, right])
+        }
+        _ => {
+            let (left, right) = (large(rng, first), large(rng, nodes - 1 - first));
+            sum(left, right)
+        }
+    }
+}
+
+// Two large terms that are equal, or were so before a change.
+fn equal(rng: &mut Rng) -> String {
+    let nodes = rng.between(100, 4_000);
+    let left = large(rng, nodes);
+    let mut right = shuffled(rng, &left);
+    if rng.once_in(2) {
+        right = changed(rng, &right);
+    }
+    let (left, right) = (spelled(rng, &left), spelled(rng, &right));
+    format!("kind=equal\nleft={left}\nright={right}\n")
+}
+
 pub fn sheet(rng: &mut Rng) -> Vec<u8> {
-    let text = match rng.weighted(&[4, 3, 4, 4, 3, 3, 2, 3, 3, 3]) {
+    let text = match rng.weighted(&[4, 3, 4, 4, 3, 3, 2, 3, 3, 3, 4]) {
         0 => read(rng),
         1 => bytes(rng),
         2 => fuel(rng),
@@ -195,7 +237,8 @@ pub fn sheet(rng: &mut Rng) -> Vec<u8> {
         6 => instance(rng),
         7 => sums(rng),
         8 => names(rng),
-        _ => members(rng),
+        9 => members(rng),
+        _ => equal(rng),
     };
     text.into_bytes()
 }

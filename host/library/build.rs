@@ -1,0 +1,39 @@
+// Finds the proved library and links it, if it is there.
+use std::{
+    env,
+    path::{Path, PathBuf},
+};
+
+const VARIABLE: &str = "YUKHTSAMI_LIBRARY";
+
+// A file that the variable names is taken from the root of the repository on.
+fn file() -> PathBuf {
+    let package = env::var("CARGO_MANIFEST_DIR").expect("set by cargo");
+    let root = Path::new(&package).join("../..");
+    match env::var_os(VARIABLE) {
+        Some(file) => root.join(file),
+        None => root.join("target/staticlib/libarchive.a"),
+    }
+}
+
+fn main() {
+    println!("cargo::rerun-if-env-changed={VARIABLE}");
+    println!("cargo::rerun-if-changed=build.rs");
+    println!("cargo::rustc-check-cfg=cfg(linked)");
+    let file = file();
+    // A path that is not there makes cargo ask again at the next build.
+    println!("cargo::rerun-if-changed={}", file.display());
+    println!("cargo::rustc-env=LIBRARY_FILE={}", file.display());
+    if !file.is_file() {
+        return;
+    }
+    let (Some(folder), Some(name)) = (file.parent(), file.file_name()) else {
+        return;
+    };
+    println!("cargo::rustc-cfg=linked");
+    println!("cargo::rustc-link-search=native={}", folder.display());
+    println!(
+        "cargo::rustc-link-lib=static:+verbatim={}",
+        name.to_string_lossy()
+    );
+}

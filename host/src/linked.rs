@@ -1,0 +1,116 @@
+// The linked library against the reference, on generated sheets and the stored list.
+use std::fmt;
+
+use crate::{
+    generate::{self, Case, Size},
+    lent::{Lent, MOST_WORDS},
+    reference::Reply,
+    rng::Rng,
+    sheet,
+    store::Record,
+    tally::Tally,
+};
+
+/// The kinds that the library answers. It gives 4 to a sheet of another kind that is not refused
+/// by 1, 2, 3 or 11.
+pub const ANSWERED: &[&str] = &["equal"];
+
+/// A call that was not as the reference says.
+pub struct Difference {
+    pub name: String,
+    pub sheet: Vec<u8>,
+    pub words: usize,
+    pub room: usize,
+    pub reply: Reply,
+    pub found: Vec<String>,
+}
+
+/// What came of a comparison.
+#[derive(Default)]
+pub struct Comparison {
+    lent: Lent,
+    pub calls: usize,
+    pub tally: Tally,
+    pub differences: usize,
+    /// The difference with the fewest bytes of sheet.
+    pub smallest: Option<Difference>,
+}
+
+/// The reply that the library gives now with so many words, from the reference's to the sheet.
+pub fn now(bytes: &[u8], words: usize, reply: Reply) -> Reply {
+    match sheet::read(bytes) {
+        Err(_) => reply,
+        Ok(sheet) if sheet::words_needed(bytes, &sheet) > words as u64 => Reply::Refused(11),
+        Ok(sheet) if ANSWERED.contains(&sheet.kind()) => reply,
+        Ok(_) => Reply::Refused(4),
+    }
+}
+
+impl Comparison {
+    /// One call; more words than can be lent are cut to the most.
+    pub fn add(&mut self, name: &str, bytes: &[u8], words: u64, room: usize, reply: Reply) {
+        let words = words.min(MOST_WORDS as u64) as usize;
+        let reply = now(bytes, words, reply);
+        let found = self.lent.differences(name, bytes, (words, room), &reply);
+        self.calls += 1;
+        self.tally.add(bytes, &reply);
+        if found.is_empty() {
+            return;
+        }
+        self.differences += 1;
+        let smaller = |known: &Difference| bytes.len() < known.sheet.len();
+        if self.smallest.as_ref().is_none_or(smaller) {
+            self.smallest = Some(Difference {
+                name: name.to_owned(),
+                sheet: bytes.to_vec(),
+                words,
+                room,
+                reply,
+                found,
+            });
+        }
+    }
+
+    /// The records of a stored list.
+    pub fn add_stored(&mut self, records: &[Record]) {
+        for record in records {
+            let Record {
+                label,
+                sheet,
+                words,
+                room,
+                reply,
+            } = record;
+            self.add(label, sheet, *words, *room, reply.clone());
+        }
+    }
+
+    /// Generated sheets of these kinds.
+    pub fn add_generated(&mut self, count: usize, seed: u64, kinds: &[&str]) {
+        let mut rng = Rng::new(seed);
+        for index in 1..=count {
+            let sheet = generate::sheet_for(&mut rng, Size::Any, kinds);
+            let Case {
+                sheet,
+                words,
+                room,
+                reply,
+            } = generate::lend(&mut rng, sheet);
+            let name = format!("sheet {index} of seed {seed}");
+            self.add(&name, &sheet, words, room, reply);
+        }
+    }
+}
+
+impl fmt::Display for Difference {
+    fn fmt(&self, out: &mut fmt::Formatter) -> fmt::Result {
+        let reply = match &self.reply {
+            Reply::Refused(refusal) => format!("refusal {refusal}"),
+            Reply::Answer(answer) => String::from_utf8_lossy(answer).into_owned(),
+        };
+        writeln!(out, "{}: {}", self.name, self.found.join("; "))?;
+        writeln!(out, "words lent: {}; bytes lent: {}", self.words, self.room)?;
+        writeln!(out, "sheet:\n{}", String::from_utf8_lossy(&self.sheet))?;
+        writeln!(out, "reply:\n{reply}")
+    }
+}

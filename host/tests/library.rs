@@ -1,0 +1,112 @@
+// The linked library against the reference: the stored list, generated sheets, what a difference
+// shows, and terms that fill a sheet on a small stack.
+use host::{
+    deep,
+    generate::KINDS,
+    lent,
+    linked::{self, ANSWERED, Comparison},
+    notice,
+    reference::{self, Reply},
+    sheet, store,
+};
+
+fn none_differ(comparison: &Comparison) {
+    let smallest = comparison.smallest.as_ref().map(ToString::to_string);
+    assert_eq!(
+        comparison.differences,
+        0,
+        "{}",
+        smallest.unwrap_or_default()
+    );
+}
+
+#[test]
+fn the_library_replies_to_the_stored_list() {
+    if notice::library_absent("the stored list was not tried on it") {
+        return;
+    }
+    let records = store::stored().unwrap();
+    let mut comparison = Comparison::default();
+    comparison.add_stored(&records);
+    assert_eq!(comparison.calls, records.len());
+    none_differ(&comparison);
+}
+
+#[test]
+fn the_library_replies_to_generated_sheets() {
+    if notice::library_absent("generated sheets were not tried on it") {
+        return;
+    }
+    notice::absent("the library was compared with the model alone");
+    let comparison = deep::run(|| {
+        let mut comparison = Comparison::default();
+        comparison.add_generated(1_000, 21, &KINDS);
+        comparison.add_generated(1_000, 22, ANSWERED);
+        comparison
+    });
+    assert_eq!(comparison.calls, 2_000);
+    none_differ(&comparison);
+}
+
+const SHEET: &[u8] = b"kind=equal\nleft=tamtplus(a,b)\nright=tamtplus(b,a)\n";
+
+#[test]
+fn the_library_answers_with_just_the_words_and_bytes_needed() {
+    if notice::library_absent("nothing was lent to it") {
+        return;
+    }
+    let needed = 65_536 * 16 + 16 * SHEET.len();
+    let (mut work, mut output) = (vec![7; needed], [0; 10]);
+    let less = library::answer(SHEET, &mut work[..needed - 1], &mut output);
+    assert_eq!((less, work[0]), (Err(11), 7));
+    let short = library::answer(SHEET, &mut work, &mut output[..9]);
+    assert_eq!((short, work[needed - 1], output), (Err(12), 0, [0; 10]));
+    assert_eq!(library::answer(SHEET, &mut work, &mut output), Ok(10));
+    assert_eq!(&output, b"equal=yes\n");
+}
+
+#[test]
+fn a_difference_is_found_and_the_smallest_sheet_kept() {
+    if notice::library_absent("no difference was made") {
+        return;
+    }
+    let mut comparison = Comparison::default();
+    let words = u64::from(u32::MAX);
+    let wrong = || Reply::Answer(b"equal=no\n".to_vec());
+    let longer = [SHEET, b" "].concat();
+    comparison.add("lines", &longer, words, 99, Reply::Refused(2));
+    comparison.add("wrong", SHEET, words, 99, wrong());
+    let right = Reply::Answer(b"equal=yes\n".to_vec());
+    comparison.add("right", SHEET, words, 99, right);
+    assert_eq!((comparison.calls, comparison.differences), (3, 2));
+    let smallest = comparison.smallest.unwrap();
+    assert_eq!(smallest.name, "wrong");
+    assert_eq!(smallest.found.len(), 2, "{smallest}");
+}
+
+#[test]
+fn a_kind_that_is_not_answered_gives_4_after_11() {
+    let bytes = b"kind=complete\nterm=a\nmember=a\n";
+    if ANSWERED.contains(&"complete") {
+        return;
+    }
+    let needed = sheet::words_needed(bytes, &sheet::read(bytes).unwrap()) as usize;
+    let reply = reference::call(bytes, needed as u64, 99);
+    assert_eq!(linked::now(bytes, needed, reply.clone()), Reply::Refused(4));
+    assert_eq!(linked::now(bytes, needed - 1, reply), Reply::Refused(11));
+}
+
+#[test]
+fn deep_terms_do_not_exhaust_a_small_stack() {
+    if notice::library_absent("deep terms were not tried on it") {
+        return;
+    }
+    let chain = format!("{}a{}", "f(".repeat(10_800), ")".repeat(10_800));
+    let sums = format!("{}a{}", "f(tamtplus(b,".repeat(2_100), "))".repeat(2_100));
+    for term in [chain, sums] {
+        let sheet = format!("kind=equal\nleft={term}\nright={term}\n");
+        let (mut work, mut output) = (vec![1; 65_536 * 16 + 16 * sheet.len()], [0; 10]);
+        let called = lent::call("deep terms", sheet.as_bytes(), &mut work, &mut output);
+        assert_eq!((called.refusal, &output), (0, b"equal=yes\n"));
+    }
+}
