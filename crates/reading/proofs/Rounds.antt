@@ -24,7 +24,7 @@ use Rattle.reading.specs.declared.closing.Closed.{Closed}
 use Rattle.reading.specs.Closing.{most, NoTree, closed-level, Popped, Pops}
 use Rattle.reading.specs.declared.Parsed.{Parsed}
 use Rattle.reading.specs.declared.Parsed.the-variants.{Tree as Parsed-tree, Unreadable}
-use Rattle.reading.specs.Parsing.{limit-of, stack-end, Read, Parses}
+use Rattle.reading.specs.Parsing.{ended-at, limit-of, stack-end, Read, Parses}
 use Rattle.reading.proofs.Grammar.{reads}
 use Rattle.reading.proofs.Turns.{limited, name-turn, open-turn, comma-turn, shut-turn, comma-bare, shut-bare, stop-turn, not-name, no-delimiter, leaf-turn, shut-out, small-enough, parse-limited}
 use Rattle.reading.proofs.LeafLaws.{leaf-size}
@@ -356,3 +356,17 @@ parses-on s u free from to (Parsed-tree index end) o h = record {
   outside = outside-on (omega arith) (omega arith) o (h .outside);
 }
 parses-on s u free from to Unreadable o h = (h .0, outside-on (omega arith) (omega arith) o (h .1))
+
+-- at the end of the text
+pub stop-ends : {s : Text} {start limit from to : ℕ} → Task s start limit from to → {v w x : List ℕ} {v-at free at : ℕ} (depth : ℕ) → Has s v start limit from to v-at w free depth at
+    → {r : Symbol} → r ≡ symbol-at (take to s) at → r ≡ Stop → Outside x w (4 * start) (stack-end start from to) → (q : Parsed) → q ≡ ended-at w limit free depth → Parses s x w start from to q
+stop-ends {s} {start} {limit} {from} {to} k {v} {w} {x} zero h f g o q e = subst (Parses s x w start from to) (sym e) (stop-in k h f refl g refl o)
+stop-ends {s} {start} {limit} {from} {to} k {v} {w} {x} (suc d) h f g o q e = subst (Parses s x w start from to) (sym e) (stop-out k h f (λ z. (omega arith)) g, o)
+
+pub ended-open : (w : List ℕ) (limit free depth : ℕ) → 0 < depth → Unreadable ≡ ended-at w limit free depth
+ended-open w limit free zero p = absurd (omega arith)
+ended-open w limit free (suc d) p = refl
+
+pub ended-bottom : (w : List ℕ) (limit free depth : ℕ) {index : ℕ} → depth ≤ 0 → index ≡ getD w (4 * limit) 0 → Parsed-tree index free ≡ ended-at w limit free depth
+ended-bottom w limit free zero p e = cc
+ended-bottom w limit free (suc d) p e = absurd (omega arith)

@@ -1,5 +1,5 @@
 -- What the term reader gives: a tree in cells where the text reads, and where it does not no more than that. Definitions only.
-use Prim.Native.Nat.{ℕ, _+_, _*_, _-_, _<_, _≤_}
+use Prim.Native.Nat.{ℕ, zero, suc, _+_, _*_, _-_, _<_, _≤_}
 use mathlib.Core.Path.{_≡_}
 use mathlib.Core.List.{List}
 use mathlib.Core.Option.{some, none as nothing}
@@ -11,6 +11,11 @@ use Rattle.tree.specs.Arena.{Arena}
 use Rattle.reading.specs.declared.Parsed.{Parsed}
 use Rattle.reading.specs.declared.Parsed.the-variants.{Tree, Unreadable}
 use Rattle.reading.specs.Words.{Outside}
+
+-- the tree of the bottom, where no list is open
+abbrev pub ended-at : List ℕ → ℕ → ℕ → ℕ → Parsed
+ended-at w limit free zero = Tree (getD w (4 * limit) 0) free
+ended-at w limit free (suc d) = Unreadable
 
 -- the cells end at most here
 abbrev pub limit-of : ℕ → ℕ → ℕ → ℕ

@@ -127,12 +127,12 @@ fn sum(
     if chain == 0 {
         return Closed::Refused;
     }
-    let k = next_of(work, start, chain);
-    if k == 0 {
+    let second = next_of(work, start, chain);
+    if second == 0 {
         return Closed::Refused;
     }
     let _ = share(sheet, work, start, chain, 0);
-    let nested = nest(sheet, work, start, at, len, k);
+    let nested = nest(sheet, work, start, at, len, second);
     let Closed::At(end) = nested else {
         return Closed::Refused;
     };

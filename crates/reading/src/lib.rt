@@ -15,7 +15,7 @@ ghost use Prim.Native.Nat.{_+_, _*_, _-_, _<_, _≤_, _^_};
 ghost use lib.ListN.{length, getD, take};
 ghost use Rattle.syntax.specs.Symbols.{symbol-at};
 ghost use Rattle.tree.specs.Arena.{Arena};
-ghost use Rattle.reading.specs.Parsing.{limit-of, stack-end, Parses};
+ghost use Rattle.reading.specs.Parsing.{ended-at, limit-of, stack-end, Parses};
 
 // The cell of the tree and the free end after it.
 pub enum Parsed {
@@ -29,6 +29,20 @@ fn symbol(sheet: &[u8], to: usize, at: usize) -> Symbol
     ensures { λ r. ⌜ r ≡ symbol-at (take to (now (sheet .entry))) at ⌝ }
 {
     next_symbol(&sheet[..to], at)
+}
+
+// At the end of the text: the tree of the bottom, unless a list is open.
+fn finished(work: &[u32], limit: usize, free: usize, depth: usize) -> Parsed
+    requires { ⌜ 4 * limit < length (now work) ⌝ }
+    ensures { λ r. ⌜ r ≡ ended-at (now (work .entry)) limit free depth ⌝ }
+{
+    if 0 < depth {
+        return Parsed::Unreadable;
+    }
+    Parsed::Tree {
+        index: top_of(work, limit),
+        free,
+    }
 }
 
 // Reads the text from `from` to `to`, with an empty stack above the cells.
@@ -67,13 +81,7 @@ fn read(
             let next = symbol(sheet, to, at);
             match next {
                 Symbol::Stop => {
-                    if depth == 0 {
-                        return Parsed::Tree {
-                            index: top_of(work, limit),
-                            free,
-                        };
-                    }
-                    break 'term;
+                    return finished(work, limit, free, depth);
                 }
                 Symbol::Comma(past) => {
                     if depth == 0 {

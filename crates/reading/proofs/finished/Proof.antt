@@ -1,0 +1,26 @@
+use Rattle.reading.proofs.Rounds.{ended-open, ended-bottom}
+use borrow.Author.Needs.{needs}
+use Rattle.reading.proofs.finished.Statement.{statement}
+use Rattle.reading.proofs.finished.Tie as tie
+use Rattle.reading.proofs.finished.Reads as reads
+use Rattle.reading.proofs.finished.Lts as lts
+use Rattle.reading.proofs.stack.top_of.Reads as top-of-reads
+
+-- src/lib.rt:40:9
+returns : tie.Need-returns
+returns c =
+    let a = c .before .before .args in
+    ended-open (a .work .now) (a .limit) (a .free) (a .depth) (c .if1 .taken)
+
+-- src/lib.rt:43:16
+top-of-requires : tie.Need-top-of-requires
+top-of-requires c κs = search needs
+
+-- src/lib.rt:35:1
+returns-2 : tie.Need-returns-2
+returns-2 c =
+    let a = c .before .before .before .args in
+    ended-bottom (a .work .now) (a .limit) (a .free) (a .depth) (c .before .if1 .left) (c .top-of .ensures)
+
+pub finished-spec : {M : Type 1} → statement M
+finished-spec = tie.close (tie.spec returns top-of-requires returns-2)
