@@ -26,6 +26,14 @@ fn early(refusal: usize) -> bool {
     refusal == 1 || refusal == 2 || refusal == 3 || refusal == 11
 }
 
+// Whether so many bytes of the output are the answer.
+fn holds(output: &[u8], written: usize, answer: &[u8]) -> bool {
+    if output.len() < written {
+        return false;
+    }
+    same(&output[..written], answer)
+}
+
 // Whether the call gives the reply stored.
 fn agrees(
     sheet: &[u8],
@@ -37,13 +45,7 @@ fn agrees(
     let called = yukhtsami_answer(sheet, work, output);
     let given = called.refusal;
     let written = called.written;
-    if given as usize != refusal {
-        return false;
-    }
-    if written > output.len() {
-        return false;
-    }
-    same(&output[..written], answer)
+    given as usize == refusal && holds(output, written, answer)
 }
 
 // Replays a record for which there are words and room.

@@ -2,8 +2,6 @@
 // ANSWERBYTES LABEL`, byte 10, the sheet, the answer, byte 10.
 use text::begins;
 use text::is_digit;
-ghost use mathlib.Core.Path.{_≡_};
-ghost use mathlib.Core.Bool.{true};
 ghost use Prim.Native.Nat.{_<_, _≤_};
 ghost use lib.ListN.{length};
 ghost use Rattle.replay.specs.Inside.{Inside};
@@ -30,7 +28,6 @@ struct Numeral {
 fn after_line(list: &[u8], at: usize) -> usize
     requires { ⌜ at ≤ length (now list) ⌝ }
     ensures { λ r. ⌜ (at ≤ r) × (r ≤ length (now (list .entry))) ⌝ }
-    ensures { λ r. ⌜ (at < length (now (list .entry)) → at < r) ⌝ }
 {
     let mut i = at;
     while i < list.len() {
@@ -51,7 +48,8 @@ pub fn after_head(list: &[u8]) -> usize
         if list[at] != b'#' {
             return at;
         }
-        at = after_line(list, at);
+        let next = at + 1;
+        at = after_line(list, next);
     }
     at
 }
@@ -119,13 +117,8 @@ pub fn record_at(list: &[u8], at: usize) -> Record
 }
 
 // Whether a record starts with its word and ends with byte 10.
-pub fn closed(list: &[u8], at: usize, stored: Record) -> bool
-    requires { ⌜ at ≤ length (now list) ⌝ }
-    ensures { λ r. ⌜ (r ≡ true → stored .end < length (now (list .entry))) ⌝ }
+pub fn closed(list: &[u8], at: usize, end: usize) -> bool
+    requires { ⌜ (at ≤ length (now list)) × (end < length (now list)) ⌝ }
 {
-    let end = stored.end;
-    if end >= list.len() {
-        return false;
-    }
     begins(&list[at..], b"sheet ") && list[end] == b'\n'
 }

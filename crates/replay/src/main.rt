@@ -76,6 +76,12 @@ fn report(list: &[u8], stored: Record, outcome: Outcome)
     }
 }
 
+// Says that a record of the list is not in form.
+fn left_off(tally: Tally) -> Tally {
+    io::write_all(STDOUT_FILENO, b"not a record: the rest is not replayed\n");
+    tally
+}
+
 // Replays every record.
 fn replay_all(list: &[u8], work: &mut [u32], output: &mut [u8]) -> Tally {
     let mut tally = Tally {
@@ -86,14 +92,17 @@ fn replay_all(list: &[u8], work: &mut [u32], output: &mut [u8]) -> Tally {
     let mut at = after_head(list);
     while at < list.len() {
         let stored = record_at(list, at);
-        if !closed(list, at, stored) {
-            io::write_all(STDOUT_FILENO, b"not a record: the rest is left\n");
-            return tally;
+        let end = stored.end;
+        if end >= list.len() {
+            return left_off(tally);
+        }
+        if !closed(list, at, end) {
+            return left_off(tally);
         }
         let outcome = replay(list, work, output, stored);
         report(list, stored, outcome);
         tally = tally.with(outcome);
-        at = stored.end + 1;
+        at = end + 1;
     }
     tally
 }

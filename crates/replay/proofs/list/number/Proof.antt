@@ -1,3 +1,8 @@
+-- `replay::list::number` meets its contract: the place is between the start and the end. Assumes nothing.
+use Prim.Native.Nat.{_≤_, _<_, _-_}
+use native.Mathlib.Omega.{arith}
+use lib.ListN.{length}
+use borrow.Author.Needs.{needs}
 use Rattle.replay.proofs.list.number.Statement.{statement}
 use Rattle.replay.proofs.list.number.Tie as tie
 use Rattle.replay.proofs.list.number.Reads as reads
@@ -6,54 +11,43 @@ use Rattle.replay.proofs.list.with_digit.Reads as with-digit-reads
 use Rattle.text.proofs.is_digit.Reads as is-digit-reads
 
 abbrev Inv-loop : tie.InvT-loop
-Inv-loop list at value₀ i₀ value i = ?
+Inv-loop list at value₀ i₀ value i = (at ≤ i) × (i ≤ length list)
 
 abbrev μ-loop : tie.MeasureT-loop
-μ-loop list at value₀ i₀ value i = ?
+μ-loop list at value₀ i₀ value i = length list - i
 
--- src/list.rt:86:5
 loop-holds : tie.Need-loop-holds Inv-loop μ-loop
-loop-holds c = ?
+loop-holds c = search needs
 
--- src/list.rt:87:22
 shared-slice-read-is-digit : tie.Need-shared-slice-read-is-digit Inv-loop μ-loop
-shared-slice-read-is-digit c = ?
+shared-slice-read-is-digit c = search needs
 
--- src/list.rt:87:13
 is-digit-requires : tie.Need-is-digit-requires Inv-loop μ-loop
-is-digit-requires c κs = ?
+is-digit-requires c κs = search needs
 
--- src/list.rt:88:43
 add-t10 : tie.Need-add-t10 Inv-loop μ-loop
-add-t10 c = ?
+add-t10 c = search needs
 
--- src/list.rt:88:13
 returns : tie.Need-returns Inv-loop μ-loop
-returns c = ?
+returns c = search needs
 
--- src/list.rt:90:35
 shared-slice-read-with-digit : tie.Need-shared-slice-read-with-digit Inv-loop μ-loop
-shared-slice-read-with-digit c = ?
+shared-slice-read-with-digit c = search needs
 
--- src/list.rt:90:9
 with-digit-requires : tie.Need-with-digit-requires Inv-loop μ-loop
-with-digit-requires c κs = ?
+with-digit-requires c κs = search needs
 
--- src/list.rt:91:9
 add-i : tie.Need-add-i Inv-loop μ-loop
-add-i c = ?
+add-i c = search needs
 
--- src/list.rt:86:5
 loop-less : tie.Need-loop-less Inv-loop μ-loop
-loop-less c = ?
+loop-less c = search needs
 
--- src/list.rt:86:5
 loop-again : tie.Need-loop-again Inv-loop μ-loop
-loop-again c = ?
+loop-again c = search needs
 
--- src/list.rt:80:1
 returns-2 : tie.Need-returns-2 Inv-loop μ-loop
-returns-2 c = ?
+returns-2 c = search needs
 
 pub number-spec : {M : Type 1} → statement M
 number-spec =
