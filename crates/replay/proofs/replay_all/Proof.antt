@@ -5,15 +5,6 @@ use lib.ListN.{length}
 use borrow.Author.Needs.{needs}
 use Rattle.replay.proofs.replay_all.Statement.{statement}
 use Rattle.replay.proofs.replay_all.Tie as tie
-use Rattle.replay.proofs.replay_all.Reads as reads
-use Rattle.replay.proofs.replay_all.Lts as lts
-use Rattle.replay.proofs.Tally.with.Reads as with-reads
-use Rattle.replay.proofs.call.replay.Reads as replay-reads
-use Rattle.replay.proofs.left_off.Reads as left-off-reads
-use Rattle.replay.proofs.list.after_head.Reads as after-head-reads
-use Rattle.replay.proofs.list.closed.Reads as closed-reads
-use Rattle.replay.proofs.list.record_at.Reads as record-at-reads
-use Rattle.replay.proofs.report.Reads as report-reads
 
 abbrev Inv-loop : tie.InvT-loop
 Inv-loop list work₀ output₀ tally₀ at₀ work output tally at = (at ≤ length list) × (length work ≡ length work₀) × (length output ≡ length output₀)

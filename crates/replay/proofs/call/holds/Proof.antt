@@ -4,9 +4,6 @@ use lib.ListN.{length-take}
 use borrow.Author.Needs.{needs}
 use Rattle.replay.proofs.call.holds.Statement.{statement}
 use Rattle.replay.proofs.call.holds.Tie as tie
-use Rattle.replay.proofs.call.holds.Reads as reads
-use Rattle.replay.proofs.call.holds.Lts as lts
-use Rattle.text.proofs.same.Reads as same-reads
 
 returns : tie.Need-returns
 returns c = search needs

@@ -4,11 +4,6 @@ use lib.ListN.{length-take}
 use borrow.Author.Needs.{needs}
 use Rattle.replay.proofs.call.replay.Statement.{statement}
 use Rattle.replay.proofs.call.replay.Tie as tie
-use Rattle.replay.proofs.call.replay.Reads as reads
-use Rattle.replay.proofs.call.replay.Lts as lts
-use Rattle.replay.proofs.call.agrees.Reads as agrees-reads
-use Rattle.replay.proofs.call.early.Reads as early-reads
-use Rattle.replay.proofs.call.unanswered.Reads as unanswered-reads
 
 returns : tie.Need-returns
 returns c = search needs

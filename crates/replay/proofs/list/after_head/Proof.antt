@@ -5,9 +5,6 @@ use lib.ListN.{length}
 use borrow.Author.Needs.{needs}
 use Rattle.replay.proofs.list.after_head.Statement.{statement}
 use Rattle.replay.proofs.list.after_head.Tie as tie
-use Rattle.replay.proofs.list.after_head.Reads as reads
-use Rattle.replay.proofs.list.after_head.Lts as lts
-use Rattle.replay.proofs.list.after_line.Reads as after-line-reads
 
 abbrev Inv-loop : tie.InvT-loop
 Inv-loop list at₀ at = at ≤ length list

@@ -5,8 +5,6 @@ use lib.ListN.{length}
 use borrow.Author.Needs.{needs}
 use Rattle.replay.proofs.list.after_line.Statement.{statement}
 use Rattle.replay.proofs.list.after_line.Tie as tie
-use Rattle.replay.proofs.list.after_line.Reads as reads
-use Rattle.replay.proofs.list.after_line.Lts as lts
 
 abbrev Inv-loop : tie.InvT-loop
 Inv-loop list at i₀ i = (at ≤ i) × (i ≤ length list)

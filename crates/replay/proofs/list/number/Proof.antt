@@ -5,10 +5,6 @@ use lib.ListN.{length}
 use borrow.Author.Needs.{needs}
 use Rattle.replay.proofs.list.number.Statement.{statement}
 use Rattle.replay.proofs.list.number.Tie as tie
-use Rattle.replay.proofs.list.number.Reads as reads
-use Rattle.replay.proofs.list.number.Lts as lts
-use Rattle.replay.proofs.list.with_digit.Reads as with-digit-reads
-use Rattle.text.proofs.is_digit.Reads as is-digit-reads
 
 abbrev Inv-loop : tie.InvT-loop
 Inv-loop list at value₀ i₀ value i = (at ≤ i) × (i ≤ length list)
