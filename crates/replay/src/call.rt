@@ -11,7 +11,7 @@ pub enum Outcome {
     Skipped,
 }
 
-// Whether a sheet is of a kind that the call does not answer yet. An empty list when it answers all.
+// Whether a sheet is of a kind that the call does not answer yet.
 fn unanswered(sheet: &[u8]) -> bool {
     begins(sheet, b"kind=unify\n")
         || begins(sheet, b"kind=match\n")
@@ -48,7 +48,8 @@ fn agrees(
     given as usize == refusal && holds(output, written, answer)
 }
 
-// Replays a record for which there are words and room.
+// Replays a record, if there are the words and the room that it lends and its reply is not that of a
+// kind not answered yet.
 pub fn replay(list: &[u8], work: &mut [u32], output: &mut [u8], stored: Record) -> Outcome
     requires { ⌜ Inside (now list) stored ⌝ }
 {

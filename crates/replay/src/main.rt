@@ -47,14 +47,14 @@ impl Tally {
     }
 }
 
-// The words to lend: enough for most sheets with up to five colons, and small enough for a stack.
+// The words to lend, small enough for a stack of 8 MB. A record that lends more is skipped.
 fn words() -> [u32; 1441792]
     ensures { λ r. ⌜ 1441792 ≡ length r ⌝ }
 {
     [0u32; 1441792]
 }
 
-// Room for the list.
+// Room for the list, and at least one byte more.
 fn room() -> [u8; 600000]
     ensures { λ r. ⌜ 600000 ≡ length r ⌝ }
 {
