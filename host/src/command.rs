@@ -110,7 +110,9 @@ fn store() -> Outcome {
     }
     let records = store::made();
     let path = store::path();
-    fs::write(&path, store::written(&records)).map_err(|error| error.to_string())?;
+    for path in [&path, &store::replay_path()] {
+        fs::write(path, store::written(&records)).map_err(|error| error.to_string())?;
+    }
     println!("{} sheets in {}", records.len(), path.display());
     Ok(ExitCode::SUCCESS)
 }

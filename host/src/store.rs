@@ -32,6 +32,11 @@ pub fn path() -> PathBuf {
     PathBuf::from(env!("CARGO_MANIFEST_DIR")).join("data/sheets.txt")
 }
 
+/// The copy of the list that the program `crates/replay` reads.
+pub fn replay_path() -> PathBuf {
+    PathBuf::from(env!("CARGO_MANIFEST_DIR")).join("../crates/replay/stdin")
+}
+
 fn examples() -> Vec<Record> {
     let record = |example: examples::Example| {
         let needed = sheet::read(&example.sheet)

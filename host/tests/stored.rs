@@ -49,6 +49,11 @@ fn the_list_is_what_store_writes() {
 }
 
 #[test]
+fn the_replay_program_has_the_same_list() {
+    assert!(fs::read(store::path()).unwrap() == fs::read(store::replay_path()).unwrap());
+}
+
+#[test]
 fn a_wrong_reply_is_found() {
     let mut records = store::stored().unwrap();
     records.truncate(2);
