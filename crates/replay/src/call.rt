@@ -15,7 +15,6 @@ pub enum Outcome {
 fn unanswered(sheet: &[u8]) -> bool {
     begins(sheet, b"kind=unify\n")
         || begins(sheet, b"kind=match\n")
-        || begins(sheet, b"kind=reduce\n")
         || begins(sheet, b"kind=cover\n")
         || begins(sheet, b"kind=sound\n")
         || begins(sheet, b"kind=complete\n")
