@@ -1,4 +1,4 @@
-// Normalization: the later siblings first, then a tree's children, then one step at its root.
+// Normalization: a list's later trees first, then a tree's children, then one step at its root.
 use crate::building::becomes;
 use crate::building::leaf;
 use crate::firing::flipped;
@@ -57,23 +57,7 @@ fn root(sheet: &[u8], work: &mut [u32], free: usize, i: usize, first: usize, nex
     }
 }
 
-// The normal form of the tree of cell i, before the list from cell next on.
-pub fn normalize(sheet: &[u8], work: &mut [u32], free: usize, i: usize, next: usize) -> Pushed
-    requires { ⌜ Arena (now sheet) (now work) free ⌝ }
-    requires { ⌜ (0 < i) × (i < free) × (next < free) × (size (tree-at (now sheet) (now work) i) ≤ 4096) ⌝ }
-    requires { ⌜ (4 * (free + size (tree-at (now sheet) (now work) i)) + key-room ≤ length (now work)) × (free + size (tree-at (now sheet) (now work) i) ≤ 2 ^ 32) ⌝ }
-    ensures { λ r. ⌜ NewTree (now (sheet .entry)) (now (work .entry)) (now (work .exit)) free (size (tree-at (now (sheet .entry)) (now (work .entry)) i)) next (normalize (tree-at (now (sheet .entry)) (now (work .entry)) i)) (r .index) (r .free) ⌝ }
-{
-    if 0 < kind_of(work, i) {
-        return keep(sheet, work, free, i, next);
-    }
-    let children = normalize_list(sheet, work, free, first_of(work, free, i));
-    let index = children.index;
-    let end = children.free;
-    root(sheet, work, end, i, index, next)
-}
-
-// The normal forms of the trees of the list from cell i on.
+// The normal forms of the trees of the list from cell i on. One frame for each node: a term may be 4,096 deep.
 fn normalize_list(sheet: &[u8], work: &mut [u32], free: usize, i: usize) -> Pushed
     requires { ⌜ Arena (now sheet) (now work) free ⌝ }
     requires { ⌜ (i < free) × (sizes (trees-at (now sheet) (now work) i) ≤ 4096) ⌝ }
@@ -87,7 +71,30 @@ fn normalize_list(sheet: &[u8], work: &mut [u32], free: usize, i: usize) -> Push
         };
     }
     let rest = normalize_list(sheet, work, free, next_of(work, free, i));
-    let index = rest.index;
+    let next = rest.index;
     let end = rest.free;
-    normalize(sheet, work, end, i, index)
+    if 0 < kind_of(work, i) {
+        return keep(sheet, work, end, i, next);
+    }
+    let children = normalize_list(sheet, work, end, first_of(work, end, i));
+    let first = children.index;
+    let stop = children.free;
+    root(sheet, work, stop, i, first, next)
+}
+
+// The normal form of the tree of cell i, before the list from cell next on.
+pub fn normalize(sheet: &[u8], work: &mut [u32], free: usize, i: usize, next: usize) -> Pushed
+    requires { ⌜ Arena (now sheet) (now work) free ⌝ }
+    requires { ⌜ (0 < i) × (i < free) × (next < free) × (size (tree-at (now sheet) (now work) i) ≤ 4096) ⌝ }
+    requires { ⌜ (4 * (free + size (tree-at (now sheet) (now work) i)) + key-room ≤ length (now work)) × (free + size (tree-at (now sheet) (now work) i) ≤ 2 ^ 32) ⌝ }
+    ensures { λ r. ⌜ NewTree (now (sheet .entry)) (now (work .entry)) (now (work .exit)) free (size (tree-at (now (sheet .entry)) (now (work .entry)) i)) next (normalize (tree-at (now (sheet .entry)) (now (work .entry)) i)) (r .index) (r .free) ⌝ }
+{
+    let kind = kind_of(work, i);
+    if 0 < kind {
+        return keep(sheet, work, free, i, next);
+    }
+    let children = normalize_list(sheet, work, free, first_of(work, free, i));
+    let index = children.index;
+    let end = children.free;
+    root(sheet, work, end, i, index, next)
 }
