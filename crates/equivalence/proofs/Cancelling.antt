@@ -185,8 +185,8 @@ module _ (s w : List ℕ) (p mid end : ℕ) (b : Bool) (lt : p < mid) (le : mid 
         let x = set (set w q 0) p 0 in
         let y : q - mid ≡ i = omega arith in
         let rights : slice mid end x ≡ set (slice mid end w) i 0 =
-            slice-same mid end x (set w q 0) (let k = length-set (set w q 0) p 0 in omega arith) (omega arith) (λ j a c. getD-set-other (set w q 0) p j 0 0 (λ k. omega arith))
-            ∙ slice-zero w mid end q (omega arith) l r ∙ ap (λ (k : ℕ). set (slice mid end w) k 0) y in
+        slice-same mid end x (set w q 0) (let k = length-set (set w q 0) p 0 in omega arith) (omega arith) (λ j a c. getD-set-other (set w q 0) p j 0 0 (λ k. omega arith))
+        ∙ slice-zero w mid end q (omega arith) l r ∙ ap (λ (k : ℕ). set (slice mid end w) k 0) y in
         let gone : getD x p 0 ≡ 0 = getD-set-same (set w q 0) p 0 0 (omega arith) in
         record {
           zeroed = zeroed-then (zeroed-set w q p end (omega arith) l (omega arith)) (zeroed-set (set w q 0) p p end (omega arith) (omega arith) (omega arith)) (omega arith);
@@ -266,13 +266,13 @@ module _ (s w : List ℕ) (n d base at mid end : ℕ) (b : Bool) (a : Arena s w 
           let one : slice p (p + 1) u ≡ getD u p 0 ∷ [] = slice-cons p (p + 1) u 0 (omega arith) (omega arith) ∙ ap (λ (l : List ℕ). getD u p 0 ∷ l) (slice-none (suc p) (p + 1) u (omega arith)) in
           let f₆ : remaining s w (getD u p 0 ∷ []) ≡ remaining s v (getD u p 0 ∷ []) = ap (remaining s w) (sym one) ∙ f₅ ∙ ap (remaining s v) one in
           let fronts : slice at (p + 1) u ≡ slice at p v ++ (getD u p 0 ∷ []) =
-              sym (slice-join at p (p + 1) u (omega arith) (omega arith) (omega arith)) ∙ ap₂ (λ (x y : List ℕ). x ++ y) (slice-same at p u v (omega arith) (omega arith) (λ q x y. zeroed-outside (g .zeroed) q (inl y))) one in
+          sym (slice-join at p (p + 1) u (omega arith) (omega arith) (omega arith)) ∙ ap₂ (λ (x y : List ℕ). x ++ y) (slice-same at p u v (omega arith) (omega arith) (λ q x y. zeroed-outside (g .zeroed) q (inl y))) one in
           let rest = cancel (test b) (remaining s w (slice (p + 1) mid w)) (remaining s w (slice mid end u)) in
           let here : cancel (test b) (remaining s w (slice p mid w)) (remaining s w (slice mid end v)) ≡ ahead (remaining s w (getD u p 0 ∷ [])) rest =
-              ap₂ (λ (x y : List Tree). cancel (test b) x y) (ap (remaining s w) (sym sv) ∙ f₁) f₂
-              ∙ g .are
-              ∙ ap₂ (λ (x : List Tree) (c : List Tree × List Tree). ahead x c) (sym f₆)
-                (ap₂ (λ (x y : List Tree). cancel (test b) x y) (sym f₃ ∙ ap (remaining s w) sv₁) (sym f₄)) in
+          ap₂ (λ (x y : List Tree). cancel (test b) x y) (ap (remaining s w) (sym sv) ∙ f₁) f₂
+          ∙ g .are
+          ∙ ap₂ (λ (x : List Tree) (c : List Tree × List Tree). ahead x c) (sym f₆)
+          (ap₂ (λ (x y : List Tree). cancel (test b) x y) (sym f₃ ∙ ap (remaining s w) sv₁) (sym f₄)) in
           record {
             low = omega arith;
             high = omega arith;
@@ -280,5 +280,5 @@ module _ (s w : List ℕ) (n d base at mid end : ℕ) (b : Bool) (a : Arena s w 
             left = λ q x y. g .left q (omega arith) y ∙ h .left q (omega arith) y;
             are = h .are ∙ ap (ahead (remaining s w (slice at p v))) here
                 ∙ ap (λ (ts : List Tree). (ts, rest .1)) (sym (append-assoc (remaining s w (slice at p v)) (remaining s w (getD u p 0 ∷ [])) (rest .0))
-                  ∙ ap (λ (ts : List Tree). ts ++ rest .0) (sym (ap (remaining s w) fronts ∙ remaining-append s w (slice at p v) (getD u p 0 ∷ []))));
+                ∙ ap (λ (ts : List Tree). ts ++ rest .0) (sym (ap (remaining s w) fronts ∙ remaining-append s w (slice at p v) (getD u p 0 ∷ []))));
           }

@@ -64,7 +64,6 @@ module _ (s w v : List ℕ) (n : ℕ) (l : Links w n) (g : Agree w v n) where
   remaining-under [] h = refl
   remaining-under (c ∷ cs) h = step-frame c cs (h .0) (remaining-under cs (h .1))
 
-
 -- the cells of a slice
 module _ (s w v : List ℕ) (n : ℕ) (l : Links w n) (g : Agree w v n) (u : List ℕ) where
   under-slice : (k a e : ℕ) → e ≡ a + k → e ≤ length u → ((p : ℕ) → a ≤ p → p < e → getD u p 0 < n) → Under s w v n l g (slice a e u)

@@ -5,3 +5,4 @@ pub mod Comparing
 pub mod Gathering
 pub mod Describing
 pub mod Cancelling
+pub mod Preparing

@@ -8,9 +8,10 @@ use lib.Dec.{eqb}
 use lib.ListN.{length, getD}
 use lib.Seq.{slice}
 use Rattle.rules.specs.Tree.{Tree, size, ground}
-use Rattle.rules.specs.Sums.{canonical, equivalent}
+use Rattle.rules.specs.Sums.{canonical, equivalent, summands}
 use Rattle.rules.specs.Solving.{cancel}
 use Rattle.tree.specs.Cells.{tree-at}
+use Rattle.tree.specs.Arena.{Arena}
 use Rattle.certificate.specs.Texts.{texts, Tokens}
 use Rattle.certificate.specs.Writer.{Kept}
 
@@ -81,3 +82,13 @@ pub record TookOne (s w v : List ℕ) (p mid end : ℕ) (b : Bool) : Type 0 wher
 pub record Cancelled (s w v : List ℕ) (at mid end : ℕ) (b : Bool) : Type 0 where
   pub zeroed : Zeroed w v at end
   pub are : cancel (test b) (remaining s w (slice at mid w)) (remaining s w (slice mid end w)) ≡ (remaining s w (slice at mid v), remaining s w (slice mid end v))
+
+-- the cells of the summands of l and r, cancelled, from `at` to mid and from mid to `end`; k is the nodes of both
+pub record Ready (s w v : List ℕ) (n at mid end k : ℕ) (l r : Tree) (b : Bool) : Type 0 where
+  pub arena : Arena s v n
+  pub kept : Kept w v at (at + 17 * k + 2)
+  pub low : at ≤ mid
+  pub high : mid ≤ end
+  pub bound : end ≤ at + k
+  pub cells : (p : ℕ) → at ≤ p → p < end → getD v p 0 < n
+  pub are : cancel (test b) (summands l) (summands r) ≡ (remaining s w (slice at mid v), remaining s w (slice mid end v))

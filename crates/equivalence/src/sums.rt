@@ -1,12 +1,12 @@
 // Sums: the cells of their summands, the canonical words of each, and cancelling. A cell that is taken out is 0.
+use crate::words::same_text;
+use crate::words::tree_words;
 use substitution::ground::ground;
 use text::places::wide;
 use tree::cells::first_of;
 use tree::cells::kind_of;
 use tree::cells::next_of;
 use tree::names::name_is;
-use crate::words::same_text;
-use crate::words::tree_words;
 ghost use mathlib.Core.Path.{_≡_};
 ghost use mathlib.Core.Bool.{_||_, _&&_};
 ghost use lib.Dec.{eqb};
@@ -18,7 +18,7 @@ ghost use Rattle.rules.specs.Tree.{size, sizes, ground, tamtplus};
 ghost use Rattle.rules.specs.Sums.{summands, summands-of, equivalent};
 ghost use Rattle.tree.specs.Cells.{kind-of, name-at, tree-at, trees-at};
 ghost use Rattle.tree.specs.Arena.{Arena};
-ghost use Rattle.equivalence.specs.Sums.{Gathered, Cells, Lasting, heft, Described, Run, index, TookOne, Cancelled};
+ghost use Rattle.equivalence.specs.Sums.{Gathered, Cells, Lasting, heft, Described, Run, index, TookOne, Cancelled, Ready};
 
 // Whether the tree of cell i is a sum.
 fn is_sum(sheet: &[u8], work: &[u32], free: usize, i: usize) -> bool
@@ -195,4 +195,36 @@ pub fn cancel(
         take_one(sheet, work, free, d, base, p, mid, end, every);
         p += 1;
     }
+}
+
+// Where the cells of the summands of two sums part, and where they end.
+pub struct Split {
+    pub mid: usize,
+    pub end: usize,
+}
+
+// Gathers the cells of the summands of the trees of cells left and right from `at` on, and cancels them. Seventeen words for each node
+// of the two, and two, are scratch.
+pub fn prepare(
+    sheet: &[u8],
+    work: &mut [u32],
+    free: usize,
+    left: usize,
+    right: usize,
+    at: usize,
+    every: bool,
+) -> Split
+    requires { ⌜ Arena (now sheet) (now work) free ⌝ }
+    requires { ⌜ (0 < left) × (left < free) × (0 < right) × (right < free) × (free < 2 ^ 32) × (4 * free ≤ at) ⌝ }
+    requires { ⌜ (5 * (size (tree-at (now sheet) (now work) left) + size (tree-at (now sheet) (now work) right)) < 65536) × (at + 17 * (size (tree-at (now sheet) (now work) left) + size (tree-at (now sheet) (now work) right)) + 2 ≤ length (now work)) ⌝ }
+    ensures { λ r. ⌜ Ready (now (sheet .entry)) (now (work .entry)) (now (work .exit)) free at (r .mid) (r .end) (size (tree-at (now (sheet .entry)) (now (work .entry)) left) + size (tree-at (now (sheet .entry)) (now (work .entry)) right)) (tree-at (now (sheet .entry)) (now (work .entry)) left) (tree-at (now (sheet .entry)) (now (work .entry)) right) every ⌝ }
+{
+    let mid = gather(sheet, work, free, left, at);
+    let end = gather(sheet, work, free, right, mid);
+    work[end] = 0;
+    let d = end - at;
+    let base = end + d + 1;
+    describe(sheet, work, free, at, end, d, base);
+    cancel(sheet, work, free, d, base, at, mid, end, every);
+    Split { mid: mid, end: end }
 }

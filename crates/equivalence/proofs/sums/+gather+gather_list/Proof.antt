@@ -61,9 +61,10 @@ gather-gather-list-requires t c κs =
     let a = c .before .before .before .before .before .before .before .before .args in
     let p = c .before .before .before .before .before .before .before .before .pre .1 in
     let k = sum-told (a .sheet .now) (a .work .now) (a .i) (sym (c .before .before .before .if1 .taken) ∙ c .before .before .before .before .is-sum .ensures) in
-    let f = c .before .first-of .ensures in
-    (omega (arith, c .before .before .before .before .before .before .before .before .pre .0, children-fall (a .sheet .now) (a .work .now) (a .i) (c .before .first-of .result) (k .0) (f .0)),
-    (p .0, ((omega (arith, f .1, p .1 .0 .1), p .1 .0 .2), (p .1 .1 .0, omega (arith, p .1 .1 .1, size-apply (a .sheet .now) (a .work .now) (a .i) (k .0), sizes-is (a .sheet .now) (a .work .now) (f .0))))))
+    let f = c .before .first-of .ensures in (
+      omega (arith, c .before .before .before .before .before .before .before .before .pre .0, children-fall (a .sheet .now) (a .work .now) (a .i) (c .before .first-of .result) (k .0) (f .0)),
+      (p .0, ((omega (arith, f .1, p .1 .0 .1), p .1 .0 .2), (p .1 .1 .0, omega (arith, p .1 .1 .1, size-apply (a .sheet .now) (a .work .now) (a .i) (k .0), sizes-is (a .sheet .now) (a .work .now) (f .0))))),
+    )
 
 -- src/sums.rt:44:9
 gather-same-length : (t : ℕ) → gather-lts.Need-same-length (gather-calls t) (gather-at t) gather.Post
@@ -139,9 +140,10 @@ gather-list-gather-list-requires t c κs =
     let g = c .before .before .before .before .before .gather .ensures in
     let r = rest-sizes (a .sheet .now) (a .work .now) (c .before .before .before .before .before .gather .last .1 .0) (a .free) (a .i) (c .before .next-of .result) (a .at) (c .before .before .before .before .before .gather .result) (p .0) (omega (arith, c .before .before .before .before .before .before .before .if1 .left)) (p .1 .0 .0) (p .1 .1 .0) (c .before .next-of .ensures .0) (c .before .before .before .before .before .gather .ensures) in
     let o = size-pos (tree-at (a .sheet .now) (a .work .now) (a .i)) in
-    let m = g .kept .len in
-    (omega (arith, c .before .before .before .before .before .before .before .before .before .before .pre .0, r, o),
-    (gathered-arena (a .sheet .now) (a .work .now) (c .before .before .before .before .before .gather .last .1 .0) (a .free) (a .i) (c .before .next-of .result) (a .at) (c .before .before .before .before .before .gather .result) (p .0) (omega (arith, c .before .before .before .before .before .before .before .if1 .left)) (p .1 .0 .0) (p .1 .1 .0) (c .before .next-of .ensures .0) (c .before .before .before .before .before .gather .ensures), ((omega (arith, next-falls (a .sheet .now) (a .work .now) (c .before .before .before .before .before .gather .last .1 .0) (a .free) (a .i) (c .before .next-of .result) (a .at) (c .before .before .before .before .before .gather .result) (p .0) (omega (arith, c .before .before .before .before .before .before .before .if1 .left)) (p .1 .0 .0) (p .1 .1 .0) (c .before .next-of .ensures .0) (c .before .before .before .before .before .gather .ensures), p .1 .0 .0), p .1 .0 .1), (omega (arith, p .1 .1 .0, g .grew), omega (arith, p .1 .1 .1, r, g .most-is, m)))))
+    let m = g .kept .len in (
+      omega (arith, c .before .before .before .before .before .before .before .before .before .before .pre .0, r, o),
+      (gathered-arena (a .sheet .now) (a .work .now) (c .before .before .before .before .before .gather .last .1 .0) (a .free) (a .i) (c .before .next-of .result) (a .at) (c .before .before .before .before .before .gather .result) (p .0) (omega (arith, c .before .before .before .before .before .before .before .if1 .left)) (p .1 .0 .0) (p .1 .1 .0) (c .before .next-of .ensures .0) (c .before .before .before .before .before .gather .ensures), ((omega (arith, next-falls (a .sheet .now) (a .work .now) (c .before .before .before .before .before .gather .last .1 .0) (a .free) (a .i) (c .before .next-of .result) (a .at) (c .before .before .before .before .before .gather .result) (p .0) (omega (arith, c .before .before .before .before .before .before .before .if1 .left)) (p .1 .0 .0) (p .1 .1 .0) (c .before .next-of .ensures .0) (c .before .before .before .before .before .gather .ensures), p .1 .0 .0), p .1 .0 .1), (omega (arith, p .1 .1 .0, g .grew), omega (arith, p .1 .1 .1, r, g .most-is, m)))),
+    )
 
 -- src/sums.rt:51:1
 gather-list-same-length : (t : ℕ) → gather-list-lts.Need-same-length (gather-list-calls t) (gather-list-at t) gather-list.Post
