@@ -6,3 +6,4 @@ pub mod Gathering
 pub mod Describing
 pub mod Cancelling
 pub mod Preparing
+pub mod Rebuilding

@@ -8,10 +8,10 @@ use lib.Dec.{eqb}
 use lib.ListN.{length, getD}
 use lib.Seq.{slice}
 use Rattle.rules.specs.Tree.{Tree, size, ground}
-use Rattle.rules.specs.Sums.{canonical, equivalent, summands}
+use Rattle.rules.specs.Sums.{canonical, equivalent, summands, rebuild}
 use Rattle.rules.specs.Solving.{cancel}
-use Rattle.tree.specs.Cells.{tree-at}
-use Rattle.tree.specs.Arena.{Arena}
+use Rattle.tree.specs.Cells.{next-of, tree-at}
+use Rattle.tree.specs.Arena.{Arena, Grown}
 use Rattle.certificate.specs.Texts.{texts, Tokens}
 use Rattle.certificate.specs.Writer.{Kept}
 
@@ -92,3 +92,25 @@ pub record Ready (s w v : List ℕ) (n at mid end k : ℕ) (l r : Tree) (b : Boo
   pub bound : end ≤ at + k
   pub cells : (p : ℕ) → at ≤ p → p < end → getD v p 0 < n
   pub are : cancel (test b) (summands l) (summands r) ≡ (remaining s w (slice at mid v), remaining s w (slice mid end v))
+
+-- the nodes of trees, and one more for each
+unfoldable pub heavy : List Tree → ℕ
+heavy [] = 0
+heavy (t ∷ ts) = size t + 1 + heavy ts
+
+-- from w, with the free end n, two cells are written: the last is the tree t, and has no next sibling
+pub record Added (s w v : List ℕ) (n : ℕ) (t : Tree) : Type 0 where
+  pub arena : Arena s v (n + 2)
+  pub grown : Grown w v n (n + 2)
+  pub tree : tree-at s v (n + 1) ≡ t
+  pub link : next-of v (n + 1) ≡ 0
+
+-- from w, with the free end n, to v, with the free end m: cell i is the right-nested sum of the trees, 0 for none
+pub record Rebuilt (s w v : List ℕ) (n m i : ℕ) (ts : List Tree) : Type 0 where
+  pub arena : Arena s v m
+  pub grown : Grown w v n m
+  pub grew : n ≤ m
+  pub inside : i < m
+  pub empty : i ≡ 0 → ts ≡ []
+  pub full : 0 < i → (a : Tree) × (xs : List Tree) × (ts ≡ a ∷ xs) × (tree-at s v i ≡ rebuild a xs) × (next-of v i ≡ 0)
+  pub used : m ≤ n + 2 * length ts

@@ -3,22 +3,25 @@ use crate::words::same_text;
 use crate::words::tree_words;
 use substitution::ground::ground;
 use text::places::wide;
+use tree::cells::count_of;
 use tree::cells::first_of;
 use tree::cells::kind_of;
 use tree::cells::next_of;
+use tree::cells::push_like;
+use tree::cells::share;
 use tree::names::name_is;
 ghost use mathlib.Core.Path.{_≡_};
 ghost use mathlib.Core.Bool.{_||_, _&&_};
 ghost use lib.Dec.{eqb};
 ghost use Rattle.rules.specs.Bytes.{same};
-ghost use Prim.Native.Nat.{_+_, _-_, _*_, _<_, _≤_, _^_};
+ghost use Prim.Native.Nat.{ℕ, _+_, _-_, _*_, _<_, _≤_, _^_};
 ghost use lib.ListN.{length, getD};
 ghost use lib.Seq.{slice};
-ghost use Rattle.rules.specs.Tree.{size, sizes, ground, tamtplus};
+ghost use Rattle.rules.specs.Tree.{size, sizes, ground, tamtplus, plus};
 ghost use Rattle.rules.specs.Sums.{summands, summands-of, equivalent};
-ghost use Rattle.tree.specs.Cells.{kind-of, name-at, tree-at, trees-at};
+ghost use Rattle.tree.specs.Cells.{kind-of, next-of, name-at, tree-at, trees-at};
 ghost use Rattle.tree.specs.Arena.{Arena};
-ghost use Rattle.equivalence.specs.Sums.{Gathered, Cells, Lasting, heft, Described, Run, index, TookOne, Cancelled, Ready};
+ghost use Rattle.equivalence.specs.Sums.{Gathered, Cells, Lasting, heft, Described, Run, index, TookOne, Cancelled, Ready, remaining, heavy, Added, Rebuilt};
 
 // Whether the tree of cell i is a sum.
 fn is_sum(sheet: &[u8], work: &[u32], free: usize, i: usize) -> bool
@@ -227,4 +230,70 @@ pub fn prepare(
     describe(sheet, work, free, at, end, d, base);
     cancel(sheet, work, free, d, base, at, mid, end, every);
     Split { mid: mid, end: end }
+}
+
+// Writes the sum of the trees of cells a and b at the free end, and answers the free end after it. The cell like is a sum; b has no
+// next sibling.
+fn add(
+    sheet: &[u8],
+    work: &mut [u32],
+    free: usize,
+    like: usize,
+    a: usize,
+    b: usize,
+) -> usize
+    requires { ⌜ Arena (now sheet) (now work) free ⌝ }
+    requires { ⌜ (0 < like) × (like < free) × (kind-of (now work) like ≡ 0) × (name-at (now sheet) (now work) like ≡ tamtplus) ⌝ }
+    requires { ⌜ (0 < a) × (a < free) × (0 < b) × (b < free) × (next-of (now work) b ≡ 0) ⌝ }
+    requires { ⌜ (4 * (free + 2) ≤ length (now work)) × (free + 2 < 2 ^ 32) × (size (tree-at (now sheet) (now work) a) + size (tree-at (now sheet) (now work) b) + 1 < 65536) ⌝ }
+    ensures { λ r. ⌜ (r ≡ free + 2) × Added (now (sheet .entry)) (now (work .entry)) (now (work .exit)) free (plus (tree-at (now (sheet .entry)) (now (work .entry)) a) (tree-at (now (sheet .entry)) (now (work .entry)) b)) ⌝ }
+{
+    let top = share(sheet, work, free, a, b);
+    let nodes = count_of(work, free) + count_of(work, b) + 1;
+    push_like(work, top, like, free, 0, nodes)
+}
+
+// A tree, and the free end after it.
+pub struct Summed {
+    pub index: usize,
+    pub free: usize,
+}
+
+// The right-nested sum of the cells from `at` to `end` that are not taken out, at the free end; the cell 0 for none. The cell like is a sum.
+pub fn rebuild(
+    sheet: &[u8],
+    work: &mut [u32],
+    free: usize,
+    like: usize,
+    at: usize,
+    end: usize,
+) -> Summed
+    requires { ⌜ Arena (now sheet) (now work) free ⌝ }
+    requires { ⌜ (0 < like) × (like < free) × (kind-of (now work) like ≡ 0) × (name-at (now sheet) (now work) like ≡ tamtplus) ⌝ }
+    requires { ⌜ (at ≤ end) × (end ≤ length (now work)) × (4 * (free + 2 * (end - at)) ≤ at) × (free + 2 * (end - at) < 2 ^ 32) ⌝ }
+    requires { ⌜ ((p : ℕ) → at ≤ p → p < end → getD (now work) p 0 < free) × (heavy (remaining (now sheet) (now work) (slice at end (now work))) ≤ 65535) ⌝ }
+    ensures { λ r. ⌜ Rebuilt (now (sheet .entry)) (now (work .entry)) (now (work .exit)) free (r .free) (r .index) (remaining (now (sheet .entry)) (now (work .entry)) (slice at end (now (work .entry)))) ⌝ }
+{
+    let mut k = end;
+    let mut index: usize = 0;
+    let mut top = free;
+    while at < k {
+        k -= 1;
+        let cell = wide(work[k]);
+        if cell == 0 {
+            continue;
+        }
+        if index == 0 {
+            index = top;
+            top = share(sheet, work, top, cell, 0);
+            continue;
+        }
+        let sum = top + 1;
+        top = add(sheet, work, top, like, cell, index);
+        index = sum;
+    }
+    Summed {
+        index: index,
+        free: top,
+    }
 }
