@@ -27,9 +27,10 @@ module _ (s w v : List ℕ) (n p a b : ℕ) (o : Arena s w n) (pp : 0 < p) (qp :
   agree = l .grown .below
 
   pub counts : (nodes-of v n ≡ size (tree-at s w a)) × (nodes-of v b ≡ size (tree-at s w b))
-  counts =
-      (l .arena .cell n (o .links .some) (omega arith) .counted ∙ ap size (l .tree),
-      l .arena .cell b pb (omega arith) .counted ∙ ap size (sym (frame-tree s v (o .links) agree b pb qb)))
+  counts = (
+    l .arena .cell n (o .links .some) (omega arith) .counted ∙ ap size (l .tree),
+    l .arena .cell b pb (omega arith) .counted ∙ ap size (sym (frame-tree s v (o .links) agree b pb qb)),
+  )
 
   kids : trees-at s v n ≡ more (tree-at s w a) (more (tree-at s w b) none)
   kids = l .trees ∙ ap (more (tree-at s w a)) (trees-more s (o .links) b pb qb ∙ ap (more (tree-at s w b)) (trees-none s w (next-of w b) nb))
@@ -155,5 +156,5 @@ module _ (s w : List ℕ) (n at end : ℕ) (r : end ≤ length w) where
           let (b, bs, f, t, x) = h .full p in
           let z : slice at (k - 1) w ++ slice (k - 1) end w ≡ slice at end w = slice-join at (k - 1) end w (omega arith) (omega arith) r in
           let y : heavy (remaining s w (slice at end w)) ≡ heavy (remaining s w (slice at (k - 1) w)) + heavy (remaining s w (slice (k - 1) end w)) =
-              ap (λ (l : List ℕ). heavy (remaining s w l)) (sym z) ∙ ap heavy (remaining-append s w (slice at (k - 1) w) (slice (k - 1) end w)) ∙ heavy-append (remaining s w (slice at (k - 1) w)) (remaining s w (slice (k - 1) end w)) in
+          ap (λ (l : List ℕ). heavy (remaining s w l)) (sym z) ∙ ap heavy (remaining-append s w (slice at (k - 1) w) (slice (k - 1) end w)) ∙ heavy-append (remaining s w (slice at (k - 1) w)) (remaining s w (slice (k - 1) end w)) in
           omega (arith, y, ap heavy front, ap heavy f, rebuild-size b bs, ap size t, ap size (tree-same a))

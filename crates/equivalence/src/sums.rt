@@ -234,14 +234,7 @@ pub fn prepare(
 
 // Writes the sum of the trees of cells a and b at the free end, and answers the free end after it. The cell like is a sum; b has no
 // next sibling.
-fn add(
-    sheet: &[u8],
-    work: &mut [u32],
-    free: usize,
-    like: usize,
-    a: usize,
-    b: usize,
-) -> usize
+fn add(sheet: &[u8], work: &mut [u32], free: usize, like: usize, a: usize, b: usize) -> usize
     requires { ⌜ Arena (now sheet) (now work) free ⌝ }
     requires { ⌜ (0 < like) × (like < free) × (kind-of (now work) like ≡ 0) × (name-at (now sheet) (now work) like ≡ tamtplus) ⌝ }
     requires { ⌜ (0 < a) × (a < free) × (0 < b) × (b < free) × (next-of (now work) b ≡ 0) ⌝ }
