@@ -1,0 +1,27 @@
+use mathlib.Core.Path.{_≡_, sym, ap, _∙_}
+use mathlib.Core.Bool.{Bool, _||_}
+use Rattle.rules.specs.Tree.{ground}
+use Rattle.tree.specs.Cells.{tree-at}
+use borrow.Author.Needs.{needs}
+use Rattle.equivalence.proofs.sums.cancels.Statement.{statement}
+use Rattle.equivalence.proofs.sums.cancels.Tie as tie
+use Rattle.equivalence.proofs.sums.cancels.Reads as reads
+use Rattle.equivalence.proofs.sums.cancels.Lts as lts
+use Rattle.substitution.proofs.ground.ground.Reads as ground-reads
+
+-- src/sums.rt:143:9
+returns : tie.Need-returns
+returns c = search needs
+
+-- src/sums.rt:145:5
+ground-requires : tie.Need-ground-requires
+ground-requires c κs = search needs
+
+-- src/sums.rt:137:1
+returns-2 : tie.Need-returns-2
+returns-2 c =
+    let a = c .before .before .before .before .args in
+    c .ground .ensures ∙ ap (λ (b : Bool). b || ground (tree-at (a .sheet .now) (a .work .now) (a .i))) (sym (c .before .if1 .left))
+
+pub cancels-spec : {M : Type 1} → statement M
+cancels-spec = tie.close (tie.spec returns ground-requires returns-2)
