@@ -40,11 +40,11 @@ fn the_library_replies_to_generated_sheets() {
     notice::absent("the library was compared with the model alone");
     let comparison = deep::run(|| {
         let mut comparison = Comparison::default();
-        comparison.add_generated(1_000, 21, &KINDS);
-        comparison.add_generated(1_000, 22, ANSWERED);
+        comparison.add_generated(2_000, 21, &KINDS);
+        comparison.add_generated(2_000, 22, ANSWERED);
         comparison
     });
-    assert_eq!(comparison.calls, 2_000);
+    assert_eq!(comparison.calls, 4_000);
     none_differ(&comparison);
 }
 
