@@ -1,33 +1,29 @@
 // Times of the linked library, on a thread with 2 MiB of stack, and of the Rust on a large one.
+mod solving;
+mod terms;
+
 use std::{
     hint::black_box,
     io::{self, Write},
     time::{Duration, Instant},
 };
 
+use oracle::Outcome;
+
 use crate::{
     deep, lent,
     linked::ANSWERED,
-    sheet::{self, Sheet},
+    sheet::{self, Pair, Sheet},
 };
 
 /// The runs of which the least time is taken, while they are short.
 const RUNS: usize = 3;
 const SHORT: Duration = Duration::from_secs(2);
 
+#[derive(Clone)]
 struct Sample {
     name: &'static str,
     sheet: String,
-}
-
-fn equal(name: &'static str, left: &str, right: &str) -> Sample {
-    let sheet = format!("kind=equal\nleft={left}\nright={right}\n");
-    Sample { name, sheet }
-}
-
-fn reduce(name: &'static str, term: &str) -> Sample {
-    let sheet = format!("kind=reduce\nterm={term}\n");
-    Sample { name, sheet }
 }
 
 // A leaf under so many levels, each a front and a back.
@@ -45,122 +41,14 @@ fn sum(summands: &[String]) -> String {
     format!("tamtplus({})", summands.join(","))
 }
 
-// Summands until the sum has so many bytes.
-fn summands(bytes: usize, one: impl Fn(usize) -> String) -> Vec<String> {
-    let mut left = bytes.saturating_sub("tamtplus()".len());
-    let mut list = Vec::new();
-    loop {
-        let next = one(list.len());
-        let Some(rest) = left.checked_sub(next.len() + 1) else {
-            return list;
-        };
-        left = rest;
-        list.push(next);
-    }
-}
-
-// A sum of two `f` at every level, the leaves numbered; the mirror image has the sides exchanged.
-fn balanced(depth: usize, number: usize, mirror: bool) -> String {
-    if depth == 0 {
-        return format!("t({number})");
-    }
-    let half = |number| balanced(depth - 1, number, mirror);
-    let (left, right) = (half(2 * number), half(2 * number + 1));
-    if mirror {
-        format!("tamtplus(f({right}),f({left}))")
-    } else {
-        format!("tamtplus(f({left}),f({right}))")
-    }
-}
-
-fn flat_sums(half: usize) -> Vec<Sample> {
-    let numbered = summands(half, |index| format!("t({index})"));
-    let backward: Vec<String> = numbered.iter().rev().cloned().collect();
-    let alike = summands(half, |_| "a".to_owned());
-    let mut one_other = alike.clone();
-    if let Some(last) = one_other.last_mut() {
-        *last = "b".to_owned();
-    }
-    let prefix = "name".repeat(80);
-    let long = summands(half, |index| format!("{prefix}{index}"));
-    let long_backward: Vec<String> = long.iter().rev().cloned().collect();
-    vec![
-        equal("flat sum, same order", &sum(&numbered), &sum(&numbered)),
-        equal("flat sum, reversed", &sum(&numbered), &sum(&backward)),
-        equal("flat sum of one leaf", &sum(&alike), &sum(&alike)),
-        equal("flat sum, last differs", &sum(&alike), &sum(&one_other)),
-        equal(
-            "flat sum of long names, reversed",
-            &sum(&long),
-            &sum(&long_backward),
-        ),
-    ]
-}
-
-fn deep_sums(half: usize) -> Vec<Sample> {
-    let to_right = filled("tamtplus(a,", "b", ")", half);
-    let to_left = filled("tamtplus(", "b", ",a)", half);
-    let under = filled("f(tamtplus(a,", "b", "))", half);
-    let swapped = filled("f(tamtplus(", "b", ",a))", half);
-    let other = filled("f(tamtplus(", "c", ",a))", half);
-    let ones = filled("tamtplus(", "b", ")", half);
-    let ones_under = filled("f(tamtplus(", "b", "))", half);
-    let fits = |depth: &usize| balanced(*depth, 1, false).len() <= half;
-    let depth = (0..12).take_while(fits).last().unwrap_or(0);
-    vec![
-        equal("sums of two to the right", &to_right, &to_right),
-        equal("sums of two, right and left", &to_right, &to_left),
-        equal("sums of one", &ones, &ones),
-        equal("sums of one under f", &ones_under, &ones_under),
-        equal("sums under f", &under, &under),
-        equal("sums under f, swapped", &under, &swapped),
-        equal("sums under f, swapped, leaf differs", &under, &other),
-        equal(
-            "balanced sums of f, mirrored",
-            &balanced(depth, 1, false),
-            &balanced(depth, 1, true),
-        ),
-    ]
-}
-
-fn reductions() -> Vec<Sample> {
-    vec![
-        reduce("4,095 h", &nested("h(", "a", ")", 4_095)),
-        reduce(
-            "4,095 tamXCflip of a role",
-            &nested("tamXCflip(", "tamXCroleA", ")", 4_095),
-        ),
-        reduce("4,095 tamXCfst", &nested("tamXCfst(", "a", ")", 4_095)),
-        reduce(
-            "1,365 tamXCfst of a pair",
-            &nested("tamXCfst(tamXCpair(", "a", ",b))", 1_365),
-        ),
-        reduce("2,047 tamXCsdec", &nested("tamXCsdec(", "a", ",b)", 2_047)),
-        reduce(
-            "1,023 tamXCsdec of tamXCsenc",
-            &nested("tamXCsdec(tamXCsenc(", "a", ",b),b)", 1_023),
-        ),
-    ]
-}
-
 fn samples(bytes: usize) -> Vec<Sample> {
-    let room = bytes.saturating_sub("kind=equal\nleft=\nright=\n".len());
-    let half = room / 2;
-    let (chain, whole) = (
-        filled("f(", "a", ")", half),
-        filled("f(", "a", ")", room - 1),
-    );
-    let mut list = vec![
-        equal("a and a", "a", "a"),
-        equal("chain of f, both sides", &chain, &chain),
-        equal("chain of f and a", &whole, "a"),
-    ];
-    list.extend(flat_sums(half));
-    list.extend(deep_sums(half));
-    if ANSWERED.contains(&"reduce") {
-        list.extend(reductions());
-    }
-    list
+    let of = |kind: &str| match kind {
+        "equal" => terms::equalities(bytes),
+        "reduce" => terms::reductions(),
+        "unify" | "match" => solving::solvings(kind),
+        _ => Vec::new(),
+    };
+    ANSWERED.iter().flat_map(|kind| of(kind)).collect()
 }
 
 // The least of a few times, and the last result.
@@ -182,32 +70,65 @@ fn clocked<T>(function: impl FnOnce() -> T) -> (Duration, T) {
     (start.elapsed(), result)
 }
 
+// The answer of the Rust, which has no `spent`.
 fn by_rust(sheet: &Sheet) -> String {
-    match sheet {
-        Sheet::Equal(left, right) => match oracle::equivalent(left, right) {
-            Some(true) => "equal=yes\n".to_owned(),
-            Some(false) => "equal=no\n".to_owned(),
-            None => "refusal 4".to_owned(),
-        },
-        Sheet::Reduce(term) => oracle::parse(term).map_or("refusal 4".to_owned(), |term| {
-            format!("normal={}\n", oracle::render(&oracle::normalize(&term)))
-        }),
+    let told = match sheet {
+        Sheet::Equal(left, right) => {
+            let word = |yes| if yes { "yes" } else { "no" };
+            oracle::equivalent(left, right).map(|yes| format!("equal={}\n", word(yes)))
+        }
+        Sheet::Reduce(term) => oracle::parse(term)
+            .map(|term| format!("normal={}\n", oracle::render(&oracle::normalize(&term)))),
+        Sheet::Unify(fuel, pairs) => solved(oracle::unify, *fuel, pairs),
+        Sheet::Match(fuel, pairs) => solved(oracle::matcher, *fuel, pairs),
         _ => unreachable!("a sample of another kind"),
-    }
+    };
+    told.unwrap_or("refusal 4".to_owned())
 }
 
-fn by_library(name: &str, bytes: &[u8], words: usize) -> (Duration, String) {
-    let mut work = vec![u32::MAX; words];
-    let mut output = vec![0; 2 * sheet::LONGEST];
+type Solve = fn(usize, &[(oracle::Term, oracle::Term)]) -> Outcome;
+
+fn solved(solve: Solve, fuel: usize, pairs: &[Pair]) -> Option<String> {
+    let read = |(left, right): &Pair| Some((oracle::parse(left)?, oracle::parse(right)?));
+    let pairs: Vec<_> = pairs.iter().map(read).collect::<Option<_>>()?;
+    let (word, bindings) = match solve(fuel, &pairs) {
+        Outcome::Solved(bindings) => ("solved", bindings),
+        Outcome::Failed => ("failed", vec![]),
+        Outcome::Unsupported => ("unsupported", vec![]),
+    };
+    let mut answer = format!("verdict={word}\n");
+    for (key, value) in bindings {
+        answer.push_str(&format!("key={key}\nvalue={}\n", oracle::render(&value)));
+    }
+    Some(answer)
+}
+
+fn without_spent(answer: &str) -> String {
+    let kept = answer.split_inclusive('\n');
+    kept.filter(|line| !line.starts_with("spent=")).collect()
+}
+
+// The time of a call with every word of the work area set to one number before, and the answer.
+fn by_library(name: &str, bytes: &[u8], work: &mut [u32], before: u32) -> (Duration, String) {
+    let mut output = vec![0; 64 * sheet::LONGEST];
     timed(|| {
-        work.fill(u32::MAX);
-        let (time, called) = lent::timed_call(name, bytes, &mut work, &mut output);
+        work.fill(before);
+        let (time, called) = lent::timed_call(name, bytes, work, &mut output);
         let answer = match called.refusal {
             0 => String::from_utf8_lossy(&output[..called.written]).into_owned(),
             refusal => format!("refusal {refusal}"),
         };
         (time, answer)
     })
+}
+
+// The time of a plain clearing of the work area.
+fn clearing(work: &mut [u32]) -> Duration {
+    let clear = |work: &mut [u32]| {
+        work.fill(u32::MAX);
+        clocked(|| black_box(&mut *work).fill(0))
+    };
+    timed(|| clear(work)).0
 }
 
 fn milliseconds(time: Duration) -> String {
@@ -218,31 +139,46 @@ fn milliseconds(time: Duration) -> String {
 fn row(sample: &Sample) -> bool {
     let bytes = sample.sheet.as_bytes();
     let read = sheet::read(bytes).expect("a sample is a sheet");
-    let words = sheet::words_needed(bytes, &read) as usize;
-    let (library, answer) = by_library(sample.name, bytes, words);
-    let (rust, agreed) = if oracle::present() {
+    let mut work = vec![0; sheet::words_needed(bytes, &read) as usize];
+    let (cleared, answer) = by_library(sample.name, bytes, &mut work, 0);
+    let (dirty, again) = by_library(sample.name, bytes, &mut work, u32::MAX);
+    let least = clearing(&mut work);
+    let (rust, ratio, agreed) = if oracle::present() {
         let (rust, told) = deep::run(|| timed(|| clocked(|| by_rust(&read))));
-        (milliseconds(rust), told == answer)
+        let ratio = rust.as_secs_f64() / dirty.as_secs_f64();
+        (
+            milliseconds(rust),
+            format!("{ratio:.1}"),
+            told == without_spent(&answer),
+        )
     } else {
-        ("-".to_owned(), true)
+        ("-".to_owned(), "-".to_owned(), true)
     };
-    let short: String = answer.trim_end().chars().take(24).collect();
+    let agreed = agreed && again == answer;
+    let first = answer.lines().next().unwrap_or_default();
+    let short: String = first.chars().take(24).collect();
     println!(
-        "| {} | {} | {} | {} | {rust} | {short}{} |",
+        "| {} | {} | {} | {} | {} | {} | {rust} | {ratio} | {short}{} |",
         read.kind(),
         sample.name,
         bytes.len(),
-        milliseconds(library),
+        milliseconds(cleared),
+        milliseconds(dirty),
+        milliseconds(least),
         if agreed { "" } else { ", NOT the Rust's" },
     );
     io::stdout().flush().expect("standard output takes a row");
     agreed
 }
 
-/// Prints the table, each row once it is known; whether every answer is the Rust's.
+/// Prints the table, each row once it is known; whether every answer is the Rust's. `cleared` and
+/// `dirty` are calls with a work area of zeros and of other numbers, `clearing` is a plain clearing
+/// of the words that the sheet needs, and the ratio is that of the Rust to `dirty`.
 pub fn print(bytes: usize) -> bool {
-    println!("| kind | terms | bytes | library ms | Rust ms | answer |");
-    println!("|---|---|---|---|---|---|");
+    println!(
+        "| kind | terms | bytes | cleared ms | dirty ms | clearing ms | Rust ms | ratio | answer |"
+    );
+    println!("|---|---|---|---|---|---|---|---|---|");
     let agreed: Vec<bool> = samples(bytes).iter().map(row).collect();
     agreed.into_iter().all(|same| same)
 }
