@@ -24,7 +24,7 @@ ghost use Rattle.tree.specs.Arena.{Arena};
 ghost use Rattle.equivalence.specs.Sums.{Gathered, Cells, Lasting, heft, Described, Run, index, TookOne, Cancelled, Ready, remaining, heavy, Added, Rebuilt};
 
 // Whether the tree of cell i is a sum.
-fn is_sum(sheet: &[u8], work: &[u32], free: usize, i: usize) -> bool
+pub fn is_sum(sheet: &[u8], work: &[u32], free: usize, i: usize) -> bool
     requires { ⌜ Arena (now sheet) (now work) free ⌝ }
     requires { ⌜ (0 < i) × (i < free) ⌝ }
     ensures { λ r. ⌜ r ≡ eqb (kind-of (now (work .entry)) i) 0 && same (name-at (now (sheet .entry)) (now (work .entry)) i) tamtplus ⌝ }
