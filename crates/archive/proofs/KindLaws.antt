@@ -8,14 +8,15 @@ use native.Mathlib.Omega.{arith}
 use denote.Enum.Declared.{tagOf}
 use types.Run.{OneOf, miss}
 use Rattle.rules.specs.Bytes.{Text}
-use Rattle.rules.specs.Sheet.{Sheet, asks-equal, asks-reduce, words-needed}
+use Rattle.rules.specs.Sheet.{Sheet, asks-equal, asks-reduce}
 use Rattle.rules.specs.Answer.{answer-of}
 use Rattle.rules.specs.Call.{Reply, refused, admitted, refusal-number, written, overwritten, cleared, work-after}
-use Rattle.sheet.specs.Form.{text-of, sheet-of}
+use Rattle.sheet.specs.Form.{text-of, sheet-of, form-words}
 use Rattle.sheet.specs.declared.Place.{Place}
 use Rattle.sheet.specs.declared.form.Form.{Form}
 use Rattle.sheet.specs.declared.form.Form.the-variants as form
 use Rattle.sheet.proofs.form.Form.{the-type}
+use Rattle.sheet.proofs.WordLaws.{words-same}
 use Rattle.sheet.proofs.WalkLaws.{unify-pairs, match-pairs, cover-parts, sound-member, complete-members}
 use Rattle.archive.specs.Clearing.{zeroed}
 use Rattle.archive.specs.Settling.{settles, settled-number, settled-count, Settles}
@@ -41,6 +42,11 @@ unfolding sheet-of answer-now
 reduce-settled s t f {out} {v} {x} e h sheet g =
     let z : asks-reduce (text-of s t) ≡ sheet = cc (ap (sheet-of s) e) in
     subst (λ (t : Sheet). Settles (answer-now t) out v x) z h
+
+-- every kind has the words of what is read and of one step
+pub least-words : (s : Text) (f : Form) {n : ℕ} → form-words s f ≤ n → 1048576 + 16 * length s ≤ n
+unfolding form-words
+least-words s f h = omega arith
 
 -- the kinds that are not answered yet
 not-now : (s : Text) (f : Form) (sheet : Sheet) → OneOf (1 ∷ 2 ∷ 4 ∷ 5 ∷ 6 ∷ 7 ∷ []) (tagOf the-type f) → sheet-of s f ≡ some sheet → answer-now sheet ≡ none
@@ -71,16 +77,15 @@ module _ (s : Text) (w : List ℕ) (out : Text) where
       }
 
   module _ (f : Form) (needed : ℕ) (a : Stands s (length w) f needed) where
-    pub roomy : 1048576 + 16 * length s ≤ needed
-    unfolding words-needed
-    roomy = omega (arith, a .need)
+    pub enough-words : form-words s f ≤ needed
+    enough-words = omega (arith, a .need, words-same s f (a .decoded .sheet) (a .decoded .decodes))
 
     pub settled-answers : (v : List ℕ) (after : Text) (x : Settled) (r : code.Reply) → SettlesForm (sheet-of s f) out after x → v ≡ zeroed needed w
         → (reply-number r ≡ settled-number x) × (reply-count r ≡ settled-count x) → Answers s w v out after r
     unfolding call-now work-after
     settled-answers v after x r h z q =
-        let k = h (a .sheet) (a .decodes) in
-        let g : call-now s (length w) (length out) ≡ settles (answer-now (a .sheet)) (length out) = rw (a .passes) in
+        let k = h (a .decoded .sheet) (a .decoded .decodes) in
+        let g : call-now s (length w) (length out) ≡ settles (answer-now (a .decoded .sheet)) (length out) = rw (a .passes) in
         record {
           number = q .0 ∙ k .number ∙ sym (ap refusal-number g);
           written-is = q .1 ∙ k .count ∙ sym (ap written g);

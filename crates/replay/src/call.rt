@@ -13,9 +13,7 @@ pub enum Outcome {
 
 // Whether a sheet is of a kind that the call does not answer yet.
 fn unanswered(sheet: &[u8]) -> bool {
-    begins(sheet, b"kind=unify\n")
-        || begins(sheet, b"kind=match\n")
-        || begins(sheet, b"kind=cover\n")
+    begins(sheet, b"kind=cover\n")
         || begins(sheet, b"kind=sound\n")
         || begins(sheet, b"kind=complete\n")
 }

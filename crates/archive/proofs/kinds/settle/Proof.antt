@@ -1,7 +1,7 @@
 use mathlib.Core.Path.{subst}
 use native.Mathlib.Omega.{arith}
 use Rattle.sheet.specs.Form.{Within}
-use Rattle.archive.proofs.KindLaws.{equal-settled, reduce-settled, other-settled}
+use Rattle.archive.proofs.KindLaws.{least-words, equal-settled, reduce-settled, other-settled}
 use borrow.Author.Needs.{needs}
 use Rattle.archive.proofs.kinds.settle.Statement.{statement}
 use Rattle.archive.proofs.kinds.settle.Tie as tie
@@ -17,8 +17,10 @@ enum-known-form c = search needs
 -- src/kinds.rt:63:40
 equal-requires : tie.Need-equal-requires
 equal-requires c κs =
-    let h = subst (Within (c .before .before .before .before .before .before .before .before .args .sheet .now)) (c .before .before .before .form .given .1) (c .before .before .before .before .before .before .before .before .pre .1) in
-    ((c .before .before .before .before .before .before .before .before .pre .0 .0, omega arith), h)
+    let a = c .before .before .before .before .before .before .before .before .args in
+    let p = c .before .before .before .before .before .before .before .before .pre in
+    let h = subst (Within (c .before .before .before .before .before .before .before .before .args .sheet .now)) (c .before .before .before .form .given .1) (c .before .before .before .before .before .before .before .before .pre .0 .within) in
+    ((p .0 .short, omega (arith, least-words (a .sheet .now) (a .form) (p .1))), h)
 
 -- src/kinds.rt:64:24
 enum-known-form-2 : tie.Need-enum-known-form-2
@@ -27,8 +29,10 @@ enum-known-form-2 c = search needs
 -- src/kinds.rt:64:34
 reduce-requires : tie.Need-reduce-requires
 reduce-requires c κs =
-    let h = subst (Within (c .before .before .before .before .before .before .before .before .args .sheet .now)) (c .before .before .before .form2 .given .1) (c .before .before .before .before .before .before .before .before .pre .1) in
-    (c .before .before .before .before .before .before .before .before .pre .0, h)
+    let a = c .before .before .before .before .before .before .before .before .args in
+    let p = c .before .before .before .before .before .before .before .before .pre in
+    let h = subst (Within (c .before .before .before .before .before .before .before .before .args .sheet .now)) (c .before .before .before .form2 .given .1) (c .before .before .before .before .before .before .before .before .pre .0 .within) in
+    ((p .0 .short, least-words (a .sheet .now) (a .form) (p .1)), h)
 
 -- src/kinds.rt:57:1
 same-length : tie.Need-same-length
