@@ -5,3 +5,5 @@ pub mod Admitting
 pub mod Equals
 pub mod Reduces
 pub mod KindLaws
+pub mod PairReading
+pub mod Reversing
