@@ -4,5 +4,8 @@ pub mod Screening
 pub mod Admitting
 pub mod Equals
 pub mod Reduces
-pub mod KindLaws
+pub mod PairReading
+pub mod Reversing
 pub mod RunRooms
+pub mod Solves
+pub mod KindLaws

@@ -115,7 +115,7 @@ fn reverse(sheet: &[u8], work: &mut [u32], free: usize, list: usize) -> Pushed
     }
 }
 
-// The pairs from a cursor on, the first first, each with its left side first.
+// The pairs from a cursor on, in their order, each with its left side first.
 pub fn read_pairs(sheet: &[u8], work: &mut [u32], start: Cursor) -> Pairs
     requires { ⌜ (length (now sheet) ≤ 65536) × (1048576 + 16 * length (now sheet) ≤ length (now work)) ⌝ }
     requires { ⌜ start .at ≤ length (now sheet) ⌝ }
