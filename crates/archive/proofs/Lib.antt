@@ -5,3 +5,4 @@ pub mod Admitting
 pub mod Equals
 pub mod Reduces
 pub mod KindLaws
+pub mod VerdictLines
