@@ -9,3 +9,4 @@ pub mod Reversing
 pub mod RunRooms
 pub mod Solves
 pub mod KindLaws
+pub mod VerdictLines

@@ -13,9 +13,15 @@ use Rattle.substitution.specs.Bindings.{bindings-at}
 unfoldable pub head-lines : Text → ℕ → Text
 head-lines verdict spent = verdict ++ line (bytes "spent=") (decimal spent)
 
--- `key` and `value` of one binding
-unfoldable pub entry-lines : Text → Tree → Text
-entry-lines x t = line (bytes "key=") x ++ line (bytes "value=") (render t)
+unfoldable pub key-line : Text → Text
+key-line x = line (bytes "key=") x
+
+unfoldable pub value-line : Tree → Text
+value-line t = line (bytes "value=") (render t)
+
+-- the two lines of one binding
+abbrev pub entry-lines : Text → Tree → Text
+entry-lines x t = key-line x ++ value-line t
 
 -- `key` and `value` for each binding from cell k on
 abbrev pub lines-at : Text → List ℕ → ℕ → Text

@@ -23,7 +23,7 @@ ghost use Rattle.tree.specs.Output.{Printed};
 ghost use Rattle.tree.specs.Measure.{measured};
 ghost use Rattle.substitution.specs.Bindings.{Chain, bindings-at};
 ghost use Rattle.archive.specs.Settling.{Settles};
-ghost use Rattle.archive.specs.Verdicts.{head-lines, entry-lines, lines-at};
+ghost use Rattle.archive.specs.Verdicts.{head-lines, key-line, value-line, entry-lines, lines-at};
 
 // The length of the verdict's line and the line `spent`.
 fn measure_head(verdict: &[u8], spent: usize, room: usize) -> Measured
@@ -126,6 +126,44 @@ fn measure_bindings(sheet: &[u8], work: &[u32], free: usize, list: usize, room: 
     Measured::Fits(room - left)
 }
 
+// Writes the line `key` with the name of cell i, and returns where it ends.
+fn write_key(
+    sheet: &[u8],
+    work: &[u32],
+    free: usize,
+    i: usize,
+    output: &mut [u8],
+    at: usize,
+) -> usize
+    requires { ⌜ Arena (now sheet) (now work) free ⌝ }
+    requires { ⌜ (0 < i) × (i < free) ⌝ }
+    requires { ⌜ at + length (key-line (name-at (now sheet) (now work) i)) ≤ length (now output) ⌝ }
+    ensures { λ r. ⌜ Printed (now (output .entry)) (now (output .exit)) at (key-line (name-at (now (sheet .entry)) (now (work .entry)) i)) r ⌝ }
+{
+    let start = print_text(output, at, b"key=");
+    let end = print_name(sheet, work, free, i, output, start);
+    print_byte(output, end, 10)
+}
+
+// Writes the line `value` with the term of cell i, and returns where it ends.
+fn write_value(
+    sheet: &[u8],
+    work: &[u32],
+    free: usize,
+    i: usize,
+    output: &mut [u8],
+    at: usize,
+) -> usize
+    requires { ⌜ Arena (now sheet) (now work) free ⌝ }
+    requires { ⌜ (0 < i) × (i < free) ⌝ }
+    requires { ⌜ at + length (value-line (tree-at (now sheet) (now work) i)) ≤ length (now output) ⌝ }
+    ensures { λ r. ⌜ Printed (now (output .entry)) (now (output .exit)) at (value-line (tree-at (now (sheet .entry)) (now (work .entry)) i)) r ⌝ }
+{
+    let start = print_text(output, at, b"value=");
+    let end = write_term(sheet, work, free, i, output, start);
+    print_byte(output, end, 10)
+}
+
 // Writes the two lines of a binding, by the cells of its key and its value, and returns where they end.
 fn write_entry(
     sheet: &[u8],
@@ -142,12 +180,8 @@ fn write_entry(
     requires { ⌜ at + length (entry-lines (name-at (now sheet) (now work) key) (tree-at (now sheet) (now work) value)) ≤ length (now output) ⌝ }
     ensures { λ r. ⌜ Printed (now (output .entry)) (now (output .exit)) at (entry-lines (name-at (now (sheet .entry)) (now (work .entry)) key) (tree-at (now (sheet .entry)) (now (work .entry)) value)) r ⌝ }
 {
-    let name = print_text(output, at, b"key=");
-    let end = print_name(sheet, work, free, key, output, name);
-    let second = print_byte(output, end, 10);
-    let term = print_text(output, second, b"value=");
-    let last = write_term(sheet, work, free, value, output, term);
-    print_byte(output, last, 10)
+    let end = write_key(sheet, work, free, key, output, at);
+    write_value(sheet, work, free, value, output, end)
 }
 
 // Writes the lines of the bindings from cell `list` on, and returns where they end.
@@ -165,12 +199,12 @@ fn write_bindings(
     requires { ⌜ at + length (lines-at (now sheet) (now work) list) ≤ length (now output) ⌝ }
     ensures { λ r. ⌜ Printed (now (output .entry)) (now (output .exit)) at (lines-at (now (sheet .entry)) (now (work .entry)) list) r ⌝ }
 {
-    let mut k = list;
+    let mut key = list;
     let mut end = at;
-    while k != 0 {
-        let value = value_of(work, free, k);
-        end = write_entry(sheet, work, free, k, value, output, end);
-        k = rest_of(work, free, value);
+    while key != 0 {
+        let value = value_of(work, free, key);
+        end = write_entry(sheet, work, free, key, value, output, end);
+        key = rest_of(work, free, value);
     }
     end
 }
@@ -199,6 +233,6 @@ pub fn give_solved(
         return Settled::Short;
     };
     let start = write_head(output, b"verdict=solved\n", spent);
-    let end = write_bindings(sheet, work, free, list, output, start);
-    Settled::Written(end)
+    let last = write_bindings(sheet, work, free, list, output, start);
+    Settled::Written(last)
 }
