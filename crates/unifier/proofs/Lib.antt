@@ -1,3 +1,6 @@
 pub mod Areas
 pub mod Children
+pub mod Fitting
 pub mod Tops
+pub mod Resuming
+pub mod Invariant
