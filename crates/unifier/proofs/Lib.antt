@@ -1,1 +1,3 @@
 pub mod Areas
+pub mod Children
+pub mod Keys
