@@ -99,11 +99,11 @@ module _ {s : Text} {w v : List ℕ} {n fuel left waiting made end : ℕ} {start
 
   -- The pair on top
 
-  pub holds-right : (r : ℕ) → 0 < waiting → r ≡ next-of v waiting → 0 < r
-  holds-right r p e = right-some s (h .arena .links) (h .ps) waiting r p (h .stack) e (h .waits)
+  pub holds-right : {r : ℕ} → 0 < waiting → (r ≡ next-of v waiting) × (r < waiting) → (0 < r) × (r < end)
+  holds-right {r} p e = (right-some s (h .arena .links) (h .ps) waiting r p (h .stack) (e .0) (h .waits), omega (arith, h .stack, e .1))
 
-  pub holds-top : (r rest : ℕ) → 0 < waiting → r ≡ next-of v waiting → r < end → rest ≡ next-of v r → Top s v (h .ps) waiting r rest
-  holds-top r rest p e q f = top s (h .arena .links) (h .ps) waiting r p (h .stack) e (h .waits) rest q f
+  pub holds-top : {r rest : ℕ} → 0 < waiting → (r ≡ next-of v waiting) × (r < waiting) → (rest ≡ next-of v r) × (rest < r) → Top s v (h .ps) waiting r rest
+  holds-top {r} {rest} p e f = top s (h .arena .links) (h .ps) waiting r p (h .stack) (e .0) (h .waits) rest (holds-right p e .1) (f .0)
 
   module _ {r rest : ℕ} (t : Top s v (h .ps) waiting r rest) (p : 0 < left) where
     -- what the step takes and makes of it

@@ -5,3 +5,4 @@ pub mod Fitting
 pub mod Tops
 pub mod Resuming
 pub mod Invariant
+pub mod Finishing
