@@ -1,6 +1,7 @@
 use Prim.Native.Nat.{ℕ, _<_}
 use native.Mathlib.Omega.{arith}
 use Rattle.tree.specs.Cells.{trees-at}
+use Rattle.unifier.specs.Stack.{pushes}
 use Rattle.unifier.proofs.Children.{pushes-left, pushes-right, pushes-more, made-none, made-pair}
 use borrow.Author.Needs.{needs}
 use borrow.Fn.Kinds.{In}
@@ -85,8 +86,11 @@ push-children-returns-3 t c =
     let p = c .before .before .before .before .before .before .before .before .before .before .before .before .before .before .before .before .pre .1 in
     let d = c .before .before .before .before .before .before .push-children .ensures in
     let e = c .before .before .push-pair .ensures in
-    let z = pushes-more s w (a .left) (a .right) _ _ (trees-at s w (a .stack)) (p .0 .links) (omega arith) (p .1 .0 .0) (omega arith) (p .1 .0 .1) (c .before .before .before .before .before .before .before .before .before .next-of .ensures .0) (c .before .before .before .before .before .before .before .next-of2 .ensures .0) in
-    (rw (z .0) (made-pair (a .left) (a .right) (p .0) (omega arith) (p .1 .0 .0) (omega arith) (p .1 .0 .1) (d .0) (e .0)), omega (arith, z .1, d .1, e .1))
+    let x = c .before .before .before .before .before .before .before .before .before .next-of .result in
+    let y = c .before .before .before .before .before .before .before .next-of2 .result in
+    let ps = trees-at s w (a .stack) in
+    let z = pushes-more s w (a .left) (a .right) x y ps (p .0 .links) (omega arith) (p .1 .0 .0) (omega arith) (p .1 .0 .1) (c .before .before .before .before .before .before .before .before .before .next-of .ensures .0) (c .before .before .before .before .before .before .before .next-of2 .ensures .0) in
+    (rw (z .0) (made-pair {ts = pushes (trees-at s w x) (trees-at s w y) ps} (a .left) (a .right) (p .0) (omega arith) (p .1 .0 .0) (omega arith) (p .1 .0 .1) (d .0) (e .0)), omega (arith, z .1, d .1, e .1))
 
 pub +push-children-spec : {M : Type 1} → statement M
 +push-children-spec = close μ-push-children λ t. push-children-lts.spec (push-children-calls t) (push-children-at t)
