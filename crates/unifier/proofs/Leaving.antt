@@ -16,7 +16,7 @@ use Rattle.equivalence.proofs.Gathering.{remaining-some, remaining-zero}
 use Rattle.unifier.specs.Resting.{Several, LeftIs}
 use Rattle.unifier.specs.declared.rest.Left.the-variants as left
 
--- of the cells from a to k the cell f alone is left, or none, where it is 0
+-- of the cells from a to k the cell f alone is left, or none where f is 0
 pub record Seen (w : List ℕ) (a e k f : ℕ) : Type 0 where
   pub low : a ≤ k
   pub high : k ≤ e

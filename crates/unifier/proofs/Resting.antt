@@ -65,10 +65,10 @@ rebuilt-some {i = i} many g = elim (decLt 0 i) [
 ]
 
 module _ (s w : List ℕ) (n a e : ℕ) where
-  pub some-one : {r : Left} {j : ℕ} → r ≡ left.One j → LeftIs s w a e r → LeftIs s w a e (left.One j)
+  some-one : {r : Left} {j : ℕ} → r ≡ left.One j → LeftIs s w a e r → LeftIs s w a e (left.One j)
   some-one z h = subst (LeftIs s w a e) z h
 
-  pub one-inside : {r : Left} {j : ℕ} → r ≡ left.One j → LeftIs s w a e r → ((p : ℕ) → a ≤ p → p < e → getD w p 0 < n) → (0 < j) × (j < n)
+  one-inside : {r : Left} {j : ℕ} → r ≡ left.One j → LeftIs s w a e r → ((p : ℕ) → a ≤ p → p < e → getD w p 0 < n) → (0 < j) × (j < n)
   one-inside z h cells = let f = some-one z h in let (p, x, y, g) = f .2 in let q = cells p x y in (f .1, omega arith)
 
   module _ (b : Bool) where
@@ -161,7 +161,7 @@ unfolding heavy
 heavy-mass [] = refl
 heavy-mass (t ∷ ts) = omega (arith, heavy-mass ts)
 
--- nor more on the left than was there
+-- cancelling leaves no more on the left than was there
 cancel-mass-left : (test : Tree → Tree → Bool) (ts us : List Tree) → mass (cancel test ts us .0) ≤ mass ts
 unfolding cancel
 cancel-mass-left test [] us = omega arith
