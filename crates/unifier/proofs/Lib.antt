@@ -6,3 +6,5 @@ pub mod Tops
 pub mod Resuming
 pub mod Invariant
 pub mod Finishing
+pub mod Leaving
+pub mod Resting
