@@ -1,3 +1,5 @@
 pub mod Areas
 pub mod Children
 pub mod Keys
+pub mod Waiting
+pub mod Sums
