@@ -3,3 +3,4 @@ pub mod Children
 pub mod Keys
 pub mod Waiting
 pub mod Sums
+pub mod Steps
