@@ -8,3 +8,6 @@ pub mod Invariant
 pub mod Finishing
 pub mod Leaving
 pub mod Resting
+pub mod Waiting
+pub mod Sums
+pub mod Steps
