@@ -5,3 +5,5 @@ pub mod Fitting
 pub mod Tops
 pub mod Resuming
 pub mod Invariant
+pub mod Waiting
+pub mod Sums
