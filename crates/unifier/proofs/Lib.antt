@@ -7,3 +7,5 @@ pub mod Resuming
 pub mod Invariant
 pub mod Waiting
 pub mod Sums
+pub mod Moving
+pub mod Advancing
