@@ -9,3 +9,5 @@ pub mod Waiting
 pub mod Sums
 pub mod Moving
 pub mod Advancing
+pub mod Leaving
+pub mod Resting
