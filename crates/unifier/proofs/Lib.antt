@@ -6,8 +6,9 @@ pub mod Tops
 pub mod Resuming
 pub mod Invariant
 pub mod Waiting
-pub mod Sums
-pub mod Moving
-pub mod Advancing
 pub mod Leaving
 pub mod Resting
+pub mod Sums
+pub mod Steps
+pub mod Moving
+pub mod Advancing

@@ -2,13 +2,13 @@
 use Prim.Native.Nat.{ℕ, _+_, _*_, _<_, _≤_, _^_}
 use mathlib.Core.Path.{_≡_, refl, sym, ap, ap₂, subst, _∙_}
 use mathlib.Core.Bool.{Bool, true, false, _&&_, true≢false, false≢true}
-use mathlib.Core.List.{List, [], _∷_}
+use mathlib.Core.List.{List, _∷_}
 use lib.Dec.{eqb}
 use lib.ListN.{length}
 use native.Mathlib.Omega.{arith}
 use Rattle.rules.specs.Bytes.{Text, same}
 use Rattle.rules.specs.Names.{variable-token}
-use Rattle.rules.specs.Tree.{Tree, variable, atom, apply, Trees, none, more, head, tamtplus}
+use Rattle.rules.specs.Tree.{Tree, apply, Trees, none, more, head, tamtplus}
 use Rattle.rules.specs.Substitution.{Pair, flatten}
 use Rattle.rules.specs.Tidy.{Built, a-variable, an-atom, a-leaf, a-list, a-sum}
 use Rattle.rules.specs.Sums.{equivalent}
@@ -32,7 +32,7 @@ use Rattle.unifier.specs.declared.rest.Rest.the-variants as rest
 use Rattle.unifier.specs.declared.elimination.Taken.{Taken}
 use Rattle.unifier.specs.declared.elimination.Taken.the-variants as taken
 use Rattle.unifier.proofs.Areas.{below-then, below-grown}
-use Rattle.unifier.proofs.Waiting.{arena-below, tree-below, stack-below, waits-below}
+use Rattle.unifier.proofs.Waiting.{tree-below, stack-below, waits-below}
 
 -- Cells
 

@@ -1,12 +1,11 @@
 -- The waiting pairs where the cells below the free end are kept, and a step at a larger weight. Assumes nothing.
-use Prim.Native.Nat.{ℕ, _+_, _<_, _≤_}
+use Prim.Native.Nat.{ℕ, _<_}
 use mathlib.Core.Path.{_≡_, sym, _∙_}
 use mathlib.Core.List.{List}
 use native.Mathlib.Omega.{arith}
 use Rattle.rules.specs.Bytes.{Text}
 use Rattle.rules.specs.Substitution.{flatten}
 use Rattle.rules.specs.Solving.{Step}
-use Rattle.rules.specs.Memory.{weight}
 use Rattle.tree.specs.Cells.{tree-at, trees-at}
 use Rattle.tree.specs.Arena.{Arena}
 use Rattle.tree.proofs.Decoding.{frame-tree, frame-trees}
