@@ -11,3 +11,5 @@ pub mod Resting
 pub mod Waiting
 pub mod Sums
 pub mod Steps
+pub mod Moving
+pub mod Advancing

@@ -9,7 +9,7 @@ use native.Mathlib.Omega.{arith}
 use Rattle.rules.specs.Bytes.{Text, same}
 use Rattle.rules.specs.Names.{variable-token}
 use Rattle.rules.specs.Tree.{Tree, apply, Trees, none, more, head, tamtplus}
-use Rattle.rules.specs.Substitution.{flatten}
+use Rattle.rules.specs.Substitution.{Pair, flatten}
 use Rattle.rules.specs.Tidy.{Built, a-variable, an-atom, a-leaf, a-list, a-sum}
 use Rattle.rules.specs.Sums.{equivalent}
 use Rattle.rules.specs.Sorts.{sort-refuted}
@@ -26,7 +26,7 @@ use borrow.Author.Tests.{eq-eqb}
 use Rattle.unifier.specs.Area.{Room, Below}
 use Rattle.unifier.specs.Stack.{Whole, pairs-at, Fit}
 use Rattle.unifier.specs.Resting.{Equates, RestIs}
-use Rattle.unifier.specs.Stepping.{Steps}
+use Rattle.unifier.specs.Stepping.{Waits, Steps}
 use Rattle.unifier.specs.declared.rest.Rest.{Rest}
 use Rattle.unifier.specs.declared.rest.Rest.the-variants as rest
 use Rattle.unifier.specs.declared.elimination.Taken.{Taken}
@@ -79,6 +79,33 @@ pub sum-cell : (s : Text) (w : List ℕ) (l r : ℕ) → kind-of w l ≡ 0 → n
     → (kind-of w r ≡ 0) × (name-at s w r ≡ tamtplus)
 sum-cell s w l r e f g b = head-cell s w r b (same-of-eq (sym (same-eq (head (tree-at s w l)) (head (tree-at s w r)) g) ∙ cell-head s w l e f))
 
+-- The pair that two sums leave, where `every` and the test are those of `unify` or of `match`
+
+module _ {s : Text} {w v : List ℕ} {n p q m : ℕ} (every : Bool) (test : Tree → Tree → Bool) (l r : ℕ) (b : Built (tree-at s w l)) (d : Built (tree-at s w r))
+    (k : (kind-of w l ≡ 0) × (name-at s w l ≡ tamtplus) × (kind-of w r ≡ 0) × (name-at s w r ≡ tamtplus))
+    (g : Equates s w v n (kept-summands test (tree-at s w l) (tree-at s w r)) (cancel-sums every test (tree-at s w l) (tree-at s w r)) p q m) where
+  paid : 2 * kept-summands test (tree-at s w l) (tree-at s w r) + load (tree-at s v p) (tree-at s v q) ≤ load (tree-at s w l) (tree-at s w r) + 2
+  paid =
+      sum-weight every test (tree-at s w l) (tree-at s w r) b d (same-of-eq (cell-head s w l (k .0) (k .1))) (same-of-eq (cell-head s w r (k .2) (k .3))) (tree-at s v p) (tree-at s v q) (g .is)
+
+  pub pair-room : Room w (n + load (tree-at s w l) (tree-at s w r) + 2) → (4 * (m + 2) ≤ length v) × (m + 2 < 2 ^ 32)
+  pair-room h = (omega (arith, g .used, g .below .len, paid, h .0), omega (arith, g .used, paid, h .1))
+
+  pub pair-waits : {u : List ℕ} {c y : ℕ} (stack : ℕ) → Arena s w n → stack < n → Whole (trees-at s w stack)
+      → Made s v u m c y (more (tree-at s v p) (more (tree-at s v q) (trees-at s v stack))) → c ≡ m + 2 → Waits s w u n c y ((tree-at s v p, tree-at s v q) ∷ pairs-at s w stack)
+  unfolding flatten
+  pair-waits stack a i h e f = record {
+    arena = e .arena;
+    below = below-then (g .below) (below-grown (e .grown)) (g .grew);
+    grew = omega (arith, g .grew);
+    inside = e .inside;
+    trees = e .trees ∙ ap (λ (ts : Trees). more (tree-at s v p) (more (tree-at s v q) ts)) (stack-below a (g .below) stack i h);
+  }
+
+  pub pair-used : {c : ℕ} (ps : List Pair) → c ≡ m + 2 → c + weight ((tree-at s v p, tree-at s v q) ∷ ps) ≤ n + (load (tree-at s w l) (tree-at s w r) + weight ps) + 2
+  unfolding weight
+  pair-used ps f = omega (arith, g .used, paid)
+
 -- The step
 
 module _ (s : Text) (w v : List ℕ) (n l r stack : ℕ) where
@@ -120,25 +147,13 @@ module _ (s : Text) (w v : List ℕ) (n l r stack : ℕ) where
         pub equates : Equates s w v n (kept-summands equivalent (tree-at s w l) (tree-at s w r)) (cancel-sums true equivalent (tree-at s w l) (tree-at s w r)) p q m
         equates = subst Found e f
 
-        paid : 2 * kept-summands equivalent (tree-at s w l) (tree-at s w r) + load (tree-at s v p) (tree-at s v q) ≤ load (tree-at s w l) (tree-at s w r) + 2
-        paid =
-            sum-weight true equivalent (tree-at s w l) (tree-at s w r) (t .1 .built) (t .2 .built) (same-of-eq (cell-head s w l (k .0) (k .1))) (same-of-eq (cell-head s w r (k .2) (k .3)))
-            (tree-at s v p) (tree-at s v q) (equates .is)
-
         pub equation-room : Room w (n + load (tree-at s w l) (tree-at s w r) + 2) → (4 * (m + 2) ≤ length v) × (m + 2 < 2 ^ 32)
-        equation-room h = (omega (arith, equates .used, equates .below .len, paid, h .0), omega (arith, equates .used, paid, h .1))
+        equation-room h = pair-room true equivalent l r (t .1 .built) (t .2 .built) k equates h
 
         pub took-equation : {u : List ℕ} {c y : ℕ} → Made s v u m c y (more (tree-at s v p) (more (tree-at s v q) (trees-at s v stack))) → c ≡ m + 2 → Took u (taken.Next y c)
-        unfolding flatten weight
         took-equation d g = record {
           pairs = (tree-at s v p, tree-at s v q) ∷ pairs-at s w stack;
           is = took-is (equates .is);
-          waits = record {
-            arena = d .arena;
-            below = below-then (equates .below) (below-grown (d .grown)) (equates .grew);
-            grew = omega (arith, equates .grew);
-            inside = d .inside;
-            trees = d .trees ∙ ap (λ (ts : Trees). more (tree-at s v p) (more (tree-at s v q) ts)) (stack-below a (equates .below) stack (i .4) (t .0));
-          };
-          used = omega (arith, equates .used, paid);
+          waits = pair-waits true equivalent l r (t .1 .built) (t .2 .built) k equates stack a (i .4) (t .0) d g;
+          used = pair-used true equivalent l r (t .1 .built) (t .2 .built) k equates (pairs-at s w stack) g;
         }
