@@ -1,10 +1,10 @@
--- `replay::list::number` meets its contract: the place is between the start and the end. Assumes nothing.
+-- `replay::number` meets its contract: the place is between the start and the end. Assumes nothing.
 use Prim.Native.Nat.{_≤_, _<_, _-_}
 use native.Mathlib.Omega.{arith}
 use lib.ListN.{length}
 use borrow.Author.Needs.{needs}
-use Rattle.replay.proofs.list.number.Statement.{statement}
-use Rattle.replay.proofs.list.number.Tie as tie
+use Rattle.replay.proofs.number.Statement.{statement}
+use Rattle.replay.proofs.number.Tie as tie
 
 abbrev Inv-loop : tie.InvT-loop
 Inv-loop list at value₀ i₀ value i = (at ≤ i) × (i ≤ length list)
