@@ -11,7 +11,7 @@ use Rattle.rules.specs.Tree.{Tree, variable, atom, apply, Trees, none, more, he
 use Rattle.rules.specs.Substitution.{Binding, Pair, instantiate-pairs, size-pairs}
 use Rattle.rules.specs.Sums.{summands, rebuild, equivalent}
 use Rattle.rules.specs.Sorts.{Sort, variable-sort, sorted, refinable, sort-refuted}
-use Rattle.rules.specs.Solving.{remove, cancel-at, Step, goes-on, bind, fails, unknown, Rest, emptied, mismatch, stuck, equation, cancel, remainder, cancel-sums, fits, bind-into, unless-refinable, swap-at, swap-for, swap-key, sort-check, occurs-check, eliminate-at, eliminate, push-children, if-refuted, sum-step, decompose-at, decompose, against, differ, step-at, step}
+use Rattle.rules.specs.Solving.{Step, goes-on, bind, fails, unknown, Rest, emptied, mismatch, stuck, equation, cancel, remainder, cancel-sums, fits, bind-into, unless-refinable, swap-at, swap-for, swap-key, sort-check, occurs-check, eliminate-at, eliminate, push-children, if-refuted, sum-step, decompose-at, decompose, against, differ, step-at, step}
 use Rattle.rules.specs.Matching.{Move, onward, clash, beyond, bound, or-else, agree, bind-new, sort-new, match-key, match-rest, ground-eq, match-at, match-roots, move}
 use Rattle.rules.specs.Tidy.{Built, Builts, nil, both, a-sum}
 use Rattle.rules.specs.Reading.{parse}
@@ -19,6 +19,7 @@ use Rattle.rules.specs.Sheet.{Entry}
 use Rattle.rules.specs.Answer.{read-pairs}
 use Rattle.laws.proofs.Equality.Building.{built-children}
 use Rattle.laws.proofs.Solving.Keeping.{AllIn, Sides, Kept, Bound, KeptStep, step-keep}
+use Rattle.laws.proofs.Solving.Weights.{cancel-mass-left}
 use Rattle.laws.proofs.Sheets.BuiltRun.{BuiltBindings, BuiltRest, sums-built, name-token, instance-built}
 use Rattle.laws.proofs.Sheets.BuiltMatch.{mass, summands-mass, rebuild-mass, cancel-mass}
 use Rattle.laws.proofs.Sheets.NamesRead.{pairs-read-by}
@@ -48,15 +49,6 @@ remainder-small true m n (x ∷ j ∷ ks) (o ∷ []) h k = (omega (arith, rebuil
 remainder-small false m n (x ∷ j ∷ ks) (o ∷ []) h k = tt
 remainder-small true m n (x ∷ j ∷ ks) (o ∷ p ∷ os) h k = tt
 remainder-small false m n (x ∷ j ∷ ks) (o ∷ p ∷ os) h k = tt
-
-cancel-mass-left : (test : Tree → Tree → Bool) (ts us : List Tree) → mass (cancel test ts us .0) ≤ mass ts
-unfolding cancel
-cancel-mass-left test [] us = omega arith
-cancel-mass-left test (t ∷ ts) us = go (remove test t us) (λ vs. cancel-mass-left test ts vs)
-  where
-    go : (o : Option (List Tree)) → ((vs : List Tree) → mass (cancel test ts vs .0) ≤ mass ts) → mass (cancel-at o t (λ vs. cancel test ts vs) us .0) ≤ mass (t ∷ ts)
-    go nothing r = let h = r us in omega arith
-    go (some vs) r = let h = r vs in omega arith
 
 sums-small : (b : Bool) (test : Tree → Tree → Bool) (l r : Tree) → Built l → Built r → SmallRest (size l) (size r) (cancel-sums b test l r)
 unfolding cancel-sums
@@ -211,10 +203,11 @@ bound-fit : (x : Text) (v : Tree) → Built (variable x) → Built v → (ps : L
 unfolding instantiate-pairs size-pairs
 bound-fit x v k b [] h l = tt
 bound-fit x v k b (p ∷ ps) h l =
-    let c : BuiltBindings ((x, v) ∷ []) = (name-token k, b, tt) in
-    ( record { built = instance-built ((x, v) ∷ []) c (h .0 .built); small = omega arith },
+    let c : BuiltBindings ((x, v) ∷ []) = (name-token k, b, tt) in (
+      record { built = instance-built ((x, v) ∷ []) c (h .0 .built); small = omega arith },
       record { built = instance-built ((x, v) ∷ []) c (h .1 .built); small = omega arith },
-      bound-fit x v k b ps (h .2) (omega arith) )
+      bound-fit x v k b ps (h .2) (omega arith),
+    )
 
 pub step-fit : (l r : Tree) (ps : List Pair) → Fit l → Fit r → FitPairs ps → FitStep (step l r ps)
 step-fit l r ps p q h = go (step l r ps) (step-on ps h l r p q) (step-keep Built built-kept ps (pairs-sides ps h) l r (p .built) (q .built))

@@ -11,9 +11,10 @@ use native.Mathlib.Decide.{decLt}
 use Rattle.rules.specs.Bytes.{Text}
 use Rattle.rules.specs.Tree.{Tree, size, tamtplus}
 use Rattle.rules.specs.Sums.{summands, rebuild}
-use Rattle.rules.specs.Solving.{remove, cancel-at, cancel, remainder, cancel-sums}
+use Rattle.rules.specs.Solving.{cancel, remainder, cancel-sums}
 use Rattle.rules.specs.Solving as rules
 use Rattle.rules.specs.Memory.{kept-summands}
+use Rattle.laws.proofs.Solving.Weights.{cancel-mass-left}
 use Rattle.laws.proofs.Sheets.BuiltMatch.{mass, summands-mass, cancel-mass}
 use Rattle.tree.specs.Cells.{kind-of, nodes-of, name-at, tree-at}
 use Rattle.tree.specs.Arena.{Arena, Grown}
@@ -162,14 +163,6 @@ heavy-mass [] = refl
 heavy-mass (t ∷ ts) = omega (arith, heavy-mass ts)
 
 -- cancelling leaves no more on the left than was there
-cancel-mass-left : (test : Tree → Tree → Bool) (ts us : List Tree) → mass (cancel test ts us .0) ≤ mass ts
-unfolding cancel
-cancel-mass-left test [] us = omega arith
-cancel-mass-left test (t ∷ ts) us = go (remove test t us) (λ vs. cancel-mass-left test ts vs)
-  where
-    go : (o : Option (List Tree)) → ((vs : List Tree) → mass (cancel test ts vs .0) ≤ mass ts) → mass (cancel-at o t (λ vs. cancel test ts vs) us .0) ≤ mass (t ∷ ts)
-    go nothing r = let h = r us in omega arith
-    go (some vs) r = let h = r vs in omega arith
 
 abbrev two : List Tree → List Tree → List Tree × List Tree
 two ts us = (ts, us)
