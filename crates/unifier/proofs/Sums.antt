@@ -82,10 +82,12 @@ sum-cell s w l r e f g b = head-cell s w r b (same-of-eq (sym (same-eq (head (tr
 -- The step
 
 module _ (s : Text) (w v : List ℕ) (n l r stack : ℕ) where
+  -- what is left of the sums of cells l and r
   abbrev Found : Rest → Type 0
   Found x =
       RestIs s w v n (kept-summands equivalent (tree-at s w l) (tree-at s w r)) (cancel-sums true equivalent (tree-at s w l) (tree-at s w r)) x
 
+  -- the step at them
   abbrev Took : List ℕ → Taken → Type 0
   Took u t =
       Steps s w u n (load (tree-at s w l) (tree-at s w r) + weight (pairs-at s w stack))
