@@ -24,7 +24,6 @@ use Rattle.unifier.specs.Area.{Room}
 use Rattle.unifier.specs.Stack.{Whole, pairs-at, pushes}
 use Rattle.unifier.specs.Stepping.{GoesOn, Steps}
 use Rattle.unifier.specs.declared.elimination.Taken.{Taken}
-use Rattle.unifier.specs.declared.elimination.Taken.the-variants as taken
 use Rattle.unifier.proofs.Areas.{below-same, waits-made}
 use Rattle.unifier.proofs.Children.{flatten-pushes}
 use Rattle.unifier.proofs.Waiting.{waits-below, steps-more}
@@ -109,13 +108,13 @@ pub step-dropped : {s : Text} {w : List ℕ} {n k : ℕ} (h : ℕ) {d : Step} �
     → GoesOn s w w n (h + weight (pairs-at s w k)) d k n
 step-dropped {s} {w} {n} {k} h a q o e = record { pairs = pairs-at s w k; is = e; waits = waits-below a (below-same w n) k q o; used = omega arith }
 
--- a step that is another one, which weighs less
+-- a step that is another, at a larger weight
 pub steps-as : (s : Text) (w v : List ℕ) (n h : ℕ) {c d : Step} (r : Taken) → c ≡ d → Steps s w v n 0 d r → Steps s w v n h c r
 steps-as s w v n h r e x = subst (λ (z : Step). Steps s w v n h z r) (sym e) (steps-more s w v n h _ r x)
 
 -- Decomposing
 
--- the answer of a test that was not negated
+-- a test whose negation fails
 pub held : {a b : Bool} → a ≡ b → not a ≡ false → b ≡ true
 held {a} e f = sym e ∙ not-false a f
 

@@ -109,10 +109,12 @@ module _ {s : Text} {w v : List ℕ} {n p q m : ℕ} (every : Bool) (test : Tree
 -- The step
 
 module _ (s : Text) (w v : List ℕ) (n l r stack : ℕ) where
+  -- what is left of the sums of cells l and r
   abbrev Found : Rest → Type 0
   Found x =
       RestIs s w v n (kept-summands equivalent (tree-at s w l) (tree-at s w r)) (cancel-sums true equivalent (tree-at s w l) (tree-at s w r)) x
 
+  -- the step at them
   abbrev Took : List ℕ → Taken → Type 0
   Took u t =
       Steps s w u n (load (tree-at s w l) (tree-at s w r) + weight (pairs-at s w stack))
