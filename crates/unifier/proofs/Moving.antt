@@ -1,20 +1,18 @@
 -- What taking a pair of `match` leaves, arm by arm. Assumes nothing.
-use Prim.Native.Nat.{ℕ, _+_, _-_, _*_, _<_, _≤_, _^_}
-use mathlib.Core.Path.{_≡_, sym, ap, ap₂, _∙_}
+use Prim.Native.Nat.{ℕ, _+_, _-_, _*_, _<_, _≤_}
+use mathlib.Core.Path.{_≡_, refl, sym, ap, ap₂, _∙_}
 use mathlib.Core.Bool.{Bool, true, false}
-use mathlib.Core.List.{List, [], _∷_}
+use mathlib.Core.List.{List, _∷_}
 use mathlib.Core.Option.{Option, some, none as nothing}
-use lib.ListN.{length}
 use native.Mathlib.Omega.{arith}
 use Rattle.rules.specs.Bytes.{Text, same}
 use Rattle.rules.specs.Tree.{Tree, Trees, more, head, children, tamtplus}
 use Rattle.rules.specs.Substitution.{Binding, Pair}
 use Rattle.rules.specs.Sums.{equivalent}
 use Rattle.rules.specs.Sorts.{variable-sort, sorted}
-use Rattle.rules.specs.Solving.{Rest, cancel-sums, push-children}
+use Rattle.rules.specs.Solving.{Rest, goes-on, cancel-sums, push-children}
 use Rattle.rules.specs.Matching.{Move, onward, clash, bound, agree, bind-new, match-key, match-rest, ground-eq, match-at, match-roots, move}
 use Rattle.rules.specs.Memory.{load, weight, pushed, kept-summands}
-use Rattle.laws.proofs.Solving.Weights.{push-weight}
 use Rattle.tree.specs.Cells.{kind-of, name-at, tree-at, trees-at}
 use Rattle.tree.specs.Arena.{Cell, Arena}
 use Rattle.tree.proofs.Decoding.{Kind, application, a-variable, an-atom, kind, tree-variable, tree-atom, tree-apply, frame-trees}
@@ -24,14 +22,14 @@ use Rattle.substitution.specs.Bindings.{bindings-at, flatten-bindings, Chain}
 use Rattle.substitution.specs.Building.{Made}
 use Rattle.certificate.specs.Writer.{Kept}
 use Rattle.unifier.specs.Stack.{pairs-at, Whole, pushes, Fit}
-use Rattle.unifier.specs.Area.{Room, Below}
+use Rattle.unifier.specs.Area.{Below}
 use Rattle.unifier.specs.Resting.{Equates}
-use Rattle.unifier.specs.Stepping.{Waits}
+use Rattle.unifier.specs.Stepping.{Waits, GoesOn}
 use Rattle.unifier.specs.Matching.{Onwards}
-use Rattle.unifier.proofs.Areas.{below-grown, waits-made}
-use Rattle.unifier.proofs.Children.{flatten-pushes}
+use Rattle.unifier.proofs.Areas.{below-grown}
 use Rattle.unifier.proofs.Waiting.{stack-below, waits-below}
 use Rattle.unifier.proofs.Sums.{pair-waits, pair-used}
+use Rattle.unifier.proofs.Steps.{children-pushed}
 
 -- scratch from the free end on leaves the cells
 pub below-kept : {w v : List ℕ} {n at lim : ℕ} → Kept w v at lim → 4 * n ≤ at → Below w v n
@@ -55,11 +53,15 @@ module _ {s : Text} {w : List ℕ} {n : ℕ} (a : Arena s w n) (rest made : ℕ)
     used = used;
   }
 
+  pub onwards-goes : {v : List ℕ} {h m st : ℕ} {d : Move} {qs : List Pair} → d ≡ onward qs (bindings-at s w made) → GoesOn s w v n h (goes-on qs) st m → Onwards s w v n h d st made m
+  onwards-goes {qs = qs} e g =
+      let z : qs ≡ g .pairs = cc (g .is) in
+      onwards-pairs (e ∙ ap (λ (ps : List Pair). onward ps (bindings-at s w made)) z) (g .waits) (g .used)
+
   -- neither changes
   pub onwards-same : {v : List ℕ} {h : ℕ} {d : Move} → d ≡ onward (pairs-at s w rest) (bindings-at s w made) → Below w v n → weight (pairs-at s w rest) ≤ h + 2
       → Onwards s w v n h d rest made n
-  onwards-same e b p =
-      onwards-pairs e (waits-below a b rest q whole) (omega arith)
+  onwards-same e b p = onwards-pairs e (waits-below a b rest q whole) (omega arith)
 
   -- one binding more
   pub onwards-binding : {v : List ℕ} {h m b : ℕ} {d : Move} (key value : ℕ) → 0 < kind-of w key → kind-of w key < 7
@@ -125,30 +127,14 @@ onwards-sums {s} {w} l r rest made a i j k h g d =
     (pair-waits false ground-eq l r (h .2 .built) (h .3 .built) k g rest a i (h .0) (d .0) (d .1))
     (pair-used false ground-eq l r (h .2 .built) (h .3 .built) k g ps (d .1))
 
--- the children of cells l and r are the lists from cells i and j on
-module _ (s : Text) (w : List ℕ) (n l r i j : ℕ) (e : trees-at s w i ≡ children (tree-at s w l)) (f : trees-at s w j ≡ children (tree-at s w r))
-    (g : same (head (tree-at s w l)) (head (tree-at s w r)) ≡ true) where
-  children-paid : (ps : List Pair)
-      → 2 * pushed (trees-at s w i) (trees-at s w j) + weight (push-children (children (tree-at s w l)) (children (tree-at s w r)) ps) ≤ load (tree-at s w l) (tree-at s w r) + weight ps
-  unfolding weight
-  children-paid ps = rw (e, f) (push-weight (tree-at s w l) (tree-at s w r) ps g)
-
-  pub children-room : Room w (n + load (tree-at s w l) (tree-at s w r) + 2)
-      → (4 * (n + 2 * pushed (trees-at s w i) (trees-at s w j)) ≤ length w) × (n + 2 * pushed (trees-at s w i) (trees-at s w j) < 2 ^ 32)
-  unfolding weight
-  children-room h = let p = children-paid [] in (omega (arith, h .0), omega (arith, h .1))
-
-  pub onwards-children : {v : List ℕ} {m st : ℕ} (rest made : ℕ) → Arena s w n → made < n → rest < n → Whole (trees-at s w rest) → Chain (trees-at s w made) → same (head (tree-at s w l)) tamtplus ≡ false
-      → Made s w v n m st (pushes (trees-at s w i) (trees-at s w j) (trees-at s w rest)) × (m ≡ n + 2 * pushed (trees-at s w i) (trees-at s w j))
-      → Onwards s w v n (load (tree-at s w l) (tree-at s w r) + weight (pairs-at s w rest)) (match-roots (tree-at s w l) (tree-at s w r) (pairs-at s w rest) (bindings-at s w made)) st made m
-  onwards-children {v} {m} {st} rest made a q₁ q whole chain p d =
-      let ts = children (tree-at s w l) in
-      let us = children (tree-at s w r) in
-      let ps = pairs-at s w rest in
-      let k = ap₂ (λ (x y : Trees). pushes x y (trees-at s w rest)) e f ∙ ap (pushes ts us) (sym whole) ∙ sym (flatten-pushes ts us ps) in
-      let paid = children-paid ps in
-      let z = d .1 in
-      onwards-pairs a rest made q q₁ whole chain (roots-children (tree-at s w l) (tree-at s w r) ps (bindings-at s w made) g p) (waits-made (d .0) k) (omega arith)
+-- the children of cells l and r, which are the lists from cells x and y on
+pub onwards-children : {s : Text} {w v : List ℕ} {n m st : ℕ} (l r rest made x y : ℕ) → Arena s w n → rest < n → made < n → Whole (trees-at s w rest) → Chain (trees-at s w made)
+    → trees-at s w x ≡ children (tree-at s w l) → trees-at s w y ≡ children (tree-at s w r) → same (head (tree-at s w l)) (head (tree-at s w r)) ≡ true → same (head (tree-at s w l)) tamtplus ≡ false
+    → Made s w v n m st (pushes (trees-at s w x) (trees-at s w y) (trees-at s w rest)) × (m ≡ n + 2 * pushed (trees-at s w x) (trees-at s w y))
+    → Onwards s w v n (load (tree-at s w l) (tree-at s w r) + weight (pairs-at s w rest)) (match-roots (tree-at s w l) (tree-at s w r) (pairs-at s w rest) (bindings-at s w made)) st made m
+onwards-children {s} {w} l r rest made x y a i j whole chain e f g h d =
+    onwards-goes a rest made i j whole chain (roots-children (tree-at s w l) (tree-at s w r) (pairs-at s w rest) (bindings-at s w made) g h)
+    (children-pushed s w l r x y e f rest whole g refl (d .0) (d .1))
 
 -- A pair
 

@@ -1,13 +1,14 @@
 use mathlib.Core.Path.{sym, _∙_}
 use native.Mathlib.Omega.{arith}
-use borrow.Author.Tests.{not-true, not-false}
+use borrow.Author.Tests.{not-true}
 use Rattle.laws.proofs.Basics.Tests.{same-of-eq}
 use Rattle.tree.specs.Cells.{tree-at}
 use Rattle.substitution.specs.Bindings.{bindings-at}
 use Rattle.unifier.specs.Stack.{pairs-at}
 use Rattle.unifier.proofs.Areas.{below-same}
 use Rattle.unifier.proofs.Sums.{sum-told, no-sum-told, sum-cell, cell-head}
-use Rattle.unifier.proofs.Moving.{roots-differ, roots-sums, children-room, onwards-children}
+use Rattle.unifier.proofs.Steps.{held, children-room}
+use Rattle.unifier.proofs.Moving.{roots-differ, roots-sums, onwards-children}
 use borrow.Author.Needs.{needs}
 use Rattle.unifier.proofs.matching.match_roots.Statement.{statement}
 use Rattle.unifier.proofs.matching.match_roots.Tie as tie
@@ -31,7 +32,7 @@ match-sums-requires c κs =
     let w = a .work .now in
     let p = c .before .before .before .before .before .before .before .before .before .pre in
     let k = sum-told s w (a .left) (c .before .before .is-sum .ensures) (c .before .if2 .taken) in
-    let j = sum-cell s w (a .left) (a .right) (k .0) (k .1) (sym (c .before .before .before .before .before .same-head .ensures) ∙ not-false _ (c .before .before .before .before .if1 .left)) (p .1 .1 .0 .3 .built) in
+    let j = sum-cell s w (a .left) (a .right) (k .0) (k .1) (held (c .before .before .before .before .before .same-head .ensures) (c .before .before .before .before .if1 .left)) (p .1 .1 .0 .3 .built) in
     (p .0, (p .1 .0, ((k .0, k .1, j .0, j .1), (p .1 .1 .0, p .1 .1 .1))))
 
 same-length-2 : tie.Need-same-length-2
@@ -43,7 +44,7 @@ returns-2 c =
     let s = a .sheet .now in
     let w = a .work .now in
     let k = sum-told s w (a .left) (c .before .before .before .before .before .is-sum .ensures) (c .before .before .before .before .if2 .taken) in
-    rw (roots-sums (tree-at s w (a .left)) (tree-at s w (a .right)) (pairs-at s w (a .rest)) (bindings-at s w (a .made)) (sym (c .before .before .before .before .before .before .before .before .same-head .ensures) ∙ not-false _ (c .before .before .before .before .before .before .before .if1 .left)) (same-of-eq (cell-head s w (a .left) (k .0) (k .1)))) (c .before .before .match-sums .ensures)
+    rw (roots-sums (tree-at s w (a .left)) (tree-at s w (a .right)) (pairs-at s w (a .rest)) (bindings-at s w (a .made)) (held (c .before .before .before .before .before .before .before .before .same-head .ensures) (c .before .before .before .before .before .before .before .if1 .left)) (same-of-eq (cell-head s w (a .left) (k .0) (k .1)))) (c .before .before .match-sums .ensures)
 
 child-of-requires : tie.Need-child-of-requires
 child-of-requires c κs = search needs
@@ -57,8 +58,8 @@ push-children-requires c κs =
     let s = a .sheet .now in
     let w = a .work .now in
     let p = c .before .before .before .before .before .before .before .before .before .before .before .before .before .pre in
-    let g = sym (c .before .before .before .before .before .before .before .before .before .same-head .ensures) ∙ not-false _ (c .before .before .before .before .before .before .before .before .if1 .left) in
-    (p .0, ((omega (arith, p .1 .0 .1, c .before .before .before .child-of .ensures .0), omega (arith, p .1 .0 .3, c .before .child-of2 .ensures .0), p .1 .0 .4), children-room s w (a .free) (a .left) (a .right) _ _ (c .before .before .before .child-of .ensures .1 s) (c .before .child-of2 .ensures .1 s) g (p .1 .1 .1)))
+    let g = held (c .before .before .before .before .before .before .before .before .before .same-head .ensures) (c .before .before .before .before .before .before .before .before .if1 .left) in
+    (p .0, ((omega (arith, p .1 .0 .1, c .before .before .before .child-of .ensures .0), omega (arith, p .1 .0 .3, c .before .child-of2 .ensures .0), p .1 .0 .4), children-room s w (a .left) (a .right) _ _ (c .before .before .before .child-of .ensures .1 s) (c .before .child-of2 .ensures .1 s) (a .free) g (p .1 .1 .1)))
 
 same-length-3 : tie.Need-same-length-3
 same-length-3 c = search needs
@@ -69,9 +70,9 @@ returns-3 c =
     let s = a .sheet .now in
     let w = a .work .now in
     let p = c .before .before .before .before .before .before .before .before .before .before .before .before .before .before .before .before .pre in
-    let g = sym (c .before .before .before .before .before .before .before .before .before .before .before .before .same-head .ensures) ∙ not-false _ (c .before .before .before .before .before .before .before .before .before .before .before .if1 .left) in
+    let g = held (c .before .before .before .before .before .before .before .before .before .before .before .before .same-head .ensures) (c .before .before .before .before .before .before .before .before .before .before .before .if1 .left) in
     let k = no-sum-told s w (a .left) (p .1 .1 .0 .2 .built) (c .before .before .before .before .before .before .before .before .before .is-sum .ensures) (c .before .before .before .before .before .before .before .before .if2 .left) in
-    onwards-children s w (a .free) (a .left) (a .right) _ _ (c .before .before .before .before .before .before .child-of .ensures .1 s) (c .before .before .before .before .child-of2 .ensures .1 s) g (a .rest) (a .made) (p .0) (p .1 .0 .5) (p .1 .0 .4) (p .1 .1 .0 .0) (p .1 .1 .0 .1) k (c .before .before .push-children .ensures)
+    onwards-children (a .left) (a .right) (a .rest) (a .made) _ _ (p .0) (p .1 .0 .4) (p .1 .0 .5) (p .1 .1 .0 .0) (p .1 .1 .0 .1) (c .before .before .before .before .before .before .child-of .ensures .1 s) (c .before .before .before .before .child-of2 .ensures .1 s) g k (c .before .before .push-children .ensures)
 
 pub match-roots-spec : {M : Type 1} → statement M
 match-roots-spec =
