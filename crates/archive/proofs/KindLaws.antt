@@ -17,7 +17,7 @@ use Rattle.sheet.specs.declared.form.Form.{Form}
 use Rattle.sheet.specs.declared.form.Form.the-variants as form
 use Rattle.sheet.proofs.form.Form.{the-type}
 use Rattle.sheet.proofs.WordLaws.{words-same}
-use Rattle.sheet.proofs.WalkLaws.{unify-pairs, match-pairs, cover-parts, sound-member, complete-members}
+use Rattle.sheet.proofs.WalkLaws.{cover-parts, sound-member, complete-members}
 use Rattle.archive.specs.Clearing.{zeroed}
 use Rattle.archive.specs.Settling.{settles, settled-number, settled-count, Settles}
 use Rattle.archive.specs.Admission.{refusal-code, Stands}
@@ -49,18 +49,18 @@ unfolding form-words
 least-words s f h = omega arith
 
 -- the kinds that are not answered yet
-not-now : (s : Text) (f : Form) (sheet : Sheet) → OneOf (1 ∷ 2 ∷ 4 ∷ 5 ∷ 6 ∷ 7 ∷ []) (tagOf the-type f) → sheet-of s f ≡ some sheet → answer-now sheet ≡ none
+not-now : (s : Text) (f : Form) (sheet : Sheet) → OneOf (4 ∷ 5 ∷ 6 ∷ 7 ∷ []) (tagOf the-type f) → sheet-of s f ≡ some sheet → answer-now sheet ≡ none
 unfolding sheet-of answer-now
-not-now s (form.Equal l r) sheet h e = absurd (miss (1 ∷ 2 ∷ 4 ∷ 5 ∷ 6 ∷ 7 ∷ []) 0 tt h)
-not-now s (form.Unify fuel c) sheet h e = ap answer-now (unify-pairs s fuel c sheet e .1)
-not-now s (form.Match fuel c) sheet h e = ap answer-now (match-pairs s fuel c sheet e .1)
-not-now s (form.Reduce t) sheet h e = absurd (miss (1 ∷ 2 ∷ 4 ∷ 5 ∷ 6 ∷ 7 ∷ []) 3 tt h)
+not-now s (form.Equal l r) sheet h e = absurd (miss (4 ∷ 5 ∷ 6 ∷ 7 ∷ []) 0 tt h)
+not-now s (form.Unify fuel c) sheet h e = absurd (miss (4 ∷ 5 ∷ 6 ∷ 7 ∷ []) 1 tt h)
+not-now s (form.Match fuel c) sheet h e = absurd (miss (4 ∷ 5 ∷ 6 ∷ 7 ∷ []) 2 tt h)
+not-now s (form.Reduce t) sheet h e = absurd (miss (4 ∷ 5 ∷ 6 ∷ 7 ∷ []) 3 tt h)
 not-now s (form.Cover c d) sheet h e = ap answer-now (cover-parts s c d sheet e .3)
 not-now s (form.Sound t c) sheet h e = ap answer-now (sound-member s t c sheet e .1)
 not-now s (form.Complete t c) sheet h e = ap answer-now (complete-members s t c sheet e .1)
 not-now s form.Three sheet h e = let z : _≡_ {A = ℕ} 0 1 = cc in absurd (omega arith)
 
-pub other-settled : (s : Text) (f : Form) (out : Text) → OneOf (1 ∷ 2 ∷ 4 ∷ 5 ∷ 6 ∷ 7 ∷ []) (tagOf the-type f) → SettlesForm (sheet-of s f) out out Unreadable
+pub other-settled : (s : Text) (f : Form) (out : Text) → OneOf (4 ∷ 5 ∷ 6 ∷ 7 ∷ []) (tagOf the-type f) → SettlesForm (sheet-of s f) out out Unreadable
 other-settled s f out h sheet e = settles-as (not-now s f sheet h e) (unreadable-settles out)
 
 -- the whole call, by what was admitted and settled

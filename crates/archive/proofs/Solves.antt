@@ -15,7 +15,7 @@ use Rattle.rules.specs.Solving.{Answer}
 use Rattle.rules.specs.Sheet.{Sheet, Entry, asks-unify, asks-match, read-sheet}
 use Rattle.rules.specs.Answer.{read-pairs, verdict-lines, answer-of}
 use Rattle.rules.specs.Memory.{weight, sheet-pairs}
-use Rattle.sheet.specs.Form.{sheet-of, form-words}
+use Rattle.sheet.specs.Form.{sheet-of, Within}
 use Rattle.sheet.specs.declared.Cursor.{Cursor}
 use Rattle.sheet.specs.declared.form.Form.{Form}
 use Rattle.sheet.specs.declared.form.Form.the-variants as form
@@ -52,13 +52,13 @@ pairs-asked false fuel es = refl
 pub unify-asked : (s : Text) (fuel : ℕ) (c : Cursor) → (f : Form) → f ≡ form.Unify fuel c → Decoded s f → Asked s false fuel (c .at)
 unify-asked s fuel c f e d =
     let h = unify-pairs s fuel c (d .sheet) (ap (sheet-of s) (sym e) ∙ d .decodes) in
-    let w = subst (λ (g : Form). Within s g) e (d .within) in
+    let w = subst (Within s) e (d .within) in
     record { entries = h .0; lines = h .2; reads = d .reads ∙ ap some (h .1); short = d .short; fuelled = w .0; inside = w .1 }
 
 pub match-asked : (s : Text) (fuel : ℕ) (c : Cursor) → (f : Form) → f ≡ form.Match fuel c → Decoded s f → Asked s true fuel (c .at)
 match-asked s fuel c f e d =
     let h = match-pairs s fuel c (d .sheet) (ap (sheet-of s) (sym e) ∙ d .decodes) in
-    let w = subst (λ (g : Form). Within s g) e (d .within) in
+    let w = subst (Within s) e (d .within) in
     record { entries = h .0; lines = h .2; reads = d .reads ∙ ap some (h .1); short = d .short; fuelled = w .0; inside = w .1 }
 
 -- a sheet that was read is settled as the form that stands for it
@@ -97,9 +97,9 @@ module _ (s : Text) (b : Bool) (fuel at : ℕ) (a : Asked s b fuel at) where
         })
 
     -- the answer, from what the run gave
-    pub solved-settled : {u out after : Text} {x : Settled} (y : Outcome) → Answers s v u m (solve-by b fuel (pairs-at s v i)) y → Settles (some (verdict-lines (told s u y))) out after x
+    pub solved-settled : (u : List ℕ) {out after : Text} {x : Settled} (y : Outcome) → Answers s v u m (solve-by b fuel (pairs-at s v i)) y → Settles (some (verdict-lines (told s u y))) out after x
         → SettlesForm (read-sheet s) out after x
-    solved-settled {u} {out} {after} {x} y h k =
+    solved-settled u {out} {after} {x} y h k =
         asked-settled (some (verdict-lines (told s u y)))
         (solving-answer b fuel (a .entries) ∙ ap (λ (o : Option (List Pair)). o >>= λ ps. some (verdict-lines (solve-by b fuel ps))) (r .read)
         ∙ ap (λ (ps : List Pair). some (verdict-lines (solve-by b fuel ps))) (sym read-are) ∙ ap (λ (z : Answer). some (verdict-lines z)) (is-told y h))
@@ -110,10 +110,10 @@ module _ (s : Text) (b : Bool) (fuel at : ℕ) (a : Asked s b fuel at) where
         is-told (outcome.Failed k) g = g .0
         is-told (outcome.Unsupported k) g = g .0
 
-pub answers-listed : (s : Text) {w v : List ℕ} {n : ℕ} {a : Answer} (y : Outcome) → Answers s w v n a y → Listed s v y
-answers-listed s (outcome.Solved j n k) g = (g .1 .arena, g .1 .inside, g .1 .chain)
-answers-listed s (outcome.Failed k) g = tt
-answers-listed s (outcome.Unsupported k) g = tt
+pub answers-listed : (s : Text) (w v : List ℕ) (n : ℕ) (a : Answer) (y : Outcome) → Answers s w v n a y → Listed s v y
+answers-listed s w v n a (outcome.Solved j m k) g = (g .1 .arena, g .1 .inside, g .1 .chain)
+answers-listed s w v n a (outcome.Failed k) g = tt
+answers-listed s w v n a (outcome.Unsupported k) g = tt
 
 -- room for `match` is less than for `unify`
 pub match-room : {w : List ℕ} {n fuel : ℕ} {ps : List Pair} → Roomy w n fuel ps → Room w (n + weight ps + 2 * fuel)

@@ -1,0 +1,36 @@
+use borrow.Author.Needs.{needs}
+use Rattle.archive.proofs.kinds.solve.Statement.{statement}
+use Rattle.archive.proofs.kinds.solve.Tie as tie
+use Rattle.archive.proofs.kinds.solve.Reads as reads
+use Rattle.archive.proofs.kinds.solve.Lts as lts
+use Rattle.unifier.proofs.matching.matcher.Reads as matcher-reads
+use Rattle.unifier.proofs.unifying.unify.Reads as unify-reads
+
+-- src/kinds.rt:83:9
+matcher-requires : tie.Need-matcher-requires
+matcher-requires c κs = ?
+
+-- src/kinds.rt:83:9
+same-length : tie.Need-same-length
+same-length c = search needs
+
+-- src/kinds.rt:83:9
+returns : tie.Need-returns
+returns c = search needs
+
+-- src/kinds.rt:85:5
+unify-requires : tie.Need-unify-requires
+unify-requires c κs = ?
+
+-- src/kinds.rt:74:1
+same-length-2 : tie.Need-same-length-2
+same-length-2 c = search needs
+
+-- src/kinds.rt:74:1
+returns-2 : tie.Need-returns-2
+returns-2 c = search needs
+
+pub solve-spec : {M : Type 1} → statement M
+solve-spec =
+    tie.close
+    (tie.spec matcher-requires same-length returns unify-requires same-length-2 returns-2)
