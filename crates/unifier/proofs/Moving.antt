@@ -53,6 +53,7 @@ module _ {s : Text} {w : List ℕ} {n : ℕ} (a : Arena s w n) (rest made : ℕ)
     used = used;
   }
 
+  -- as after a step of unify
   pub onwards-goes : {v : List ℕ} {h m st : ℕ} {d : Move} {qs : List Pair} → d ≡ onward qs (bindings-at s w made) → GoesOn s w v n h (goes-on qs) st m → Onwards s w v n h d st made m
   onwards-goes {qs = qs} e g =
       let z : qs ≡ g .pairs = cc (g .is) in
@@ -84,11 +85,12 @@ module _ {s : Text} {w : List ℕ} {n : ℕ} (a : Arena s w n) (rest made : ℕ)
 
 -- A pattern variable
 
+-- one that is bound
 module _ {o : Option Tree} {t : Tree} (x : Text) (u : Tree) (ps : List Pair) (bs : List Binding) (e : o ≡ some t) {b : Bool} (f : b ≡ equivalent t u) where
   pub bound-agrees : match-key o x u ps bs ≡ agree b ps bs
   bound-agrees = rw (e, f)
 
--- of cell key, with its kind r as the code holds it
+-- that of cell key, not bound yet, with its kind r as the code holds it
 module _ {o : Option Tree} (s : Text) (w : List ℕ) (key : ℕ) (u : Tree) (ps : List Pair) (bs : List Binding) (none-yet : o ≡ nothing) (k₀ : 0 < kind-of w key) (k₁ : kind-of w key < 7)
     (h : Cell s w key) {r : ℕ} (e : r ≡ kind-of w key) where
   pub new-sortless : r ≡ 6 → match-key o (name-at s w key) u ps bs ≡ clash
