@@ -8,6 +8,7 @@ use native.Mathlib.Omega.{arith}
 use denote.Enum.Declared.{tagOf}
 use types.Run.{OneOf, miss}
 use Rattle.rules.specs.Bytes.{Text}
+use Rattle.rules.specs.Text.{count-of}
 use Rattle.rules.specs.Sheet.{Sheet, asks-equal, asks-reduce}
 use Rattle.rules.specs.Answer.{answer-of}
 use Rattle.rules.specs.Call.{Reply, refused, admitted, refusal-number, written, overwritten, cleared, work-after}
@@ -43,10 +44,14 @@ reduce-settled s t f {out} {v} {x} e h sheet g =
     let z : asks-reduce (text-of s t) ≡ sheet = cc (ap (sheet-of s) e) in
     subst (λ (t : Sheet). Settles (answer-now t) out v x) z h
 
--- every kind has the words of what is read and of one step
+-- every kind has the words of what is read and of one step, and those of its colons
 pub least-words : (s : Text) (f : Form) {n : ℕ} → form-words s f ≤ n → 1048576 + 16 * length s ≤ n
 unfolding form-words
 least-words s f h = omega arith
+
+pub colon-words : (s : Text) (f : Form) {n : ℕ} → form-words s f ≤ n → 65536 * (count-of 58 s + 16) + 16 * length s ≤ n
+unfolding form-words
+colon-words s f h = omega arith
 
 -- the kinds that are not answered yet
 not-now : (s : Text) (f : Form) (sheet : Sheet) → OneOf (4 ∷ 5 ∷ 6 ∷ 7 ∷ []) (tagOf the-type f) → sheet-of s f ≡ some sheet → answer-now sheet ≡ none

@@ -2,7 +2,7 @@
 pub mod admission; // admission.rt: refusals 1, 2, 3, 11
 pub mod answers; // answers.rt: answers written where they fit
 pub mod clearing; // clearing.rt: the work area set to zero
-pub mod kinds; // kinds.rt: one function for each kind
+mod kinds; // kinds.rt: one function for each kind
 pub mod pairs; // pairs.rt: the pairs of a sheet as trees
 pub mod verdicts; // verdicts.rt: the answers of unify and match
 
