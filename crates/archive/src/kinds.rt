@@ -78,7 +78,12 @@ fn solve(
     stack: usize,
     fuel: usize,
     matching: bool,
-) -> Outcome {
+) -> Outcome
+    requires { ⌜ Arena (now sheet) (now work) free ⌝ }
+    requires { ⌜ (stack < free) × (fuel ≤ 65536) × Whole (trees-at (now sheet) (now work) stack) × FitPairs (pairs-at (now sheet) (now work) stack) ⌝ }
+    requires { ⌜ Roomy (now work) free fuel (pairs-at (now sheet) (now work) stack) ⌝ }
+    ensures { λ r. ⌜ Solves (now (sheet .entry)) (now (work .entry)) (now (work .exit)) free (solve-by matching fuel (pairs-at (now (sheet .entry)) (now (work .entry)) stack)) r ⌝ }
+{
     if matching {
         return matcher(sheet, work, free, stack, fuel);
     }
@@ -86,7 +91,10 @@ fn solve(
 }
 
 // Writes an answer of `unify` or `match`.
-fn give_outcome(sheet: &[u8], work: &[u32], output: &mut [u8], outcome: Outcome) -> Settled {
+fn give_outcome(sheet: &[u8], work: &[u32], output: &mut [u8], outcome: Outcome) -> Settled
+    requires { ⌜ Listed (now sheet) (now work) outcome ⌝ }
+    ensures { λ r. ⌜ Settles (some (verdict-lines (told (now (sheet .entry)) (now (work .entry)) outcome))) (now (output .entry)) (now (output .exit)) r ⌝ }
+{
     match outcome {
         Outcome::Solved {
             bindings,
@@ -106,7 +114,11 @@ fn solving(
     fuel: usize,
     pairs: Cursor,
     matching: bool,
-) -> Settled {
+) -> Settled
+    requires { ⌜ Asked (now sheet) matching fuel (pairs .at) ⌝ }
+    requires { ⌜ 65536 * (count-of 58 (now sheet) + 16) + 16 * length (now sheet) ≤ length (now work) ⌝ }
+    ensures { λ r. ⌜ SettlesForm (read-sheet (now (sheet .entry))) (now (output .entry)) (now (output .exit)) r ⌝ }
+{
     let read = read_pairs(sheet, work, pairs);
     let Pairs::Stack { index, free } = read else {
         return Settled::Unreadable;

@@ -1,3 +1,5 @@
+use mathlib.Core.Path.{subst}
+use Rattle.archive.specs.Outcomes.{Listed}
 use borrow.Author.Needs.{needs}
 use Rattle.archive.proofs.kinds.give_outcome.Statement.{statement}
 use Rattle.archive.proofs.kinds.give_outcome.Tie as tie
@@ -13,7 +15,9 @@ enum-known-outcome c = search needs
 
 -- src/kinds.rt:95:14
 give-solved-requires : tie.Need-give-solved-requires
-give-solved-requires c κs = ?
+give-solved-requires c κs =
+    let h = subst (Listed (c .before .before .before .before .before .before .before .args .sheet .now) (c .before .before .before .before .before .before .before .args .work .now)) (c .before .before .outcome .given .1) c .before .before .before .before .before .before .before .pre in
+    (h .0, (h .1, h .2))
 
 -- src/kinds.rt:96:27
 enum-known-outcome-2 : tie.Need-enum-known-outcome-2

@@ -1,3 +1,4 @@
+use Rattle.archive.proofs.Solves.{match-room}
 use borrow.Author.Needs.{needs}
 use Rattle.archive.proofs.kinds.solve.Statement.{statement}
 use Rattle.archive.proofs.kinds.solve.Tie as tie
@@ -8,7 +9,7 @@ use Rattle.unifier.proofs.unifying.unify.Reads as unify-reads
 
 -- src/kinds.rt:83:9
 matcher-requires : tie.Need-matcher-requires
-matcher-requires c κs = ?
+matcher-requires c κs = (c .before .before .before .before .pre .0, (c .before .before .before .before .pre .1 .0, match-room (c .before .before .before .before .pre .1 .1)))
 
 -- src/kinds.rt:83:9
 same-length : tie.Need-same-length
@@ -20,7 +21,7 @@ returns c = search needs
 
 -- src/kinds.rt:85:5
 unify-requires : tie.Need-unify-requires
-unify-requires c κs = ?
+unify-requires c κs = c .before .before .before .before .pre
 
 -- src/kinds.rt:74:1
 same-length-2 : tie.Need-same-length-2
