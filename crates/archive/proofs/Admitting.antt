@@ -71,11 +71,8 @@ module _ (s : Text) (words : ℕ) (fine : Fine s) (f : Form) (r : ReadsAs s (rea
       let (sheet, p) = form-read s f r h in
       let q = words-same s f sheet (r .decodes ∙ p) in
       record {
-        sheet = sheet;
+        decoded = record { sheet = sheet; reads = p; decodes = r .decodes ∙ p; within = r .within; short = fine .short };
         passes = passes s words fine sheet p (omega arith);
-        decodes = r .decodes ∙ p;
-        within = r .within;
-        short = fine .short;
         need = e ∙ q;
         enough = g;
       }

@@ -54,9 +54,14 @@ settles-as {out = out} {v = v} {r = r} e h = subst (λ (z : Option Text). Settle
 pub line-length : (key v : Text) → length (line key v) ≡ length key + length v + 1
 line-length key v = simp length-append
 
+pub line-printed : {out a b c : Text} {at i j n : ℕ} (key v : Text) → at + (length key + length v + 1) ≤ length out → Printed out a at key i → Printed a b i v j → Printed b c j (10 ∷ []) n
+    → Printed out c at (line key v) n
+line-printed key v h p q r =
+    let f = length-append key v in
+    printed-then (omega arith) (printed-then (omega arith) p q) r
+
 pub line-settles : (key v out a b c : Text) {i j n : ℕ} → length key + length v + 1 ≤ length out → Printed out a 0 key i → Printed a b i v j → Printed b c j (10 ∷ []) n
     → Settles (some (line key v)) out c (Written n)
 line-settles key v out a b c {n = n} h p q r =
     let e = line-length key v in
-    let f = length-append key v in
-    written-settles (line key v) out c n (omega arith) (printed-then (omega arith) (printed-then (omega arith) p q) r)
+    written-settles (line key v) out c n (omega arith) (line-printed key v (omega arith) p q r)

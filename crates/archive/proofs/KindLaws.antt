@@ -8,15 +8,17 @@ use native.Mathlib.Omega.{arith}
 use denote.Enum.Declared.{tagOf}
 use types.Run.{OneOf, miss}
 use Rattle.rules.specs.Bytes.{Text}
-use Rattle.rules.specs.Sheet.{Sheet, asks-equal, asks-reduce, words-needed}
+use Rattle.rules.specs.Text.{count-of}
+use Rattle.rules.specs.Sheet.{Sheet, asks-equal, asks-reduce}
 use Rattle.rules.specs.Answer.{answer-of}
 use Rattle.rules.specs.Call.{Reply, refused, admitted, refusal-number, written, overwritten, cleared, work-after}
-use Rattle.sheet.specs.Form.{text-of, sheet-of}
+use Rattle.sheet.specs.Form.{text-of, sheet-of, form-words}
 use Rattle.sheet.specs.declared.Place.{Place}
 use Rattle.sheet.specs.declared.form.Form.{Form}
 use Rattle.sheet.specs.declared.form.Form.the-variants as form
 use Rattle.sheet.proofs.form.Form.{the-type}
-use Rattle.sheet.proofs.WalkLaws.{unify-pairs, match-pairs, cover-parts, sound-member, complete-members}
+use Rattle.sheet.proofs.WordLaws.{words-same}
+use Rattle.sheet.proofs.WalkLaws.{cover-parts, sound-member, complete-members}
 use Rattle.archive.specs.Clearing.{zeroed}
 use Rattle.archive.specs.Settling.{settles, settled-number, settled-count, Settles}
 use Rattle.archive.specs.Admission.{refusal-code, Stands}
@@ -42,19 +44,28 @@ reduce-settled s t f {out} {v} {x} e h sheet g =
     let z : asks-reduce (text-of s t) ≡ sheet = cc (ap (sheet-of s) e) in
     subst (λ (t : Sheet). Settles (answer-now t) out v x) z h
 
+-- every kind has the words of what is read and of one step, and those of its colons
+pub least-words : (s : Text) (f : Form) {n : ℕ} → form-words s f ≤ n → 1048576 + 16 * length s ≤ n
+unfolding form-words
+least-words s f h = omega arith
+
+pub colon-words : (s : Text) (f : Form) {n : ℕ} → form-words s f ≤ n → 65536 * (count-of 58 s + 16) + 16 * length s ≤ n
+unfolding form-words
+colon-words s f h = omega arith
+
 -- the kinds that are not answered yet
-not-now : (s : Text) (f : Form) (sheet : Sheet) → OneOf (1 ∷ 2 ∷ 4 ∷ 5 ∷ 6 ∷ 7 ∷ []) (tagOf the-type f) → sheet-of s f ≡ some sheet → answer-now sheet ≡ none
+not-now : (s : Text) (f : Form) (sheet : Sheet) → OneOf (4 ∷ 5 ∷ 6 ∷ 7 ∷ []) (tagOf the-type f) → sheet-of s f ≡ some sheet → answer-now sheet ≡ none
 unfolding sheet-of answer-now
-not-now s (form.Equal l r) sheet h e = absurd (miss (1 ∷ 2 ∷ 4 ∷ 5 ∷ 6 ∷ 7 ∷ []) 0 tt h)
-not-now s (form.Unify fuel c) sheet h e = ap answer-now (unify-pairs s fuel c sheet e .1)
-not-now s (form.Match fuel c) sheet h e = ap answer-now (match-pairs s fuel c sheet e .1)
-not-now s (form.Reduce t) sheet h e = absurd (miss (1 ∷ 2 ∷ 4 ∷ 5 ∷ 6 ∷ 7 ∷ []) 3 tt h)
+not-now s (form.Equal l r) sheet h e = absurd (miss (4 ∷ 5 ∷ 6 ∷ 7 ∷ []) 0 tt h)
+not-now s (form.Unify fuel c) sheet h e = absurd (miss (4 ∷ 5 ∷ 6 ∷ 7 ∷ []) 1 tt h)
+not-now s (form.Match fuel c) sheet h e = absurd (miss (4 ∷ 5 ∷ 6 ∷ 7 ∷ []) 2 tt h)
+not-now s (form.Reduce t) sheet h e = absurd (miss (4 ∷ 5 ∷ 6 ∷ 7 ∷ []) 3 tt h)
 not-now s (form.Cover c d) sheet h e = ap answer-now (cover-parts s c d sheet e .3)
 not-now s (form.Sound t c) sheet h e = ap answer-now (sound-member s t c sheet e .1)
 not-now s (form.Complete t c) sheet h e = ap answer-now (complete-members s t c sheet e .1)
 not-now s form.Three sheet h e = let z : _≡_ {A = ℕ} 0 1 = cc in absurd (omega arith)
 
-pub other-settled : (s : Text) (f : Form) (out : Text) → OneOf (1 ∷ 2 ∷ 4 ∷ 5 ∷ 6 ∷ 7 ∷ []) (tagOf the-type f) → SettlesForm (sheet-of s f) out out Unreadable
+pub other-settled : (s : Text) (f : Form) (out : Text) → OneOf (4 ∷ 5 ∷ 6 ∷ 7 ∷ []) (tagOf the-type f) → SettlesForm (sheet-of s f) out out Unreadable
 other-settled s f out h sheet e = settles-as (not-now s f sheet h e) (unreadable-settles out)
 
 -- the whole call, by what was admitted and settled
@@ -71,16 +82,15 @@ module _ (s : Text) (w : List ℕ) (out : Text) where
       }
 
   module _ (f : Form) (needed : ℕ) (a : Stands s (length w) f needed) where
-    pub roomy : 1048576 + 16 * length s ≤ needed
-    unfolding words-needed
-    roomy = omega (arith, a .need)
+    pub enough-words : form-words s f ≤ needed
+    enough-words = omega (arith, a .need, words-same s f (a .decoded .sheet) (a .decoded .decodes))
 
     pub settled-answers : (v : List ℕ) (after : Text) (x : Settled) (r : code.Reply) → SettlesForm (sheet-of s f) out after x → v ≡ zeroed needed w
         → (reply-number r ≡ settled-number x) × (reply-count r ≡ settled-count x) → Answers s w v out after r
     unfolding call-now work-after
     settled-answers v after x r h z q =
-        let k = h (a .sheet) (a .decodes) in
-        let g : call-now s (length w) (length out) ≡ settles (answer-now (a .sheet)) (length out) = rw (a .passes) in
+        let k = h (a .decoded .sheet) (a .decoded .decodes) in
+        let g : call-now s (length w) (length out) ≡ settles (answer-now (a .decoded .sheet)) (length out) = rw (a .passes) in
         record {
           number = q .0 ∙ k .number ∙ sym (ap refusal-number g);
           written-is = q .1 ∙ k .count ∙ sym (ap written g);

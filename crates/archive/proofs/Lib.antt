@@ -4,4 +4,9 @@ pub mod Screening
 pub mod Admitting
 pub mod Equals
 pub mod Reduces
+pub mod PairReading
+pub mod Reversing
+pub mod RunRooms
+pub mod Solves
 pub mod KindLaws
+pub mod VerdictLines

@@ -5,7 +5,7 @@ use mathlib.Core.Bool.{true}
 use mathlib.Core.Option.{some}
 use lib.ListN.{length}
 use Rattle.rules.specs.Bytes.{Text}
-use Rattle.rules.specs.Sheet.{Sheet, words-needed}
+use Rattle.rules.specs.Sheet.{Sheet, read-sheet, words-needed}
 use Rattle.rules.specs.Names.{all}
 use Rattle.rules.specs.Call.{refused, passed, plain, admitted}
 use Rattle.sheet.specs.Form.{sheet-of, Within}
@@ -28,14 +28,19 @@ pub record Fine (s : Text) : Type 0 where
   pub short : length s ≤ 65536
   pub plain-bytes : all plain s ≡ true
 
--- the form stands for the sheet that is admitted, and needs that many words
-pub record Stands (s : Text) (words : ℕ) (f : Form) (needed : ℕ) : Type 0 where
+-- the form stands for the sheet that was read
+pub record Decoded (s : Text) (f : Form) : Type 0 where
   pub sheet : Sheet
-  pub passes : admitted s words ≡ passed sheet
+  pub reads : read-sheet s ≡ some sheet
   pub decodes : sheet-of s f ≡ some sheet
   pub within : Within s f
   pub short : length s ≤ 65536
-  pub need : needed ≡ words-needed s sheet
+
+-- the form stands for the sheet that is admitted, and needs that many words
+pub record Stands (s : Text) (words : ℕ) (f : Form) (needed : ℕ) : Type 0 where
+  pub decoded : Decoded s f
+  pub passes : admitted s words ≡ passed (decoded .sheet)
+  pub need : needed ≡ words-needed s (decoded .sheet)
   pub enough : needed ≤ words
 
 abbrev pub Admits : Text → ℕ → code.Admitted → Type 0

@@ -18,8 +18,8 @@ use Rattle.archive.specs.declared.Reply.the-variants as reply
 unfoldable pub answer-now : Sheet → Option Text
 unfolding answer-of
 answer-now (asks-equal l r) = answer-of (asks-equal l r)
-answer-now (asks-unify fuel ps) = none
-answer-now (asks-match fuel ps) = none
+answer-now (asks-unify fuel ps) = answer-of (asks-unify fuel ps)
+answer-now (asks-match fuel ps) = answer-of (asks-match fuel ps)
 answer-now (asks-reduce t) = answer-of (asks-reduce t)
 answer-now (asks-cover ps ms) = none
 answer-now (asks-sound t m) = none

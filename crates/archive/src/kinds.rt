@@ -2,20 +2,37 @@
 use crate::answers::Settled;
 use crate::answers::give;
 use crate::answers::give_term;
+use crate::pairs::Pairs;
+use crate::pairs::read_pairs;
+use crate::verdicts::give_failed;
+use crate::verdicts::give_solved;
+use crate::verdicts::give_unsupported;
 use certificate::Equivalence;
 use certificate::equivalent_texts;
 use reading::Parsed;
 use reading::parse;
 use reduction::normalizing::normalize;
+use sheet::Cursor;
 use sheet::Place;
 use sheet::form::Form;
+use unifier::matching::matcher;
+use unifier::unifying::Outcome;
+use unifier::unifying::unify;
+ghost use mathlib.Core.Option.{some};
 ghost use Prim.Native.Nat.{_+_, _*_, _<_, _≤_};
 ghost use lib.ListN.{length};
-ghost use Rattle.rules.specs.Answer.{answer-of};
-ghost use Rattle.rules.specs.Sheet.{asks-equal, asks-reduce};
-ghost use Rattle.sheet.specs.Form.{text-of, Inside, Within, sheet-of};
+ghost use Rattle.rules.specs.Text.{count-of};
+ghost use Rattle.rules.specs.Answer.{verdict-lines, answer-of};
+ghost use Rattle.rules.specs.Sheet.{asks-equal, asks-reduce, read-sheet};
+ghost use Rattle.tree.specs.Cells.{trees-at};
+ghost use Rattle.tree.specs.Arena.{Arena};
+ghost use Rattle.sheet.specs.Form.{text-of, Inside, sheet-of, form-words};
+ghost use Rattle.archive.specs.Admission.{Decoded};
+ghost use Rattle.unifier.specs.Stack.{Whole, pairs-at, FitPairs};
+ghost use Rattle.unifier.specs.Running.{Roomy, Answers as Solves};
 ghost use Rattle.archive.specs.Settling.{Settles};
-ghost use Rattle.archive.specs.Answering.{answer-now, SettlesForm};
+ghost use Rattle.archive.specs.Answering.{SettlesForm};
+ghost use Rattle.archive.specs.Outcomes.{solve-by, Asked, told, Listed};
 
 // Kind `equal`.
 fn equal(sheet: &[u8], work: &mut [u32], output: &mut [u8], left: Place, right: Place) -> Settled
@@ -53,15 +70,74 @@ fn reduce(sheet: &[u8], work: &mut [u32], output: &mut [u8], term: Place) -> Set
     give_term(sheet, work, end, i, output, b"normal=")
 }
 
+// The answer of `match`, or of `unify`, to the pairs from cell stack on.
+fn solve(
+    sheet: &[u8],
+    work: &mut [u32],
+    free: usize,
+    stack: usize,
+    fuel: usize,
+    matching: bool,
+) -> Outcome
+    requires { ⌜ Arena (now sheet) (now work) free ⌝ }
+    requires { ⌜ (stack < free) × (fuel ≤ 65536) × Whole (trees-at (now sheet) (now work) stack) × FitPairs (pairs-at (now sheet) (now work) stack) ⌝ }
+    requires { ⌜ Roomy (now work) free fuel (pairs-at (now sheet) (now work) stack) ⌝ }
+    ensures { λ r. ⌜ Solves (now (sheet .entry)) (now (work .entry)) (now (work .exit)) free (solve-by matching fuel (pairs-at (now (sheet .entry)) (now (work .entry)) stack)) r ⌝ }
+{
+    if matching {
+        return matcher(sheet, work, free, stack, fuel);
+    }
+    unify(sheet, work, free, stack, fuel)
+}
+
+// Writes an answer of `unify` or `match`.
+fn give_outcome(sheet: &[u8], work: &[u32], output: &mut [u8], outcome: Outcome) -> Settled
+    requires { ⌜ Listed (now sheet) (now work) outcome ⌝ }
+    ensures { λ r. ⌜ Settles (some (verdict-lines (told (now (sheet .entry)) (now (work .entry)) outcome))) (now (output .entry)) (now (output .exit)) r ⌝ }
+{
+    match outcome {
+        Outcome::Solved {
+            bindings,
+            free,
+            spent,
+        } => give_solved(sheet, work, free, bindings, spent, output),
+        Outcome::Failed { spent } => give_failed(output, spent),
+        Outcome::Unsupported { spent } => give_unsupported(output, spent),
+    }
+}
+
+// Kinds `unify` and `match`.
+fn solving(
+    sheet: &[u8],
+    work: &mut [u32],
+    output: &mut [u8],
+    fuel: usize,
+    pairs: Cursor,
+    matching: bool,
+) -> Settled
+    requires { ⌜ Asked (now sheet) matching fuel (pairs .at) ⌝ }
+    requires { ⌜ 65536 * (count-of 58 (now sheet) + 16) + 16 * length (now sheet) ≤ length (now work) ⌝ }
+    ensures { λ r. ⌜ SettlesForm (read-sheet (now (sheet .entry))) (now (output .entry)) (now (output .exit)) r ⌝ }
+{
+    let read = read_pairs(sheet, work, pairs);
+    let Pairs::Stack { index, free } = read else {
+        return Settled::Unreadable;
+    };
+    let outcome = solve(sheet, work, free, index, fuel, matching);
+    give_outcome(sheet, work, output, outcome)
+}
+
 // A sheet that is admitted, by its kind.
 pub fn settle(sheet: &[u8], work: &mut [u32], output: &mut [u8], form: Form) -> Settled
-    requires { ⌜ (length (now sheet) ≤ 65536) × (1048576 + 16 * length (now sheet) ≤ length (now work)) ⌝ }
-    requires { ⌜ Within (now sheet) form ⌝ }
+    requires { ⌜ Decoded (now sheet) form ⌝ }
+    requires { ⌜ form-words (now sheet) form ≤ length (now work) ⌝ }
     ensures { λ r. ⌜ SettlesForm (sheet-of (now (sheet .entry)) form) (now (output .entry)) (now (output .exit)) r ⌝ }
 {
     match form {
         Form::Equal { left, right } => equal(sheet, work, output, left, right),
         Form::Reduce { term } => reduce(sheet, work, output, term),
+        Form::Unify { fuel, pairs } => solving(sheet, work, output, fuel, pairs, false),
+        Form::Match { fuel, pairs } => solving(sheet, work, output, fuel, pairs, true),
         _ => Settled::Unreadable,
     }
 }

@@ -2,7 +2,9 @@
 pub mod admission; // admission.rt: refusals 1, 2, 3, 11
 pub mod answers; // answers.rt: answers written where they fit
 pub mod clearing; // clearing.rt: the work area set to zero
-pub mod kinds; // kinds.rt: one function for each kind
+mod kinds; // kinds.rt: one function for each kind
+pub mod pairs; // pairs.rt: the pairs of a sheet as trees
+pub mod verdicts; // verdicts.rt: the answers of unify and match
 
 use admission::Admitted;
 use admission::Refusal;
@@ -12,13 +14,13 @@ use clearing::clear;
 use kinds::settle;
 use sheet::form::Form;
 ghost use mathlib.Core.Path.{_≡_};
-ghost use Prim.Native.Nat.{_+_, _*_, _≤_};
+ghost use Prim.Native.Nat.{_≤_};
 ghost use lib.ListN.{length};
-ghost use Rattle.sheet.specs.Form.{Within, sheet-of};
+ghost use Rattle.sheet.specs.Form.{sheet-of, form-words};
 ghost use Rattle.archive.specs.Settling.{settled-number, settled-count};
 ghost use Rattle.archive.specs.Clearing.{zeroed};
 ghost use Rattle.archive.specs.Answering.{SettlesForm, reply-number, reply-count, Answers, Calls};
-ghost use Rattle.archive.specs.Admission.{refusal-code};
+ghost use Rattle.archive.specs.Admission.{refusal-code, Decoded};
 
 // The count of bytes written, or a refusal.
 pub enum Reply {
@@ -34,8 +36,8 @@ fn settle_and_clear(
     form: Form,
     needed: usize,
 ) -> Settled
-    requires { ⌜ (length (now sheet) ≤ 65536) × (1048576 + 16 * length (now sheet) ≤ needed) × (needed ≤ length (now work)) ⌝ }
-    requires { ⌜ Within (now sheet) form ⌝ }
+    requires { ⌜ Decoded (now sheet) form ⌝ }
+    requires { ⌜ (form-words (now sheet) form ≤ needed) × (needed ≤ length (now work)) ⌝ }
     ensures { λ r. ⌜ SettlesForm (sheet-of (now (sheet .entry)) form) (now (output .entry)) (now (output .exit)) r ⌝ }
     ensures { λ _. ⌜ now (work .exit) ≡ zeroed needed (now (work .entry)) ⌝ }
 {

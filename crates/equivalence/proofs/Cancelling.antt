@@ -206,7 +206,7 @@ module _ (s w : List ℕ) (at mid end : ℕ) (b : Bool) where
     pub left : (q : ℕ) → p ≤ q → q < mid → getD v q 0 ≡ getD w q 0
     pub are : cancel (test b) (remaining s w (slice at mid w)) (remaining s w (slice mid end w)) ≡ ahead (remaining s w (slice at p v)) (cancel (test b) (remaining s w (slice p mid w)) (remaining s w (slice mid end v)))
 
-module _ (s w : List ℕ) (n d base at mid end : ℕ) (b : Bool) (a : Arena s w n) (l : 4 * n ≤ at) (o : at ≤ mid) (m : mid ≤ end) (ed : end ≤ at + d) (eb : end + d < base) (r : base ≤ length w)
+module _ (s w : List ℕ) (n d base at mid end : ℕ) (b : Bool) (a : Arena s w n) (l : 4 * n ≤ at) (o : at ≤ mid) (m : mid ≤ end) (ed : end ≤ at + d) (eb : end + 2 * d < base) (r : base ≤ length w)
     (cs : Cells w n at end) (rs : Lasting s w d base at end) where
   pub cancelling-starts : Cancelling s w at mid end b w at
   unfolding remaining
@@ -247,7 +247,7 @@ module _ (s w : List ℕ) (n d base at mid end : ℕ) (b : Bool) (a : Arena s w 
           let e = zeroed-there (h .zeroed) q z in
           let i = h .zeroed .len in
           let out = zeroed-outside (h .zeroed) in
-          subst (λ (x : ℕ). Run s v d base x q) (sym i) (run-frame (rs q (omega arith) y (omega arith)) (a .links) agree i (omega arith) (c .0) (c .1) e (out (q + d) (inr (omega arith))) (out (q + d + 1) (inr (omega arith))) (λ x f g. out x (inr (omega arith))))
+          subst (λ (x : ℕ). Run s v d base x q) (sym i) (run-frame (rs q (omega arith) y (omega arith)) (a .links) agree i (omega arith) (c .0) (c .1) e (out (q + d) (inr (omega arith))) (out (q + d + 1) (inr (omega arith))) (out (q + (2 * d + 1)) (inr (omega arith))) (λ x f g. out x (inr (omega arith))))
 
       pub cancelling-next : (u : List ℕ) → TookOne s v u p mid end b → Cancelling s w at mid end b u (p + 1)
       cancelling-next u g =

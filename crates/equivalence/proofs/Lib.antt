@@ -3,6 +3,7 @@ pub mod Wording
 pub mod Canons
 pub mod Comparing
 pub mod Gathering
+pub mod Fingerprinting
 pub mod Describing
 pub mod Cancelling
 pub mod Preparing

@@ -103,15 +103,15 @@ module _ (s w v₁ v₂ : List ℕ) (n i j at mid end : ℕ) (b : Bool) (a : Are
         let e₂ = length-set v₂ end 0 in
         omega (arith, ap (heft s (set v₂ end 0)) (sym (slice-join at mid end (set v₂ end 0) o q (omega arith))), heft-append s (set v₂ end 0) (slice at mid (set v₂ end 0)) (slice mid end (set v₂ end 0)), left-heft, right-heft)
 
-    module _ (d base : ℕ) (ed : d ≡ end - at) (eb : base ≡ end + d + 1) where
-      pub describe-order : (4 * n ≤ at) × (at ≤ end) × (end ≤ at + d) × (end + d < base)
+    module _ (d base : ℕ) (ed : d ≡ end - at) (eb : base ≡ end + 2 * d + 1) where
+      pub describe-order : (4 * n ≤ at) × (at ≤ end) × (end ≤ at + d) × (end + 2 * d < base)
       describe-order = let o = g .grew in let q = h .grew in (l, omega arith, omega arith, omega arith)
 
       pub describe-room : 5 * (size (tree-at s w i) + size (tree-at s w j)) < 65536
-          → (5 * heft s (set v₂ end 0) (slice at end (set v₂ end 0)) < 65536) × (base + 15 * heft s (set v₂ end 0) (slice at end (set v₂ end 0)) ≤ length (set v₂ end 0))
+          → (5 * heft s (set v₂ end 0) (slice at end (set v₂ end 0)) < 65536) × (base + 15 * heft s (set v₂ end 0) (slice at end (set v₂ end 0)) + 1 ≤ length (set v₂ end 0) + (end - at))
       describe-room k = let e = whole-heft in let f = sizes-bound in let q = len₃ in let o = g .grew in let r = h .grew in (omega arith, omega arith)
 
-      module _ (v₄ : List ℕ) (k : Described s (set v₂ end 0) v₄ at end d base (base + 15 * heft s (set v₂ end 0) (slice at end (set v₂ end 0)))) where
+      module _ (v₄ : List ℕ) (k : Described s (set v₂ end 0) v₄ at end d base (base + 15 * heft s (set v₂ end 0) (slice at end (set v₂ end 0)) + 1 - (end - at))) where
         same₄ : (p : ℕ) → p < end → getD v₄ p 0 ≡ getD (set v₂ end 0) p 0
         same₄ p x = k .kept .below p x
 
@@ -124,14 +124,14 @@ module _ (s w v₁ v₂ : List ℕ) (n i j at mid end : ℕ) (b : Bool) (a : Are
         pub cells₄ : Cells v₄ n at end
         cells₄ p x y = let e = same₄ p y in let c = all-cells p x y in (omega arith, omega arith)
 
-        limit : base + 15 * heft s (set v₂ end 0) (slice at end (set v₂ end 0)) ≤ length v₄
+        limit : base + 15 * heft s (set v₂ end 0) (slice at end (set v₂ end 0)) + 1 - (end - at) ≤ length v₄
         limit = let e = whole-heft in let f = sizes-bound in let q = len₃ in let o = g .grew in let r = h .grew in let m = k .kept .len in omega arith
 
         pub lasting₄ : Lasting s v₄ d base at end
         lasting₄ p x y z = run-later (k .runs p x y) limit
 
-        pub cancel-room : (4 * n ≤ at) × (at ≤ mid) × (mid ≤ end) × (end ≤ at + d) × (end + d < base) × (base ≤ length v₄)
-        cancel-room = let o = g .grew in let q = h .grew in let e = limit in (l, o, q, omega arith, omega arith, omega arith)
+        pub cancel-room : (4 * n ≤ at) × (at ≤ mid) × (mid ≤ end) × (end ≤ at + d) × (end + 2 * d < base) × (base ≤ length v₄)
+        cancel-room = let o = g .grew in let q = h .grew in (l, o, q, omega arith, omega arith, omega (arith, sizes-bound, len₃, k .kept .len))
 
         lefts : summands (tree-at s w i) ≡ remaining s v₄ (slice at mid v₄)
         lefts =

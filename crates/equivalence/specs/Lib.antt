@@ -1,2 +1,3 @@
 pub mod Words
+pub mod Fingerprints
 pub mod Sums

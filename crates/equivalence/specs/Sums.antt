@@ -14,6 +14,7 @@ use Rattle.tree.specs.Cells.{next-of, tree-at}
 use Rattle.tree.specs.Arena.{Arena, Grown}
 use Rattle.certificate.specs.Texts.{texts, Tokens}
 use Rattle.certificate.specs.Writer.{Kept}
+use Rattle.equivalence.specs.Fingerprints.{fingerprint}
 
 -- the trees of the cells with these numbers, but 0
 unfoldable pub remaining : List ℕ → List ℕ → List ℕ → List Tree
@@ -38,13 +39,15 @@ pub record Gathered (s w v : List ℕ) (n at end most : ℕ) (ts : List Tree) : 
   pub light : heft s w (slice at end v) ≤ most
   pub are : remaining s w (slice at end v) ≡ ts
 
--- the canonical words of the tree of the cell at q: where they start and end is in the words at q + d and after it, from base on
+-- the canonical words of the tree of the cell at q: where they start and end is in the words at q + d and after it, from base on, and
+-- their fingerprint is in the word at q + 2 * d + 1
 pub record Run (s v : List ℕ) (d base lim q : ℕ) : Type 0 where
-  pub inside : q + d + 1 < length v
+  pub inside : q + (2 * d + 1) < length v
   pub low : getD v (q + d) 0 ≤ getD v (q + d + 1) 0
   pub high : base + getD v (q + d + 1) 0 ≤ lim
   pub text : texts s (slice (base + getD v (q + d) 0) (base + getD v (q + d + 1) 0) v) ≡ canonical (tree-at s v (getD v q 0))
   pub tokens : Tokens s v (base + getD v (q + d) 0) (base + getD v (q + d + 1) 0)
+  pub mark : getD v (q + (2 * d + 1)) 0 ≡ fingerprint (canonical (tree-at s v (getD v q 0)))
 
 -- the runs of the cells from `at` to `end`
 pub record Described (s w v : List ℕ) (at end d base lim : ℕ) : Type 0 where

@@ -1,4 +1,5 @@
 // Equality of trees up to order and grouping of sums, and cancelling of sums (unifier.rs, `equivalent`, `cancel_sums`).
+pub mod fingerprints; // fingerprints.rt: fingerprints of texts
 pub mod sums; // sums.rt: summands and cancelling
 pub mod words; // words.rt: the words of a tree
 

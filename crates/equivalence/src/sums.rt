@@ -1,6 +1,6 @@
 // Sums: the cells of their summands, the canonical words of each, and cancelling. A cell that is taken out is 0.
+use crate::fingerprints::marked_words;
 use crate::words::same_text;
-use crate::words::tree_words;
 use substitution::ground::ground;
 use text::places::wide;
 use tree::cells::count_of;
@@ -24,7 +24,7 @@ ghost use Rattle.tree.specs.Arena.{Arena};
 ghost use Rattle.equivalence.specs.Sums.{Gathered, Cells, Lasting, heft, Described, Run, index, TookOne, Cancelled, Ready, remaining, heavy, Added, Rebuilt};
 
 // Whether the tree of cell i is a sum.
-fn is_sum(sheet: &[u8], work: &[u32], free: usize, i: usize) -> bool
+pub fn is_sum(sheet: &[u8], work: &[u32], free: usize, i: usize) -> bool
     requires { ⌜ Arena (now sheet) (now work) free ⌝ }
     requires { ⌜ (0 < i) × (i < free) ⌝ }
     ensures { λ r. ⌜ r ≡ eqb (kind-of (now (work .entry)) i) 0 && same (name-at (now (sheet .entry)) (now (work .entry)) i) tamtplus ⌝ }
@@ -66,7 +66,9 @@ fn gather_list(sheet: &[u8], work: &mut [u32], free: usize, i: usize, at: usize)
 }
 
 // Writes the canonical words of the trees of the cells from `at` to `end`, one after another from `base` on. Where those of the cell at p
-// start is in the word at p + d, and where they end in the word after it, both from `base` on; the first of these words is 0.
+// start is in the word at p + d, and where they end in the word after it, both from `base` on; the first of these words is 0. Their
+// fingerprint is in the word at p + 2 * d + 1. From `base` on, fifteen words for each node, less one for each cell after the first, are
+// scratch.
 pub fn describe(
     sheet: &[u8],
     work: &mut [u32],
@@ -77,16 +79,17 @@ pub fn describe(
     base: usize,
 )
     requires { ⌜ Arena (now sheet) (now work) free ⌝ }
-    requires { ⌜ (4 * free ≤ at) × (at ≤ end) × (end ≤ at + d) × (end + d < base) ⌝ }
+    requires { ⌜ (4 * free ≤ at) × (at ≤ end) × (end ≤ at + d) × (end + 2 * d < base) ⌝ }
     requires { ⌜ Cells (now work) free at end × (getD (now work) (at + d) 0 ≡ 0) ⌝ }
-    requires { ⌜ (5 * heft (now sheet) (now work) (slice at end (now work)) < 65536) × (base + 15 * heft (now sheet) (now work) (slice at end (now work)) ≤ length (now work)) ⌝ }
-    ensures { λ _. ⌜ Described (now (sheet .entry)) (now (work .entry)) (now (work .exit)) at end d base (base + 15 * heft (now (sheet .entry)) (now (work .entry)) (slice at end (now (work .entry)))) ⌝ }
+    requires { ⌜ (5 * heft (now sheet) (now work) (slice at end (now work)) < 65536) × (base + 15 * heft (now sheet) (now work) (slice at end (now work)) + 1 ≤ length (now work) + (end - at)) ⌝ }
+    ensures { λ _. ⌜ Described (now (sheet .entry)) (now (work .entry)) (now (work .exit)) at end d base (base + 15 * heft (now (sheet .entry)) (now (work .entry)) (slice at end (now (work .entry))) + 1 - (end - at)) ⌝ }
 {
+    let gap = 2 * d + 1;
     let mut p = at;
     let mut out = base;
     while p < end {
         let cell = wide(work[p]);
-        out = tree_words(sheet, work, free, cell, out);
+        out = marked_words(sheet, work, free, cell, out, p + gap);
         p += 1;
         work[p + d] = (out - base) as u32;
     }
@@ -107,7 +110,8 @@ fn alike(sheet: &[u8], work: &[u32], d: usize, base: usize, p: usize, q: usize) 
     )
 }
 
-// Where the first cell from `start` to `end` is whose tree is equal to that of the cell at p; `end` for none.
+// Where the first cell from `start` to `end` is whose tree is equal to that of the cell at p; `end` for none. Trees with two fingerprints
+// are not compared.
 fn find(
     sheet: &[u8],
     work: &[u32],
@@ -118,11 +122,17 @@ fn find(
     end: usize,
 ) -> usize
     requires { ⌜ Run (now sheet) (now work) d base (length (now work)) p × Lasting (now sheet) (now work) d base start end ⌝ }
-    requires { ⌜ (start ≤ end) × (end ≤ length (now work)) ⌝ }
+    requires { ⌜ (start ≤ end) × (end + 2 * d < length (now work)) ⌝ }
     ensures { λ r. ⌜ r ≡ start + index (equivalent (tree-at (now (sheet .entry)) (now (work .entry)) (getD (now (work .entry)) p 0))) (now (sheet .entry)) (now (work .entry)) (slice start end (now (work .entry))) ⌝ }
 {
+    let gap = 2 * d + 1;
+    let mark = work[p + gap];
     let mut q = start;
     while q < end {
+        if work[q + gap] != mark {
+            q += 1;
+            continue;
+        }
         if work[q] == 0 {
             q += 1;
             continue;
@@ -160,7 +170,7 @@ fn take_one(
     every: bool,
 )
     requires { ⌜ Arena (now sheet) (now work) free ⌝ }
-    requires { ⌜ (4 * free ≤ p) × (p < mid) × (mid ≤ end) × (end ≤ length (now work)) ⌝ }
+    requires { ⌜ (4 * free ≤ p) × (p < mid) × (mid ≤ end) × (end + 2 * d < length (now work)) ⌝ }
     requires { ⌜ (0 < getD (now work) p 0) × (getD (now work) p 0 < free) × Lasting (now sheet) (now work) d base p end ⌝ }
     ensures { λ _. ⌜ TookOne (now (sheet .entry)) (now (work .entry)) (now (work .exit)) p mid end every ⌝ }
 {
@@ -189,7 +199,7 @@ pub fn cancel(
     every: bool,
 )
     requires { ⌜ Arena (now sheet) (now work) free ⌝ }
-    requires { ⌜ (4 * free ≤ at) × (at ≤ mid) × (mid ≤ end) × (end ≤ at + d) × (end + d < base) × (base ≤ length (now work)) ⌝ }
+    requires { ⌜ (4 * free ≤ at) × (at ≤ mid) × (mid ≤ end) × (end ≤ at + d) × (end + 2 * d < base) × (base ≤ length (now work)) ⌝ }
     requires { ⌜ Cells (now work) free at end × Lasting (now sheet) (now work) d base at end ⌝ }
     ensures { λ _. ⌜ Cancelled (now (sheet .entry)) (now (work .entry)) (now (work .exit)) at mid end every ⌝ }
 {
@@ -226,7 +236,7 @@ pub fn prepare(
     let end = gather(sheet, work, free, right, mid);
     work[end] = 0;
     let d = end - at;
-    let base = end + d + 1;
+    let base = end + 2 * d + 1;
     describe(sheet, work, free, at, end, d, base);
     cancel(sheet, work, free, d, base, at, mid, end, every);
     Split { mid: mid, end: end }

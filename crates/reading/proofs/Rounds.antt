@@ -233,6 +233,7 @@ module _ {s : Text} {start limit from to : ℕ} (k : Task s start limit from to)
           link = no-cell l (next-of w index) (omega (arith, l .next index p (omega arith))) (let y = sym m ∙ ts in cc);
           placed = (p, omega arith);
           arena = st .held .arena;
+          grew = st .starts;
           room = omega (arith, st .held .below, k .limit-is);
           outside = o;
         }
@@ -352,6 +353,7 @@ parses-on s u free from to (Parsed-tree index end) o h = record {
   link = h .link;
   placed = h .placed;
   arena = h .arena;
+  grew = h .grew;
   room = h .room;
   outside = outside-on (omega arith) (omega arith) o (h .outside);
 }

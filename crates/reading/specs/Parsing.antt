@@ -31,6 +31,7 @@ pub record Read (s : Text) (w v : List ℕ) (start from to index free : ℕ) : T
   pub link : next-of v index ≡ 0
   pub placed : (0 < index) × (index < free)
   pub arena : Arena s v free
+  pub grew : start ≤ free
   pub room : free ≤ limit-of start from to
   pub outside : Outside w v (4 * start) (stack-end start from to)
 

@@ -2,7 +2,7 @@
 use Prim.Native.Nat.{ℕ, _≤_}
 use mathlib.Core.List.{List}
 use lib.ListN.{length}
-use Rattle.replay.specs.declared.list.Record.{Record}
+use Rattle.replay.specs.declared.call.Record.{Record}
 
 pub record Inside (list : List ℕ) (r : Record) : Type 0 where
   pub label : r .label ≤ r .sheet

@@ -1,9 +1,27 @@
 // One record of the list through the call.
-use crate::list::Record;
 use archive::yukhtsami_answer;
 use text::begins;
+use text::places::wide;
 use text::same;
+ghost use mathlib.Core.Path.{_≡_};
+ghost use mathlib.Core.Bool.{_&&_};
+ghost use lib.Dec.{eqb, leb};
+ghost use lib.ListN.{length, take};
+ghost use Rattle.rules.specs.Bytes.{same};
 ghost use Rattle.replay.specs.Inside.{Inside};
+ghost use Rattle.replay.specs.Replaying.{unanswered, early, lends, Compares, Replays};
+
+// A record: the words and bytes of output lent, the refusal, where its label, its sheet and its
+// answer start, and where its answer ends.
+pub struct Record {
+    pub words: usize,
+    pub room: usize,
+    pub refusal: usize,
+    pub label: usize,
+    pub sheet: usize,
+    pub answer: usize,
+    pub end: usize,
+}
 
 pub enum Outcome {
     Agrees,
@@ -12,21 +30,45 @@ pub enum Outcome {
 }
 
 // Whether a sheet is of a kind that the call does not answer yet.
-fn unanswered(sheet: &[u8]) -> bool {
-    begins(sheet, b"kind=unify\n")
-        || begins(sheet, b"kind=match\n")
-        || begins(sheet, b"kind=cover\n")
-        || begins(sheet, b"kind=sound\n")
-        || begins(sheet, b"kind=complete\n")
+fn unanswered(sheet: &[u8]) -> bool
+    ensures { λ r. ⌜ r ≡ unanswered (now (sheet .entry)) ⌝ }
+{
+    begins(sheet, b"kind=cover\n")
+        || (begins(sheet, b"kind=sound\n") || begins(sheet, b"kind=complete\n"))
+}
+
+fn equals(a: usize, b: usize) -> bool
+    ensures { λ r. ⌜ r ≡ eqb a b ⌝ }
+{
+    a == b
+}
+
+fn reaches(room: usize, count: usize) -> bool
+    ensures { λ r. ⌜ r ≡ leb count room ⌝ }
+{
+    count <= room
 }
 
 // Whether a refusal comes before the kind is answered.
-fn early(refusal: usize) -> bool {
-    refusal == 1 || refusal == 2 || refusal == 3 || refusal == 11
+fn early(refusal: usize) -> bool
+    ensures { λ r. ⌜ r ≡ early refusal ⌝ }
+{
+    equals(refusal, 1) || (equals(refusal, 2) || (equals(refusal, 3) || equals(refusal, 11)))
+}
+
+// Whether there are the words and the room that a record lends, and its reply is not that of a kind not
+// answered yet.
+fn lends(sheet: &[u8], words: usize, room: usize, stored: Record) -> bool
+    ensures { λ r. ⌜ r ≡ lends (now (sheet .entry)) words room stored ⌝ }
+{
+    reaches(words, stored.words)
+        && (reaches(room, stored.room) && (early(stored.refusal) || !unanswered(sheet)))
 }
 
 // Whether so many bytes of the output are the answer.
-fn holds(output: &[u8], written: usize, answer: &[u8]) -> bool {
+fn holds(output: &[u8], written: usize, answer: &[u8]) -> bool
+    ensures { λ r. ⌜ r ≡ leb written (length (now (output .entry))) && same (take written (now (output .entry))) (now (answer .entry)) ⌝ }
+{
     if output.len() < written {
         return false;
     }
@@ -34,23 +76,20 @@ fn holds(output: &[u8], written: usize, answer: &[u8]) -> bool {
 }
 
 // Whether the call gives the reply stored.
-fn agrees(
-    sheet: &[u8],
-    work: &mut [u32],
-    output: &mut [u8],
-    refusal: usize,
-    answer: &[u8],
-) -> bool {
+fn agrees(sheet: &[u8], work: &mut [u32], output: &mut [u8], refusal: usize, answer: &[u8]) -> bool
+    ensures { λ r. ⌜ Compares (now (sheet .entry)) (now (work .entry)) (now (work .exit)) (now (output .entry)) (now (output .exit)) refusal (now (answer .entry)) r ⌝ }
+{
     let called = yukhtsami_answer(sheet, work, output);
     let given = called.refusal;
     let written = called.written;
-    given as usize == refusal && holds(output, written, answer)
+    let held = holds(output, written, answer);
+    equals(wide(given), refusal) && held
 }
 
-// Replays a record, if there are the words and the room that it lends and its reply is not that of a
-// kind not answered yet.
+// Replays a record, if it lends what is there and its reply is not that of a kind not answered yet.
 pub fn replay(list: &[u8], work: &mut [u32], output: &mut [u8], stored: Record) -> Outcome
     requires { ⌜ Inside (now list) stored ⌝ }
+    ensures { λ r. ⌜ Replays (now (list .entry)) stored (now (work .entry)) (now (work .exit)) (now (output .entry)) (now (output .exit)) r ⌝ }
 {
     let from = stored.sheet;
     let middle = stored.answer;
@@ -58,16 +97,10 @@ pub fn replay(list: &[u8], work: &mut [u32], output: &mut [u8], stored: Record) 
     let words = stored.words;
     let room = stored.room;
     let refusal = stored.refusal;
-    if work.len() < words {
-        return Outcome::Skipped;
-    }
-    if output.len() < room {
-        return Outcome::Skipped;
-    }
-    if unanswered(&list[from..middle]) && !early(refusal) {
-        return Outcome::Skipped;
-    }
     let sheet = &list[from..middle];
+    if !lends(sheet, work.len(), output.len(), stored) {
+        return Outcome::Skipped;
+    }
     let answer = &list[middle..to];
     if agrees(
         sheet,

@@ -2,7 +2,7 @@ use mathlib.Core.Path.{subst}
 use native.Mathlib.Omega.{arith}
 use lib.ListN.{length}
 use Rattle.archive.specs.Admission.{Admits}
-use Rattle.archive.proofs.KindLaws.{refused-answers, roomy, settled-answers}
+use Rattle.archive.proofs.KindLaws.{refused-answers, enough-words, settled-answers}
 use borrow.Author.Needs.{needs}
 use Rattle.archive.proofs.answer.Statement.{statement}
 use Rattle.archive.proofs.answer.Tie as tie
@@ -29,7 +29,7 @@ settle-and-clear-requires : tie.Need-settle-and-clear-requires
 settle-and-clear-requires c κs =
     let a = c .before .before .before .before .before .before .before .before .before .args in
     let h = subst (Admits (a .sheet .now) (length (a .work .now))) (c .before .before .before .admitted2 .given .1) (c .before .before .before .before .before .admit .ensures) in
-    ((h .short, roomy (a .sheet .now) (a .work .now) (a .output .now) (c .before .before .before .admitted2 .given .0 .0) (c .before .before .before .admitted2 .given .0 .1 .0) h, h .enough), h .within)
+    (h .decoded, (enough-words (a .sheet .now) (a .work .now) (a .output .now) (c .before .before .before .admitted2 .given .0 .0) (c .before .before .before .admitted2 .given .0 .1 .0) h, h .enough))
 
 -- src/lib.rt:65:13
 reply-of-requires : tie.Need-reply-of-requires

@@ -17,13 +17,13 @@ slice-relend-prefix-settle c = search needs
 
 -- src/lib.rt:42:33
 slice-aggregate-settle : tie.Need-slice-aggregate-settle
-slice-aggregate-settle c = sym (length-take-le (c .before .before .before .before .args .needed) (c .before .before .before .before .args .work .now) (c .before .before .before .before .pre .0 .2))
+slice-aggregate-settle c = sym (length-take-le (c .before .before .before .before .args .needed) (c .before .before .before .before .args .work .now) (c .before .before .before .before .pre .1 .1))
 
 -- src/lib.rt:42:9
 settle-requires : tie.Need-settle-requires
 settle-requires c κs =
-    let e = length-take-le (c .before .before .before .before .before .args .needed) (c .before .before .before .before .before .args .work .now) (c .before .before .before .before .before .pre .0 .2) in
-    ((c .before .before .before .before .before .pre .0 .0, omega arith), c .before .before .before .before .before .pre .1)
+    let e = length-take-le (c .before .before .before .before .before .args .needed) (c .before .before .before .before .before .args .work .now) (c .before .before .before .before .before .pre .1 .1) in
+    (c .before .before .before .before .before .pre .0, omega arith)
 
 -- src/lib.rt:43:5
 clear-requires : tie.Need-clear-requires
@@ -41,7 +41,7 @@ same-length-2 c = search needs
 returns : tie.Need-returns
 returns c =
     let a = c .before .before .before .before .before .before .before .before .before .before .before .before .before .before .args in
-    let e = length-take-le (a .needed) (a .work .now) (c .before .before .before .before .before .before .before .before .before .before .before .before .before .before .pre .0 .2) in
+    let e = length-take-le (a .needed) (a .work .now) (c .before .before .before .before .before .before .before .before .before .before .before .before .before .before .pre .1 .1) in
     let h : length (c .before .before .before .before .before .before .before .before .settle .last .1 .0) ≡ a .needed = omega arith in
     (c .before .before .before .before .before .before .before .before .settle .ensures, c .before .before .clear .ensures ∙ zeroed-over (a .needed) (c .before .before .before .before .before .before .before .before .settle .last .1 .0) (a .work .now) h)
 

@@ -140,7 +140,7 @@ sum-under a b =
     under (t ∷ ts) m h k = (let i = k .0 in omega arith, under ts m h (k .1))
 
 -- cancelling leaves no more on the left either
-cancel-mass-left : (test : Tree → Tree → Bool) (ts us : List Tree) → mass (cancel test ts us .0) ≤ mass ts
+pub cancel-mass-left : (test : Tree → Tree → Bool) (ts us : List Tree) → mass (cancel test ts us .0) ≤ mass ts
 unfolding cancel
 cancel-mass-left test [] us = omega arith
 cancel-mass-left test (t ∷ ts) us = go (remove test t us) (λ vs. cancel-mass-left test ts vs)

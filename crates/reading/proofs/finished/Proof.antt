@@ -1,3 +1,4 @@
+use native.Mathlib.Omega.{arith}
 use Rattle.reading.proofs.Rounds.{ended-open, ended-bottom}
 use borrow.Author.Needs.{needs}
 use Rattle.reading.proofs.finished.Statement.{statement}
@@ -10,7 +11,7 @@ use Rattle.reading.proofs.stack.top_of.Reads as top-of-reads
 returns : tie.Need-returns
 returns c =
     let a = c .before .before .args in
-    ended-open (a .work .now) (a .limit) (a .free) (a .depth) (c .if1 .taken)
+    ended-open (a .work .now) (a .limit) (a .free) (a .depth) (omega (arith, c .if1 .taken))
 
 -- src/lib.rt:43:16
 top-of-requires : tie.Need-top-of-requires
@@ -20,7 +21,7 @@ top-of-requires c κs = search needs
 returns-2 : tie.Need-returns-2
 returns-2 c =
     let a = c .before .before .before .args in
-    ended-bottom (a .work .now) (a .limit) (a .free) (a .depth) (c .before .if1 .left) (c .top-of .ensures)
+    ended-bottom (a .work .now) (a .limit) (a .free) (a .depth) (omega (arith, c .before .if1 .left)) (c .top-of .ensures)
 
 pub finished-spec : {M : Type 1} → statement M
 finished-spec = tie.close (tie.spec returns top-of-requires returns-2)

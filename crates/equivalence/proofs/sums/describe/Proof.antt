@@ -1,116 +1,115 @@
 use borrow.Author.Needs.{needs}
 use native.Mathlib.Omega.{arith}
-use mathlib.Core.Path.{_≡_, refl, sym, ap, subst, _∙_}
+use mathlib.Core.Path.{_≡_, sym, subst, _∙_}
 use Prim.Native.Nat.{ℕ, _-_, _+_, _*_, _<_, _≤_}
-use lib.ListN.{getD, length}
+use lib.ListN.{length, length-set}
 use Rattle.rules.specs.Tree.{size}
 use Rattle.tree.specs.Cells.{tree-at}
-use Rattle.equivalence.specs.Words.{Canon}
-use Rattle.equivalence.proofs.Describing.{Describing, describing-starts, described, cell-some, cell-below, cells-arena, cell-room, next-room, describing-next}
+use Rattle.equivalence.specs.Fingerprints.{Marked}
+use Rattle.equivalence.proofs.Describing.{Describing, describing-starts, described, cell-some, cell-below, cells-arena, cell-room, mark-room, next-room, describing-next}
 use Rattle.equivalence.proofs.sums.describe.Statement.{statement}
 use Rattle.equivalence.proofs.sums.describe.Tie as tie
 use Rattle.equivalence.proofs.sums.describe.Reads as reads
 use Rattle.equivalence.proofs.sums.describe.Lts as lts
-use Rattle.equivalence.proofs.words.tree_words.Reads as tree-words-reads
+use Rattle.equivalence.proofs.fingerprints.marked_words.Reads as marked-words-reads
 use Rattle.text.proofs.places.wide.Reads as wide-reads
 
 abbrev Inv-loop : tie.InvT-loop
-Inv-loop sheet work₀ free at end d base p₀ out₀ work p out = Describing (sheet) (work₀) at end d base work p out
+Inv-loop sheet work₀ free at end d base gap p₀ out₀ work p out = Describing sheet work₀ at end d base work p out
 
 abbrev μ-loop : tie.MeasureT-loop
-μ-loop sheet work₀ free at end d base p₀ out₀ work p out = end - p
+μ-loop sheet work₀ free at end d base gap p₀ out₀ work p out = end - p
 
--- src/sums.rt:84:5
+mul-gap : tie.Need-mul-gap Inv-loop μ-loop
+mul-gap c =
+    let q = c .before .before .pre .1 .0 in
+    omega (arith, q .1, q .2, q .3, c .before .before .pre .1 .1 .1 .1)
+
+add-gap : tie.Need-add-gap Inv-loop μ-loop
+add-gap c =
+    let q = c .before .before .pre .1 .0 in
+    omega (arith, q .1, q .2, q .3, c .before .before .pre .1 .1 .1 .1)
+
 loop-holds : tie.Need-loop-holds Inv-loop μ-loop
 loop-holds c =
     let a = c .before .before .args in
     let q = c .before .before .pre .1 .0 in
     describing-starts (a .sheet .now) (a .work .now) (a .free) (a .at) (a .end) (a .d) (a .base) (c .before .before .pre .0) (q .0) (q .1) (q .2) (q .3) (c .before .before .pre .1 .1 .0 .0) (c .before .before .pre .1 .1 .0 .1) (c .before .before .pre .1 .1 .1 .0) (c .before .before .pre .1 .1 .1 .1)
 
--- src/sums.rt:85:25
 mul-wide : tie.Need-mul-wide Inv-loop μ-loop
 mul-wide c = search needs
 
--- src/sums.rt:85:25
 slice-read-wide : tie.Need-slice-read-wide Inv-loop μ-loop
 slice-read-wide c =
-    let a = c .before .before .before .before .before .args in
     let q = c .before .before .before .before .before .pre .1 .0 in
-    omega (arith, c .before .before .loop .inv .kept .len, c .before .loop-test .taken, c .before .before .before .before .before .pre .1 .1 .1 .1, q .3)
+    omega (arith, c .before .before .loop .inv .kept .len, c .before .loop-test .taken, c .before .before .before .before .before .pre .1 .1 .1 .1, q .1, q .2, q .3)
 
--- src/sums.rt:85:13
 wide-requires : tie.Need-wide-requires Inv-loop μ-loop
 wide-requires c κs = search needs
 
--- src/sums.rt:86:9
-tree-words-requires : tie.Need-tree-words-requires Inv-loop μ-loop
-tree-words-requires c κs =
+add-marked-words : tie.Need-add-marked-words Inv-loop μ-loop
+add-marked-words c =
+    let q = c .before .before .before .before .before .before .before .pre .1 .0 in
+    omega (arith, c .before .before .before .loop-test .taken, c .before .before .before .before .before .before .before .pre .1 .1 .1 .1, q .1, q .2, q .3)
+
+marked-words-requires : tie.Need-marked-words-requires Inv-loop μ-loop
+marked-words-requires c κs =
     let a = c .before .before .before .before .before .before .before .args in
     let q = c .before .before .before .before .before .before .before .pre .1 .0 in
     let e = c .before .wide .ensures in
     let x = cell-some (a .sheet .now) (a .work .now) (a .free) (a .at) (a .end) (a .d) (a .base) (c .before .before .before .before .before .before .before .pre .0) (q .0) (q .1) (q .2) (q .3) (c .before .before .before .before .before .before .before .pre .1 .1 .0 .0) (c .before .before .before .before .before .before .before .pre .1 .1 .0 .1) (c .before .before .before .before .before .before .before .pre .1 .1 .1 .0) (c .before .before .before .before .before .before .before .pre .1 .1 .1 .1) (c .before .before .before .before .loop .work) (c .before .before .before .before .loop .p) (c .before .before .before .before .loop .out) (c .before .before .before .before .loop .inv) (c .before .before .before .loop-test .taken) in
     let y = cell-below (a .sheet .now) (a .work .now) (a .free) (a .at) (a .end) (a .d) (a .base) (c .before .before .before .before .before .before .before .pre .0) (q .0) (q .1) (q .2) (q .3) (c .before .before .before .before .before .before .before .pre .1 .1 .0 .0) (c .before .before .before .before .before .before .before .pre .1 .1 .0 .1) (c .before .before .before .before .before .before .before .pre .1 .1 .1 .0) (c .before .before .before .before .before .before .before .pre .1 .1 .1 .1) (c .before .before .before .before .loop .work) (c .before .before .before .before .loop .p) (c .before .before .before .before .loop .out) (c .before .before .before .before .loop .inv) (c .before .before .before .loop-test .taken) in
-    (cells-arena (a .sheet .now) (a .work .now) (a .free) (a .at) (a .end) (a .d) (a .base) (c .before .before .before .before .before .before .before .pre .0) (q .0) (q .1) (q .2) (q .3) (c .before .before .before .before .before .before .before .pre .1 .1 .0 .0) (c .before .before .before .before .before .before .before .pre .1 .1 .0 .1) (c .before .before .before .before .before .before .before .pre .1 .1 .1 .0) (c .before .before .before .before .before .before .before .pre .1 .1 .1 .1) (c .before .before .before .before .loop .work) (c .before .before .before .before .loop .p) (c .before .before .before .before .loop .out) (c .before .before .before .before .loop .inv) (c .before .before .before .loop-test .taken), ((omega arith, omega arith, omega (arith, c .before .before .before .before .loop .inv .since, q .0, q .1, q .3)), subst (λ (k : ℕ). (5 * size (tree-at (a .sheet .now) (c .before .before .before .before .loop .work) k) < 65536) × (c .before .before .before .before .loop .out + 15 * size (tree-at (a .sheet .now) (c .before .before .before .before .loop .work) k) ≤ length (c .before .before .before .before .loop .work))) (sym e) (cell-room (a .sheet .now) (a .work .now) (a .free) (a .at) (a .end) (a .d) (a .base) (c .before .before .before .before .before .before .before .pre .0) (q .0) (q .1) (q .2) (q .3) (c .before .before .before .before .before .before .before .pre .1 .1 .0 .0) (c .before .before .before .before .before .before .before .pre .1 .1 .0 .1) (c .before .before .before .before .before .before .before .pre .1 .1 .1 .0) (c .before .before .before .before .before .before .before .pre .1 .1 .1 .1) (c .before .before .before .before .loop .work) (c .before .before .before .before .loop .p) (c .before .before .before .before .loop .out) (c .before .before .before .before .loop .inv) (c .before .before .before .loop-test .taken))))
+    (cells-arena (a .sheet .now) (a .work .now) (a .free) (a .at) (a .end) (a .d) (a .base) (c .before .before .before .before .before .before .before .pre .0) (q .0) (q .1) (q .2) (q .3) (c .before .before .before .before .before .before .before .pre .1 .1 .0 .0) (c .before .before .before .before .before .before .before .pre .1 .1 .0 .1) (c .before .before .before .before .before .before .before .pre .1 .1 .1 .0) (c .before .before .before .before .before .before .before .pre .1 .1 .1 .1) (c .before .before .before .before .loop .work) (c .before .before .before .before .loop .p) (c .before .before .before .before .loop .out) (c .before .before .before .before .loop .inv) (c .before .before .before .loop-test .taken), ((omega arith, omega arith, omega (arith, c .before .before .before .before .loop .inv .since, q .0, q .1, q .3), mark-room (a .sheet .now) (a .work .now) (a .free) (a .at) (a .end) (a .d) (a .base) (c .before .before .before .before .before .before .before .pre .0) (q .0) (q .1) (q .2) (q .3) (c .before .before .before .before .before .before .before .pre .1 .1 .0 .0) (c .before .before .before .before .before .before .before .pre .1 .1 .0 .1) (c .before .before .before .before .before .before .before .pre .1 .1 .1 .0) (c .before .before .before .before .before .before .before .pre .1 .1 .1 .1) (c .before .before .before .before .loop .work) (c .before .before .before .before .loop .p) (c .before .before .before .before .loop .out) (c .before .before .before .before .loop .inv) (c .before .before .before .loop-test .taken)), subst (λ (k : ℕ). (5 * size (tree-at (a .sheet .now) (c .before .before .before .before .loop .work) k) < 65536) × (c .before .before .before .before .loop .out + 15 * size (tree-at (a .sheet .now) (c .before .before .before .before .loop .work) k) ≤ length (c .before .before .before .before .loop .work))) (sym e) (cell-room (a .sheet .now) (a .work .now) (a .free) (a .at) (a .end) (a .d) (a .base) (c .before .before .before .before .before .before .before .pre .0) (q .0) (q .1) (q .2) (q .3) (c .before .before .before .before .before .before .before .pre .1 .1 .0 .0) (c .before .before .before .before .before .before .before .pre .1 .1 .0 .1) (c .before .before .before .before .before .before .before .pre .1 .1 .1 .0) (c .before .before .before .before .before .before .before .pre .1 .1 .1 .1) (c .before .before .before .before .loop .work) (c .before .before .before .before .loop .p) (c .before .before .before .before .loop .out) (c .before .before .before .before .loop .inv) (c .before .before .before .loop-test .taken))))
 
--- src/sums.rt:87:9
 add-p : tie.Need-add-p Inv-loop μ-loop
 add-p c =
     let a = c .before .before .before .before .before .before .before .before .before .before .args in
     let q = c .before .before .before .before .before .before .before .before .before .before .pre .1 .0 in
-    omega (arith, next-room (a .sheet .now) (a .work .now) (a .free) (a .at) (a .end) (a .d) (a .base) (c .before .before .before .before .before .before .before .before .before .before .pre .0) (q .0) (q .1) (q .2) (q .3) (c .before .before .before .before .before .before .before .before .before .before .pre .1 .1 .0 .0) (c .before .before .before .before .before .before .before .before .before .before .pre .1 .1 .0 .1) (c .before .before .before .before .before .before .before .before .before .before .pre .1 .1 .1 .0) (c .before .before .before .before .before .before .before .before .before .before .pre .1 .1 .1 .1) (c .before .before .before .before .before .before .before .loop .work) (c .before .before .before .before .before .before .before .loop .p) (c .before .before .before .before .before .before .before .loop .out) (c .before .before .before .before .before .before .before .loop .inv) (c .before .before .before .before .before .before .loop-test .taken) (c .before .before .tree-words .last .1 .0) (c .before .before .tree-words .result) (subst (λ (k : ℕ). Canon (a .sheet .now) (c .before .before .before .before .before .before .before .loop .work) (c .before .before .tree-words .last .1 .0) (tree-at (a .sheet .now) (c .before .before .before .before .before .before .before .loop .work) k) (c .before .before .before .before .before .before .before .loop .out) (c .before .before .tree-words .result)) (c .before .before .before .before .wide .ensures) (c .before .before .tree-words .ensures)))
+    omega (arith, next-room (a .sheet .now) (a .work .now) (a .free) (a .at) (a .end) (a .d) (a .base) (c .before .before .before .before .before .before .before .before .before .before .pre .0) (q .0) (q .1) (q .2) (q .3) (c .before .before .before .before .before .before .before .before .before .before .pre .1 .1 .0 .0) (c .before .before .before .before .before .before .before .before .before .before .pre .1 .1 .0 .1) (c .before .before .before .before .before .before .before .before .before .before .pre .1 .1 .1 .0) (c .before .before .before .before .before .before .before .before .before .before .pre .1 .1 .1 .1) (c .before .before .before .before .before .before .before .loop .work) (c .before .before .before .before .before .before .before .loop .p) (c .before .before .before .before .before .before .before .loop .out) (c .before .before .before .before .before .before .before .loop .inv) (c .before .before .before .before .before .before .loop-test .taken) (c .before .before .marked-words .last .1 .0) (c .before .before .marked-words .result) (subst (λ (k : ℕ). Marked (a .sheet .now) (c .before .before .before .before .before .before .before .loop .work) (c .before .before .marked-words .last .1 .0) (tree-at (a .sheet .now) (c .before .before .before .before .before .before .before .loop .work) k) (c .before .before .before .before .before .before .before .loop .out) (c .before .before .marked-words .result) (c .before .before .before .before .before .before .before .loop .p + (2 * a .d + 1))) (c .before .before .before .before .wide .ensures) (c .before .before .marked-words .ensures)))
 
--- src/sums.rt:88:24
 sub-work : tie.Need-sub-work Inv-loop μ-loop
 sub-work c =
     let a = c .before .before .before .before .before .before .before .before .before .before .args in
     let q = c .before .before .before .before .before .before .before .before .before .before .pre .1 .0 in
-    omega (arith, next-room (a .sheet .now) (a .work .now) (a .free) (a .at) (a .end) (a .d) (a .base) (c .before .before .before .before .before .before .before .before .before .before .pre .0) (q .0) (q .1) (q .2) (q .3) (c .before .before .before .before .before .before .before .before .before .before .pre .1 .1 .0 .0) (c .before .before .before .before .before .before .before .before .before .before .pre .1 .1 .0 .1) (c .before .before .before .before .before .before .before .before .before .before .pre .1 .1 .1 .0) (c .before .before .before .before .before .before .before .before .before .before .pre .1 .1 .1 .1) (c .before .before .before .before .before .before .before .loop .work) (c .before .before .before .before .before .before .before .loop .p) (c .before .before .before .before .before .before .before .loop .out) (c .before .before .before .before .before .before .before .loop .inv) (c .before .before .before .before .before .before .loop-test .taken) (c .before .before .tree-words .last .1 .0) (c .before .before .tree-words .result) (subst (λ (k : ℕ). Canon (a .sheet .now) (c .before .before .before .before .before .before .before .loop .work) (c .before .before .tree-words .last .1 .0) (tree-at (a .sheet .now) (c .before .before .before .before .before .before .before .loop .work) k) (c .before .before .before .before .before .before .before .loop .out) (c .before .before .tree-words .result)) (c .before .before .before .before .wide .ensures) (c .before .before .tree-words .ensures)))
+    omega (arith, next-room (a .sheet .now) (a .work .now) (a .free) (a .at) (a .end) (a .d) (a .base) (c .before .before .before .before .before .before .before .before .before .before .pre .0) (q .0) (q .1) (q .2) (q .3) (c .before .before .before .before .before .before .before .before .before .before .pre .1 .1 .0 .0) (c .before .before .before .before .before .before .before .before .before .before .pre .1 .1 .0 .1) (c .before .before .before .before .before .before .before .before .before .before .pre .1 .1 .1 .0) (c .before .before .before .before .before .before .before .before .before .before .pre .1 .1 .1 .1) (c .before .before .before .before .before .before .before .loop .work) (c .before .before .before .before .before .before .before .loop .p) (c .before .before .before .before .before .before .before .loop .out) (c .before .before .before .before .before .before .before .loop .inv) (c .before .before .before .before .before .before .loop-test .taken) (c .before .before .marked-words .last .1 .0) (c .before .before .marked-words .result) (subst (λ (k : ℕ). Marked (a .sheet .now) (c .before .before .before .before .before .before .before .loop .work) (c .before .before .marked-words .last .1 .0) (tree-at (a .sheet .now) (c .before .before .before .before .before .before .before .loop .work) k) (c .before .before .before .before .before .before .before .loop .out) (c .before .before .marked-words .result) (c .before .before .before .before .before .before .before .loop .p + (2 * a .d + 1))) (c .before .before .before .before .wide .ensures) (c .before .before .marked-words .ensures)))
 
--- src/sums.rt:88:23
 cast-work : tie.Need-cast-work Inv-loop μ-loop
 cast-work c =
     let a = c .before .before .before .before .before .before .before .before .before .before .args in
     let q = c .before .before .before .before .before .before .before .before .before .before .pre .1 .0 in
-    omega (arith, next-room (a .sheet .now) (a .work .now) (a .free) (a .at) (a .end) (a .d) (a .base) (c .before .before .before .before .before .before .before .before .before .before .pre .0) (q .0) (q .1) (q .2) (q .3) (c .before .before .before .before .before .before .before .before .before .before .pre .1 .1 .0 .0) (c .before .before .before .before .before .before .before .before .before .before .pre .1 .1 .0 .1) (c .before .before .before .before .before .before .before .before .before .before .pre .1 .1 .1 .0) (c .before .before .before .before .before .before .before .before .before .before .pre .1 .1 .1 .1) (c .before .before .before .before .before .before .before .loop .work) (c .before .before .before .before .before .before .before .loop .p) (c .before .before .before .before .before .before .before .loop .out) (c .before .before .before .before .before .before .before .loop .inv) (c .before .before .before .before .before .before .loop-test .taken) (c .before .before .tree-words .last .1 .0) (c .before .before .tree-words .result) (subst (λ (k : ℕ). Canon (a .sheet .now) (c .before .before .before .before .before .before .before .loop .work) (c .before .before .tree-words .last .1 .0) (tree-at (a .sheet .now) (c .before .before .before .before .before .before .before .loop .work) k) (c .before .before .before .before .before .before .before .loop .out) (c .before .before .tree-words .result)) (c .before .before .before .before .wide .ensures) (c .before .before .tree-words .ensures)))
+    omega (arith, next-room (a .sheet .now) (a .work .now) (a .free) (a .at) (a .end) (a .d) (a .base) (c .before .before .before .before .before .before .before .before .before .before .pre .0) (q .0) (q .1) (q .2) (q .3) (c .before .before .before .before .before .before .before .before .before .before .pre .1 .1 .0 .0) (c .before .before .before .before .before .before .before .before .before .before .pre .1 .1 .0 .1) (c .before .before .before .before .before .before .before .before .before .before .pre .1 .1 .1 .0) (c .before .before .before .before .before .before .before .before .before .before .pre .1 .1 .1 .1) (c .before .before .before .before .before .before .before .loop .work) (c .before .before .before .before .before .before .before .loop .p) (c .before .before .before .before .before .before .before .loop .out) (c .before .before .before .before .before .before .before .loop .inv) (c .before .before .before .before .before .before .loop-test .taken) (c .before .before .marked-words .last .1 .0) (c .before .before .marked-words .result) (subst (λ (k : ℕ). Marked (a .sheet .now) (c .before .before .before .before .before .before .before .loop .work) (c .before .before .marked-words .last .1 .0) (tree-at (a .sheet .now) (c .before .before .before .before .before .before .before .loop .work) k) (c .before .before .before .before .before .before .before .loop .out) (c .before .before .marked-words .result) (c .before .before .before .before .before .before .before .loop .p + (2 * a .d + 1))) (c .before .before .before .before .wide .ensures) (c .before .before .marked-words .ensures)))
 
--- src/sums.rt:88:14
 add-work : tie.Need-add-work Inv-loop μ-loop
 add-work c =
     let a = c .before .before .before .before .before .before .before .before .before .before .args in
     let q = c .before .before .before .before .before .before .before .before .before .before .pre .1 .0 in
-    omega (arith, next-room (a .sheet .now) (a .work .now) (a .free) (a .at) (a .end) (a .d) (a .base) (c .before .before .before .before .before .before .before .before .before .before .pre .0) (q .0) (q .1) (q .2) (q .3) (c .before .before .before .before .before .before .before .before .before .before .pre .1 .1 .0 .0) (c .before .before .before .before .before .before .before .before .before .before .pre .1 .1 .0 .1) (c .before .before .before .before .before .before .before .before .before .before .pre .1 .1 .1 .0) (c .before .before .before .before .before .before .before .before .before .before .pre .1 .1 .1 .1) (c .before .before .before .before .before .before .before .loop .work) (c .before .before .before .before .before .before .before .loop .p) (c .before .before .before .before .before .before .before .loop .out) (c .before .before .before .before .before .before .before .loop .inv) (c .before .before .before .before .before .before .loop-test .taken) (c .before .before .tree-words .last .1 .0) (c .before .before .tree-words .result) (subst (λ (k : ℕ). Canon (a .sheet .now) (c .before .before .before .before .before .before .before .loop .work) (c .before .before .tree-words .last .1 .0) (tree-at (a .sheet .now) (c .before .before .before .before .before .before .before .loop .work) k) (c .before .before .before .before .before .before .before .loop .out) (c .before .before .tree-words .result)) (c .before .before .before .before .wide .ensures) (c .before .before .tree-words .ensures)))
+    omega (arith, next-room (a .sheet .now) (a .work .now) (a .free) (a .at) (a .end) (a .d) (a .base) (c .before .before .before .before .before .before .before .before .before .before .pre .0) (q .0) (q .1) (q .2) (q .3) (c .before .before .before .before .before .before .before .before .before .before .pre .1 .1 .0 .0) (c .before .before .before .before .before .before .before .before .before .before .pre .1 .1 .0 .1) (c .before .before .before .before .before .before .before .before .before .before .pre .1 .1 .1 .0) (c .before .before .before .before .before .before .before .before .before .before .pre .1 .1 .1 .1) (c .before .before .before .before .before .before .before .loop .work) (c .before .before .before .before .before .before .before .loop .p) (c .before .before .before .before .before .before .before .loop .out) (c .before .before .before .before .before .before .before .loop .inv) (c .before .before .before .before .before .before .loop-test .taken) (c .before .before .marked-words .last .1 .0) (c .before .before .marked-words .result) (subst (λ (k : ℕ). Marked (a .sheet .now) (c .before .before .before .before .before .before .before .loop .work) (c .before .before .marked-words .last .1 .0) (tree-at (a .sheet .now) (c .before .before .before .before .before .before .before .loop .work) k) (c .before .before .before .before .before .before .before .loop .out) (c .before .before .marked-words .result) (c .before .before .before .before .before .before .before .loop .p + (2 * a .d + 1))) (c .before .before .before .before .wide .ensures) (c .before .before .marked-words .ensures)))
 
--- src/sums.rt:88:9
 mul-work : tie.Need-mul-work Inv-loop μ-loop
 mul-work c =
     let a = c .before .before .before .before .before .before .before .before .before .before .args in
     let q = c .before .before .before .before .before .before .before .before .before .before .pre .1 .0 in
-    let k = next-room (a .sheet .now) (a .work .now) (a .free) (a .at) (a .end) (a .d) (a .base) (c .before .before .before .before .before .before .before .before .before .before .pre .0) (q .0) (q .1) (q .2) (q .3) (c .before .before .before .before .before .before .before .before .before .before .pre .1 .1 .0 .0) (c .before .before .before .before .before .before .before .before .before .before .pre .1 .1 .0 .1) (c .before .before .before .before .before .before .before .before .before .before .pre .1 .1 .1 .0) (c .before .before .before .before .before .before .before .before .before .before .pre .1 .1 .1 .1) (c .before .before .before .before .before .before .before .loop .work) (c .before .before .before .before .before .before .before .loop .p) (c .before .before .before .before .before .before .before .loop .out) (c .before .before .before .before .before .before .before .loop .inv) (c .before .before .before .before .before .before .loop-test .taken) (c .before .before .tree-words .last .1 .0) (c .before .before .tree-words .result) (subst (λ (k : ℕ). Canon (a .sheet .now) (c .before .before .before .before .before .before .before .loop .work) (c .before .before .tree-words .last .1 .0) (tree-at (a .sheet .now) (c .before .before .before .before .before .before .before .loop .work) k) (c .before .before .before .before .before .before .before .loop .out) (c .before .before .tree-words .result)) (c .before .before .before .before .wide .ensures) (c .before .before .tree-words .ensures)) in
+    let k = next-room (a .sheet .now) (a .work .now) (a .free) (a .at) (a .end) (a .d) (a .base) (c .before .before .before .before .before .before .before .before .before .before .pre .0) (q .0) (q .1) (q .2) (q .3) (c .before .before .before .before .before .before .before .before .before .before .pre .1 .1 .0 .0) (c .before .before .before .before .before .before .before .before .before .before .pre .1 .1 .0 .1) (c .before .before .before .before .before .before .before .before .before .before .pre .1 .1 .1 .0) (c .before .before .before .before .before .before .before .before .before .before .pre .1 .1 .1 .1) (c .before .before .before .before .before .before .before .loop .work) (c .before .before .before .before .before .before .before .loop .p) (c .before .before .before .before .before .before .before .loop .out) (c .before .before .before .before .before .before .before .loop .inv) (c .before .before .before .before .before .before .loop-test .taken) (c .before .before .marked-words .last .1 .0) (c .before .before .marked-words .result) (subst (λ (k : ℕ). Marked (a .sheet .now) (c .before .before .before .before .before .before .before .loop .work) (c .before .before .marked-words .last .1 .0) (tree-at (a .sheet .now) (c .before .before .before .before .before .before .before .loop .work) k) (c .before .before .before .before .before .before .before .loop .out) (c .before .before .marked-words .result) (c .before .before .before .before .before .before .before .loop .p + (2 * a .d + 1))) (c .before .before .before .before .wide .ensures) (c .before .before .marked-words .ensures)) in
     search needs
 
--- src/sums.rt:88:9
 slice-write-work : tie.Need-slice-write-work Inv-loop μ-loop
 slice-write-work c =
     let a = c .before .before .before .before .before .before .before .before .before .before .args in
     let q = c .before .before .before .before .before .before .before .before .before .before .pre .1 .0 in
-    next-room (a .sheet .now) (a .work .now) (a .free) (a .at) (a .end) (a .d) (a .base) (c .before .before .before .before .before .before .before .before .before .before .pre .0) (q .0) (q .1) (q .2) (q .3) (c .before .before .before .before .before .before .before .before .before .before .pre .1 .1 .0 .0) (c .before .before .before .before .before .before .before .before .before .before .pre .1 .1 .0 .1) (c .before .before .before .before .before .before .before .before .before .before .pre .1 .1 .1 .0) (c .before .before .before .before .before .before .before .before .before .before .pre .1 .1 .1 .1) (c .before .before .before .before .before .before .before .loop .work) (c .before .before .before .before .before .before .before .loop .p) (c .before .before .before .before .before .before .before .loop .out) (c .before .before .before .before .before .before .before .loop .inv) (c .before .before .before .before .before .before .loop-test .taken) (c .before .before .tree-words .last .1 .0) (c .before .before .tree-words .result) (subst (λ (k : ℕ). Canon (a .sheet .now) (c .before .before .before .before .before .before .before .loop .work) (c .before .before .tree-words .last .1 .0) (tree-at (a .sheet .now) (c .before .before .before .before .before .before .before .loop .work) k) (c .before .before .before .before .before .before .before .loop .out) (c .before .before .tree-words .result)) (c .before .before .before .before .wide .ensures) (c .before .before .tree-words .ensures)) .0
+    omega (arith, next-room (a .sheet .now) (a .work .now) (a .free) (a .at) (a .end) (a .d) (a .base) (c .before .before .before .before .before .before .before .before .before .before .pre .0) (q .0) (q .1) (q .2) (q .3) (c .before .before .before .before .before .before .before .before .before .before .pre .1 .1 .0 .0) (c .before .before .before .before .before .before .before .before .before .before .pre .1 .1 .0 .1) (c .before .before .before .before .before .before .before .before .before .before .pre .1 .1 .1 .0) (c .before .before .before .before .before .before .before .before .before .before .pre .1 .1 .1 .1) (c .before .before .before .before .before .before .before .loop .work) (c .before .before .before .before .before .before .before .loop .p) (c .before .before .before .before .before .before .before .loop .out) (c .before .before .before .before .before .before .before .loop .inv) (c .before .before .before .before .before .before .loop-test .taken) (c .before .before .marked-words .last .1 .0) (c .before .before .marked-words .result) (subst (λ (k : ℕ). Marked (a .sheet .now) (c .before .before .before .before .before .before .before .loop .work) (c .before .before .marked-words .last .1 .0) (tree-at (a .sheet .now) (c .before .before .before .before .before .before .before .loop .work) k) (c .before .before .before .before .before .before .before .loop .out) (c .before .before .marked-words .result) (c .before .before .before .before .before .before .before .loop .p + (2 * a .d + 1))) (c .before .before .before .before .wide .ensures) (c .before .before .marked-words .ensures)))
 
--- src/sums.rt:84:5
 loop-less : tie.Need-loop-less Inv-loop μ-loop
 loop-less c = omega (arith, c .before .before .before .before .before .before .loop-test .taken)
 
--- src/sums.rt:84:5
 loop-again : tie.Need-loop-again Inv-loop μ-loop
 loop-again c =
     let a = c .before .before .before .before .before .before .before .before .before .before .args in
     let q = c .before .before .before .before .before .before .before .before .before .before .pre .1 .0 in
-    describing-next (a .sheet .now) (a .work .now) (a .free) (a .at) (a .end) (a .d) (a .base) (c .before .before .before .before .before .before .before .before .before .before .pre .0) (q .0) (q .1) (q .2) (q .3) (c .before .before .before .before .before .before .before .before .before .before .pre .1 .1 .0 .0) (c .before .before .before .before .before .before .before .before .before .before .pre .1 .1 .0 .1) (c .before .before .before .before .before .before .before .before .before .before .pre .1 .1 .1 .0) (c .before .before .before .before .before .before .before .before .before .before .pre .1 .1 .1 .1) (c .before .before .before .before .before .before .before .loop .work) (c .before .before .before .before .before .before .before .loop .p) (c .before .before .before .before .before .before .before .loop .out) (c .before .before .before .before .before .before .before .loop .inv) (c .before .before .before .before .before .before .loop-test .taken) (c .before .before .tree-words .last .1 .0) (c .before .before .tree-words .result) (subst (λ (k : ℕ). Canon (a .sheet .now) (c .before .before .before .before .before .before .before .loop .work) (c .before .before .tree-words .last .1 .0) (tree-at (a .sheet .now) (c .before .before .before .before .before .before .before .loop .work) k) (c .before .before .before .before .before .before .before .loop .out) (c .before .before .tree-words .result)) (c .before .before .before .before .wide .ensures) (c .before .before .tree-words .ensures))
+    describing-next (a .sheet .now) (a .work .now) (a .free) (a .at) (a .end) (a .d) (a .base) (c .before .before .before .before .before .before .before .before .before .before .pre .0) (q .0) (q .1) (q .2) (q .3) (c .before .before .before .before .before .before .before .before .before .before .pre .1 .1 .0 .0) (c .before .before .before .before .before .before .before .before .before .before .pre .1 .1 .0 .1) (c .before .before .before .before .before .before .before .before .before .before .pre .1 .1 .1 .0) (c .before .before .before .before .before .before .before .before .before .before .pre .1 .1 .1 .1) (c .before .before .before .before .before .before .before .loop .work) (c .before .before .before .before .before .before .before .loop .p) (c .before .before .before .before .before .before .before .loop .out) (c .before .before .before .before .before .before .before .loop .inv) (c .before .before .before .before .before .before .loop-test .taken) (c .before .before .marked-words .last .1 .0) (c .before .before .marked-words .result) (subst (λ (k : ℕ). Marked (a .sheet .now) (c .before .before .before .before .before .before .before .loop .work) (c .before .before .marked-words .last .1 .0) (tree-at (a .sheet .now) (c .before .before .before .before .before .before .before .loop .work) k) (c .before .before .before .before .before .before .before .loop .out) (c .before .before .marked-words .result) (c .before .before .before .before .before .before .before .loop .p + (2 * a .d + 1))) (c .before .before .before .before .wide .ensures) (c .before .before .marked-words .ensures))
 
--- src/sums.rt:67:1
 same-length : tie.Need-same-length Inv-loop μ-loop
 same-length c = c .before .loop .inv .kept .len
 
--- src/sums.rt:67:1
 returns : tie.Need-returns Inv-loop μ-loop
 returns c =
     let a = c .before .before .before .before .args in
@@ -123,11 +122,14 @@ describe-spec =
     (tie.spec
     Inv-loop
     μ-loop
+    mul-gap
+    add-gap
     loop-holds
     mul-wide
     slice-read-wide
     wide-requires
-    tree-words-requires
+    add-marked-words
+    marked-words-requires
     add-p
     sub-work
     cast-work

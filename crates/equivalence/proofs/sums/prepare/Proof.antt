@@ -1,6 +1,6 @@
 use native.Mathlib.Omega.{arith}
 use mathlib.Core.Path.{_≡_, refl, sym, ap, _∙_}
-use Prim.Native.Nat.{_+_, _-_}
+use Prim.Native.Nat.{_+_, _-_, _*_}
 use lib.ListN.{length-set}
 use Rattle.equivalence.proofs.Preparing.{first-arena, second-room, mark-room, gathered-arena, all-cells, mark-zero, describe-order, describe-room, described-arena, cells₄, lasting₄, cancel-room, readied}
 use borrow.Author.Needs.{needs}
@@ -42,13 +42,23 @@ slice-write-work c =
 sub-d : tie.Need-sub-d
 sub-d c = search needs
 
+-- src/sums.rt:226:22
+mul-base : tie.Need-mul-base
+mul-base c =
+    let a = c .before .before .before .before .before .before .before .before .before .before .args in
+    let q = c .before .before .before .before .before .before .before .before .before .before .pre .1 .0 in
+    let k = describe-order (a .sheet .now) (a .work .now) (c .before .before .before .before .before .before .gather .last .1 .0) (c .before .before .gather2 .last .1 .0) (a .free) (a .left) (a .right) (a .at) (c .before .before .before .before .before .before .gather .result) (c .before .before .gather2 .result) (a .every) (c .before .before .before .before .before .before .before .before .before .before .pre .0) (q .2) (q .3) (q .5) (c .before .before .before .before .before .before .before .before .before .before .pre .1 .1 .1) (c .before .before .before .before .before .before .gather .ensures) (c .before .before .gather2 .ensures) (c .before .before .gather2 .result - a .at) (c .before .before .gather2 .result + 2 * (c .before .before .gather2 .result - a .at) + 1) refl refl in
+    let r = describe-room (a .sheet .now) (a .work .now) (c .before .before .before .before .before .before .gather .last .1 .0) (c .before .before .gather2 .last .1 .0) (a .free) (a .left) (a .right) (a .at) (c .before .before .before .before .before .before .gather .result) (c .before .before .gather2 .result) (a .every) (c .before .before .before .before .before .before .before .before .before .before .pre .0) (q .2) (q .3) (q .5) (c .before .before .before .before .before .before .before .before .before .before .pre .1 .1 .1) (c .before .before .before .before .before .before .gather .ensures) (c .before .before .gather2 .ensures) (c .before .before .gather2 .result - a .at) (c .before .before .gather2 .result + 2 * (c .before .before .gather2 .result - a .at) + 1) refl refl (c .before .before .before .before .before .before .before .before .before .before .pre .1 .1 .0) in
+    let e = length-set (c .before .before .gather2 .last .1 .0) (c .before .before .gather2 .result) 0 in
+    omega arith
+
 -- src/sums.rt:226:16
 add-base : tie.Need-add-base
 add-base c =
     let a = c .before .before .before .before .before .before .before .before .before .before .args in
     let q = c .before .before .before .before .before .before .before .before .before .before .pre .1 .0 in
-    let k = describe-order (a .sheet .now) (a .work .now) (c .before .before .before .before .before .before .gather .last .1 .0) (c .before .before .gather2 .last .1 .0) (a .free) (a .left) (a .right) (a .at) (c .before .before .before .before .before .before .gather .result) (c .before .before .gather2 .result) (a .every) (c .before .before .before .before .before .before .before .before .before .before .pre .0) (q .2) (q .3) (q .5) (c .before .before .before .before .before .before .before .before .before .before .pre .1 .1 .1) (c .before .before .before .before .before .before .gather .ensures) (c .before .before .gather2 .ensures) (c .before .before .gather2 .result - a .at) (c .before .before .gather2 .result + (c .before .before .gather2 .result - a .at) + 1) refl refl in
-    let r = describe-room (a .sheet .now) (a .work .now) (c .before .before .before .before .before .before .gather .last .1 .0) (c .before .before .gather2 .last .1 .0) (a .free) (a .left) (a .right) (a .at) (c .before .before .before .before .before .before .gather .result) (c .before .before .gather2 .result) (a .every) (c .before .before .before .before .before .before .before .before .before .before .pre .0) (q .2) (q .3) (q .5) (c .before .before .before .before .before .before .before .before .before .before .pre .1 .1 .1) (c .before .before .before .before .before .before .gather .ensures) (c .before .before .gather2 .ensures) (c .before .before .gather2 .result - a .at) (c .before .before .gather2 .result + (c .before .before .gather2 .result - a .at) + 1) refl refl (c .before .before .before .before .before .before .before .before .before .before .pre .1 .1 .0) in
+    let k = describe-order (a .sheet .now) (a .work .now) (c .before .before .before .before .before .before .gather .last .1 .0) (c .before .before .gather2 .last .1 .0) (a .free) (a .left) (a .right) (a .at) (c .before .before .before .before .before .before .gather .result) (c .before .before .gather2 .result) (a .every) (c .before .before .before .before .before .before .before .before .before .before .pre .0) (q .2) (q .3) (q .5) (c .before .before .before .before .before .before .before .before .before .before .pre .1 .1 .1) (c .before .before .before .before .before .before .gather .ensures) (c .before .before .gather2 .ensures) (c .before .before .gather2 .result - a .at) (c .before .before .gather2 .result + 2 * (c .before .before .gather2 .result - a .at) + 1) refl refl in
+    let r = describe-room (a .sheet .now) (a .work .now) (c .before .before .before .before .before .before .gather .last .1 .0) (c .before .before .gather2 .last .1 .0) (a .free) (a .left) (a .right) (a .at) (c .before .before .before .before .before .before .gather .result) (c .before .before .gather2 .result) (a .every) (c .before .before .before .before .before .before .before .before .before .before .pre .0) (q .2) (q .3) (q .5) (c .before .before .before .before .before .before .before .before .before .before .pre .1 .1 .1) (c .before .before .before .before .before .before .gather .ensures) (c .before .before .gather2 .ensures) (c .before .before .gather2 .result - a .at) (c .before .before .gather2 .result + 2 * (c .before .before .gather2 .result - a .at) + 1) refl refl (c .before .before .before .before .before .before .before .before .before .before .pre .1 .1 .0) in
     let e = length-set (c .before .before .gather2 .last .1 .0) (c .before .before .gather2 .result) 0 in
     omega arith
 
@@ -57,8 +67,8 @@ add-base-2 : tie.Need-add-base-2
 add-base-2 c =
     let a = c .before .before .before .before .before .before .before .before .before .before .args in
     let q = c .before .before .before .before .before .before .before .before .before .before .pre .1 .0 in
-    let k = describe-order (a .sheet .now) (a .work .now) (c .before .before .before .before .before .before .gather .last .1 .0) (c .before .before .gather2 .last .1 .0) (a .free) (a .left) (a .right) (a .at) (c .before .before .before .before .before .before .gather .result) (c .before .before .gather2 .result) (a .every) (c .before .before .before .before .before .before .before .before .before .before .pre .0) (q .2) (q .3) (q .5) (c .before .before .before .before .before .before .before .before .before .before .pre .1 .1 .1) (c .before .before .before .before .before .before .gather .ensures) (c .before .before .gather2 .ensures) (c .before .before .gather2 .result - a .at) (c .before .before .gather2 .result + (c .before .before .gather2 .result - a .at) + 1) refl refl in
-    let r = describe-room (a .sheet .now) (a .work .now) (c .before .before .before .before .before .before .gather .last .1 .0) (c .before .before .gather2 .last .1 .0) (a .free) (a .left) (a .right) (a .at) (c .before .before .before .before .before .before .gather .result) (c .before .before .gather2 .result) (a .every) (c .before .before .before .before .before .before .before .before .before .before .pre .0) (q .2) (q .3) (q .5) (c .before .before .before .before .before .before .before .before .before .before .pre .1 .1 .1) (c .before .before .before .before .before .before .gather .ensures) (c .before .before .gather2 .ensures) (c .before .before .gather2 .result - a .at) (c .before .before .gather2 .result + (c .before .before .gather2 .result - a .at) + 1) refl refl (c .before .before .before .before .before .before .before .before .before .before .pre .1 .1 .0) in
+    let k = describe-order (a .sheet .now) (a .work .now) (c .before .before .before .before .before .before .gather .last .1 .0) (c .before .before .gather2 .last .1 .0) (a .free) (a .left) (a .right) (a .at) (c .before .before .before .before .before .before .gather .result) (c .before .before .gather2 .result) (a .every) (c .before .before .before .before .before .before .before .before .before .before .pre .0) (q .2) (q .3) (q .5) (c .before .before .before .before .before .before .before .before .before .before .pre .1 .1 .1) (c .before .before .before .before .before .before .gather .ensures) (c .before .before .gather2 .ensures) (c .before .before .gather2 .result - a .at) (c .before .before .gather2 .result + 2 * (c .before .before .gather2 .result - a .at) + 1) refl refl in
+    let r = describe-room (a .sheet .now) (a .work .now) (c .before .before .before .before .before .before .gather .last .1 .0) (c .before .before .gather2 .last .1 .0) (a .free) (a .left) (a .right) (a .at) (c .before .before .before .before .before .before .gather .result) (c .before .before .gather2 .result) (a .every) (c .before .before .before .before .before .before .before .before .before .before .pre .0) (q .2) (q .3) (q .5) (c .before .before .before .before .before .before .before .before .before .before .pre .1 .1 .1) (c .before .before .before .before .before .before .gather .ensures) (c .before .before .gather2 .ensures) (c .before .before .gather2 .result - a .at) (c .before .before .gather2 .result + 2 * (c .before .before .gather2 .result - a .at) + 1) refl refl (c .before .before .before .before .before .before .before .before .before .before .pre .1 .1 .0) in
     let e = length-set (c .before .before .gather2 .last .1 .0) (c .before .before .gather2 .result) 0 in
     omega arith
 
@@ -67,14 +77,14 @@ describe-requires : tie.Need-describe-requires
 describe-requires c κs =
     let a = c .before .before .before .before .before .before .before .before .before .before .before .args in
     let q = c .before .before .before .before .before .before .before .before .before .before .before .pre .1 .0 in
-    (gathered-arena (a .sheet .now) (a .work .now) (c .before .before .before .before .before .before .before .gather .last .1 .0) (c .before .before .before .gather2 .last .1 .0) (a .free) (a .left) (a .right) (a .at) (c .before .before .before .before .before .before .before .gather .result) (c .before .before .before .gather2 .result) (a .every) (c .before .before .before .before .before .before .before .before .before .before .before .pre .0) (q .2) (q .3) (q .5) (c .before .before .before .before .before .before .before .before .before .before .before .pre .1 .1 .1) (c .before .before .before .before .before .before .before .gather .ensures) (c .before .before .before .gather2 .ensures), (describe-order (a .sheet .now) (a .work .now) (c .before .before .before .before .before .before .before .gather .last .1 .0) (c .before .before .before .gather2 .last .1 .0) (a .free) (a .left) (a .right) (a .at) (c .before .before .before .before .before .before .before .gather .result) (c .before .before .before .gather2 .result) (a .every) (c .before .before .before .before .before .before .before .before .before .before .before .pre .0) (q .2) (q .3) (q .5) (c .before .before .before .before .before .before .before .before .before .before .before .pre .1 .1 .1) (c .before .before .before .before .before .before .before .gather .ensures) (c .before .before .before .gather2 .ensures) (c .before .before .before .gather2 .result - a .at) (c .before .before .before .gather2 .result + (c .before .before .before .gather2 .result - a .at) + 1) refl refl, ((all-cells (a .sheet .now) (a .work .now) (c .before .before .before .before .before .before .before .gather .last .1 .0) (c .before .before .before .gather2 .last .1 .0) (a .free) (a .left) (a .right) (a .at) (c .before .before .before .before .before .before .before .gather .result) (c .before .before .before .gather2 .result) (a .every) (c .before .before .before .before .before .before .before .before .before .before .before .pre .0) (q .2) (q .3) (q .5) (c .before .before .before .before .before .before .before .before .before .before .before .pre .1 .1 .1) (c .before .before .before .before .before .before .before .gather .ensures) (c .before .before .before .gather2 .ensures), mark-zero (a .sheet .now) (a .work .now) (c .before .before .before .before .before .before .before .gather .last .1 .0) (c .before .before .before .gather2 .last .1 .0) (a .free) (a .left) (a .right) (a .at) (c .before .before .before .before .before .before .before .gather .result) (c .before .before .before .gather2 .result) (a .every) (c .before .before .before .before .before .before .before .before .before .before .before .pre .0) (q .2) (q .3) (q .5) (c .before .before .before .before .before .before .before .before .before .before .before .pre .1 .1 .1) (c .before .before .before .before .before .before .before .gather .ensures) (c .before .before .before .gather2 .ensures) (c .before .before .before .gather2 .result - a .at) refl), describe-room (a .sheet .now) (a .work .now) (c .before .before .before .before .before .before .before .gather .last .1 .0) (c .before .before .before .gather2 .last .1 .0) (a .free) (a .left) (a .right) (a .at) (c .before .before .before .before .before .before .before .gather .result) (c .before .before .before .gather2 .result) (a .every) (c .before .before .before .before .before .before .before .before .before .before .before .pre .0) (q .2) (q .3) (q .5) (c .before .before .before .before .before .before .before .before .before .before .before .pre .1 .1 .1) (c .before .before .before .before .before .before .before .gather .ensures) (c .before .before .before .gather2 .ensures) (c .before .before .before .gather2 .result - a .at) (c .before .before .before .gather2 .result + (c .before .before .before .gather2 .result - a .at) + 1) refl refl (c .before .before .before .before .before .before .before .before .before .before .before .pre .1 .1 .0))))
+    (gathered-arena (a .sheet .now) (a .work .now) (c .before .before .before .before .before .before .before .gather .last .1 .0) (c .before .before .before .gather2 .last .1 .0) (a .free) (a .left) (a .right) (a .at) (c .before .before .before .before .before .before .before .gather .result) (c .before .before .before .gather2 .result) (a .every) (c .before .before .before .before .before .before .before .before .before .before .before .pre .0) (q .2) (q .3) (q .5) (c .before .before .before .before .before .before .before .before .before .before .before .pre .1 .1 .1) (c .before .before .before .before .before .before .before .gather .ensures) (c .before .before .before .gather2 .ensures), (describe-order (a .sheet .now) (a .work .now) (c .before .before .before .before .before .before .before .gather .last .1 .0) (c .before .before .before .gather2 .last .1 .0) (a .free) (a .left) (a .right) (a .at) (c .before .before .before .before .before .before .before .gather .result) (c .before .before .before .gather2 .result) (a .every) (c .before .before .before .before .before .before .before .before .before .before .before .pre .0) (q .2) (q .3) (q .5) (c .before .before .before .before .before .before .before .before .before .before .before .pre .1 .1 .1) (c .before .before .before .before .before .before .before .gather .ensures) (c .before .before .before .gather2 .ensures) (c .before .before .before .gather2 .result - a .at) (c .before .before .before .gather2 .result + 2 * (c .before .before .before .gather2 .result - a .at) + 1) refl refl, ((all-cells (a .sheet .now) (a .work .now) (c .before .before .before .before .before .before .before .gather .last .1 .0) (c .before .before .before .gather2 .last .1 .0) (a .free) (a .left) (a .right) (a .at) (c .before .before .before .before .before .before .before .gather .result) (c .before .before .before .gather2 .result) (a .every) (c .before .before .before .before .before .before .before .before .before .before .before .pre .0) (q .2) (q .3) (q .5) (c .before .before .before .before .before .before .before .before .before .before .before .pre .1 .1 .1) (c .before .before .before .before .before .before .before .gather .ensures) (c .before .before .before .gather2 .ensures), mark-zero (a .sheet .now) (a .work .now) (c .before .before .before .before .before .before .before .gather .last .1 .0) (c .before .before .before .gather2 .last .1 .0) (a .free) (a .left) (a .right) (a .at) (c .before .before .before .before .before .before .before .gather .result) (c .before .before .before .gather2 .result) (a .every) (c .before .before .before .before .before .before .before .before .before .before .before .pre .0) (q .2) (q .3) (q .5) (c .before .before .before .before .before .before .before .before .before .before .before .pre .1 .1 .1) (c .before .before .before .before .before .before .before .gather .ensures) (c .before .before .before .gather2 .ensures) (c .before .before .before .gather2 .result - a .at) refl), describe-room (a .sheet .now) (a .work .now) (c .before .before .before .before .before .before .before .gather .last .1 .0) (c .before .before .before .gather2 .last .1 .0) (a .free) (a .left) (a .right) (a .at) (c .before .before .before .before .before .before .before .gather .result) (c .before .before .before .gather2 .result) (a .every) (c .before .before .before .before .before .before .before .before .before .before .before .pre .0) (q .2) (q .3) (q .5) (c .before .before .before .before .before .before .before .before .before .before .before .pre .1 .1 .1) (c .before .before .before .before .before .before .before .gather .ensures) (c .before .before .before .gather2 .ensures) (c .before .before .before .gather2 .result - a .at) (c .before .before .before .gather2 .result + 2 * (c .before .before .before .gather2 .result - a .at) + 1) refl refl (c .before .before .before .before .before .before .before .before .before .before .before .pre .1 .1 .0))))
 
 -- src/sums.rt:228:5
 cancel-requires : tie.Need-cancel-requires
 cancel-requires c κs =
     let a = c .before .before .before .before .before .before .before .before .before .before .before .before .before .before .before .args in
     let q = c .before .before .before .before .before .before .before .before .before .before .before .before .before .before .before .pre .1 .0 in
-    (described-arena (a .sheet .now) (a .work .now) (c .before .before .before .before .before .before .before .before .before .before .before .gather .last .1 .0) (c .before .before .before .before .before .before .before .gather2 .last .1 .0) (a .free) (a .left) (a .right) (a .at) (c .before .before .before .before .before .before .before .before .before .before .before .gather .result) (c .before .before .before .before .before .before .before .gather2 .result) (a .every) (c .before .before .before .before .before .before .before .before .before .before .before .before .before .before .before .pre .0) (q .2) (q .3) (q .5) (c .before .before .before .before .before .before .before .before .before .before .before .before .before .before .before .pre .1 .1 .1) (c .before .before .before .before .before .before .before .before .before .before .before .gather .ensures) (c .before .before .before .before .before .before .before .gather2 .ensures) (c .before .before .before .before .before .before .before .gather2 .result - a .at) (c .before .before .before .before .before .before .before .gather2 .result + (c .before .before .before .before .before .before .before .gather2 .result - a .at) + 1) refl refl (c .before .before .before .describe .last .1 .0) (c .before .before .before .describe .ensures), (cancel-room (a .sheet .now) (a .work .now) (c .before .before .before .before .before .before .before .before .before .before .before .gather .last .1 .0) (c .before .before .before .before .before .before .before .gather2 .last .1 .0) (a .free) (a .left) (a .right) (a .at) (c .before .before .before .before .before .before .before .before .before .before .before .gather .result) (c .before .before .before .before .before .before .before .gather2 .result) (a .every) (c .before .before .before .before .before .before .before .before .before .before .before .before .before .before .before .pre .0) (q .2) (q .3) (q .5) (c .before .before .before .before .before .before .before .before .before .before .before .before .before .before .before .pre .1 .1 .1) (c .before .before .before .before .before .before .before .before .before .before .before .gather .ensures) (c .before .before .before .before .before .before .before .gather2 .ensures) (c .before .before .before .before .before .before .before .gather2 .result - a .at) (c .before .before .before .before .before .before .before .gather2 .result + (c .before .before .before .before .before .before .before .gather2 .result - a .at) + 1) refl refl (c .before .before .before .describe .last .1 .0) (c .before .before .before .describe .ensures), (cells₄ (a .sheet .now) (a .work .now) (c .before .before .before .before .before .before .before .before .before .before .before .gather .last .1 .0) (c .before .before .before .before .before .before .before .gather2 .last .1 .0) (a .free) (a .left) (a .right) (a .at) (c .before .before .before .before .before .before .before .before .before .before .before .gather .result) (c .before .before .before .before .before .before .before .gather2 .result) (a .every) (c .before .before .before .before .before .before .before .before .before .before .before .before .before .before .before .pre .0) (q .2) (q .3) (q .5) (c .before .before .before .before .before .before .before .before .before .before .before .before .before .before .before .pre .1 .1 .1) (c .before .before .before .before .before .before .before .before .before .before .before .gather .ensures) (c .before .before .before .before .before .before .before .gather2 .ensures) (c .before .before .before .before .before .before .before .gather2 .result - a .at) (c .before .before .before .before .before .before .before .gather2 .result + (c .before .before .before .before .before .before .before .gather2 .result - a .at) + 1) refl refl (c .before .before .before .describe .last .1 .0) (c .before .before .before .describe .ensures), lasting₄ (a .sheet .now) (a .work .now) (c .before .before .before .before .before .before .before .before .before .before .before .gather .last .1 .0) (c .before .before .before .before .before .before .before .gather2 .last .1 .0) (a .free) (a .left) (a .right) (a .at) (c .before .before .before .before .before .before .before .before .before .before .before .gather .result) (c .before .before .before .before .before .before .before .gather2 .result) (a .every) (c .before .before .before .before .before .before .before .before .before .before .before .before .before .before .before .pre .0) (q .2) (q .3) (q .5) (c .before .before .before .before .before .before .before .before .before .before .before .before .before .before .before .pre .1 .1 .1) (c .before .before .before .before .before .before .before .before .before .before .before .gather .ensures) (c .before .before .before .before .before .before .before .gather2 .ensures) (c .before .before .before .before .before .before .before .gather2 .result - a .at) (c .before .before .before .before .before .before .before .gather2 .result + (c .before .before .before .before .before .before .before .gather2 .result - a .at) + 1) refl refl (c .before .before .before .describe .last .1 .0) (c .before .before .before .describe .ensures))))
+    (described-arena (a .sheet .now) (a .work .now) (c .before .before .before .before .before .before .before .before .before .before .before .gather .last .1 .0) (c .before .before .before .before .before .before .before .gather2 .last .1 .0) (a .free) (a .left) (a .right) (a .at) (c .before .before .before .before .before .before .before .before .before .before .before .gather .result) (c .before .before .before .before .before .before .before .gather2 .result) (a .every) (c .before .before .before .before .before .before .before .before .before .before .before .before .before .before .before .pre .0) (q .2) (q .3) (q .5) (c .before .before .before .before .before .before .before .before .before .before .before .before .before .before .before .pre .1 .1 .1) (c .before .before .before .before .before .before .before .before .before .before .before .gather .ensures) (c .before .before .before .before .before .before .before .gather2 .ensures) (c .before .before .before .before .before .before .before .gather2 .result - a .at) (c .before .before .before .before .before .before .before .gather2 .result + 2 * (c .before .before .before .before .before .before .before .gather2 .result - a .at) + 1) refl refl (c .before .before .before .describe .last .1 .0) (c .before .before .before .describe .ensures), (cancel-room (a .sheet .now) (a .work .now) (c .before .before .before .before .before .before .before .before .before .before .before .gather .last .1 .0) (c .before .before .before .before .before .before .before .gather2 .last .1 .0) (a .free) (a .left) (a .right) (a .at) (c .before .before .before .before .before .before .before .before .before .before .before .gather .result) (c .before .before .before .before .before .before .before .gather2 .result) (a .every) (c .before .before .before .before .before .before .before .before .before .before .before .before .before .before .before .pre .0) (q .2) (q .3) (q .5) (c .before .before .before .before .before .before .before .before .before .before .before .before .before .before .before .pre .1 .1 .1) (c .before .before .before .before .before .before .before .before .before .before .before .gather .ensures) (c .before .before .before .before .before .before .before .gather2 .ensures) (c .before .before .before .before .before .before .before .gather2 .result - a .at) (c .before .before .before .before .before .before .before .gather2 .result + 2 * (c .before .before .before .before .before .before .before .gather2 .result - a .at) + 1) refl refl (c .before .before .before .describe .last .1 .0) (c .before .before .before .describe .ensures), (cells₄ (a .sheet .now) (a .work .now) (c .before .before .before .before .before .before .before .before .before .before .before .gather .last .1 .0) (c .before .before .before .before .before .before .before .gather2 .last .1 .0) (a .free) (a .left) (a .right) (a .at) (c .before .before .before .before .before .before .before .before .before .before .before .gather .result) (c .before .before .before .before .before .before .before .gather2 .result) (a .every) (c .before .before .before .before .before .before .before .before .before .before .before .before .before .before .before .pre .0) (q .2) (q .3) (q .5) (c .before .before .before .before .before .before .before .before .before .before .before .before .before .before .before .pre .1 .1 .1) (c .before .before .before .before .before .before .before .before .before .before .before .gather .ensures) (c .before .before .before .before .before .before .before .gather2 .ensures) (c .before .before .before .before .before .before .before .gather2 .result - a .at) (c .before .before .before .before .before .before .before .gather2 .result + 2 * (c .before .before .before .before .before .before .before .gather2 .result - a .at) + 1) refl refl (c .before .before .before .describe .last .1 .0) (c .before .before .before .describe .ensures), lasting₄ (a .sheet .now) (a .work .now) (c .before .before .before .before .before .before .before .before .before .before .before .gather .last .1 .0) (c .before .before .before .before .before .before .before .gather2 .last .1 .0) (a .free) (a .left) (a .right) (a .at) (c .before .before .before .before .before .before .before .before .before .before .before .gather .result) (c .before .before .before .before .before .before .before .gather2 .result) (a .every) (c .before .before .before .before .before .before .before .before .before .before .before .before .before .before .before .pre .0) (q .2) (q .3) (q .5) (c .before .before .before .before .before .before .before .before .before .before .before .before .before .before .before .pre .1 .1 .1) (c .before .before .before .before .before .before .before .before .before .before .before .gather .ensures) (c .before .before .before .before .before .before .before .gather2 .ensures) (c .before .before .before .before .before .before .before .gather2 .result - a .at) (c .before .before .before .before .before .before .before .gather2 .result + 2 * (c .before .before .before .before .before .before .before .gather2 .result - a .at) + 1) refl refl (c .before .before .before .describe .last .1 .0) (c .before .before .before .describe .ensures))))
 
 -- src/sums.rt:208:1
 same-length : tie.Need-same-length
@@ -85,7 +95,7 @@ returns : tie.Need-returns
 returns c =
     let a = c .before .before .before .before .before .before .before .before .before .before .before .before .before .before .before .before .before .before .args in
     let q = c .before .before .before .before .before .before .before .before .before .before .before .before .before .before .before .before .before .before .pre .1 .0 in
-    readied (a .sheet .now) (a .work .now) (c .before .before .before .before .before .before .before .before .before .before .before .before .before .before .gather .last .1 .0) (c .before .before .before .before .before .before .before .before .before .before .gather2 .last .1 .0) (a .free) (a .left) (a .right) (a .at) (c .before .before .before .before .before .before .before .before .before .before .before .before .before .before .gather .result) (c .before .before .before .before .before .before .before .before .before .before .gather2 .result) (a .every) (c .before .before .before .before .before .before .before .before .before .before .before .before .before .before .before .before .before .before .pre .0) (q .2) (q .3) (q .5) (c .before .before .before .before .before .before .before .before .before .before .before .before .before .before .before .before .before .before .pre .1 .1 .1) (c .before .before .before .before .before .before .before .before .before .before .before .before .before .before .gather .ensures) (c .before .before .before .before .before .before .before .before .before .before .gather2 .ensures) (c .before .before .before .before .before .before .before .before .before .before .gather2 .result - a .at) (c .before .before .before .before .before .before .before .before .before .before .gather2 .result + (c .before .before .before .before .before .before .before .before .before .before .gather2 .result - a .at) + 1) refl refl (c .before .before .before .before .before .before .describe .last .1 .0) (c .before .before .before .before .before .before .describe .ensures) (c .before .before .cancel .last .1 .0) (c .before .before .cancel .ensures)
+    readied (a .sheet .now) (a .work .now) (c .before .before .before .before .before .before .before .before .before .before .before .before .before .before .gather .last .1 .0) (c .before .before .before .before .before .before .before .before .before .before .gather2 .last .1 .0) (a .free) (a .left) (a .right) (a .at) (c .before .before .before .before .before .before .before .before .before .before .before .before .before .before .gather .result) (c .before .before .before .before .before .before .before .before .before .before .gather2 .result) (a .every) (c .before .before .before .before .before .before .before .before .before .before .before .before .before .before .before .before .before .before .pre .0) (q .2) (q .3) (q .5) (c .before .before .before .before .before .before .before .before .before .before .before .before .before .before .before .before .before .before .pre .1 .1 .1) (c .before .before .before .before .before .before .before .before .before .before .before .before .before .before .gather .ensures) (c .before .before .before .before .before .before .before .before .before .before .gather2 .ensures) (c .before .before .before .before .before .before .before .before .before .before .gather2 .result - a .at) (c .before .before .before .before .before .before .before .before .before .before .gather2 .result + 2 * (c .before .before .before .before .before .before .before .before .before .before .gather2 .result - a .at) + 1) refl refl (c .before .before .before .before .before .before .describe .last .1 .0) (c .before .before .before .before .before .before .describe .ensures) (c .before .before .cancel .last .1 .0) (c .before .before .cancel .ensures)
 
 pub prepare-spec : {M : Type 1} → statement M
 prepare-spec =
@@ -96,6 +106,7 @@ prepare-spec =
     mul-work
     slice-write-work
     sub-d
+    mul-base
     add-base
     add-base-2
     describe-requires

@@ -43,7 +43,7 @@ returns c =
     let a = c .before .before .before .before .before .before .before .args in
     let h = c .before .before .before .before .loop .inv in
     let r = h .room in
-    (ordering-over (a .sheet .now) (a .work .now) (a .start) (a .chain) (c .before .before .before .before .before .before .before .pre .0) (c .before .before .before .before .before .before .before .pre .1 .0) h (c .before .before .before .loop-test .taken) (c .before .count-of .ensures .0) (c .if1 .taken), grown-more (omega arith) (h .grown))
+    (ordering-over (a .sheet .now) (a .work .now) (a .start) (a .chain) (c .before .before .before .before .before .before .before .pre .0) (c .before .before .before .before .before .before .before .pre .1 .0) h (c .before .before .before .loop-test .taken) (c .before .count-of .ensures .0) (omega (arith, c .if1 .taken)), grown-more (omega arith) (h .grown))
 
 -- src/closing.rt:55:13
 next-of-requires : tie.Need-next-of-requires Inv-loop μ-loop

@@ -1,0 +1,49 @@
+-- The answer to a sheet of kind `unify` or `match`, as the code makes it. Definitions only.
+use Prim.Native.Nat.{ℕ, _<_, _≤_}
+use mathlib.Core.Path.{_≡_}
+use mathlib.Core.Bool.{Bool, true, false}
+use mathlib.Core.List.{List, []}
+use mathlib.Core.Option.{some}
+use lib.ListN.{length}
+use Rattle.rules.specs.Bytes.{Text}
+use Rattle.rules.specs.Maybe.{_>>=_}
+use Rattle.rules.specs.Substitution.{Pair}
+use Rattle.rules.specs.Solving.{solved, failed, unsupported, Answer, unify}
+use Rattle.rules.specs.Matching.{matcher}
+use Rattle.rules.specs.Sheet.{Sheet, Entry, asks-unify, asks-match, pairs, read-sheet}
+use Rattle.tree.specs.Cells.{trees-at}
+use Rattle.tree.specs.Arena.{Arena}
+use Rattle.substitution.specs.Bindings.{bindings-at, Chain}
+use Rattle.sheet.specs.Lines.{lines-at}
+use Rattle.unifier.specs.declared.unifying.Outcome.{Outcome}
+use Rattle.unifier.specs.declared.unifying.Outcome.the-variants as outcome
+
+-- `match` or `unify`
+abbrev pub asks : Bool → ℕ → List Entry → Sheet
+asks true = asks-match
+asks false = asks-unify
+
+abbrev pub solve-by : Bool → ℕ → List Pair → Answer
+solve-by true = matcher
+solve-by false = unify
+
+-- the sheet asks for its pairs to be solved, which stand from a position on
+pub record Asked (s : Text) (matching : Bool) (fuel at : ℕ) : Type 0 where
+  pub entries : List Entry
+  pub lines : (lines-at s at >>= pairs) ≡ some (entries, [])
+  pub reads : read-sheet s ≡ some (asks matching fuel entries)
+  pub short : length s ≤ 65536
+  pub fuelled : fuel ≤ 65536
+  pub inside : at ≤ length s
+
+-- the answer that an outcome stands for
+abbrev pub told : Text → List ℕ → Outcome → Answer
+told s w (outcome.Solved b m spent) = (solved (bindings-at s w b), spent)
+told s w (outcome.Failed spent) = (failed, spent)
+told s w (outcome.Unsupported spent) = (unsupported, spent)
+
+-- its bindings stand in the work area
+abbrev pub Listed : Text → List ℕ → Outcome → Type 0
+Listed s w (outcome.Solved b m spent) = Arena s w m × (b < m) × Chain (trees-at s w b)
+Listed s w (outcome.Failed spent) = Unit {0}
+Listed s w (outcome.Unsupported spent) = Unit {0}

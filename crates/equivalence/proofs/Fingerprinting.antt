@@ -1,0 +1,84 @@
+-- Fingerprints, carried on through a text byte by byte and word by word. Assumes nothing.
+use Prim.Native.Nat.{ℕ, zero, suc, _+_, _*_, _<_, _≤_, _%_}
+use mathlib.Core.Path.{_≡_, refl, sym, ap, _∙_}
+use mathlib.Core.List.{List, [], _∷_, _++_}
+use lib.ListN.{length, getD, drop, set, drop-of-length-le}
+use lib.Seq.{slice, drop-cons}
+use native.Mathlib.Omega.{arith}
+use native.Mathlib.Numerals.{add-one}
+use Rattle.rules.specs.Tree.{Tree}
+use Rattle.text.proofs.Slices.{slice-none}
+use Rattle.certificate.specs.Texts.{word-text, width-of, texts, Token, Tokens}
+use Rattle.certificate.proofs.WordTexts.{width-text, width-pos, rest-split}
+use Rattle.equivalence.specs.Words.{Canon}
+use Rattle.equivalence.specs.Fingerprints.{mixed, fingerprint, Marked}
+
+pub mixed-append : (h : ℕ) (a b : List ℕ) → mixed h (a ++ b) ≡ mixed (mixed h a) b
+unfolding mixed
+mixed-append h [] b = refl
+mixed-append h (x ∷ a) b = mixed-append ((h * 16777619 + x) % 4294967296) a b
+
+-- ---- the text of a word
+
+module _ (s : List ℕ) (x h : ℕ) where
+  pub record Mixing (a r : ℕ) : Type 0 where
+    pub high : a ≤ width-of x
+    pub small : r < 4294967296
+    pub rest : mixed r (drop a (word-text s x)) ≡ mixed h (word-text s x)
+
+  pub mixing-starts : h < 4294967296 → Mixing 0 h
+  mixing-starts l = record { high = omega arith; small = l; rest = refl }
+
+  module _ (t : Token s x) (a r : ℕ) (m : Mixing a r) where
+    pub mixing-next : (b : ℕ) → b ≡ getD (word-text s x) a 0 → a < width-of x → Mixing (a + 1) ((r * 16777619 + b) % 4294967296)
+    unfolding mixed
+    mixing-next b e l =
+        let n = width-text s x t in
+        let z : drop a (word-text s x) ≡ getD (word-text s x) a 0 ∷ drop (a + 1) (word-text s x) = rw (add-one a) (drop-cons (word-text s x) a 0 (omega arith)) in
+        record {
+          high = omega arith;
+          small = omega arith;
+          rest = ap (λ (b : ℕ). mixed ((r * 16777619 + b) % 4294967296) (drop (a + 1) (word-text s x))) e ∙ sym (ap (mixed r) z) ∙ m .rest;
+        }
+
+    pub mixing-ends : width-of x ≤ a → (r < 4294967296) × (r ≡ mixed h (word-text s x))
+    unfolding mixed
+    mixing-ends l =
+        let n = width-text s x t in
+        (m .small, sym (ap (mixed r) (drop-of-length-le (word-text s x) {i = a} (omega arith))) ∙ m .rest)
+
+-- ---- the text of a run of words
+
+module _ (s w : List ℕ) (from to : ℕ) where
+  pub record Printing (p r : ℕ) : Type 0 where
+    pub low : from ≤ p
+    pub high : p ≤ to
+    pub small : r < 4294967296
+    pub rest : mixed r (texts s (slice p to w)) ≡ fingerprint (texts s (slice from to w))
+
+  pub printing-starts : from ≤ to → Printing from 2166136261
+  printing-starts l = record { low = omega arith; high = l; small = omega arith; rest = refl }
+
+  module _ (room : to ≤ length w) (ts : Tokens s w from to) (p r : ℕ) (h : Printing p r) where
+    pub word-token : p < to → Token s (getD w p 0)
+    word-token l = ts p (h .low) l
+
+    pub printing-next : (r₁ : ℕ) → p < to → (r₁ < 4294967296) × (r₁ ≡ mixed r (word-text s (getD w p 0))) → Printing (p + 1) r₁
+    printing-next r₁ l e =
+        let k = h .low in
+        let z : texts s (slice p to w) ≡ word-text s (getD w p 0) ++ texts s (slice (p + 1) to w) = rest-split s w to room p 0 l (word-token l) (width-pos (getD w p 0)) in
+        record {
+          low = omega arith;
+          high = omega arith;
+          small = e .0;
+          rest = ap (λ (r : ℕ). mixed r (texts s (slice (p + 1) to w))) (e .1) ∙ sym (ap (mixed r) z ∙ mixed-append r (word-text s (getD w p 0)) (texts s (slice (p + 1) to w))) ∙ h .rest;
+        }
+
+    pub printing-ends : to ≤ p → r ≡ fingerprint (texts s (slice from to w))
+    unfolding mixed texts
+    printing-ends l = sym (ap (λ (c : List ℕ). mixed r (texts s c)) (slice-none p to w l)) ∙ h .rest
+
+-- ---- words with their fingerprint
+
+pub marks : {s w v : List ℕ} {t : Tree} {base r : ℕ} (k m : ℕ) → Canon s w v t base r → m ≡ fingerprint (texts s (slice base r v)) → Marked s w (set v k m) t base r k
+marks {s} {w} {v} k m c e = record { area = v; canon = c; is = ap (set v k) (e ∙ ap fingerprint (c .text)) }

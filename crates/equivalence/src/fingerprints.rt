@@ -1,0 +1,65 @@
+// Fingerprints of texts: texts that are one have one fingerprint.
+use crate::words::tree_words;
+use certificate::order::byte_of;
+use certificate::order::width_of;
+use text::places::wide;
+ghost use mathlib.Core.Path.{_≡_};
+ghost use Prim.Native.Nat.{_+_, _*_, _<_, _≤_};
+ghost use lib.ListN.{length};
+ghost use lib.Seq.{slice};
+ghost use Rattle.rules.specs.Tree.{size};
+ghost use Rattle.tree.specs.Cells.{tree-at};
+ghost use Rattle.tree.specs.Arena.{Arena};
+ghost use Rattle.certificate.specs.Texts.{word-text, texts, Token, Tokens};
+ghost use Rattle.equivalence.specs.Fingerprints.{mixed, fingerprint, Marked};
+
+// The fingerprint h, carried on through the text of the word x.
+fn mix(sheet: &[u8], x: usize, h: usize) -> usize
+    requires { ⌜ Token (now sheet) x ⌝ }
+    requires { ⌜ h < 4294967296 ⌝ }
+    ensures { λ r. ⌜ (r < 4294967296) × (r ≡ mixed h (word-text (now (sheet .entry)) x)) ⌝ }
+{
+    let width = width_of(x);
+    let mut a = 0;
+    let mut r = h;
+    while a < width {
+        let b = byte_of(sheet, x, a) as usize;
+        r = (r * 16777619 + b) % 4294967296;
+        a += 1;
+    }
+    r
+}
+
+// The fingerprint of the text of the words from `from` to `to`.
+fn fingerprint(sheet: &[u8], work: &[u32], from: usize, to: usize) -> u32
+    requires { ⌜ (from ≤ to) × (to ≤ length (now work)) ⌝ }
+    requires { ⌜ Tokens (now sheet) (now work) from to ⌝ }
+    ensures { λ r. ⌜ r ≡ fingerprint (texts (now (sheet .entry)) (slice from to (now (work .entry)))) ⌝ }
+{
+    let mut p = from;
+    let mut r: usize = 2166136261;
+    while p < to {
+        r = mix(sheet, wide(work[p]), r);
+        p += 1;
+    }
+    r as u32
+}
+
+// Writes the canonical words of the tree of cell i from `base` on and their fingerprint into the word k, and answers where they end.
+pub fn marked_words(
+    sheet: &[u8],
+    work: &mut [u32],
+    free: usize,
+    i: usize,
+    base: usize,
+    k: usize,
+) -> usize
+    requires { ⌜ Arena (now sheet) (now work) free ⌝ }
+    requires { ⌜ (0 < i) × (i < free) × (4 * free ≤ base) × (k < base) ⌝ }
+    requires { ⌜ (5 * size (tree-at (now sheet) (now work) i) < 65536) × (base + 15 * size (tree-at (now sheet) (now work) i) ≤ length (now work)) ⌝ }
+    ensures { λ r. ⌜ Marked (now (sheet .entry)) (now (work .entry)) (now (work .exit)) (tree-at (now (sheet .entry)) (now (work .entry)) i) base r k ⌝ }
+{
+    let end = tree_words(sheet, work, free, i, base);
+    work[k] = fingerprint(sheet, work, base, end);
+    end
+}

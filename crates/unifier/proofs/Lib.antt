@@ -1,0 +1,15 @@
+pub mod Areas
+pub mod Children
+pub mod Keys
+pub mod Fitting
+pub mod Tops
+pub mod Resuming
+pub mod Invariant
+pub mod Finishing
+pub mod Leaving
+pub mod Resting
+pub mod Waiting
+pub mod Sums
+pub mod Steps
+pub mod Moving
+pub mod Advancing

@@ -1,0 +1,6 @@
+pub mod Stack
+pub mod Area
+pub mod Resting
+pub mod Stepping
+pub mod Running
+pub mod Matching

@@ -1,0 +1,165 @@
+// One pair of `unify`, taken from the stack.
+use crate::elimination::Taken;
+use crate::elimination::eliminate;
+use crate::pushing::child_of;
+use crate::pushing::push_children;
+use crate::rest::Rest;
+use crate::rest::unify_rest;
+use equivalence::sums::is_sum;
+use sorts::natural;
+use sorts::refinable;
+use substitution::bindings::push_pair;
+use tree::cells::kind_of;
+use tree::equality::same_tree;
+use tree::names::same_head;
+ghost use mathlib.Core.Path.{_≡_};
+ghost use mathlib.Core.Bool.{true, _&&_};
+ghost use lib.Dec.{ltb};
+ghost use lib.ListN.{length};
+ghost use Prim.Native.Nat.{_+_, _*_, _<_, _≤_};
+ghost use Rattle.rules.specs.Tree.{tamtplus};
+ghost use Rattle.rules.specs.Sums.{equivalent};
+ghost use Rattle.rules.specs.Sorts.{sort-refuted};
+ghost use Rattle.rules.specs.Solving.{cancel-sums, sum-step, decompose, step};
+ghost use Rattle.rules.specs.Memory.{load, weight};
+ghost use Rattle.tree.specs.Cells.{kind-of, name-at, tree-at, trees-at};
+ghost use Rattle.tree.specs.Arena.{Arena};
+ghost use Rattle.unifier.specs.Stack.{Whole, pairs-at, Fit};
+ghost use Rattle.unifier.specs.Area.{Room};
+ghost use Rattle.unifier.specs.Stepping.{Steps};
+
+// Whether one of the trees of cells left and right is always natural and the other can never be.
+fn refuted(sheet: &[u8], work: &[u32], free: usize, left: usize, right: usize) -> bool
+    requires { ⌜ Arena (now sheet) (now work) free ⌝ }
+    requires { ⌜ (0 < left) × (left < free) × (0 < right) × (right < free) ⌝ }
+    ensures { λ r. ⌜ r ≡ sort-refuted (tree-at (now (sheet .entry)) (now (work .entry)) left) (tree-at (now (sheet .entry)) (now (work .entry)) right) ⌝ }
+{
+    if !refinable(sheet, work, free, 3, left) {
+        if natural(sheet, work, free, right) {
+            return true;
+        }
+    }
+    if !refinable(sheet, work, free, 3, right) {
+        return natural(sheet, work, free, left);
+    }
+    false
+}
+
+// Takes the pair of the sums of cells left and right.
+fn sum_step(
+    sheet: &[u8],
+    work: &mut [u32],
+    free: usize,
+    left: usize,
+    right: usize,
+    rest: usize,
+) -> Taken
+    requires { ⌜ Arena (now sheet) (now work) free ⌝ }
+    requires { ⌜ (0 < left) × (left < free) × (0 < right) × (right < free) × (rest < free) ⌝ }
+    requires { ⌜ (kind-of (now work) left ≡ 0) × (name-at (now sheet) (now work) left ≡ tamtplus) × (kind-of (now work) right ≡ 0) × (name-at (now sheet) (now work) right ≡ tamtplus) ⌝ }
+    requires { ⌜ Whole (trees-at (now sheet) (now work) rest) × Fit (tree-at (now sheet) (now work) left) × Fit (tree-at (now sheet) (now work) right) ⌝ }
+    requires { ⌜ Room (now work) (free + load (tree-at (now sheet) (now work) left) (tree-at (now sheet) (now work) right) + 2) ⌝ }
+    ensures { λ r. ⌜ Steps (now (sheet .entry)) (now (work .entry)) (now (work .exit)) free (load (tree-at (now (sheet .entry)) (now (work .entry)) left) (tree-at (now (sheet .entry)) (now (work .entry)) right) + weight (pairs-at (now (sheet .entry)) (now (work .entry)) rest)) (sum-step (cancel-sums true equivalent (tree-at (now (sheet .entry)) (now (work .entry)) left) (tree-at (now (sheet .entry)) (now (work .entry)) right)) (tree-at (now (sheet .entry)) (now (work .entry)) left) (tree-at (now (sheet .entry)) (now (work .entry)) right) (pairs-at (now (sheet .entry)) (now (work .entry)) rest)) r ⌝ }
+{
+    let found = unify_rest(sheet, work, free, left, right);
+    match found {
+        Rest::Emptied => Taken::Next {
+            stack: rest,
+            free: free,
+        },
+        Rest::Mismatch => Taken::Fails,
+        Rest::Equation {
+            left: a,
+            right: b,
+            free: end,
+        } => {
+            let pushed = push_pair(sheet, work, end, a, b, rest);
+            let stack = pushed.index;
+            let top = pushed.free;
+            Taken::Next {
+                stack: stack,
+                free: top,
+            }
+        }
+        Rest::Stuck => {
+            if refuted(sheet, work, free, left, right) {
+                return Taken::Fails;
+            }
+            Taken::Unknown
+        }
+    }
+}
+
+// Takes the pair of cells left and right, neither of which is a variable.
+fn decompose(
+    sheet: &[u8],
+    work: &mut [u32],
+    free: usize,
+    left: usize,
+    right: usize,
+    rest: usize,
+) -> Taken
+    requires { ⌜ Arena (now sheet) (now work) free ⌝ }
+    requires { ⌜ (0 < left) × (left < free) × (0 < right) × (right < free) × (rest < free) ⌝ }
+    requires { ⌜ Whole (trees-at (now sheet) (now work) rest) × Fit (tree-at (now sheet) (now work) left) × Fit (tree-at (now sheet) (now work) right) ⌝ }
+    requires { ⌜ Room (now work) (free + load (tree-at (now sheet) (now work) left) (tree-at (now sheet) (now work) right) + 2) ⌝ }
+    ensures { λ r. ⌜ Steps (now (sheet .entry)) (now (work .entry)) (now (work .exit)) free (load (tree-at (now (sheet .entry)) (now (work .entry)) left) (tree-at (now (sheet .entry)) (now (work .entry)) right) + weight (pairs-at (now (sheet .entry)) (now (work .entry)) rest)) (decompose (tree-at (now (sheet .entry)) (now (work .entry)) left) (tree-at (now (sheet .entry)) (now (work .entry)) right) (pairs-at (now (sheet .entry)) (now (work .entry)) rest)) r ⌝ }
+{
+    if !same_head(sheet, work, free, left, right) {
+        return Taken::Fails;
+    }
+    if is_sum(sheet, work, free, left) {
+        return sum_step(sheet, work, free, left, right, rest);
+    }
+    let a = child_of(work, free, left);
+    let b = child_of(work, free, right);
+    let pushed = push_children(sheet, work, free, a, b, rest);
+    let stack = pushed.index;
+    let top = pushed.free;
+    Taken::Next {
+        stack: stack,
+        free: top,
+    }
+}
+
+// Whether the tree of cell k is a variable.
+fn is_variable(work: &[u32], k: usize) -> bool
+    requires { ⌜ 4 * k + 4 ≤ length (now work) ⌝ }
+    ensures { λ r. ⌜ r ≡ ltb 0 (kind-of (now (work .entry)) k) && ltb (kind-of (now (work .entry)) k) 7 ⌝ }
+{
+    let kind = kind_of(work, k);
+    if kind == 0 {
+        return false;
+    }
+    kind < 7
+}
+
+// Takes the pair of cells left and right.
+pub fn step(
+    sheet: &[u8],
+    work: &mut [u32],
+    free: usize,
+    left: usize,
+    right: usize,
+    rest: usize,
+) -> Taken
+    requires { ⌜ Arena (now sheet) (now work) free ⌝ }
+    requires { ⌜ (0 < left) × (left < free) × (0 < right) × (right < free) × (rest < free) ⌝ }
+    requires { ⌜ Whole (trees-at (now sheet) (now work) rest) × Fit (tree-at (now sheet) (now work) left) × Fit (tree-at (now sheet) (now work) right) ⌝ }
+    requires { ⌜ Room (now work) (free + load (tree-at (now sheet) (now work) left) (tree-at (now sheet) (now work) right) + 2) ⌝ }
+    ensures { λ r. ⌜ Steps (now (sheet .entry)) (now (work .entry)) (now (work .exit)) free (load (tree-at (now (sheet .entry)) (now (work .entry)) left) (tree-at (now (sheet .entry)) (now (work .entry)) right) + weight (pairs-at (now (sheet .entry)) (now (work .entry)) rest)) (step (tree-at (now (sheet .entry)) (now (work .entry)) left) (tree-at (now (sheet .entry)) (now (work .entry)) right) (pairs-at (now (sheet .entry)) (now (work .entry)) rest)) r ⌝ }
+{
+    if same_tree(sheet, work, free, left, right) {
+        return Taken::Next {
+            stack: rest,
+            free: free,
+        };
+    }
+    if is_variable(work, left) {
+        return eliminate(sheet, work, free, left, right, rest);
+    }
+    if is_variable(work, right) {
+        return eliminate(sheet, work, free, right, left, rest);
+    }
+    decompose(sheet, work, free, left, right, rest)
+}
