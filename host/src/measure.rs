@@ -132,7 +132,7 @@ fn clearing(work: &mut [u32]) -> Duration {
 }
 
 fn milliseconds(time: Duration) -> String {
-    format!("{:.2}", time.as_secs_f64() * 1e3)
+    format!("{:.3}", time.as_secs_f64() * 1e3)
 }
 
 // Prints a row of the table; whether the two answers are the same.
