@@ -19,17 +19,19 @@ use Rattle.substitution.specs.Building.{Made}
 use Rattle.substitution.proofs.Chains.{bindings-flatten, chain-flatten}
 use Rattle.unifier.specs.Stack.{pairs-at, Whole, FitPairs}
 use Rattle.unifier.specs.Area.{Room, Below}
+use Rattle.unifier.specs.Differing.{Differing}
 use Rattle.unifier.specs.Stepping.{Steps}
 use Rattle.unifier.specs.Running.{Roomy, Ran}
 use Rattle.unifier.specs.declared.elimination.Taken.{Taken}
 use Rattle.unifier.specs.declared.elimination.Taken.the-variants as taken
 use Rattle.unifier.proofs.Areas.{below-same, below-then, below-grown}
+use Rattle.unifier.proofs.Differing.{differing-none}
 use Rattle.unifier.proofs.Fitting.{FitStep, step-fit}
 use Rattle.unifier.proofs.Tops.{stack-empty, Top, right-some, top, top-pairs, top-weight, top-fit}
 use Rattle.unifier.proofs.Resuming.{with-bindings, resumed, with-none, with-more, run-end, run-step, run-spent}
 
 -- from w, with the free end n, to v: the pairs ps wait from cell waiting on, the bindings bs are from cell made on, over the names ns
-pub record Holds (s : Text) (w v : List ℕ) (n : ℕ) (start : List Pair) (fuel left waiting made end : ℕ) : Type 0 where
+pub record Holds (s : Text) (w v : List ℕ) (n : ℕ) (start : List Pair) (fuel left waiting made end apart : ℕ) : Type 0 where
   pub arena : Arena s v end
   pub below : Below w v n
   pub grew : n ≤ end
@@ -43,11 +45,12 @@ pub record Holds (s : Text) (w v : List ℕ) (n : ℕ) (start : List Pair) (fuel
   pub binds : trees-at s v made ≡ flatten-bindings bs
   pub over : OverPairs ns ps
   pub fit : FitPairs ps
+  pub differs : Differing apart ps
   pub room : Room v (end + weight ps + 2 * left + 8196 * length ns + 4097 * (length ns + length bs))
   pub ran : run fuel start ≡ resumed bs (fuel - left) (run left ps)
 
 pub holds-start : {s : Text} {w : List ℕ} {n stack fuel : ℕ} → Arena s w n → stack < n → Whole (trees-at s w stack) → FitPairs (pairs-at s w stack) → Roomy w n fuel (pairs-at s w stack)
-    → Holds s w w n (pairs-at s w stack) fuel fuel stack 0 n
+    → Holds s w w n (pairs-at s w stack) fuel fuel stack 0 n 0
 unfolding flatten-bindings
 holds-start {s} {w} {n} {stack} {fuel} a q whole fit r =
     let x = run fuel (pairs-at s w stack) in
@@ -67,11 +70,12 @@ holds-start {s} {w} {n} {stack} {fuel} a q whole fit r =
       binds = trees-none s w 0 refl;
       over = r .over;
       fit = fit;
+      differs = differing-none _;
       room = (omega (arith, room .0), omega (arith, room .1));
       ran = ap₂ (λ (v : Verdict) (k : ℕ). (v, k)) (sym (with-none (x .0))) z;
     }
 
-module _ {s : Text} {w v : List ℕ} {n fuel left waiting made end : ℕ} {start : List Pair} (h : Holds s w v n start fuel left waiting made end) where
+module _ {s : Text} {w v : List ℕ} {n fuel left waiting made end apart : ℕ} {start : List Pair} (h : Holds s w v n start fuel left waiting made end apart) where
   -- the bindings, as the cells have them
   made-are : bindings-at s v made ≡ h .bs
   made-are = ap bindings-of (h .binds) ∙ bindings-flatten (h .bs)
@@ -110,6 +114,9 @@ module _ {s : Text} {w v : List ℕ} {n fuel left waiting made end : ℕ} {start
     abbrev taken-step : Step
     taken-step = step (tree-at s v waiting) (tree-at s v r) (pairs-at s v rest)
 
+    pub step-differs : Differing apart ((tree-at s v waiting, tree-at s v r) ∷ pairs-at s v rest)
+    step-differs = subst (Differing apart) (top-pairs t) (h .differs)
+
     pub step-room : Room v (end + load (tree-at s v waiting) (tree-at s v r) + 2)
     step-room = let room = h .room in let weighs = top-weight t in (omega (arith, room .0), omega (arith, room .1))
 
@@ -143,8 +150,8 @@ module _ {s : Text} {w v : List ℕ} {n fuel left waiting made end : ℕ} {start
       pub holds-unknown : Did taken.Unknown → (run fuel start ≡ (unsupported, fuel - (left - 1))) × Below w u n
       holds-unknown d = (taken-run unknown (d .0) ∙ ap (λ (k : ℕ). (unsupported, k)) counted-last, below-then (h .below) (d .1) (h .grew))
 
-      pub holds-next : (st m : ℕ) → Did (taken.Next st m) → Holds s w u n start fuel (left - 1) st made m
-      holds-next st m d =
+      pub holds-next : (st m j : ℕ) → Did (taken.Next st m j) → Holds s w u n start fuel (left - 1) st made m j
+      holds-next st m j d =
           let k = d .waits in
           let a = run (left - 1) (d .pairs) in
           let room = h .room in
@@ -165,6 +172,7 @@ module _ {s : Text} {w v : List ℕ} {n fuel left waiting made end : ℕ} {start
             binds = sym (frame-trees s u (h .arena .links) (k .below .words) made (h .list)) ∙ h .binds;
             over = subst (StepOver (h .ns)) (d .is) step-names;
             fit = subst FitStep (d .is) step-fits;
+            differs = d .differs;
             room = (omega (arith, room .0), omega (arith, room .1));
             ran = taken-run (goes-on (d .pairs)) (d .is) ∙ ap (λ (j : ℕ). (with-bindings (h .bs) (a .0), j)) (counted (a .1));
           }
@@ -173,7 +181,7 @@ module _ {s : Text} {w v : List ℕ} {n fuel left waiting made end : ℕ} {start
       bind-room d = let room = h .room in let used = d .used in let len = d .waits .below .len in (omega (arith, room .0), omega (arith, room .1))
 
       pub holds-bind : {x : List ℕ} {key value st m : ℕ} (b f : ℕ) → Did (taken.Bind key value st m)
-          → Made s u x m f b (more (tree-at s u key) (more (tree-at s u value) (trees-at s u made))) × (f ≡ m + 2) → Holds s w x n start fuel (left - 1) st b f
+          → Made s u x m f b (more (tree-at s u key) (more (tree-at s u value) (trees-at s u made))) × (f ≡ m + 2) → Holds s w x n start fuel (left - 1) st b f 0
       unfolding flatten-bindings
       holds-bind {x} {st = st} {m = m} b f d g =
           let k = d .waits in
@@ -201,6 +209,7 @@ module _ {s : Text} {w v : List ℕ} {n fuel left waiting made end : ℕ} {start
             binds = j .trees ∙ ap₂ (λ (y z : Tree). more y (more z (trees-at s u made))) (d .key-is) (d .value-is) ∙ ap (λ (ts : Trees). more (variable (d .name)) (more (d .tree) ts)) old;
             over = o .waiting;
             fit = subst FitStep (d .is) step-fits;
+            differs = differing-none _;
             room = (omega (arith, room .0, g .1), omega (arith, room .1, g .1));
             ran = taken-run (bind (d .name) (d .tree) (d .pairs)) (d .is)
                 ∙ ap₂ (λ (y : Verdict) (i : ℕ). (y, i)) (with-more (d .name) (d .tree) (h .bs) (a .0)) (counted (a .1));

@@ -1,4 +1,5 @@
 pub mod Areas
+pub mod Differing
 pub mod Children
 pub mod Keys
 pub mod Fitting

@@ -27,6 +27,7 @@ use Rattle.unifier.specs.Resting.{Equates}
 use Rattle.unifier.specs.Stepping.{Waits, GoesOn}
 use Rattle.unifier.specs.Matching.{Onwards}
 use Rattle.unifier.proofs.Areas.{below-grown}
+use Rattle.unifier.proofs.Differing.{differing-none}
 use Rattle.unifier.proofs.Waiting.{stack-below, waits-below}
 use Rattle.unifier.proofs.Sums.{pair-waits, pair-used}
 use Rattle.unifier.proofs.Steps.{children-pushed}
@@ -54,7 +55,7 @@ module _ {s : Text} {w : List ℕ} {n : ℕ} (a : Arena s w n) (rest made : ℕ)
   }
 
   -- as after a step of unify
-  pub onwards-goes : {v : List ℕ} {h m st : ℕ} {d : Move} {qs : List Pair} → d ≡ onward qs (bindings-at s w made) → GoesOn s w v n h (goes-on qs) st m → Onwards s w v n h d st made m
+  pub onwards-goes : {v : List ℕ} {h m st k : ℕ} {d : Move} {qs : List Pair} → d ≡ onward qs (bindings-at s w made) → GoesOn s w v n h (goes-on qs) st m k → Onwards s w v n h d st made m
   onwards-goes {qs = qs} e g =
       let z : qs ≡ g .pairs = cc (g .is) in
       onwards-pairs (e ∙ ap (λ (ps : List Pair). onward ps (bindings-at s w made)) z) (g .waits) (g .used)
@@ -136,7 +137,7 @@ pub onwards-children : {s : Text} {w v : List ℕ} {n m st : ℕ} (l r rest made
     → Onwards s w v n (load (tree-at s w l) (tree-at s w r) + weight (pairs-at s w rest)) (match-roots (tree-at s w l) (tree-at s w r) (pairs-at s w rest) (bindings-at s w made)) st made m
 onwards-children {s} {w} l r rest made x y a i j whole chain e f g h d =
     onwards-goes a rest made i j whole chain (roots-children (tree-at s w l) (tree-at s w r) (pairs-at s w rest) (bindings-at s w made) g h)
-    (children-pushed s w l r x y e f rest whole g refl (d .0) (d .1))
+    (children-pushed s w l r x y e f rest whole g refl (d .0) (d .1) (differing-none _))
 
 -- A pair
 

@@ -22,6 +22,7 @@ use Rattle.tree.proofs.Decoding.{Kind, application, a-variable, an-atom, kind, 
 use Rattle.substitution.specs.Building.{Made}
 use Rattle.unifier.specs.Area.{Room}
 use Rattle.unifier.specs.Stack.{Whole, pairs-at, pushes}
+use Rattle.unifier.specs.Differing.{Differing}
 use Rattle.unifier.specs.Stepping.{GoesOn, Steps}
 use Rattle.unifier.specs.declared.elimination.Taken.{Taken}
 use Rattle.unifier.proofs.Areas.{below-same, waits-made}
@@ -104,9 +105,9 @@ module _ (s : Text) (w : List ℕ) (l r : ℕ) (ps : List Pair) {b : Bool} (e : 
     step-decompose i = against-is ∙ decomposes i (kind (kind-of w r))
 
 -- a pair of one tree twice is dropped
-pub step-dropped : {s : Text} {w : List ℕ} {n k : ℕ} (h : ℕ) {d : Step} → Arena s w n → k < n → Whole (trees-at s w k) → d ≡ goes-on (pairs-at s w k)
-    → GoesOn s w w n (h + weight (pairs-at s w k)) d k n
-step-dropped {s} {w} {n} {k} h a q o e = record { pairs = pairs-at s w k; is = e; waits = waits-below a (below-same w n) k q o; used = omega arith }
+pub step-dropped : {s : Text} {w : List ℕ} {n k j : ℕ} (h : ℕ) {d : Step} → Arena s w n → k < n → Whole (trees-at s w k) → d ≡ goes-on (pairs-at s w k) → Differing j (pairs-at s w k)
+    → GoesOn s w w n (h + weight (pairs-at s w k)) d k n j
+step-dropped {s} {w} {n} {k} h a q o e f = record { pairs = pairs-at s w k; is = e; waits = waits-below a (below-same w n) k q o; used = omega arith; differs = f }
 
 -- a step that is another, at a larger weight
 pub steps-as : (s : Text) (w v : List ℕ) (n h : ℕ) {c d : Step} (r : Taken) → c ≡ d → Steps s w v n 0 d r → Steps s w v n h c r
@@ -143,13 +144,15 @@ module _ (s : Text) (w : List ℕ) (l r x y : ℕ) (e : trees-at s w x ≡ child
   unfolding weight
   children-room n h k = let p = paid [] h in (omega (arith, k .0), omega (arith, k .1))
 
-  pub children-pushed : {v : List ℕ} {n m i : ℕ} {d : Step} (k : ℕ) → Whole (trees-at s w k) → same (head (tree-at s w l)) (head (tree-at s w r)) ≡ true
+  pub children-pushed : {v : List ℕ} {n m i j : ℕ} {d : Step} (k : ℕ) → Whole (trees-at s w k) → same (head (tree-at s w l)) (head (tree-at s w r)) ≡ true
       → d ≡ goes-on (push-children (children (tree-at s w l)) (children (tree-at s w r)) (pairs-at s w k))
       → Made s w v n m i (pushes (trees-at s w x) (trees-at s w y) (trees-at s w k)) → m ≡ n + 2 * pushed (trees-at s w x) (trees-at s w y)
-      → GoesOn s w v n (load (tree-at s w l) (tree-at s w r) + weight (pairs-at s w k)) d i m
-  children-pushed k o h g p q = record {
+      → Differing j (push-children (children (tree-at s w l)) (children (tree-at s w r)) (pairs-at s w k))
+      → GoesOn s w v n (load (tree-at s w l) (tree-at s w r) + weight (pairs-at s w k)) d i m j
+  children-pushed k o h g p q z = record {
     pairs = push-children (children (tree-at s w l)) (children (tree-at s w r)) (pairs-at s w k);
     is = g;
     waits = waits-made p (ap₂ (λ (ts us : Trees). pushes ts us (trees-at s w k)) e f ∙ ap (pushes (children (tree-at s w l)) (children (tree-at s w r))) (sym o) ∙ sym (flatten-pushes _ _ _));
     used = omega (arith, paid (pairs-at s w k) h);
+    differs = z;
   }

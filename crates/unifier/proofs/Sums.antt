@@ -32,6 +32,7 @@ use Rattle.unifier.specs.declared.rest.Rest.the-variants as rest
 use Rattle.unifier.specs.declared.elimination.Taken.{Taken}
 use Rattle.unifier.specs.declared.elimination.Taken.the-variants as taken
 use Rattle.unifier.proofs.Areas.{below-then, below-grown}
+use Rattle.unifier.proofs.Differing.{differing-none}
 use Rattle.unifier.proofs.Waiting.{tree-below, stack-below, waits-below}
 
 -- Cells
@@ -140,10 +141,10 @@ module _ (s : Text) (w v : List ℕ) (n l r stack : ℕ) where
         (took-is (k .0) ∙ ap if-refuted (sym t ∙ sym g ∙ h), k .1)
 
     module _ (t : Whole (trees-at s w stack) × Fit (tree-at s w l) × Fit (tree-at s w r)) where
-      pub took-emptied : {x : Rest} → Found x → x ≡ rest.Emptied → Took v (taken.Next stack n)
+      pub took-emptied : {x : Rest} → Found x → x ≡ rest.Emptied → Took v (taken.Next stack n 0)
       took-emptied f e =
           let g = subst Found e f in
-          record { pairs = pairs-at s w stack; is = took-is (g .0); waits = waits-below a (g .1) stack (i .4) (t .0); used = omega arith }
+          record { pairs = pairs-at s w stack; is = took-is (g .0); waits = waits-below a (g .1) stack (i .4) (t .0); used = omega arith; differs = differing-none _ }
 
       module _ (k : (kind-of w l ≡ 0) × (name-at s w l ≡ tamtplus) × (kind-of w r ≡ 0) × (name-at s w r ≡ tamtplus)) {x : Rest} (p q m : ℕ) (f : Found x) (e : x ≡ rest.Equation p q m) where
         pub equates : Equates s w v n (kept-summands equivalent (tree-at s w l) (tree-at s w r)) (cancel-sums true equivalent (tree-at s w l) (tree-at s w r)) p q m
@@ -152,10 +153,11 @@ module _ (s : Text) (w v : List ℕ) (n l r stack : ℕ) where
         pub equation-room : Room w (n + load (tree-at s w l) (tree-at s w r) + 2) → (4 * (m + 2) ≤ length v) × (m + 2 < 2 ^ 32)
         equation-room h = pair-room true equivalent l r (t .1 .built) (t .2 .built) k equates h
 
-        pub took-equation : {u : List ℕ} {c y : ℕ} → Made s v u m c y (more (tree-at s v p) (more (tree-at s v q) (trees-at s v stack))) → c ≡ m + 2 → Took u (taken.Next y c)
+        pub took-equation : {u : List ℕ} {c y : ℕ} → Made s v u m c y (more (tree-at s v p) (more (tree-at s v q) (trees-at s v stack))) → c ≡ m + 2 → Took u (taken.Next y c 0)
         took-equation d g = record {
           pairs = (tree-at s v p, tree-at s v q) ∷ pairs-at s w stack;
           is = took-is (equates .is);
           waits = pair-waits true equivalent l r (t .1 .built) (t .2 .built) k equates stack a (i .4) (t .0) d g;
           used = pair-used true equivalent l r (t .1 .built) (t .2 .built) k equates (pairs-at s w stack) g;
+          differs = differing-none _;
         }

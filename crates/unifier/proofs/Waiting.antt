@@ -37,7 +37,7 @@ module _ {s : Text} {w v : List ℕ} {n : ℕ} (a : Arena s w n) (b : Below w v 
   }
 
 pub steps-more : (s : Text) (w v : List ℕ) (n h : ℕ) (d : Step) (r : Taken) → Steps s w v n 0 d r → Steps s w v n h d r
-steps-more s w v n h d (taken.Next st m) x = record { pairs = x .pairs; is = x .is; waits = x .waits; used = omega (arith, x .used) }
+steps-more s w v n h d (taken.Next st m k) x = record { pairs = x .pairs; is = x .is; waits = x .waits; used = omega (arith, x .used); differs = x .differs }
 steps-more s w v n h d (taken.Bind key value st m) x = x
 steps-more s w v n h d taken.Fails x = x
 steps-more s w v n h d taken.Unknown x = x

@@ -10,6 +10,7 @@ use Rattle.rules.specs.Memory.{weight}
 use Rattle.tree.specs.Cells.{tree-at, trees-at}
 use Rattle.tree.specs.Arena.{Arena}
 use Rattle.unifier.specs.Area.{Below}
+use Rattle.unifier.specs.Differing.{Differing}
 use Rattle.unifier.specs.declared.elimination.Taken.{Taken}
 use Rattle.unifier.specs.declared.elimination.Taken.the-variants as taken
 
@@ -21,12 +22,13 @@ pub record Waits (s : Text) (w v : List ℕ) (n m st : ℕ) (ps : List Pair) : T
   pub inside : st < m
   pub trees : trees-at s v st ≡ flatten ps
 
--- the step d leaves pairs; those before it weighed h, and it takes two cells more than their weight falls
-pub record GoesOn (s : Text) (w v : List ℕ) (n h : ℕ) (d : Step) (st m : ℕ) : Type 0 where
+-- the step d leaves pairs; those before it weighed h, and it takes two cells more than their weight falls; k is as in Differing
+pub record GoesOn (s : Text) (w v : List ℕ) (n h : ℕ) (d : Step) (st m k : ℕ) : Type 0 where
   pub pairs : List Pair
   pub is : d ≡ goes-on pairs
   pub waits : Waits s w v n m st pairs
   pub used : m + weight pairs ≤ n + h + 2
+  pub differs : Differing k pairs
 
 -- the step d binds the variable of cell key to the tree of cell value
 pub record Binds (s : Text) (w v : List ℕ) (n : ℕ) (d : Step) (key value st m : ℕ) : Type 0 where
@@ -42,7 +44,7 @@ pub record Binds (s : Text) (w v : List ℕ) (n : ℕ) (d : Step) (key value st 
   pub used : m ≤ n + 4098
 
 abbrev pub Steps : Text → List ℕ → List ℕ → ℕ → ℕ → Step → Taken → Type 0
-Steps s w v n h d (taken.Next st m) = GoesOn s w v n h d st m
+Steps s w v n h d (taken.Next st m k) = GoesOn s w v n h d st m k
 Steps s w v n h d (taken.Bind key value st m) = Binds s w v n d key value st m
 Steps s w v n h d taken.Fails = (d ≡ fails) × Below w v n
 Steps s w v n h d taken.Unknown = (d ≡ unknown) × Below w v n

@@ -14,11 +14,13 @@ ghost use Rattle.unifier.specs.Stack.{Whole, pairs-at};
 ghost use Rattle.unifier.specs.Area.{Room};
 ghost use Rattle.unifier.specs.Stepping.{Steps};
 
-// What a step makes of a pair: the next stack, a binding and the next stack, or the end of the run.
+// What a step makes of a pair: the next stack, a binding and the next stack, or the end of the run. If `apart` is not 0, one of the first
+// `apart` pairs of the stack has two different trees.
 pub enum Taken {
     Next {
         stack: usize,
         free: usize,
+        apart: usize,
     },
     Bind {
         key: usize,

@@ -1,4 +1,4 @@
-// The children of two trees, pairwise on the stack.
+// The children of two trees, pairwise on the stack, and their number.
 use substitution::bindings::Pushed;
 use substitution::bindings::push_pair;
 use tree::cells::first_of;
@@ -8,7 +8,7 @@ ghost use mathlib.Core.Path.{_≡_};
 ghost use Prim.Native.Nat.{_+_, _*_, _<_, _≤_, _^_};
 ghost use lib.ListN.{length};
 ghost use Rattle.rules.specs.Bytes.{Text};
-ghost use Rattle.rules.specs.Tree.{children};
+ghost use Rattle.rules.specs.Tree.{children, count};
 ghost use Rattle.rules.specs.Memory.{pushed};
 ghost use Rattle.tree.specs.Cells.{tree-at, trees-at};
 ghost use Rattle.tree.specs.Arena.{Links, Arena};
@@ -25,6 +25,29 @@ pub fn child_of(work: &[u32], free: usize, k: usize) -> usize
         return first_of(work, free, k);
     }
     0
+}
+
+// How many pairs the lists from cells left and right on make, if both are of one length; else 0.
+pub fn paired(work: &[u32], free: usize, left: usize, right: usize) -> usize
+    requires { ⌜ Links (now work) free ⌝ }
+    requires { ⌜ (left < free) × (right < free) ⌝ }
+    ensures { λ r. ⌜ (0 < r → (s : Text) → (count (trees-at s (now (work .entry)) left) ≡ r) × (count (trees-at s (now (work .entry)) right) ≡ r)) ⌝ }
+{
+    let mut a = left;
+    let mut b = right;
+    let mut pairs: usize = 0;
+    while a != 0 {
+        if b == 0 {
+            return 0;
+        }
+        a = next_of(work, free, a);
+        b = next_of(work, free, b);
+        pairs += 1;
+    }
+    if b != 0 {
+        return 0;
+    }
+    pairs
 }
 
 // Puts the trees of the lists from cells left and right on, pairwise as far as both go, before the list from cell stack on.

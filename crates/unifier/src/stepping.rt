@@ -2,6 +2,7 @@
 use crate::elimination::Taken;
 use crate::elimination::eliminate;
 use crate::pushing::child_of;
+use crate::pushing::paired;
 use crate::pushing::push_children;
 use crate::rest::Rest;
 use crate::rest::unify_rest;
@@ -13,11 +14,12 @@ use tree::cells::kind_of;
 use tree::equality::same_tree;
 use tree::names::same_head;
 ghost use mathlib.Core.Path.{_≡_};
-ghost use mathlib.Core.Bool.{true, _&&_};
+ghost use mathlib.Core.Bool.{true, false, _&&_};
+ghost use mathlib.Core.List.{_∷_};
 ghost use lib.Dec.{ltb};
 ghost use lib.ListN.{length};
 ghost use Prim.Native.Nat.{_+_, _*_, _<_, _≤_};
-ghost use Rattle.rules.specs.Tree.{tamtplus};
+ghost use Rattle.rules.specs.Tree.{same-tree, tamtplus};
 ghost use Rattle.rules.specs.Sums.{equivalent};
 ghost use Rattle.rules.specs.Sorts.{sort-refuted};
 ghost use Rattle.rules.specs.Solving.{cancel-sums, sum-step, decompose, step};
@@ -26,6 +28,7 @@ ghost use Rattle.tree.specs.Cells.{kind-of, name-at, tree-at, trees-at};
 ghost use Rattle.tree.specs.Arena.{Arena};
 ghost use Rattle.unifier.specs.Stack.{Whole, pairs-at, Fit};
 ghost use Rattle.unifier.specs.Area.{Room};
+ghost use Rattle.unifier.specs.Differing.{Differing};
 ghost use Rattle.unifier.specs.Stepping.{Steps};
 
 // Whether one of the trees of cells left and right is always natural and the other can never be.
@@ -66,6 +69,7 @@ fn sum_step(
         Rest::Emptied => Taken::Next {
             stack: rest,
             free: free,
+            apart: 0,
         },
         Rest::Mismatch => Taken::Fails,
         Rest::Equation {
@@ -79,6 +83,7 @@ fn sum_step(
             Taken::Next {
                 stack: stack,
                 free: top,
+                apart: 0,
             }
         }
         Rest::Stuck => {
@@ -90,7 +95,7 @@ fn sum_step(
     }
 }
 
-// Takes the pair of cells left and right, neither of which is a variable.
+// Takes the pair of cells left and right, which are different trees and neither of which is a variable.
 fn decompose(
     sheet: &[u8],
     work: &mut [u32],
@@ -103,6 +108,7 @@ fn decompose(
     requires { ⌜ (0 < left) × (left < free) × (0 < right) × (right < free) × (rest < free) ⌝ }
     requires { ⌜ Whole (trees-at (now sheet) (now work) rest) × Fit (tree-at (now sheet) (now work) left) × Fit (tree-at (now sheet) (now work) right) ⌝ }
     requires { ⌜ Room (now work) (free + load (tree-at (now sheet) (now work) left) (tree-at (now sheet) (now work) right) + 2) ⌝ }
+    requires { ⌜ same-tree (tree-at (now sheet) (now work) left) (tree-at (now sheet) (now work) right) ≡ false ⌝ }
     ensures { λ r. ⌜ Steps (now (sheet .entry)) (now (work .entry)) (now (work .exit)) free (load (tree-at (now (sheet .entry)) (now (work .entry)) left) (tree-at (now (sheet .entry)) (now (work .entry)) right) + weight (pairs-at (now (sheet .entry)) (now (work .entry)) rest)) (decompose (tree-at (now (sheet .entry)) (now (work .entry)) left) (tree-at (now (sheet .entry)) (now (work .entry)) right) (pairs-at (now (sheet .entry)) (now (work .entry)) rest)) r ⌝ }
 {
     if !same_head(sheet, work, free, left, right) {
@@ -113,12 +119,14 @@ fn decompose(
     }
     let a = child_of(work, free, left);
     let b = child_of(work, free, right);
+    let apart = paired(work, free, a, b);
     let pushed = push_children(sheet, work, free, a, b, rest);
     let stack = pushed.index;
     let top = pushed.free;
     Taken::Next {
         stack: stack,
         free: top,
+        apart: apart,
     }
 }
 
@@ -134,7 +142,28 @@ fn is_variable(work: &[u32], k: usize) -> bool
     kind < 7
 }
 
-// Takes the pair of cells left and right.
+// Whether the trees of cells left and right are equal; if `apart` is 1, they are known to differ.
+fn same_pair(
+    sheet: &[u8],
+    work: &[u32],
+    free: usize,
+    left: usize,
+    right: usize,
+    apart: usize,
+) -> bool
+    requires { ⌜ Arena (now sheet) (now work) free ⌝ }
+    requires { ⌜ (0 < left) × (left < free) × (0 < right) × (right < free) ⌝ }
+    requires { ⌜ (apart ≡ 1 → same-tree (tree-at (now sheet) (now work) left) (tree-at (now sheet) (now work) right) ≡ false) ⌝ }
+    ensures { λ r. ⌜ r ≡ same-tree (tree-at (now (sheet .entry)) (now (work .entry)) left) (tree-at (now (sheet .entry)) (now (work .entry)) right) ⌝ }
+{
+    if apart == 1 {
+        return false;
+    }
+    same_tree(sheet, work, free, left, right)
+}
+
+// Takes the pair of cells left and right. If `apart` is not 0, one of the first `apart` pairs has two different trees; this pair is the
+// first.
 pub fn step(
     sheet: &[u8],
     work: &mut [u32],
@@ -142,17 +171,27 @@ pub fn step(
     left: usize,
     right: usize,
     rest: usize,
+    apart: usize,
 ) -> Taken
     requires { ⌜ Arena (now sheet) (now work) free ⌝ }
     requires { ⌜ (0 < left) × (left < free) × (0 < right) × (right < free) × (rest < free) ⌝ }
     requires { ⌜ Whole (trees-at (now sheet) (now work) rest) × Fit (tree-at (now sheet) (now work) left) × Fit (tree-at (now sheet) (now work) right) ⌝ }
     requires { ⌜ Room (now work) (free + load (tree-at (now sheet) (now work) left) (tree-at (now sheet) (now work) right) + 2) ⌝ }
+    requires { ⌜ Differing apart ((tree-at (now sheet) (now work) left, tree-at (now sheet) (now work) right) ∷ pairs-at (now sheet) (now work) rest) ⌝ }
     ensures { λ r. ⌜ Steps (now (sheet .entry)) (now (work .entry)) (now (work .exit)) free (load (tree-at (now (sheet .entry)) (now (work .entry)) left) (tree-at (now (sheet .entry)) (now (work .entry)) right) + weight (pairs-at (now (sheet .entry)) (now (work .entry)) rest)) (step (tree-at (now (sheet .entry)) (now (work .entry)) left) (tree-at (now (sheet .entry)) (now (work .entry)) right) (pairs-at (now (sheet .entry)) (now (work .entry)) rest)) r ⌝ }
 {
-    if same_tree(sheet, work, free, left, right) {
+    if same_pair(sheet, work, free, left, right, apart) {
+        if apart == 0 {
+            return Taken::Next {
+                stack: rest,
+                free: free,
+                apart: 0,
+            };
+        }
         return Taken::Next {
             stack: rest,
             free: free,
+            apart: apart - 1,
         };
     }
     if is_variable(work, left) {

@@ -38,6 +38,7 @@ fn run(sheet: &[u8], work: &mut [u32], free: usize, stack: usize, fuel: usize) -
     let mut waiting = stack;
     let mut made: usize = 0;
     let mut end = free;
+    let mut apart: usize = 0;
     while left != 0 {
         if waiting == 0 {
             return Outcome::Solved {
@@ -48,12 +49,17 @@ fn run(sheet: &[u8], work: &mut [u32], free: usize, stack: usize, fuel: usize) -
         }
         let right = next_of(work, end, waiting);
         let rest = next_of(work, end, right);
-        let taken = step(sheet, work, end, waiting, right, rest);
+        let taken = step(sheet, work, end, waiting, right, rest, apart);
         left -= 1;
         match taken {
-            Taken::Next { stack: s, free: f } => {
+            Taken::Next {
+                stack: s,
+                free: f,
+                apart: a,
+            } => {
                 waiting = s;
                 end = f;
+                apart = a;
             }
             Taken::Bind {
                 key,
@@ -65,6 +71,7 @@ fn run(sheet: &[u8], work: &mut [u32], free: usize, stack: usize, fuel: usize) -
                 waiting = s;
                 made = pushed.index;
                 end = pushed.free;
+                apart = 0;
             }
             Taken::Fails => {
                 return Outcome::Failed { spent: fuel - left };

@@ -2,23 +2,23 @@ use borrow.Author.Needs.{needs}
 use native.Mathlib.Omega.{arith}
 use Rattle.unifier.specs.Stack.{pairs-at}
 use Rattle.unifier.proofs.Tops.{top-whole, top-fit}
-use Rattle.unifier.proofs.Invariant.{Holds, holds-start, holds-solved, holds-spent, holds-right, holds-top, step-room, bind-room, holds-fails, holds-unknown, holds-next, holds-bind}
+use Rattle.unifier.proofs.Invariant.{Holds, holds-start, holds-solved, holds-spent, holds-right, holds-top, step-room, step-differs, bind-room, holds-fails, holds-unknown, holds-next, holds-bind}
 use Rattle.unifier.proofs.unifying.run.Statement.{statement}
 use Rattle.unifier.proofs.unifying.run.Tie as tie
 
 abbrev Inv-loop : tie.InvT-loop
-Inv-loop sheet work₀ free stack fuel left₀ waiting₀ made₀ end₀ work left waiting made end = Holds sheet work₀ work free (pairs-at sheet work₀ stack) fuel left waiting made end
+Inv-loop sheet work₀ free stack fuel left₀ waiting₀ made₀ end₀ apart₀ work left waiting made end apart = Holds sheet work₀ work free (pairs-at sheet work₀ stack) fuel left waiting made end apart
 
 abbrev μ-loop : tie.MeasureT-loop
-μ-loop sheet work₀ free stack fuel left₀ waiting₀ made₀ end₀ work left waiting made end = left
+μ-loop sheet work₀ free stack fuel left₀ waiting₀ made₀ end₀ apart₀ work left waiting made end apart = left
 
 loop-holds : tie.Need-loop-holds Inv-loop μ-loop
 loop-holds c =
     let p = c .before .before .pre in
     holds-start (p .0) (p .1 .0 .0) (p .1 .0 .2) (p .1 .0 .3) (p .1 .1)
 
-sub-t21 : tie.Need-sub-t21 Inv-loop μ-loop
-sub-t21 c = omega (arith, c .before .before .loop .inv .within)
+sub-t23 : tie.Need-sub-t23 Inv-loop μ-loop
+sub-t23 c = omega (arith, c .before .before .loop .inv .within)
 
 same-length : tie.Need-same-length Inv-loop μ-loop
 same-length c = search needs
@@ -42,7 +42,7 @@ step-requires c κs =
     let r = holds-right h (omega arith) (c .before .before .before .next-of .ensures) in
     let t = holds-top h (omega arith) (c .before .before .before .next-of .ensures) (c .before .next-of2 .ensures) in
     let f = top-fit t (h .fit) in
-    (h .arena, ((omega arith, h .stack, r .0, r .1, omega (arith, r .1, c .before .next-of2 .ensures .1)), ((top-whole t, f .0, f .1), step-room h t (omega arith))))
+    (h .arena, ((omega arith, h .stack, r .0, r .1, omega (arith, r .1, c .before .next-of2 .ensures .1)), ((top-whole t, f .0, f .1), (step-room h t (omega arith), step-differs h t (omega arith)))))
 
 sub-left : tie.Need-sub-left Inv-loop μ-loop
 sub-left c = omega arith
@@ -57,7 +57,7 @@ loop-again : tie.Need-loop-again Inv-loop μ-loop
 loop-again c =
     let h = c .before .before .before .before .before .before .before .before .before .before .before .before .before .loop .inv in
     let t = holds-top h (omega arith) (c .before .before .before .before .before .before .before .before .before .next-of .ensures) (c .before .before .before .before .before .before .before .next-of2 .ensures) in
-    holds-next h t (omega arith) _ _ _ (rw (c .before .taken .given .1) at (c .before .before .before .before .before .step .ensures))
+    holds-next h t (omega arith) _ _ _ _ (rw (c .before .taken .given .1) at (c .before .before .before .before .before .step .ensures))
 
 enum-known-taken-2 : tie.Need-enum-known-taken-2 Inv-loop μ-loop
 enum-known-taken-2 c = search needs
@@ -82,8 +82,8 @@ loop-again-2 c =
 enum-told : tie.Need-enum-told Inv-loop μ-loop
 enum-told c = search needs
 
-sub-t30 : tie.Need-sub-t30 Inv-loop μ-loop
-sub-t30 c = omega (arith, c .before .before .before .before .before .before .before .before .before .before .before .before .loop .inv .within)
+sub-t32 : tie.Need-sub-t32 Inv-loop μ-loop
+sub-t32 c = omega (arith, c .before .before .before .before .before .before .before .before .before .before .before .before .loop .inv .within)
 
 same-length-2 : tie.Need-same-length-2 Inv-loop μ-loop
 same-length-2 c = search needs
@@ -97,8 +97,8 @@ returns-2 c =
 enum-told-2 : tie.Need-enum-told-2 Inv-loop μ-loop
 enum-told-2 c = search needs
 
-sub-t31 : tie.Need-sub-t31 Inv-loop μ-loop
-sub-t31 c = omega (arith, c .before .before .before .before .before .before .before .before .before .before .before .before .loop .inv .within)
+sub-t33 : tie.Need-sub-t33 Inv-loop μ-loop
+sub-t33 c = omega (arith, c .before .before .before .before .before .before .before .before .before .before .before .before .loop .inv .within)
 
 same-length-3 : tie.Need-same-length-3 Inv-loop μ-loop
 same-length-3 c = search needs
@@ -122,7 +122,7 @@ run-spec =
     Inv-loop
     μ-loop
     loop-holds
-    sub-t21
+    sub-t23
     same-length
     returns
     next-of-requires
@@ -137,11 +137,11 @@ run-spec =
     loop-less-2
     loop-again-2
     enum-told
-    sub-t30
+    sub-t32
     same-length-2
     returns-2
     enum-told-2
-    sub-t31
+    sub-t33
     same-length-3
     returns-3
     same-length-4
