@@ -1,0 +1,4 @@
+pub mod NameLaws
+pub mod Lookups
+pub mod Entering
+pub mod MemberReading
