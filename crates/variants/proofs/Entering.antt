@@ -4,7 +4,7 @@ use native.Mathlib.Omega.{arith}
 use mathlib.Core.Path.{_≡_, refl, sym, ap, _∙_}
 use mathlib.Core.Bool.{true, false}
 use mathlib.Core.List.{List, [], _∷_, _++_, map}
-use mathlib.Core.Option.{Option, some, none as nothing}
+use mathlib.Core.Option.{some, none as nothing}
 use lib.ListN.{length}
 use Rattle.rules.specs.Bytes.{Text}
 use Rattle.rules.specs.Text.{bytes}

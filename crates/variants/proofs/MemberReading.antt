@@ -1,7 +1,7 @@
 -- A member read into cells. Assumes nothing.
-use Prim.Native.Nat.{ℕ, _+_, _*_, _-_, _<_, _≤_}
+use Prim.Native.Nat.{ℕ, _+_, _-_, _<_, _≤_}
 use native.Mathlib.Omega.{arith}
-use mathlib.Core.Path.{_≡_, refl, sym, ap, ap₂, subst, _∙_}
+use mathlib.Core.Path.{_≡_, refl, sym, ap, ap₂, _∙_}
 use mathlib.Core.List.{List, [], _∷_, _++_, append-nil, map}
 use mathlib.Core.Option.{Option, some, none as nothing}
 use lib.ListN.{length}
@@ -19,7 +19,6 @@ use Rattle.tree.specs.Cells.{tree-at}
 use Rattle.tree.proofs.Decoding.{frame-tree}
 use Rattle.reading.specs.Parsing.{Read, Parses}
 use Rattle.reading.specs.declared.Parsed.the-variants as parsed
-use Rattle.reduction.specs.Building.{Kept}
 use Rattle.reduction.proofs.Placing.{kept-same, kept-then}
 use Rattle.sheet.specs.Lines.{part-of, lines-at, value-at}
 use Rattle.sheet.specs.Pairs.{entries-by, before}
@@ -27,7 +26,7 @@ use Rattle.sheet.specs.Members.{members-at}
 use Rattle.sheet.specs.declared.Cursor.{Cursor}
 use Rattle.sheet.specs.declared.Line.the-variants.{Whole, Missing}
 use Rattle.sheet.proofs.LineLaws.{keyed}
-use Rattle.sheet.proofs.WalkLaws.{FirstMember, two-end, member-end, member-next, members-later}
+use Rattle.sheet.proofs.WalkLaws.{two-end, member-end, member-next, members-later}
 use Rattle.variants.specs.Members.{ReadEntries, ReadsEntries, ReadAs, ReadMember, ReadsMember}
 use Rattle.variants.specs.declared.members.Entries.the-variants as entries
 use Rattle.variants.specs.declared.members.Variant.the-variants as variant

@@ -22,7 +22,6 @@ use Rattle.sheet.specs.Lines.{lines-at}
 use Rattle.sheet.specs.Pairs.{pair-at, entries-by}
 use Rattle.sheet.specs.Members.{members-at, Walks}
 use Rattle.sheet.specs.Form.{text-of}
-use Rattle.sheet.specs.declared.Cursor.{Cursor}
 use Rattle.sheet.specs.declared.Place.{Place}
 use Rattle.sheet.specs.declared.PairLine.the-variants.{End}
 use Rattle.variants.specs.declared.members.Bindings.{Bindings}

@@ -3,22 +3,16 @@ use Rattle.variants.proofs.NameLaws.{nameable-none, nameable-one, namea
 use borrow.Author.Needs.{needs}
 use Rattle.variants.proofs.members.is_nameable.Statement.{statement}
 use Rattle.variants.proofs.members.is_nameable.Tie as tie
-use Rattle.variants.proofs.members.is_nameable.Reads as reads
-use Rattle.variants.proofs.members.is_nameable.Lts as lts
 
--- src/members.rt:58:9
 returns : tie.Need-returns
 returns c = nameable-none (c .before .args .text .now) (omega arith)
 
--- src/members.rt:61:9
 returns-2 : tie.Need-returns-2
 returns-2 c = nameable-one (c .before .before .args .text .now) (omega arith)
 
--- src/members.rt:63:5
 shared-slice-read-result : tie.Need-shared-slice-read-result
 shared-slice-read-result c = search needs
 
--- src/members.rt:54:1
 returns-3 : tie.Need-returns-3
 returns-3 c = nameable-more (c .before .before .before .args .text .now) (λ e. omega arith)
 

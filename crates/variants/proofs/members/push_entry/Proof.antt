@@ -8,44 +8,31 @@ use Rattle.variants.proofs.Entering.{key-out, key-in}
 use borrow.Author.Needs.{needs}
 use Rattle.variants.proofs.members.push_entry.Statement.{statement}
 use Rattle.variants.proofs.members.push_entry.Tie as tie
-use Rattle.variants.proofs.members.push_entry.Reads as reads
-use Rattle.variants.proofs.members.push_entry.Lts as lts
-use Rattle.sheet.proofs.part.Reads as part-reads
-use Rattle.tree.proofs.cells.share.Reads as share-reads
-use Rattle.variants.proofs.members.is_nameable.Reads as is-nameable-reads
-use Rattle.variants.proofs.members.push_key.Reads as push-key-reads
 
--- src/members.rt:106:21
 part-requires : tie.Need-part-requires
 part-requires c κs = search needs
 
--- src/members.rt:106:9
 is-nameable-requires : tie.Need-is-nameable-requires
 is-nameable-requires c κs = search needs
 
--- src/members.rt:107:9
 returns : tie.Need-returns
 returns c =
     let a = c .before .before .before .before .before .args in
     let p = c .before .before .before .before .before .pre in
     key-out (p .0) (p .1 .0 .3) (text-of (a .sheet .now) (a .key)) (tree-at (a .sheet .now) (a .work .now) (a .value)) (sym (c .before .is-nameable .ensures ∙ ap nameable (c .before .before .part .ensures)) ∙ not-true _ (c .if1 .taken))
 
--- src/members.rt:112:9
 share-requires : tie.Need-share-requires
 share-requires c κs = search needs
 
--- src/members.rt:113:9
 push-key-requires : tie.Need-push-key-requires
 push-key-requires c κs =
     let p = c .before .before .before .before .before .before .before .before .before .before .pre in
     let m = c .before .before .before .share .ensures in
     (rw (m .0) (m .1 .arena), ((p .1 .0 .0, sym (c .before .before .before .before .before .before .is-nameable .ensures ∙ ap nameable (c .before .before .before .before .before .before .before .part .ensures)) ∙ not-false _ (c .before .before .before .before .before .if1 .left), omega (arith, m .0)), (p .1 .1 .0, omega (arith, m .0, m .1 .grown .len, p .1 .1), omega (arith, m .0, p .1 .1))))
 
--- src/members.rt:91:1
 same-length : tie.Need-same-length
 same-length c = search needs
 
--- src/members.rt:91:1
 returns-2 : tie.Need-returns-2
 returns-2 c =
     let a = c .before .before .before .before .before .before .before .before .before .before .before .before .before .args in

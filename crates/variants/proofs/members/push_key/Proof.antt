@@ -5,33 +5,22 @@ use Rattle.variants.proofs.NameLaws.{key-linked}
 use borrow.Author.Needs.{needs}
 use Rattle.variants.proofs.members.push_key.Statement.{statement}
 use Rattle.variants.proofs.members.push_key.Tie as tie
-use Rattle.variants.proofs.members.push_key.Reads as reads
-use Rattle.variants.proofs.members.push_key.Lts as lts
-use Rattle.sheet.proofs.part.Reads as part-reads
-use Rattle.tree.proofs.cells.push_cell.Reads as push-cell-reads
-use Rattle.variants.proofs.members.variable_kind.Reads as variable-kind-reads
 
--- src/members.rt:86:30
 part-requires : tie.Need-part-requires
 part-requires c κs = search needs
 
--- src/members.rt:86:9
 variable-kind-requires : tie.Need-variable-kind-requires
 variable-kind-requires c κs = search needs
 
--- src/members.rt:87:33
 sub-push-cell : tie.Need-sub-push-cell
 sub-push-cell c = search needs
 
--- src/members.rt:87:5
 push-cell-requires : tie.Need-push-cell-requires
 push-cell-requires c κs = search needs
 
--- src/members.rt:78:1
 same-length : tie.Need-same-length
 same-length c = search needs
 
--- src/members.rt:78:1
 returns : tie.Need-returns
 returns c =
     let p = c .before .before .before .before .before .before .before .before .pre in

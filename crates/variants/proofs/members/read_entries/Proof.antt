@@ -6,10 +6,6 @@ use lib.ListN.{length}
 use Rattle.variants.proofs.Entering.{Entering, entering-starts, entering-ends, located, entering-room, entering-unread, entering-turn}
 use Rattle.variants.proofs.members.read_entries.Statement.{statement}
 use Rattle.variants.proofs.members.read_entries.Tie as tie
-use Rattle.variants.proofs.members.read_entries.Reads as reads
-use Rattle.variants.proofs.members.read_entries.Lts as lts
-use Rattle.sheet.proofs.next_entry.Reads as next-entry-reads
-use Rattle.variants.proofs.members.read_entry.Reads as read-entry-reads
 
 abbrev Inv-loop : tie.InvT-loop
 Inv-loop sheet work₀ free cursor₀ list₀ end₀ work cursor list end = Entering sheet work₀ free (cursor₀ .at) work (cursor .at) list end
@@ -17,34 +13,27 @@ Inv-loop sheet work₀ free cursor₀ list₀ end₀ work cursor list end = Ente
 abbrev μ-loop : tie.MeasureT-loop
 μ-loop sheet work₀ free cursor₀ list₀ end₀ work cursor list end = length sheet - cursor .at
 
--- src/members.rt:162:5
 loop-holds : tie.Need-loop-holds Inv-loop μ-loop
 loop-holds c =
     let a = c .before .before .args in
     let p = c .before .before .pre in
     entering-starts (a .sheet .now) (a .work .now) (a .free) (a .start .at) (p .0) (p .1 .0)
 
--- src/members.rt:163:13
 next-entry-requires : tie.Need-next-entry-requires Inv-loop μ-loop
 next-entry-requires c κs = tt
 
--- src/members.rt:164:31
 enum-known-entry : tie.Need-enum-known-entry Inv-loop μ-loop
 enum-known-entry c = search needs
 
--- src/members.rt:165:13
 enum-told : tie.Need-enum-told Inv-loop μ-loop
 enum-told c = search needs
 
--- src/members.rt:165:13
 same-length : tie.Need-same-length Inv-loop μ-loop
 same-length c = c .before .before .before .loop .inv .kept .len
 
--- src/members.rt:165:13
 returns : tie.Need-returns Inv-loop μ-loop
 returns c = entering-ends (c .before .before .before .loop .inv) (sym (c .enum-told .given .1) ∙ c .before .before .next-entry .ensures)
 
--- src/members.rt:171:13
 read-entry-requires : tie.Need-read-entry-requires Inv-loop μ-loop
 read-entry-requires c κs =
     let p = c .before .before .before .before .before .before .before .before .pre in
@@ -57,19 +46,15 @@ read-entry-requires c κs =
     let q = entering-room h l r n e in
     (h .arena, ((x .key, x .value, h .inside), (p .1 .1 .0, omega (arith, p .1 .1, h .kept .len, q), omega (arith, p .1 .1, q))))
 
--- src/members.rt:172:31
 enum-known-read : tie.Need-enum-known-read Inv-loop μ-loop
 enum-known-read c = search needs
 
--- src/members.rt:173:13
 enum-told-2 : tie.Need-enum-told-2 Inv-loop μ-loop
 enum-told-2 c = search needs
 
--- src/members.rt:173:13
 same-length-2 : tie.Need-same-length-2 Inv-loop μ-loop
 same-length-2 c = search needs
 
--- src/members.rt:173:13
 returns-2 : tie.Need-returns-2 Inv-loop μ-loop
 returns-2 c =
     let l = c .before .before .before .before .before .before .before .entry .given .0 .0 in
@@ -78,7 +63,6 @@ returns-2 c =
     let e = sym (c .before .before .before .before .before .before .before .entry .given .1) ∙ c .before .before .before .before .before .before .before .before .before .next-entry .ensures in
     entering-unread (c .before .before .before .before .before .before .before .before .before .before .loop .inv) l r n e (c .before .before .before .before .read-entry .last .1 .0) (rw (c .enum-told2 .given .1) at (c .before .before .before .before .read-entry .ensures))
 
--- src/members.rt:162:5
 loop-less : tie.Need-loop-less Inv-loop μ-loop
 loop-less c =
     let l = c .before .before .before .before .before .before .before .before .entry .given .0 .0 in
@@ -87,7 +71,6 @@ loop-less c =
     let e = sym (c .before .before .before .before .before .before .before .before .entry .given .1) ∙ c .before .before .before .before .before .before .before .before .before .before .next-entry .ensures in
     omega (arith, entering-room (c .before .before .before .before .before .before .before .before .before .before .before .loop .inv) l r n e)
 
--- src/members.rt:162:5
 loop-again : tie.Need-loop-again Inv-loop μ-loop
 loop-again c =
     let l = c .before .before .before .before .before .before .before .before .entry .given .0 .0 in

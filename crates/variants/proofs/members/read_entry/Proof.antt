@@ -3,45 +3,33 @@ use Rattle.variants.proofs.Entering.{entry-unread, entry-there}
 use borrow.Author.Needs.{needs}
 use Rattle.variants.proofs.members.read_entry.Statement.{statement}
 use Rattle.variants.proofs.members.read_entry.Tie as tie
-use Rattle.variants.proofs.members.read_entry.Reads as reads
-use Rattle.variants.proofs.members.read_entry.Lts as lts
-use Rattle.reading.proofs.parse.Reads as parse-reads
-use Rattle.variants.proofs.members.push_entry.Reads as push-entry-reads
 
--- src/members.rt:136:9
 parse-requires : tie.Need-parse-requires
 parse-requires c κs = search needs
 
--- src/members.rt:138:9
 enum-known-parsed : tie.Need-enum-known-parsed
 enum-known-parsed c = search needs
 
--- src/members.rt:142:9
 enum-told : tie.Need-enum-told
 enum-told c = search needs
 
--- src/members.rt:142:9
 same-length : tie.Need-same-length
 same-length c = search needs
 
--- src/members.rt:142:9
 returns : tie.Need-returns
 returns c =
     let a = c .before .before .before .before .before .before .before .before .args in
     entry-unread (a .sheet .now) (a .free) (a .key) (a .value) (a .list) (rw (c .enum-told .given .1) at (c .before .before .before .before .parse .ensures))
 
--- src/members.rt:144:9
 push-entry-requires : tie.Need-push-entry-requires
 push-entry-requires c κs =
     let p = c .before .before .before .before .before .before .before .before .before .before .pre in
     let one = rw (c .before .before .parsed .given .1) at (c .before .before .before .before .before .before .parse .ensures) in
     (one .arena, ((p .1 .0 .0, one .placed .0, one .placed .1, omega (arith, p .1 .0 .2, one .grew)), (p .1 .1 .0, omega (arith, p .1 .1, one .room, one .outside .len), omega (arith, p .1 .1, one .room))))
 
--- src/members.rt:121:1
 same-length-2 : tie.Need-same-length-2
 same-length-2 c = search needs
 
--- src/members.rt:121:1
 returns-2 : tie.Need-returns-2
 returns-2 c =
     let a = c .before .before .before .before .before .before .before .before .before .before .before .before .before .args in

@@ -3,19 +3,13 @@ use Rattle.variants.proofs.NameLaws.{kind-any, kind-named}
 use borrow.Author.Needs.{needs}
 use Rattle.variants.proofs.members.variable_kind.Statement.{statement}
 use Rattle.variants.proofs.members.variable_kind.Tie as tie
-use Rattle.variants.proofs.members.variable_kind.Reads as reads
-use Rattle.variants.proofs.members.variable_kind.Lts as lts
-use Rattle.reading.proofs.leaves.leaf_kind.Reads as leaf-kind-reads
 
--- src/members.rt:70:9
 leaf-kind-requires : tie.Need-leaf-kind-requires
 leaf-kind-requires c κs = search needs
 
--- src/members.rt:72:9
 returns : tie.Need-returns
 returns c = kind-any (c .before .before .before .args .name .now) (c .before .leaf-kind .ensures .0) (omega arith)
 
--- src/members.rt:67:1
 returns-2 : tie.Need-returns-2
 returns-2 c = kind-named (c .before .before .before .args .name .now) (c .before .leaf-kind .ensures .0) (λ e. omega arith)
 
