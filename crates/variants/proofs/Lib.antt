@@ -1,0 +1,5 @@
+pub mod NameLaws
+pub mod Lookups
+pub mod Entering
+pub mod MemberReading
+pub mod Claiming
