@@ -110,3 +110,41 @@ fn deep_terms_do_not_exhaust_a_small_stack() {
         assert_eq!((called.refusal, &output), (0, b"equal=yes\n"));
     }
 }
+
+// The answer with a sheet's own words, on a small stack.
+fn on_a_small_stack(name: &str, sheet: &str) -> String {
+    let read = sheet::read(sheet.as_bytes()).unwrap();
+    let words = sheet::words_needed(sheet.as_bytes(), &read) as usize;
+    let (mut work, mut output) = (vec![1; words], vec![0; 2 * sheet::LONGEST]);
+    let called = lent::call(name, sheet.as_bytes(), &mut work, &mut output);
+    assert_eq!(called.refusal, 0, "{name}");
+    String::from_utf8(output[..called.written].to_vec()).unwrap()
+}
+
+#[test]
+fn deep_pairs_do_not_exhaust_a_small_stack() {
+    if notice::library_absent("deep pairs were not tried on it") {
+        return;
+    }
+    let under = |leaf| format!("{}{leaf}{}", "h(".repeat(4_090), ")".repeat(4_090));
+    let (open, shut) = (under("x1:Msg"), under("c(0)"));
+    let first = "left=x1:Msg\nright=c(0)\n";
+    let second = format!("left=x2:Msg\nright={open}\n");
+    let value = format!("key=x2:Msg\nvalue={shut}\n");
+    let key = "key=x1:Msg\nvalue=c(0)\n";
+    let put_in = on_a_small_stack(
+        "a binding put in",
+        &format!("kind=unify\nfuel=9\n{first}{second}"),
+    );
+    assert_eq!(put_in, format!("verdict=solved\nspent=2\n{key}{value}"));
+    let composed = on_a_small_stack(
+        "a value composed",
+        &format!("kind=unify\nfuel=9\n{second}{first}"),
+    );
+    assert_eq!(composed, format!("verdict=solved\nspent=2\n{value}{key}"));
+    for kind in ["unify", "match"] {
+        let sheet = format!("kind={kind}\nfuel=65536\nleft={open}\nright={shut}\n");
+        let walked = on_a_small_stack("a walk", &sheet);
+        assert_eq!(walked, format!("verdict=solved\nspent=4091\n{key}"));
+    }
+}
