@@ -1,0 +1,2 @@
+// Whether members cover the solved pairs of a sheet (unifier.rs, `Principal::covered`).
+pub mod variables; // variables.rt: the variables of trees in byte order
