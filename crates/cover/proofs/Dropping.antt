@@ -29,7 +29,7 @@ abbrev texts : Text → ℕ → ℕ → List ℕ → List Text
 texts s i end w = map (text-at s) (slice i end w)
 
 module _ (s : Text) (w : List ℕ) (i end : ℕ) (p : i < end) (q : end ≤ length w) where
-  first-word : slice i end w ≡ getD w i 0 ∷ slice (i + 1) end w
+  pub first-word : slice i end w ≡ getD w i 0 ∷ slice (i + 1) end w
   first-word = rw (add-one i) (slice-cons i end w 0 p q)
 
   first-text : texts s i end w ≡ text-at s (getD w i 0) ∷ texts s (i + 1) end w

@@ -1,3 +1,4 @@
 pub mod Ordering
 pub mod Naming
 pub mod Dropping
+pub mod Listings

@@ -1,2 +1,3 @@
 // Whether members cover the solved pairs of a sheet (unifier.rs, `Principal::covered`).
 pub mod variables; // variables.rt: the variables of trees in byte order
+pub mod listing; // listing.rt: variables as a list of cells
