@@ -2,3 +2,4 @@ pub mod Ordering
 pub mod Naming
 pub mod Dropping
 pub mod Listings
+pub mod Pairings

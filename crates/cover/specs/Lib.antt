@@ -1,3 +1,4 @@
 pub mod Ordered
 pub mod Variables
 pub mod Listing
+pub mod Generals
