@@ -3,3 +3,4 @@ pub mod Naming
 pub mod Dropping
 pub mod Listings
 pub mod Pairings
+pub mod Valuing

@@ -17,7 +17,7 @@ use Rattle.cover.specs.Listing.{variable-list, backwards}
 use Rattle.cover.specs.Generals.{names-of, OfVariables, names-at, paired, PairsUp}
 
 -- a list of variables, by its first and the others
-first-variable : (t : Tree) (ts : Trees) → OfVariables (more t ts) → (t ≡ variable (key-of t)) × OfVariables ts
+pub first-variable : (t : Tree) (ts : Trees) → OfVariables (more t ts) → (t ≡ variable (key-of t)) × OfVariables ts
 unfolding names-of variable-list
 first-variable t ts e = (cc, cc)
 

@@ -2,3 +2,4 @@
 pub mod variables; // variables.rt: the variables of trees in byte order
 pub mod listing; // listing.rt: variables as a list of cells
 pub mod generals; // generals.rt: the pairs that a member covers by
+pub mod values; // values.rt: the values of a member as bindings
