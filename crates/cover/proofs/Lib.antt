@@ -4,3 +4,4 @@ pub mod Dropping
 pub mod Listings
 pub mod Pairings
 pub mod Valuing
+pub mod Entries

@@ -6,7 +6,9 @@ use mathlib.Core.List.{List, _∷_}
 use mathlib.Core.Option.{Option, some, none as nothing}
 use lib.ListN.{length, getD}
 use Rattle.rules.specs.Bytes.{Text}
-use Rattle.rules.specs.Text.{is-one-of}
+use Rattle.rules.specs.Text.{bytes, is-one-of}
+use Rattle.rules.specs.Maybe.{_>>=_}
+use Rattle.rules.specs.Substitution.{lookup}
 use Rattle.rules.specs.Tree.{Tree, variable}
 use Rattle.rules.specs.Matching.{bound}
 use Rattle.rules.specs.Reading.{parse}
@@ -14,6 +16,8 @@ use Rattle.rules.specs.Sheet.{Entry}
 use Rattle.rules.specs.Cover.{entry-at}
 use Rattle.tree.specs.Cells.{name-at, tree-at}
 use Rattle.tree.specs.Arena.{Arena}
+use Rattle.sheet.specs.Lines.{lines-at}
+use Rattle.sheet.specs.Pairs.{entries-by}
 use Rattle.sheet.specs.Form.{text-of}
 use Rattle.sheet.specs.declared.Place.{Place}
 use Rattle.substitution.specs.Bindings.{bindings-at}
@@ -61,3 +65,25 @@ pub record Unread (s : Text) (w v : List ℕ) (ns : List Text) (key value : Plac
 abbrev pub ReadsValue : Text → List ℕ → List ℕ → ℕ → List Text → Place → Place → ℕ → Values → Type 0
 ReadsValue s w v n ns key value list (Bound b m) = Valued s w v n ns key value list b m
 ReadsValue s w v n ns key value list Unreadable = Unread s w v ns key value list
+
+-- es are the entries from a position on
+abbrev pub EntriesFrom : Text → ℕ → List Entry → Type 0
+EntriesFrom s at es = (rest : List Text) × ((lines-at s at >>= entries-by (bytes "key=") (bytes "value=")) ≡ some (es, rest))
+
+-- from w, with the free end n, to v, with the free end m: the bindings from cell b on give each of ns the tree that the entries give it
+pub record ValuesRead (s : Text) (w v : List ℕ) (n : ℕ) (ns : List Text) (at b m : ℕ) : Type 0 where
+  pub arena : Arena s v m
+  pub len : length v ≡ length w
+  pub below : (p : ℕ) → p < 4 * n → getD w p 0 ≡ getD v p 0
+  pub grew : n ≤ m
+  pub inside : b < m
+  pub used : m ≤ n + 2 * length s
+  pub gives : (es : List Entry) → EntriesFrom s at es → (y : Text) → is-one-of ns y ≡ true → value-in es y ≡ some (lookup (bindings-at s v b) y)
+
+-- of one of ns the value cannot be read
+abbrev pub OneUnread : Text → List Text → ℕ → Type 0
+OneUnread s ns at = (es : List Entry) → EntriesFrom s at es → (y : Text) × (is-one-of ns y ≡ true) × (value-in es y ≡ nothing)
+
+abbrev pub ReadsValues : Text → List ℕ → List ℕ → ℕ → List Text → ℕ → Values → Type 0
+ReadsValues s w v n ns at (Bound b m) = ValuesRead s w v n ns at b m
+ReadsValues s w v n ns at Unreadable = OneUnread s ns at × (length v ≡ length w)

@@ -20,7 +20,7 @@ ghost use Rattle.reading.specs.Parsing.{stack-end};
 ghost use Rattle.sheet.specs.Lines.{part-of};
 ghost use Rattle.sheet.specs.Form.{Inside};
 ghost use Rattle.cover.specs.Generals.{names-of, OfVariables};
-ghost use Rattle.cover.specs.Values.{Finds, ReadsValue};
+ghost use Rattle.cover.specs.Values.{Finds, ReadsValue, ReadsValues};
 
 // The cell of the variable of the list from cell `names` on whose name is the text from `from` to `to`, 0 for none.
 fn find_variable(
@@ -95,5 +95,44 @@ fn read_value(
     Values::Bound {
         bindings,
         free: top,
+    }
+}
+
+// The values of the entries from a cursor on, those whose keys are variables of the list from cell `names` on, as bindings.
+pub fn read_values(
+    sheet: &[u8],
+    work: &mut [u32],
+    free: usize,
+    names: usize,
+    start: Cursor,
+) -> Values
+    requires { ⌜ Arena (now sheet) (now work) free ⌝ }
+    requires { ⌜ (names < free) × OfVariables (trees-at (now sheet) (now work) names) ⌝ }
+    requires { ⌜ (start .at ≤ length (now sheet)) × (length (now sheet) ≤ 65536) ⌝ }
+    requires { ⌜ (4 * free + 11 * length (now sheet) + 9 ≤ length (now work)) × (free + 2 * length (now sheet) + 2 < 2 ^ 32) ⌝ }
+    ensures { λ r. ⌜ ReadsValues (now (sheet .entry)) (now (work .entry)) (now (work .exit)) free (names-of (trees-at (now (sheet .entry)) (now (work .entry)) names)) (start .at) r ⌝ }
+{
+    let mut cursor = start;
+    let mut list: usize = 0;
+    let mut end = free;
+    loop {
+        let entry = next_entry(sheet, cursor);
+        let PairLine::Sides { left, right, next } = entry else {
+            return Values::Bound {
+                bindings: list,
+                free: end,
+            };
+        };
+        let read = read_value(sheet, work, end, names, left, right, list);
+        let Values::Bound {
+            bindings,
+            free: top,
+        } = read
+        else {
+            return Values::Unreadable;
+        };
+        cursor = next;
+        list = bindings;
+        end = top;
     }
 }
