@@ -1,7 +1,7 @@
 -- Repeats dropped from sorted places, in a loop; and the places of a list of trees, gathered, sorted and without repeats. Assumes nothing.
 use Prim.Native.Nat.{ℕ, _+_, _*_, _<_, _≤_}
 use mathlib.Core.Path.{_≡_, refl, sym, ap, ap₂, subst, _∙_}
-use mathlib.Core.Bool.{Bool, true, false}
+use mathlib.Core.Bool.{true, false}
 use mathlib.Core.List.{List, [], _∷_, _++_, append-assoc, map}
 use lib.ListN.{length, getD, set, length-set}
 use lib.Seq.{slice, slice-cons, getD-set-other}
@@ -17,12 +17,12 @@ use Rattle.text.proofs.Merging.{sort-texts}
 use Rattle.text.proofs.Slices.{slice-same, slice-set, slice-none}
 use Rattle.tree.specs.Cells.{next-of, tree-at, trees-at}
 use Rattle.tree.specs.Arena.{Arena}
-use Rattle.tree.proofs.Decoding.{size-pos, sizes-more, trees-none}
+use Rattle.tree.proofs.Decoding.{sizes-more, trees-none}
 use Rattle.certificate.specs.Writer.{Kept}
-use Rattle.cover.specs.Ordered.{ordered, unique}
+use Rattle.cover.specs.Ordered.{unique}
 use Rattle.cover.specs.Variables.{Variable, Variables, Named, repeats, Dropped, Ordered}
 use Rattle.cover.proofs.Ordering.{unique-skip, unique-keep, unique-sort}
-use Rattle.cover.proofs.Naming.{texts-append, variables-append, variables-sort, kept-self, named-append, named-empty, arena-kept, tree-kept, trees-kept, next-kept, parts-built, parts-names}
+use Rattle.cover.proofs.Naming.{texts-append, variables-append, variables-sort, kept-self, named-append, named-empty, arena-kept, tree-kept, next-kept, parts-built, parts-names}
 
 -- the texts of the words from i to end
 abbrev texts : Text → ℕ → ℕ → List ℕ → List Text

@@ -3,12 +3,12 @@ use Prim.Native.Nat.{ℕ, _+_, _*_, _-_, _<_, _≤_}
 use mathlib.Core.Path.{_≡_, refl, sym, ap, subst, _∙_}
 use mathlib.Core.Bool.{Bool, true, false}
 use mathlib.Core.List.{List, [], _∷_}
-use mathlib.Core.Option.{Option, some, none as nothing}
+use mathlib.Core.Option.{some, none as nothing}
 use lib.ListN.{length, getD}
 use native.Mathlib.Omega.{arith}
 use Rattle.rules.specs.Bytes.{Text, same}
 use Rattle.rules.specs.Text.{bytes, is-one-of}
-use Rattle.rules.specs.Tree.{Tree, variable, Trees}
+use Rattle.rules.specs.Tree.{variable, Trees}
 use Rattle.rules.specs.Matching.{or-else, bound}
 use Rattle.rules.specs.Substitution.{Binding, pick, lookup}
 use Rattle.rules.specs.Sheet.{Entry}
@@ -104,9 +104,9 @@ module _ {s : Text} {w v : List ℕ} {n names at c list end : ℕ} (a : Arena s 
     inside = h .inside;
     used = omega (arith, h .used, h .within);
     gives = λ es f y o. (
-      let (fs, g, k) = h .later es f in
-      k y o ∙ ap (λ (fs : List Entry). resumed (bound y (bindings-at s v list)) (value-in fs y)) (two-end (bytes "key=") (bytes "value=") s c fs (g .0) (g .1) e .0) ∙ resumed-lookup y (bindings-at s v list)
-    );
+        let (fs, g, k) = h .later es f in
+        k y o ∙ ap (λ (fs : List Entry). resumed (bound y (bindings-at s v list)) (value-in fs y)) (two-end (bytes "key=") (bytes "value=") s c fs (g .0) (g .1) e .0) ∙ resumed-lookup y (bindings-at s v list)
+        );
   }
 
   module _ (l r : Place) (nx : Cursor) (e : Sides l r nx ≡ pair-at (bytes "key=") (bytes "value=") s c) where
@@ -136,7 +136,7 @@ module _ {s : Text} {w v : List ℕ} {n names at c list end : ℕ} (a : Arena s 
           low = omega (arith, h .low, y .next);
           within = y .within;
           later = λ es f. (
-            let (gs, t, k) = after-entry es f in
-            (gs, t, λ z o. (let o₁ = ap (λ (ts : Trees). is-one-of (names-of ts) z) (sym names-kept) ∙ o in k z o₁ ∙ x .keeps gs z o₁))
-          );
+              let (gs, t, k) = after-entry es f in
+              (gs, t, λ z o. (let o₁ = ap (λ (ts : Trees). is-one-of (names-of ts) z) (sym names-kept) ∙ o in k z o₁ ∙ x .keeps gs z o₁))
+              );
         }

@@ -5,3 +5,4 @@ pub mod Listings
 pub mod Pairings
 pub mod Valuing
 pub mod Entries
+pub mod Covering

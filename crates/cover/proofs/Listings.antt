@@ -1,9 +1,9 @@
 -- A variable written as a cell, and the list of all variables. Assumes nothing.
 use Prim.Native.Nat.{ℕ, _+_, _*_, _-_, _/_, _%_, _<_, _≤_}
-use mathlib.Core.Path.{_≡_, refl, sym, ap, ap₂, subst, _∙_}
-use mathlib.Core.Bool.{Bool, true, false, _&&_, _||_, false≢true}
+use mathlib.Core.Path.{_≡_, refl, sym, ap, subst, _∙_}
+use mathlib.Core.Bool.{true, false, _&&_, _||_, false≢true}
 use mathlib.Core.List.{List, [], _∷_, map}
-use mathlib.Core.Option.{Option, some, none as nothing}
+use mathlib.Core.Option.{some, none as nothing}
 use lib.Dec.{eqb}
 use lib.ListN.{length, getD, take, drop}
 use lib.Seq.{slice}
@@ -11,14 +11,13 @@ use native.Mathlib.Omega.{arith}
 use native.Mathlib.Decide.{decLt}
 use borrow.Author.Tests.{ne-eqb}
 use Rattle.rules.specs.Bytes.{Text}
-use Rattle.rules.specs.Text.{count-of}
 use Rattle.rules.specs.Names.{digit, indexed, variable-token}
 use Rattle.rules.specs.Sorts.{variable-sort}
-use Rattle.rules.specs.Tree.{Tree, variable, Trees, none, more, size}
+use Rattle.rules.specs.Tree.{variable, size}
 use Rattle.laws.proofs.Basics.Tests.{and-left, and-right}
 use Rattle.laws.proofs.Reading.Builds.{variable-colon}
 use Rattle.text.specs.Places.{text-at}
-use Rattle.tree.specs.Cells.{part, named, name-at, kind-of-sort, variable-kind, made, trees-at}
+use Rattle.tree.specs.Cells.{named, name-at, variable-kind, made, trees-at}
 use Rattle.tree.specs.Arena.{Arena, Wrote, Linked}
 use Rattle.tree.proofs.Decoding.{made-variable, trees-none}
 use Rattle.tree.proofs.Pushing.{name-push, arena-push, linked}
@@ -47,15 +46,12 @@ token-kind n h = go (leaf-by n)
     go (sorted p e) = e
 
 module _ (s : Text) (x : ℕ) (h : Variable s x) where
-  pub place-some : 0 < x % 65536
+  place-some : 0 < x % 65536
   unfolding text-at variable-token
   place-some = elim (decLt 0 (x % 65536)) [
     | yes p ↦ p
     | no p ↦ (let e : x % 65536 ≡ 0 = omega arith in absurd (false≢true (sym (ap (λ (n : ℕ). variable-token (take n (drop (x / 65536) s))) e) ∙ h .token)))
   ]
-
-  pub place-small : length s ≤ 65536 → x / 65536 < 65536
-  place-small p = let a = place-some in let b = h .inside in omega arith
 
   module _ {w v : List ℕ} {n next kind : ℕ} (a : Arena s w n) (k : kind ≡ leaf-kind (text-at s x)) (k₇ : kind < 7) (g : next < n) (room : 4 * n + 4 ≤ length w)
       (d : Wrote w v n (x / 65536) (x % 65536) kind 0 next 1) where

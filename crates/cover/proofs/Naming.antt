@@ -4,28 +4,25 @@ use mathlib.Core.Path.{_≡_, refl, sym, ap, ap₂, subst, _∙_}
 use mathlib.Core.Bool.{Bool, true, false, cond, false≢true}
 use mathlib.Core.List.{List, [], _∷_, _++_, map}
 use lib.ListN.{length, getD, set, length-set}
-use lib.Seq.{slice, slice-cons, getD-set-same, getD-set-other}
+use lib.Seq.{slice, getD-set-other}
 use native.Mathlib.Omega.{arith}
 use native.Mathlib.Decide.{decLt}
-use Rattle.rules.specs.Bytes.{Text, same}
+use Rattle.rules.specs.Bytes.{Text}
 use Rattle.rules.specs.Names.{variable-token}
-use Rattle.rules.specs.Tree.{Tree, variable, atom, apply, Trees, none, more, size, sizes}
-use Rattle.rules.specs.Tidy.{Built, a-variable, an-atom, a-leaf, a-list, a-sum, Builts, nil, both}
+use Rattle.rules.specs.Tree.{Tree, variable, apply, Trees, more, size, sizes}
+use Rattle.rules.specs.Tidy.{Built, a-leaf, a-list, a-sum, Builts, nil, both}
 use Rattle.rules.specs.Memory.{variable-names, variable-names-in}
 use Rattle.laws.proofs.Sheets.BuiltRun.{name-token}
-use Rattle.text.specs.Places.{text-at, places-upto}
-use Rattle.text.specs.Sorting.{insertBy, sortBy, Sorts}
-use Rattle.text.proofs.Merging.{sort-texts, length-sort}
+use Rattle.text.specs.Places.{text-at}
+use Rattle.text.specs.Sorting.{insertBy, sortBy}
 use Rattle.text.proofs.Slices.{slice-same, slice-set, slice-join, slice-none}
 use Rattle.tree.specs.Cells.{start-of, length-of, kind-of, first-of, next-of, fixed-name, name-at, tree-at, trees-at}
-use Rattle.tree.specs.Arena.{Links, Cell, Arena}
+use Rattle.tree.specs.Arena.{Cell, Arena}
 use Rattle.tree.proofs.Decoding.{Agree, same-next, trees-none, trees-more, tree-variable, tree-atom, tree-apply, size-pos, size-apply, sizes-more, frame-tree, frame-trees}
 use Rattle.tree.proofs.Naming.{name-part, name-fixed}
 use Rattle.certificate.specs.Writer.{Kept}
 use Rattle.equivalence.proofs.Scratch.{arena-frame}
-use Rattle.cover.specs.Ordered.{ordered, unique}
-use Rattle.cover.specs.Variables.{Variable, Variables, Named, Dropped, Ordered}
-use Rattle.cover.proofs.Ordering.{unique-sort}
+use Rattle.cover.specs.Variables.{Variable, Variables, Named}
 
 -- ---- lists of places
 

@@ -1,6 +1,6 @@
 -- Inserting texts once: in any order, and by sorting and dropping repeats; and the variables of trees as texts inserted. Assumes nothing.
-use mathlib.Core.Path.{_≡_, refl, sym, ap, ap₂, _∙_}
-use mathlib.Core.Bool.{Bool, true, false, cond, true≢false}
+use mathlib.Core.Path.{_≡_, refl, sym, ap, _∙_}
+use mathlib.Core.Bool.{Bool, true, false, true≢false}
 use mathlib.Core.List.{List, [], _∷_, _++_}
 use Rattle.rules.specs.Bytes.{Text, same, upto, insert, sort}
 use Rattle.rules.specs.Tree.{Tree, variable, atom, apply, Trees, none, more}

@@ -4,8 +4,8 @@ use mathlib.Core.Path.{_≡_, refl, sym, ap, ap₂, subst, _∙_}
 use mathlib.Core.List.{List, [], _∷_}
 use native.Mathlib.Omega.{arith}
 use Rattle.rules.specs.Bytes.{Text}
-use Rattle.rules.specs.Tree.{Tree, variable, Trees, none, more, count}
-use Rattle.rules.specs.Substitution.{Binding, lookup, flatten}
+use Rattle.rules.specs.Tree.{Tree, variable, Trees, more, count}
+use Rattle.rules.specs.Substitution.{lookup, flatten}
 use Rattle.tree.specs.Cells.{kind-of, next-of, name-at, tree-at, trees-at}
 use Rattle.tree.specs.Arena.{Arena}
 use Rattle.tree.proofs.Decoding.{kind, same-next, same-name, trees-none, trees-more, frame-tree, frame-trees}

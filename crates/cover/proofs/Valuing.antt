@@ -1,8 +1,8 @@
 -- A variable found by its name, and the value of an entry read or passed over. Assumes nothing.
-use Prim.Native.Nat.{ℕ, _+_, _*_, _-_, _<_, _≤_}
+use Prim.Native.Nat.{ℕ, _+_, _<_}
 use mathlib.Core.Path.{_≡_, refl, sym, ap, ap₂, subst, _∙_}
 use mathlib.Core.Bool.{Bool, true, false, _||_, true≢false}
-use mathlib.Core.List.{List, [], _∷_}
+use mathlib.Core.List.{List, _∷_}
 use mathlib.Core.Option.{Option, some, none as nothing}
 use lib.ListN.{length}
 use native.Mathlib.Omega.{arith}
@@ -17,9 +17,9 @@ use Rattle.rules.specs.Cover.{entry-at}
 use Rattle.laws.proofs.Basics.Tests.{same-eq, same-of-eq, or-left}
 use Rattle.tree.specs.Cells.{kind-of, next-of, name-at, tree-at, trees-at}
 use Rattle.tree.specs.Arena.{Arena}
-use Rattle.tree.proofs.Decoding.{kind, trees-none, trees-more, frame-tree, frame-trees, same-name}
+use Rattle.tree.proofs.Decoding.{kind, trees-none, trees-more, frame-trees, same-name}
 use Rattle.tree.proofs.Naming.{same-swap}
-use Rattle.substitution.specs.Bindings.{key-of, bindings-of, bindings-at, FoundAt}
+use Rattle.substitution.specs.Bindings.{bindings-of, bindings-at}
 use Rattle.substitution.specs.Building.{Made}
 use Rattle.substitution.proofs.Keys.{key-name}
 use Rattle.substitution.proofs.Chains.{bindings-pair}

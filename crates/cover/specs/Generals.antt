@@ -1,7 +1,7 @@
 -- The pairs that a member covers by, as a list of trees in cells. Definitions only.
 use Prim.Native.Nat.{ℕ, _+_, _*_}
 use mathlib.Core.Path.{_≡_}
-use mathlib.Core.List.{List, [], _∷_, map}
+use mathlib.Core.List.{List, [], _∷_}
 use Rattle.rules.specs.Bytes.{Text}
 use Rattle.rules.specs.Tree.{Trees, none, more, count}
 use Rattle.rules.specs.Substitution.{Binding, Pair, lookup, flatten}

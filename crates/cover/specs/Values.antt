@@ -14,7 +14,7 @@ use Rattle.rules.specs.Matching.{bound}
 use Rattle.rules.specs.Reading.{parse}
 use Rattle.rules.specs.Sheet.{Entry}
 use Rattle.rules.specs.Cover.{entry-at}
-use Rattle.tree.specs.Cells.{name-at, tree-at}
+use Rattle.tree.specs.Cells.{name-at}
 use Rattle.tree.specs.Arena.{Arena}
 use Rattle.sheet.specs.Lines.{lines-at}
 use Rattle.sheet.specs.Pairs.{entries-by}

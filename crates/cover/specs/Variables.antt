@@ -1,9 +1,9 @@
 -- The variables of trees as places in the work area. Definitions only.
-use Prim.Native.Nat.{ℕ, _+_, _/_, _%_, _<_, _≤_}
+use Prim.Native.Nat.{ℕ, _+_, _/_, _%_, _≤_}
 use mathlib.Core.Path.{_≡_}
 use mathlib.Core.Bool.{Bool, true, false}
 use mathlib.Core.List.{List, [], _∷_, map}
-use lib.ListN.{length, getD}
+use lib.ListN.{length}
 use lib.Seq.{slice}
 use Rattle.rules.specs.Bytes.{Text, same}
 use Rattle.rules.specs.Names.{variable-token}
@@ -43,7 +43,7 @@ pub record Dropped (s : Text) (w v : List ℕ) (at end r : ℕ) : Type 0 where
   pub places : Variables s (slice at end w) → Variables s (slice at r v)
   pub are : map (text-at s) (slice at r v) ≡ unique (map (text-at s) (slice at end w))
 
--- the places of the variables ns in byte order, each once, from `at` to r; the words from lim on are kept
+-- the places of the variables ns in byte order, each once, from `at` to r
 pub record Ordered (s : Text) (w v : List ℕ) (at r most : ℕ) (ns : List Text) : Type 0 where
   pub kept : Kept w v at (at + most + most)
   pub grew : at ≤ r

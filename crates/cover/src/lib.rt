@@ -1,4 +1,4 @@
-// Whether members cover the solved pairs of a sheet (unifier.rs, `Principal::covered`).
+// The pairs by which a member covers the solved pairs of a sheet (unifier.rs, `Principal::covered`).
 pub mod variables; // variables.rt: the variables of trees in byte order
 pub mod listing; // listing.rt: variables as a list of cells
 pub mod generals; // generals.rt: the pairs that a member covers by

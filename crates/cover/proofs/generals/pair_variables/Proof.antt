@@ -1,7 +1,5 @@
 use native.Mathlib.Omega.{arith}
-use mathlib.Core.Path.{refl, sym, _∙_}
 use Prim.Native.Nat.{_<_}
-use borrow.Author.Needs.{needs}
 use Rattle.cover.proofs.Pairings.{Pairing, pairing-starts, pairing-ends, now-variable, now-room, pairing-turn}
 use Rattle.cover.proofs.generals.pair_variables.Statement.{statement}
 use Rattle.cover.proofs.generals.pair_variables.Tie as tie
@@ -29,7 +27,7 @@ value-at-requires c κs =
     let a = c .before .before .before .before .before .args in
     let h = c .before .before .loop .inv in
     let q : 0 < c .before .before .loop .k = omega (arith, c .before .loop-test .taken) in
-    (h .made .arena, (omega (arith, h .made .grew, c .before .before .before .before .before .pre .1 .0 .1), (q, omega (arith, h .left, h .made .grew), now-variable (a .sheet .now) (a .work .now) (a .free) (a .names) (a .values) (a .bindings) (c .before .before .before .before .before .pre .0) (c .before .before .before .before .before .pre .1 .0 .1) (c .before .before .before .before .before .pre .1 .0 .2) h q)))
+    (h .made .arena, (omega (arith, h .made .grew, c .before .before .before .before .before .pre .1 .0 .1, c .before .before .before .before .before .pre .1 .0 .2), (q, omega (arith, h .left, h .made .grew), now-variable (a .sheet .now) (a .work .now) (a .free) (a .names) (a .values) (a .bindings) (c .before .before .before .before .before .pre .0) (c .before .before .before .before .before .pre .1 .0 .1) (c .before .before .before .before .before .pre .1 .0 .2) h q)))
 
 -- src/generals.rt:51:13
 value-at-requires-2 : tie.Need-value-at-requires-2 Inv-loop μ-loop
@@ -37,7 +35,7 @@ value-at-requires-2 c κs =
     let a = c .before .before .before .before .before .before .before .args in
     let h = c .before .before .before .before .loop .inv in
     let q : 0 < c .before .before .before .before .loop .k = omega (arith, c .before .before .before .loop-test .taken) in
-    (h .made .arena, (omega (arith, h .made .grew, c .before .before .before .before .before .before .before .pre .1 .0 .2), (q, omega (arith, h .left, h .made .grew), now-variable (a .sheet .now) (a .work .now) (a .free) (a .names) (a .values) (a .bindings) (c .before .before .before .before .before .before .before .pre .0) (c .before .before .before .before .before .before .before .pre .1 .0 .1) (c .before .before .before .before .before .before .before .pre .1 .0 .2) h q)))
+    (h .made .arena, (omega (arith, h .made .grew, c .before .before .before .before .before .before .before .pre .1 .0 .1, c .before .before .before .before .before .before .before .pre .1 .0 .2), (q, omega (arith, h .left, h .made .grew), now-variable (a .sheet .now) (a .work .now) (a .free) (a .names) (a .values) (a .bindings) (c .before .before .before .before .before .before .before .pre .0) (c .before .before .before .before .before .before .before .pre .1 .0 .1) (c .before .before .before .before .before .before .before .pre .1 .0 .2) h q)))
 
 -- src/generals.rt:52:13
 next-of-requires : tie.Need-next-of-requires Inv-loop μ-loop

@@ -1,9 +1,6 @@
-use native.Mathlib.Omega.{arith}
-use mathlib.Core.Path.{refl, sym, ap, subst, _∙_}
-use Prim.Native.Nat.{_/_, _%_}
-use Rattle.tree.specs.Arena.{Wrote}
+use mathlib.Core.Path.{ap, _∙_}
 use Rattle.reading.specs.Leaves.{leaf-kind}
-use Rattle.cover.proofs.Listings.{place-some, place-small, variable-linked}
+use Rattle.cover.proofs.Listings.{variable-linked}
 use borrow.Author.Needs.{needs}
 use Rattle.cover.proofs.listing.push_variable.Statement.{statement}
 use Rattle.cover.proofs.listing.push_variable.Tie as tie

@@ -1,6 +1,5 @@
 use native.Mathlib.Omega.{arith}
 use mathlib.Core.Path.{refl, sym, ap, _∙_}
-use Prim.Native.Nat.{_<_}
 use borrow.Author.Needs.{needs}
 use Rattle.sheet.specs.Lines.{part-of}
 use Rattle.rules.specs.Bytes as spec

@@ -1,11 +1,9 @@
 use native.Mathlib.Omega.{arith}
-use mathlib.Core.Path.{_≡_, refl, sym, ap, _∙_}
-use mathlib.Core.Option.{none}
+use mathlib.Core.Path.{sym, ap, _∙_}
 use Prim.Native.Nat.{_<_}
 use Rattle.rules.specs.Bytes.{Text}
 use Rattle.rules.specs.Matching.{bound}
 use Rattle.tree.specs.Cells.{trees-at}
-use Rattle.sheet.specs.Form.{text-of}
 use Rattle.substitution.specs.Bindings.{bindings-at}
 use Rattle.cover.specs.Generals.{names-of}
 use Rattle.cover.proofs.Valuing.{value-passed, value-kept, value-unread, value-read}

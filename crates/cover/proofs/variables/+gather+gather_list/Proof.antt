@@ -1,11 +1,11 @@
 use borrow.Author.Needs.{needs}
 use native.Mathlib.Omega.{arith}
-use mathlib.Core.Path.{_≡_, refl, sym, ap, subst, _∙_}
+use mathlib.Core.Path.{refl, sym, _∙_}
 use Prim.Native.Nat.{_+_, _*_}
 use Rattle.rules.specs.Tree.{size, sizes}
 use Rattle.tree.specs.Cells.{next-of, tree-at, trees-at}
 use Rattle.tree.proofs.Decoding.{children-fall, head-falls, size-pos, size-apply, sizes-more, sizes-is}
-use Rattle.cover.proofs.Naming.{arena-kept, named-variable, named-atom, named-none, named-list, list-built, parts-built, next-falls, rest-sizes, rest-built, named-more}
+use Rattle.cover.proofs.Naming.{arena-kept, named-variable, named-atom, named-none, named-list, list-built, parts-built, rest-sizes, rest-built, named-more}
 use Prim.Native.Nat.{ℕ, _<_}
 use borrow.Fn.Kinds.{In}
 use borrow.Fn.PlainCycle.{Measures, is, falls, and}

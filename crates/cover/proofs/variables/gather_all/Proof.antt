@@ -1,7 +1,6 @@
 use native.Mathlib.Omega.{arith}
-use mathlib.Core.Path.{refl, sym, _∙_}
+use mathlib.Core.Path.{refl}
 use Prim.Native.Nat.{_<_}
-use borrow.Author.Needs.{needs}
 use Rattle.cover.proofs.Naming.{arena-kept}
 use Rattle.cover.proofs.Dropping.{Gathering, gathering-starts, here-arena, here-built, here-room, gathering-goes-on, gathered-all}
 use Rattle.cover.proofs.variables.gather_all.Statement.{statement}

@@ -23,7 +23,7 @@ sort-places-requires c κs =
     let a = g .grew in
     let b = g .most-is in
     let n = g .kept .len in
-    (a, omega arith, omega (arith, c .before .before .before .before .before .before .before .pre .1 .1 .1))
+    (omega arith, omega arith, omega (arith, c .before .before .before .before .before .before .before .pre .1 .1 .1))
 
 -- src/variables.rt:112:5
 drop-repeats-requires : tie.Need-drop-repeats-requires
