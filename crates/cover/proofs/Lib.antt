@@ -6,3 +6,4 @@ pub mod Pairings
 pub mod Valuing
 pub mod Entries
 pub mod Covering
+pub mod MemberLaws

@@ -3,3 +3,4 @@ pub mod Variables
 pub mod Listing
 pub mod Generals
 pub mod Values
+pub mod Members
