@@ -41,11 +41,11 @@ unfolding leaf-kind
 kind-ended n i h inv = rw (drop-of-length-le n h) at inv
 
 -- a kind is that of an application or of a variable
-data Leaf (n : Text) : Type 0 where
+pub data Leaf (n : Text) : Type 0 where
   plain : count-of 58 n ≡ 0 → leaf-kind n ≡ 0 → Leaf n
   sorted : 0 < count-of 58 n → leaf-kind n ≡ variable-kind n → Leaf n
 
-leaf-by : (n : Text) → Leaf n
+pub leaf-by : (n : Text) → Leaf n
 unfolding leaf-kind count-of variable-sort
 leaf-by [] = plain refl refl
 leaf-by (b ∷ n) = go (eqb b 58) refl (leaf-by n)

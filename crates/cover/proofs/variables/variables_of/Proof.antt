@@ -1,0 +1,49 @@
+use native.Mathlib.Omega.{arith}
+use Rattle.rules.specs.Tree.{sizes}
+use Rattle.rules.specs.Memory.{variable-names-in}
+use Rattle.tree.specs.Cells.{trees-at}
+use Rattle.cover.proofs.Dropping.{in-order}
+use borrow.Author.Needs.{needs}
+use Rattle.cover.proofs.variables.variables_of.Statement.{statement}
+use Rattle.cover.proofs.variables.variables_of.Tie as tie
+use Rattle.cover.proofs.variables.variables_of.Reads as reads
+use Rattle.cover.proofs.variables.variables_of.Lts as lts
+use Rattle.cover.proofs.variables.drop_repeats.Reads as drop-repeats-reads
+use Rattle.cover.proofs.variables.gather_all.Reads as gather-all-reads
+use Rattle.text.proofs.places.sort_places.Reads as sort-places-reads
+
+-- src/variables.rt:110:9
+gather-all-requires : tie.Need-gather-all-requires
+gather-all-requires c κs = (c .before .before .before .pre .0, (c .before .before .before .pre .1 .0, (c .before .before .before .pre .1 .1 .0, omega (arith, c .before .before .before .pre .1 .1 .1))))
+
+-- src/variables.rt:111:5
+sort-places-requires : tie.Need-sort-places-requires
+sort-places-requires c κs =
+    let g = c .before .before .before .gather-all .ensures in
+    let a = g .grew in
+    let b = g .most-is in
+    let n = g .kept .len in
+    (omega arith, omega arith, omega (arith, c .before .before .before .before .before .before .before .pre .1 .1 .1))
+
+-- src/variables.rt:112:5
+drop-repeats-requires : tie.Need-drop-repeats-requires
+drop-repeats-requires c κs =
+    let g = c .before .before .before .before .before .before .before .gather-all .ensures in
+    let a = g .grew in
+    let b = g .most-is in
+    let n = g .kept .len in
+    let m = c .before .before .before .sort-places .ensures .len in
+    (a, omega (arith, c .before .before .before .before .before .before .before .before .before .before .before .pre .1 .1 .1))
+
+-- src/variables.rt:104:1
+same-length : tie.Need-same-length
+same-length c = search needs
+
+-- src/variables.rt:104:1
+returns : tie.Need-returns
+returns c = in-order (c .before .before .before .before .before .before .before .before .before .before .before .before .before .before .args .sheet .now) (c .before .before .before .before .before .before .before .before .before .before .before .before .before .before .args .work .now) (c .before .before .before .before .before .before .before .before .before .before .gather-all .last .1 .0) (c .before .before .before .before .before .before .sort-places .last .1 .0) (c .before .before .drop-repeats .last .1 .0) (c .before .before .before .before .before .before .before .before .before .before .before .before .before .before .args .at) (c .before .before .before .before .before .before .before .before .before .before .gather-all .result) (c .before .before .drop-repeats .result) (sizes (trees-at (c .before .before .before .before .before .before .before .before .before .before .before .before .before .before .args .sheet .now) (c .before .before .before .before .before .before .before .before .before .before .before .before .before .before .args .work .now) (c .before .before .before .before .before .before .before .before .before .before .before .before .before .before .args .list))) (variable-names-in (trees-at (c .before .before .before .before .before .before .before .before .before .before .before .before .before .before .args .sheet .now) (c .before .before .before .before .before .before .before .before .before .before .before .before .before .before .args .work .now) (c .before .before .before .before .before .before .before .before .before .before .before .before .before .before .args .list))) (c .before .before .before .before .before .before .before .before .before .before .gather-all .ensures) (c .before .before .before .before .before .before .sort-places .ensures) (c .before .before .drop-repeats .ensures)
+
+pub variables-of-spec : {M : Type 1} → statement M
+variables-of-spec =
+    tie.close
+    (tie.spec gather-all-requires sort-places-requires drop-repeats-requires same-length returns)

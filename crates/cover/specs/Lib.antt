@@ -1,0 +1,6 @@
+pub mod Ordered
+pub mod Variables
+pub mod Listing
+pub mod Generals
+pub mod Values
+pub mod Members
