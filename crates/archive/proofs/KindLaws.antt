@@ -9,7 +9,9 @@ use denote.Enum.Declared.{tagOf}
 use types.Run.{OneOf, miss}
 use Rattle.rules.specs.Bytes.{Text}
 use Rattle.rules.specs.Text.{count-of}
-use Rattle.rules.specs.Sheet.{Sheet, asks-equal, asks-reduce}
+use Rattle.rules.specs.Sheet.{Sheet, Member, asks-equal, asks-reduce, asks-sound}
+use Rattle.sheet.specs.Members.{members-at}
+use Rattle.sheet.specs.declared.Cursor.{Cursor}
 use Rattle.rules.specs.Answer.{answer-of}
 use Rattle.rules.specs.Call.{Reply, refused, admitted, refusal-number, written, overwritten, cleared, work-after}
 use Rattle.sheet.specs.Form.{text-of, sheet-of, form-words}
@@ -44,6 +46,13 @@ reduce-settled s t f {out} {v} {x} e h sheet g =
     let z : asks-reduce (text-of s t) ≡ sheet = cc (ap (sheet-of s) e) in
     subst (λ (t : Sheet). Settles (answer-now t) out v x) z h
 
+pub sound-settled : (s : Text) (t : Place) (c : Cursor) (f : Form) {out v : Text} {x : Settled} → f ≡ form.Sound t c
+    → ((m : Member) → members-at s (c .at) ≡ some (m ∷ []) → Settles (answer-of (asks-sound (text-of s t) m)) out v x) → SettlesForm (sheet-of s f) out v x
+unfolding answer-now
+sound-settled s t c f {out} {v} {x} e h sheet g =
+    let k = sound-member s t c sheet (ap (sheet-of s) (sym e) ∙ g) in
+    subst (λ (z : Sheet). Settles (answer-now z) out v x) (sym (k .1)) (h (k .0) (k .2))
+
 -- every kind has the words of what is read and of one step, and those of its colons
 pub least-words : (s : Text) (f : Form) {n : ℕ} → form-words s f ≤ n → 1048576 + 16 * length s ≤ n
 unfolding form-words
@@ -54,18 +63,18 @@ unfolding form-words
 colon-words s f h = omega arith
 
 -- the kinds that are not answered yet
-not-now : (s : Text) (f : Form) (sheet : Sheet) → OneOf (4 ∷ 5 ∷ 6 ∷ 7 ∷ []) (tagOf the-type f) → sheet-of s f ≡ some sheet → answer-now sheet ≡ none
+not-now : (s : Text) (f : Form) (sheet : Sheet) → OneOf (4 ∷ 6 ∷ 7 ∷ []) (tagOf the-type f) → sheet-of s f ≡ some sheet → answer-now sheet ≡ none
 unfolding sheet-of answer-now
-not-now s (form.Equal l r) sheet h e = absurd (miss (4 ∷ 5 ∷ 6 ∷ 7 ∷ []) 0 tt h)
-not-now s (form.Unify fuel c) sheet h e = absurd (miss (4 ∷ 5 ∷ 6 ∷ 7 ∷ []) 1 tt h)
-not-now s (form.Match fuel c) sheet h e = absurd (miss (4 ∷ 5 ∷ 6 ∷ 7 ∷ []) 2 tt h)
-not-now s (form.Reduce t) sheet h e = absurd (miss (4 ∷ 5 ∷ 6 ∷ 7 ∷ []) 3 tt h)
+not-now s (form.Equal l r) sheet h e = absurd (miss (4 ∷ 6 ∷ 7 ∷ []) 0 tt h)
+not-now s (form.Unify fuel c) sheet h e = absurd (miss (4 ∷ 6 ∷ 7 ∷ []) 1 tt h)
+not-now s (form.Match fuel c) sheet h e = absurd (miss (4 ∷ 6 ∷ 7 ∷ []) 2 tt h)
+not-now s (form.Reduce t) sheet h e = absurd (miss (4 ∷ 6 ∷ 7 ∷ []) 3 tt h)
 not-now s (form.Cover c d) sheet h e = ap answer-now (cover-parts s c d sheet e .3)
-not-now s (form.Sound t c) sheet h e = ap answer-now (sound-member s t c sheet e .1)
+not-now s (form.Sound t c) sheet h e = absurd (miss (4 ∷ 6 ∷ 7 ∷ []) 5 tt h)
 not-now s (form.Complete t c) sheet h e = ap answer-now (complete-members s t c sheet e .1)
 not-now s form.Three sheet h e = let z : _≡_ {A = ℕ} 0 1 = cc in absurd (omega arith)
 
-pub other-settled : (s : Text) (f : Form) (out : Text) → OneOf (4 ∷ 5 ∷ 6 ∷ 7 ∷ []) (tagOf the-type f) → SettlesForm (sheet-of s f) out out Unreadable
+pub other-settled : (s : Text) (f : Form) (out : Text) → OneOf (4 ∷ 6 ∷ 7 ∷ []) (tagOf the-type f) → SettlesForm (sheet-of s f) out out Unreadable
 other-settled s f out h sheet e = settles-as (not-now s f sheet h e) (unreadable-settles out)
 
 -- the whole call, by what was admitted and settled

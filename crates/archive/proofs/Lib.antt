@@ -8,5 +8,6 @@ pub mod PairReading
 pub mod Reversing
 pub mod RunRooms
 pub mod Solves
+pub mod Sounds
 pub mod KindLaws
 pub mod VerdictLines

@@ -22,7 +22,7 @@ answer-now (asks-unify fuel ps) = answer-of (asks-unify fuel ps)
 answer-now (asks-match fuel ps) = answer-of (asks-match fuel ps)
 answer-now (asks-reduce t) = answer-of (asks-reduce t)
 answer-now (asks-cover ps ms) = none
-answer-now (asks-sound t m) = none
+answer-now (asks-sound t m) = answer-of (asks-sound t m)
 answer-now (asks-complete t ms) = none
 
 -- a sheet that was read is settled with its answer

@@ -18,12 +18,17 @@ use sheet::form::Form;
 use unifier::matching::matcher;
 use unifier::unifying::Outcome;
 use unifier::unifying::unify;
+use variants::soundness::Claim;
+use variants::soundness::sound;
+ghost use mathlib.Core.Path.{_≡_};
+ghost use mathlib.Core.List.{[], _∷_};
 ghost use mathlib.Core.Option.{some};
 ghost use Prim.Native.Nat.{_+_, _*_, _<_, _≤_};
 ghost use lib.ListN.{length};
 ghost use Rattle.rules.specs.Text.{count-of};
 ghost use Rattle.rules.specs.Answer.{verdict-lines, answer-of};
-ghost use Rattle.rules.specs.Sheet.{asks-equal, asks-reduce, read-sheet};
+ghost use Rattle.rules.specs.Sheet.{Member, asks-equal, asks-reduce, asks-sound, read-sheet};
+ghost use Rattle.sheet.specs.Members.{members-at};
 ghost use Rattle.tree.specs.Cells.{trees-at};
 ghost use Rattle.tree.specs.Arena.{Arena};
 ghost use Rattle.sheet.specs.Form.{text-of, Inside, sheet-of, form-words};
@@ -127,6 +132,32 @@ fn solving(
     give_outcome(sheet, work, output, outcome)
 }
 
+// Kind `sound`. Cells start at 1.
+fn sound_of(
+    sheet: &[u8],
+    work: &mut [u32],
+    output: &mut [u8],
+    term: Place,
+    member: Cursor,
+) -> Settled
+    requires { ⌜ (length (now sheet) ≤ 65536) × (1048576 + 16 * length (now sheet) ≤ length (now work)) ⌝ }
+    requires { ⌜ Inside (now sheet) term ⌝ }
+    ensures { λ r. ⌜ ((m : Member) → members-at (now (sheet .entry)) (member .at) ≡ some (m ∷ []) → Settles (answer-of (asks-sound (text-of (now (sheet .entry)) term) m)) (now (output .entry)) (now (output .exit)) r) ⌝ }
+{
+    let from = term.from;
+    let to = term.to;
+    let parsed = parse(sheet, work, 1, from, to);
+    let Parsed::Tree { index, free } = parsed else {
+        return Settled::Unreadable;
+    };
+    let claim = sound(sheet, work, free, index, member);
+    match claim {
+        Claim::Yes => give(output, b"sound=yes\n"),
+        Claim::No => give(output, b"sound=no\n"),
+        Claim::Nothing => give(output, b"sound=none\n"),
+    }
+}
+
 // A sheet that is admitted, by its kind.
 pub fn settle(sheet: &[u8], work: &mut [u32], output: &mut [u8], form: Form) -> Settled
     requires { ⌜ Decoded (now sheet) form ⌝ }
@@ -138,6 +169,7 @@ pub fn settle(sheet: &[u8], work: &mut [u32], output: &mut [u8], form: Form) -> 
         Form::Reduce { term } => reduce(sheet, work, output, term),
         Form::Unify { fuel, pairs } => solving(sheet, work, output, fuel, pairs, false),
         Form::Match { fuel, pairs } => solving(sheet, work, output, fuel, pairs, true),
+        Form::Sound { term, member } => sound_of(sheet, work, output, term, member),
         _ => Settled::Unreadable,
     }
 }

@@ -28,8 +28,7 @@ answer-in list stored = take (stored .end - stored .answer) (drop (stored .answe
 abbrev pub unanswered : Text → Bool
 unanswered sheet =
     begins-with (bytes "kind=cover\n") sheet
-    || (begins-with (bytes "kind=sound\n") sheet
-    || begins-with (bytes "kind=complete\n") sheet)
+    || begins-with (bytes "kind=complete\n") sheet
 
 -- a refusal that comes before the kind is answered
 abbrev pub early : ℕ → Bool

@@ -33,8 +33,7 @@ pub enum Outcome {
 fn unanswered(sheet: &[u8]) -> bool
     ensures { λ r. ⌜ r ≡ unanswered (now (sheet .entry)) ⌝ }
 {
-    begins(sheet, b"kind=cover\n")
-        || (begins(sheet, b"kind=sound\n") || begins(sheet, b"kind=complete\n"))
+    begins(sheet, b"kind=cover\n") || begins(sheet, b"kind=complete\n")
 }
 
 fn equals(a: usize, b: usize) -> bool

@@ -33,7 +33,7 @@ fn reduces_to(
 ) -> Claim
     requires { ⌜ Arena (now sheet) (now work) free ⌝ }
     requires { ⌜ (0 < term) × (term < free) × (bindings < free) × (0 < value) × (value < free) ⌝ }
-    requires { ⌜ (size (tree-at (now sheet) (now work) value) ≤ 4096) × (4 * free + 155648 ≤ length (now work)) × (free < 262144) ⌝ }
+    requires { ⌜ (size (tree-at (now sheet) (now work) value) ≤ 4096) × (4 * free + 155648 ≤ length (now work)) × (free < 1048576) ⌝ }
     ensures { λ r. ⌜ ClaimsInstance (now (sheet .entry)) (now (work .entry)) (now (work .exit)) free term bindings value r ⌝ }
 {
     let built = substitute(sheet, work, free, term, bindings, 0, 4096);
@@ -58,7 +58,7 @@ fn reduces_to(
 pub fn sound(sheet: &[u8], work: &mut [u32], free: usize, term: usize, start: Cursor) -> Claim
     requires { ⌜ Arena (now sheet) (now work) free ⌝ }
     requires { ⌜ (0 < term) × (term < free) ⌝ }
-    requires { ⌜ (length (now sheet) ≤ 65536) × (1048576 + 16 * length (now sheet) ≤ length (now work)) × (texts-end (now sheet) free (start .at) ≤ 1 + 2 * length (now sheet)) ⌝ }
+    requires { ⌜ (length (now sheet) ≤ 65536) × (1048576 + 16 * length (now sheet) ≤ length (now work)) × (texts-end (now sheet) free (start .at) ≤ 1 + 4 * length (now sheet)) ⌝ }
     ensures { λ r. ⌜ ClaimsSound (now (sheet .entry)) (now (work .entry)) (now (work .exit)) free term (start .at) r ⌝ }
 {
     let member = read_member(sheet, work, free, start);

@@ -2,7 +2,7 @@ use mathlib.Core.Path.{subst}
 use native.Mathlib.Omega.{arith}
 use Rattle.sheet.specs.Form.{Within}
 use Rattle.archive.proofs.Solves.{unify-asked, match-asked, form-settled}
-use Rattle.archive.proofs.KindLaws.{least-words, colon-words, equal-settled, reduce-settled, other-settled}
+use Rattle.archive.proofs.KindLaws.{least-words, colon-words, equal-settled, reduce-settled, sound-settled, other-settled}
 use borrow.Author.Needs.{needs}
 use Rattle.archive.proofs.kinds.settle.Statement.{statement}
 use Rattle.archive.proofs.kinds.settle.Tie as tie
@@ -11,94 +11,117 @@ use Rattle.archive.proofs.kinds.settle.Lts as lts
 use Rattle.archive.proofs.kinds.equal.Reads as equal-reads
 use Rattle.archive.proofs.kinds.reduce.Reads as reduce-reads
 use Rattle.archive.proofs.kinds.solving.Reads as solving-reads
+use Rattle.archive.proofs.kinds.sound_of.Reads as sound-of-reads
 
--- src/kinds.rt:125:23
+-- src/kinds.rt:168:23
 enum-known-form : tie.Need-enum-known-form
 enum-known-form c = search needs
 
--- src/kinds.rt:125:40
+-- src/kinds.rt:168:40
 equal-requires : tie.Need-equal-requires
 equal-requires c κs =
     let h = subst (Within (c .before .before .before .before .before .before .before .before .args .sheet .now)) (c .before .before .before .form .given .1) (c .before .before .before .before .before .before .before .before .pre .0 .within) in
     ((c .before .before .before .before .before .before .before .before .pre .0 .short, omega (arith, least-words (c .before .before .before .before .before .before .before .before .args .sheet .now) (c .before .before .before .before .before .before .before .before .args .form) (c .before .before .before .before .before .before .before .before .pre .1))), h)
 
--- src/kinds.rt:126:24
+-- src/kinds.rt:169:24
 enum-known-form-2 : tie.Need-enum-known-form-2
 enum-known-form-2 c = search needs
 
--- src/kinds.rt:126:34
+-- src/kinds.rt:169:34
 reduce-requires : tie.Need-reduce-requires
 reduce-requires c κs =
     let h = subst (Within (c .before .before .before .before .before .before .before .before .args .sheet .now)) (c .before .before .before .form2 .given .1) (c .before .before .before .before .before .before .before .before .pre .0 .within) in
     ((c .before .before .before .before .before .before .before .before .pre .0 .short, least-words (c .before .before .before .before .before .before .before .before .args .sheet .now) (c .before .before .before .before .before .before .before .before .args .form) (c .before .before .before .before .before .before .before .before .pre .1)), h)
 
--- src/kinds.rt:127:23
+-- src/kinds.rt:170:23
 enum-known-form-3 : tie.Need-enum-known-form-3
 enum-known-form-3 c = search needs
 
--- src/kinds.rt:127:40
+-- src/kinds.rt:170:40
 solving-requires : tie.Need-solving-requires
 solving-requires c κs = (unify-asked (c .before .before .before .before .before .before .before .before .args .sheet .now) _ _ (c .before .before .before .before .before .before .before .before .args .form) (c .before .before .before .form3 .given .1) (c .before .before .before .before .before .before .before .before .pre .0), colon-words (c .before .before .before .before .before .before .before .before .args .sheet .now) (c .before .before .before .before .before .before .before .before .args .form) (c .before .before .before .before .before .before .before .before .pre .1))
 
--- src/kinds.rt:128:23
+-- src/kinds.rt:171:23
 enum-known-form-4 : tie.Need-enum-known-form-4
 enum-known-form-4 c = search needs
 
--- src/kinds.rt:128:40
+-- src/kinds.rt:171:40
 solving-requires-2 : tie.Need-solving-requires-2
 solving-requires-2 c κs = (match-asked (c .before .before .before .before .before .before .before .before .args .sheet .now) _ _ (c .before .before .before .before .before .before .before .before .args .form) (c .before .before .before .form4 .given .1) (c .before .before .before .before .before .before .before .before .pre .0), colon-words (c .before .before .before .before .before .before .before .before .args .sheet .now) (c .before .before .before .before .before .before .before .before .args .form) (c .before .before .before .before .before .before .before .before .pre .1))
 
--- src/kinds.rt:119:1
+-- src/kinds.rt:172:23
+enum-known-form-5 : tie.Need-enum-known-form-5
+enum-known-form-5 c = search needs
+
+-- src/kinds.rt:172:41
+sound-of-requires : tie.Need-sound-of-requires
+sound-of-requires c κs =
+    let h = subst (Within (c .before .before .before .before .before .before .before .before .args .sheet .now)) (c .before .before .before .form5 .given .1) (c .before .before .before .before .before .before .before .before .pre .0 .within) in
+    ((c .before .before .before .before .before .before .before .before .pre .0 .short, least-words (c .before .before .before .before .before .before .before .before .args .sheet .now) (c .before .before .before .before .before .before .before .before .args .form) (c .before .before .before .before .before .before .before .before .pre .1)), h .0)
+
+-- src/kinds.rt:162:1
 same-length : tie.Need-same-length
 same-length c = search needs
 
--- src/kinds.rt:119:1
+-- src/kinds.rt:162:1
 same-length-2 : tie.Need-same-length-2
 same-length-2 c = search needs
 
--- src/kinds.rt:119:1
+-- src/kinds.rt:162:1
 returns : tie.Need-returns
 returns c = equal-settled (c .before .before .before .before .before .before .before .before .before .before .before .before .before .args .sheet .now) (c .before .before .before .before .before .before .before .before .form .given .0 .0) (c .before .before .before .before .before .before .before .before .form .given .0 .1 .0) (c .before .before .before .before .before .before .before .before .before .before .before .before .before .args .form) (c .before .before .before .before .before .before .before .before .form .given .1) (c .before .before .before .before .equal .ensures)
 
--- src/kinds.rt:119:1
+-- src/kinds.rt:162:1
 same-length-3 : tie.Need-same-length-3
 same-length-3 c = search needs
 
--- src/kinds.rt:119:1
+-- src/kinds.rt:162:1
 same-length-4 : tie.Need-same-length-4
 same-length-4 c = search needs
 
--- src/kinds.rt:119:1
+-- src/kinds.rt:162:1
 returns-2 : tie.Need-returns-2
 returns-2 c = reduce-settled (c .before .before .before .before .before .before .before .before .before .before .before .before .before .args .sheet .now) (c .before .before .before .before .before .before .before .before .form2 .given .0 .0) (c .before .before .before .before .before .before .before .before .before .before .before .before .before .args .form) (c .before .before .before .before .before .before .before .before .form2 .given .1) (c .before .before .before .before .reduce .ensures)
 
--- src/kinds.rt:119:1
+-- src/kinds.rt:162:1
 same-length-5 : tie.Need-same-length-5
 same-length-5 c = search needs
 
--- src/kinds.rt:119:1
+-- src/kinds.rt:162:1
 same-length-6 : tie.Need-same-length-6
 same-length-6 c = search needs
 
--- src/kinds.rt:119:1
+-- src/kinds.rt:162:1
 returns-3 : tie.Need-returns-3
 returns-3 c = form-settled (c .before .before .before .before .before .before .before .before .before .before .before .before .before .args .sheet .now) (c .before .before .before .before .before .before .before .before .before .before .before .before .before .args .form) (c .before .before .before .before .before .before .before .before .before .before .before .before .before .pre .0) (c .before .before .before .before .solving .ensures)
 
--- src/kinds.rt:119:1
+-- src/kinds.rt:162:1
 same-length-7 : tie.Need-same-length-7
 same-length-7 c = search needs
 
--- src/kinds.rt:119:1
+-- src/kinds.rt:162:1
 same-length-8 : tie.Need-same-length-8
 same-length-8 c = search needs
 
--- src/kinds.rt:119:1
+-- src/kinds.rt:162:1
 returns-4 : tie.Need-returns-4
 returns-4 c = form-settled (c .before .before .before .before .before .before .before .before .before .before .before .before .before .args .sheet .now) (c .before .before .before .before .before .before .before .before .before .before .before .before .before .args .form) (c .before .before .before .before .before .before .before .before .before .before .before .before .before .pre .0) (c .before .before .before .before .solving2 .ensures)
 
--- src/kinds.rt:119:1
+-- src/kinds.rt:162:1
+same-length-9 : tie.Need-same-length-9
+same-length-9 c = search needs
+
+-- src/kinds.rt:162:1
+same-length-10 : tie.Need-same-length-10
+same-length-10 c = search needs
+
+-- src/kinds.rt:162:1
 returns-5 : tie.Need-returns-5
-returns-5 c = other-settled (c .before .before .before .before .args .sheet .now) (c .before .before .before .before .args .form) (c .before .before .before .before .args .output .now) (c .match .keys5)
+returns-5 c = sound-settled (c .before .before .before .before .before .before .before .before .before .before .before .before .before .args .sheet .now) _ _ (c .before .before .before .before .before .before .before .before .before .before .before .before .before .args .form) (c .before .before .before .before .before .before .before .before .form5 .given .1) (c .before .before .before .before .sound-of .ensures)
+
+-- src/kinds.rt:162:1
+returns-6 : tie.Need-returns-6
+returns-6 c = other-settled (c .before .before .before .before .args .sheet .now) (c .before .before .before .before .args .form) (c .before .before .before .before .args .output .now) (c .match .keys6)
 
 pub settle-spec : {M : Type 1} → statement M
 settle-spec =
@@ -112,6 +135,8 @@ settle-spec =
     solving-requires
     enum-known-form-4
     solving-requires-2
+    enum-known-form-5
+    sound-of-requires
     same-length
     same-length-2
     returns
@@ -124,4 +149,7 @@ settle-spec =
     same-length-7
     same-length-8
     returns-4
-    returns-5)
+    same-length-9
+    same-length-10
+    returns-5
+    returns-6)

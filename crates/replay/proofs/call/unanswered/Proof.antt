@@ -17,20 +17,11 @@ slice-aggregate-begins-2 c = search needs
 begins-requires-2 : tie.Need-begins-requires-2
 begins-requires-2 c κs = search needs
 
-slice-aggregate-begins-3 : tie.Need-slice-aggregate-begins-3
-slice-aggregate-begins-3 c = search needs
-
-begins-requires-3 : tie.Need-begins-requires-3
-begins-requires-3 c κs = search needs
-
 returns : tie.Need-returns
 returns c = or-here _ _ _ (c .before .begins .ensures) (c .if1 .taken)
 
 returns-2 : tie.Need-returns-2
-returns-2 c = or-next _ _ _ (sym (c .before .before .before .before .begins .ensures) ∙ c .before .before .before .if1 .left) (or-here _ _ _ (c .before .begins2 .ensures) (c .if2 .taken))
-
-returns-3 : tie.Need-returns-3
-returns-3 c = or-next _ _ _ (sym (c .before .before .before .before .before .before .begins .ensures) ∙ c .before .before .before .before .before .if1 .left) (or-next _ _ _ (sym (c .before .before .before .begins2 .ensures) ∙ c .before .before .if2 .left) (c .begins3 .ensures))
+returns-2 c = or-next _ _ _ (sym (c .before .before .before .begins .ensures) ∙ c .before .before .if1 .left) (c .begins2 .ensures)
 
 pub unanswered-spec : {M : Type 1} → statement M
 unanswered-spec =
@@ -40,8 +31,5 @@ unanswered-spec =
     begins-requires
     slice-aggregate-begins-2
     begins-requires-2
-    slice-aggregate-begins-3
-    begins-requires-3
     returns
-    returns-2
-    returns-3)
+    returns-2)

@@ -1,0 +1,25 @@
+-- The answer to a sheet of kind `sound`, by what is claimed of its member.
+use mathlib.Core.Path.{_≡_, refl, sym, ap, _∙_}
+use mathlib.Core.Bool.{Bool}
+use mathlib.Core.Option.{Option, some, none}
+use Rattle.rules.specs.Bytes.{Text}
+use Rattle.rules.specs.Text.{bytes}
+use Rattle.rules.specs.Maybe.{_>>=_}
+use Rattle.rules.specs.Tree.{Tree}
+use Rattle.rules.specs.Reading.{parse}
+use Rattle.rules.specs.Sheet.{Member, asks-sound}
+use Rattle.rules.specs.Variants.{sound}
+use Rattle.rules.specs.Answer.{line, claim, answer-of}
+use Rattle.variants.specs.Soundness as code
+use Rattle.variants.specs.declared.soundness.Claim.{Claim}
+
+pub sound-unreadable : (t : Text) (m : Member) → parse t ≡ none → answer-of (asks-sound t m) ≡ none
+unfolding answer-of
+sound-unreadable t m e = ap (λ (o : Option Tree). o >>= λ u. some (line (bytes "sound=") (claim (sound u m)))) e
+
+pub sound-line : (t : Text) (m : Member) (u : Tree) (c x : Claim) → parse t ≡ some u → code.claim c ≡ sound u m → c ≡ x
+    → answer-of (asks-sound t m) ≡ some (line (bytes "sound=") (claim (code.claim x)))
+unfolding answer-of
+sound-line t m u c x e f g =
+    ap (λ (o : Option Tree). o >>= λ u. some (line (bytes "sound=") (claim (sound u m)))) e
+    ∙ ap (λ (o : Option Bool). some (line (bytes "sound=") (claim o))) (sym f ∙ ap code.claim g)
