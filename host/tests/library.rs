@@ -111,6 +111,11 @@ fn deep_terms_do_not_exhaust_a_small_stack() {
     }
 }
 
+// A leaf under so many levels.
+fn nested(front: &str, leaf: &str, depth: usize) -> String {
+    format!("{}{leaf}{}", front.repeat(depth), ")".repeat(depth))
+}
+
 // The answer with a sheet's own words, on a small stack.
 fn on_a_small_stack(name: &str, sheet: &str) -> String {
     let read = sheet::read(sheet.as_bytes()).unwrap();
@@ -126,7 +131,7 @@ fn deep_pairs_do_not_exhaust_a_small_stack() {
     if notice::library_absent("deep pairs were not tried on it") {
         return;
     }
-    let under = |leaf| format!("{}{leaf}{}", "h(".repeat(4_090), ")".repeat(4_090));
+    let under = |leaf| nested("h(", leaf, 4_090);
     let (open, shut) = (under("x1:Msg"), under("c(0)"));
     let first = "left=x1:Msg\nright=c(0)\n";
     let second = format!("left=x2:Msg\nright={open}\n");
@@ -146,5 +151,22 @@ fn deep_pairs_do_not_exhaust_a_small_stack() {
         let sheet = format!("kind={kind}\nfuel=65536\nleft={open}\nright={shut}\n");
         let walked = on_a_small_stack("a walk", &sheet);
         assert_eq!(walked, format!("verdict=solved\nspent=4091\n{key}"));
+    }
+}
+
+#[test]
+fn deep_members_do_not_exhaust_a_small_stack() {
+    if notice::library_absent("deep members were not tried on it") {
+        return;
+    }
+    for name in ["h", "tamXCfst", "tamXCflip"] {
+        let depth = 4_094.min((sheet::LONGEST - 100) / (2 * (name.len() + 2)));
+        let under = |leaf| nested(&format!("{name}("), leaf, depth);
+        let sheet = format!(
+            "kind=sound\nterm={}\nmember={}\nkey=x0:Msg\nvalue=c(0)\n",
+            under("x0:Msg"),
+            under("c(0)"),
+        );
+        assert_eq!(on_a_small_stack(name, &sheet), "sound=yes\n");
     }
 }
