@@ -1,10 +1,6 @@
--- The answer to a sheet of kind `reduce`: an empty area of cells, and the line of the normal form.
-use mathlib.Core.Path.{_≡_, refl, sym, ap, _∙_}
-use mathlib.Core.List.{List}
+-- The answer to a sheet of kind `reduce`: the line of the normal form.
+use mathlib.Core.Path.{_≡_, sym, ap, _∙_}
 use mathlib.Core.Option.{Option, some, none}
-use Prim.Native.Nat.{ℕ, _*_, _-_, _<_, _≤_}
-use native.Mathlib.Omega.{arith}
-use lib.ListN.{length, take, drop}
 use Rattle.rules.specs.Bytes.{Text}
 use Rattle.rules.specs.Text.{bytes}
 use Rattle.rules.specs.Maybe.{_>>=_}
@@ -14,19 +10,6 @@ use Rattle.rules.specs.Reading.{parse}
 use Rattle.rules.specs.Reduction.{normalize}
 use Rattle.rules.specs.Sheet.{asks-reduce}
 use Rattle.rules.specs.Answer.{line, answer-of}
-use Rattle.tree.specs.Arena.{Arena}
-
--- no cells
-pub no-cells : (s : Text) (w : List ℕ) → 4 ≤ length w → Arena s w 1
-no-cells s w h = record {
-  links = record {
-    some = omega arith;
-    room = omega arith;
-    first = λ k p q. absurd (omega arith);
-    next = λ k p q. absurd (omega arith);
-  };
-  cell = λ k p q. absurd (omega arith);
-}
 
 pub reduce-unreadable : (t : Text) → parse t ≡ none → answer-of (asks-reduce t) ≡ none
 unfolding answer-of

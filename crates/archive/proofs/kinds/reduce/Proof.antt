@@ -6,7 +6,8 @@ use Rattle.rules.specs.Tree.{size}
 use Rattle.tree.specs.Cells.{tree-at}
 use Rattle.reading.specs.Parsing.{Parses, limit-of}
 use Rattle.laws.proofs.Reading.Builds.{reads-within}
-use Rattle.archive.proofs.Reduces.{no-cells, reduce-unreadable, reduce-line}
+use Rattle.tree.proofs.Pushing.{arena-none}
+use Rattle.archive.proofs.Reduces.{reduce-unreadable, reduce-line}
 use Rattle.archive.proofs.Giving.{settles-as, unreadable-settles}
 use borrow.Author.Needs.{needs}
 use Rattle.archive.proofs.kinds.reduce.Statement.{statement}
@@ -21,7 +22,7 @@ use Rattle.reduction.proofs.normalizing.normalize.Reads as normalize-reads
 parse-requires : tie.Need-parse-requires
 parse-requires c κs =
     let a = c .before .before .before .before .args in
-    (no-cells (a .sheet .now) (a .work .now) (omega arith), ((c .before .before .before .before .pre .1 .0, omega (arith, c .before .before .before .before .pre .1), c .before .before .before .before .pre .0 .0, omega (arith, c .before .before .before .before .pre .1)), (omega (arith, c .before .before .before .before .pre .1), omega (arith, c .before .before .before .before .pre .1))))
+    (arena-none (a .sheet .now) (a .work .now) (omega arith), ((c .before .before .before .before .pre .1 .0, omega (arith, c .before .before .before .before .pre .1), c .before .before .before .before .pre .0 .0, omega (arith, c .before .before .before .before .pre .1)), (omega (arith, c .before .before .before .before .pre .1), omega (arith, c .before .before .before .before .pre .1))))
 
 -- src/kinds.rt:47:24
 enum-known-parsed : tie.Need-enum-known-parsed

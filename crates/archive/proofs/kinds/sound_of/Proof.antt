@@ -3,7 +3,6 @@ use native.Mathlib.Omega.{arith}
 use lib.ListN.{length, take, drop}
 use Prim.Native.Nat.{_-_, _≤_}
 use Rattle.reading.specs.Parsing.{Parses, limit-of}
-use Rattle.archive.proofs.Reduces.{no-cells}
 use Rattle.archive.proofs.Sounds.{sound-unreadable, sound-line}
 use Rattle.archive.proofs.Giving.{settles-as, unreadable-settles}
 use borrow.Author.Needs.{needs}
