@@ -9,7 +9,7 @@ use lib.ListN.{length}
 use Rattle.rules.specs.Bytes.{Text, same}
 use Rattle.rules.specs.Text.{bytes, is-one-of}
 use Rattle.rules.specs.Decimal.{decimal}
-use Rattle.rules.specs.Tree.{Tree, variable, atom, apply, Trees, none, more, sizes}
+use Rattle.rules.specs.Tree.{Tree, variable, atom, apply, Trees, none, more, size, sizes}
 use Rattle.rules.specs.Substitution.{Binding, Pair}
 use Rattle.rules.specs.Sums.{summands}
 use Rattle.rules.specs.Solving.{cancel}
@@ -167,6 +167,12 @@ unfoldable pub weight : List Pair → ℕ
 unfolding load
 weight [] = 0
 weight (p ∷ ps) = load (p .0) (p .1) + weight ps
+
+-- the nodes of the left sides
+unfoldable pub pattern-nodes : List Pair → ℕ
+unfolding size
+pattern-nodes [] = 0
+pattern-nodes (p ∷ ps) = size (p .0) + pattern-nodes ps
 
 -- how many pairs two lists of children make
 unfoldable pub pushed : Trees → Trees → ℕ

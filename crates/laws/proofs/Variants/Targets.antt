@@ -49,7 +49,7 @@ module _ {A B : Type 0} (P : A → Type 0) (Q : B → Type 0) where
   all-flat f q [] h = tt
   all-flat f q (a ∷ l) h = all-append Q (f a) (flatMap f l) (q a (h .0)) (all-flat f q l (h .1))
 
-pairs-append : (ps qs : List Pair) → BuiltPairs ps → BuiltPairs qs → BuiltPairs (ps ++ qs)
+pub pairs-append : (ps qs : List Pair) → BuiltPairs ps → BuiltPairs qs → BuiltPairs (ps ++ qs)
 pairs-append [] qs h k = k
 pairs-append (p ∷ ps) qs h k = (h .0, h .1, pairs-append ps qs (h .2) k)
 
@@ -178,7 +178,7 @@ module _ (term : Tree) (built : Built term) (small : size term ≤ 4096) (base :
   abbrev good : Good term s
   good = all-at (Good term) (schemes-from term base) s listed (schemes-good term base built)
 
-  system-built : BuiltPairs (system term s)
+  pub system-built : BuiltPairs (system term s)
   system-built = pairs-append (s .equations) ((term, term) ∷ (s .value, s .value) ∷ []) (good .2) (built, built, (good .1, good .1, tt))
 
   pub target-built : (k : ℕ) (bs : List Binding) → unify k (system term s) .0 ≡ solved bs → Built (instantiate bs (s .value))
