@@ -15,7 +15,7 @@ use Rattle.laws.proofs.Basics.Options.{bound, guarded}
 use Rattle.sheet.specs.Lines.{part-of, lines-at, value-at}
 use Rattle.sheet.specs.Pairs.{pair-at, entries-by, before}
 use Rattle.sheet.specs.Members.{members-at}
-use Rattle.sheet.specs.Form.{text-of, sheet-of}
+use Rattle.sheet.specs.Form.{text-of, sheet-of, Walked}
 use Rattle.sheet.specs.declared.Cursor.{Cursor}
 use Rattle.sheet.specs.declared.Place.{Place}
 use Rattle.sheet.specs.declared.Line.the-variants.{Whole, Missing}
@@ -62,6 +62,14 @@ module _ (first second s : Text) (at : ℕ) (es : List Entry) (rest : List Text)
       go (some ls) k u g =
           let b = same-both (sym g ∙ none-first first second ls u) in
           (b .0, k ∙ ap some (sym (b .1)))
+
+-- the lines where all pairs were walked over are those after them
+pub walked-rest : (s : Text) (at c : ℕ) → Walked s at c → (es : List Entry) (rest : List Text) → (lines-at s at >>= pairs) ≡ some (es, rest) → lines-at s c ≡ some rest
+walked-rest s at c w es rest h = go (lines-at s c >>= entries-by (bytes "left=") (bytes "right=")) refl (sym (w .walk .chain) ∙ sym (pairs-by s at) ∙ h)
+  where
+    go : (o : Option (List Entry × List Text)) → (lines-at s c >>= entries-by (bytes "left=") (bytes "right=")) ≡ o → (o >>= before (w .walk .es)) ≡ some (es, rest) → lines-at s c ≡ some rest
+    go none k g = let z : _≡_ {A = ℕ} 0 1 = cc in absurd (omega arith)
+    go (some (fs, ls)) k g = two-end (bytes "left=") (bytes "right=") s c fs ls k (w .stops) .1 ∙ ap some (same-both g .1)
 
 abbrev by-first : Option Text → Option (List Entry × List Text) → (Text → Option (List Entry × List Text)) → Option (List Entry × List Text)
 by-first o a f = elim o [ none ↦ a | some v ↦ f v ]
@@ -139,6 +147,10 @@ module _ (s : Text) (at : ℕ) (ms : List Member) (h : members-at s at ≡ some 
 pub members-later : (s : Text) (c : ℕ) (rest : List Text) (ms : List Member) → lines-at s c ≡ some rest → none-waiting (members-from rest) ≡ some ms → members-at s c ≡ some ms
 unfolding members-at
 members-later s c rest ms e h = ap (λ (o : Option (List Text)). o >>= λ ls. none-waiting (members-from ls)) e ∙ h
+
+pub lines-members : (s : Text) (c : ℕ) (rest : List Text) (ms : List Member) → lines-at s c ≡ some rest → members-at s c ≡ some ms → none-waiting (members-from rest) ≡ some ms
+unfolding members-at
+lines-members s c rest ms e h = sym (ap (λ (o : Option (List Text)). o >>= λ ls. none-waiting (members-from ls)) e) ∙ h
 
 -- ---- what a form stands for
 
