@@ -1,7 +1,7 @@
 -- A sheet that was read as a form is settled by what its kind's function gives.
 use mathlib.Core.Path.{_≡_, refl, sym, subst, ap, _∙_}
 use mathlib.Core.List.{List, [], _∷_}
-use mathlib.Core.Option.{Option, some, none}
+use mathlib.Core.Option.{Option, some, none, Option·some-injective}
 use Prim.Native.Nat.{ℕ, _+_, _*_, _≤_}
 use lib.ListN.{length}
 use native.Mathlib.Omega.{arith}
@@ -9,7 +9,7 @@ use denote.Enum.Declared.{tagOf}
 use types.Run.{OneOf, miss}
 use Rattle.rules.specs.Bytes.{Text}
 use Rattle.rules.specs.Text.{count-of}
-use Rattle.rules.specs.Sheet.{Sheet, Member, asks-equal, asks-reduce, asks-sound}
+use Rattle.rules.specs.Sheet.{Sheet, Member, asks-equal, asks-reduce, asks-sound, read-sheet}
 use Rattle.sheet.specs.Members.{members-at}
 use Rattle.sheet.specs.declared.Cursor.{Cursor}
 use Rattle.rules.specs.Answer.{answer-of}
@@ -20,10 +20,10 @@ use Rattle.sheet.specs.declared.form.Form.{Form}
 use Rattle.sheet.specs.declared.form.Form.the-variants as form
 use Rattle.sheet.proofs.form.Form.{the-type}
 use Rattle.sheet.proofs.WordLaws.{words-same}
-use Rattle.sheet.proofs.WalkLaws.{cover-parts, sound-member, complete-members}
+use Rattle.sheet.proofs.WalkLaws.{sound-member, complete-members}
 use Rattle.archive.specs.Clearing.{zeroed}
 use Rattle.archive.specs.Settling.{settles, settled-number, settled-count, Settles}
-use Rattle.archive.specs.Admission.{refusal-code, Stands}
+use Rattle.archive.specs.Admission.{refusal-code, Decoded, Stands}
 use Rattle.archive.specs.Answering.{answer-now, SettlesForm, call-now, reply-number, reply-count, Answers}
 use Rattle.archive.specs.declared.Reply as code
 use Rattle.archive.specs.declared.Reply.the-variants as reply
@@ -31,6 +31,13 @@ use Rattle.archive.specs.declared.admission.Refusal.{Refusal}
 use Rattle.archive.specs.declared.answers.Settled.{Settled}
 use Rattle.archive.specs.declared.answers.Settled.the-variants.{Unreadable}
 use Rattle.archive.proofs.Giving.{settles-as, unreadable-settles}
+
+-- a sheet that was read is settled with its answer, and as the form that stands for it
+pub read-settled : (s : Text) (sheet : Sheet) (o : Option Text) {out v : Text} {x : Settled} → read-sheet s ≡ some sheet → answer-now sheet ≡ o → Settles o out v x → SettlesForm (read-sheet s) out v x
+read-settled s sheet o r e h other g = settles-as (ap answer-now (Option·some-injective other sheet (sym g ∙ r)) ∙ e) h
+
+pub form-settled : (s : Text) (f : Form) {out v : Text} {x : Settled} → Decoded s f → SettlesForm (read-sheet s) out v x → SettlesForm (sheet-of s f) out v x
+form-settled s f d h sheet e = h sheet (d .reads ∙ sym (d .decodes) ∙ e)
 
 pub equal-settled : (s : Text) (l r : Place) (f : Form) {out v : Text} {x : Settled} → f ≡ form.Equal l r
     → Settles (answer-of (asks-equal (text-of s l) (text-of s r))) out v x → SettlesForm (sheet-of s f) out v x
@@ -62,19 +69,19 @@ pub colon-words : (s : Text) (f : Form) {n : ℕ} → form-words s f ≤ n → 6
 unfolding form-words
 colon-words s f h = omega arith
 
--- the kinds that are not answered yet
-not-now : (s : Text) (f : Form) (sheet : Sheet) → OneOf (4 ∷ 6 ∷ 7 ∷ []) (tagOf the-type f) → sheet-of s f ≡ some sheet → answer-now sheet ≡ none
+-- the kind that is not answered yet
+not-now : (s : Text) (f : Form) (sheet : Sheet) → OneOf (6 ∷ 7 ∷ []) (tagOf the-type f) → sheet-of s f ≡ some sheet → answer-now sheet ≡ none
 unfolding sheet-of answer-now
-not-now s (form.Equal l r) sheet h e = absurd (miss (4 ∷ 6 ∷ 7 ∷ []) 0 tt h)
-not-now s (form.Unify fuel c) sheet h e = absurd (miss (4 ∷ 6 ∷ 7 ∷ []) 1 tt h)
-not-now s (form.Match fuel c) sheet h e = absurd (miss (4 ∷ 6 ∷ 7 ∷ []) 2 tt h)
-not-now s (form.Reduce t) sheet h e = absurd (miss (4 ∷ 6 ∷ 7 ∷ []) 3 tt h)
-not-now s (form.Cover c d) sheet h e = ap answer-now (cover-parts s c d sheet e .3)
-not-now s (form.Sound t c) sheet h e = absurd (miss (4 ∷ 6 ∷ 7 ∷ []) 5 tt h)
+not-now s (form.Equal l r) sheet h e = absurd (miss (6 ∷ 7 ∷ []) 0 tt h)
+not-now s (form.Unify fuel c) sheet h e = absurd (miss (6 ∷ 7 ∷ []) 1 tt h)
+not-now s (form.Match fuel c) sheet h e = absurd (miss (6 ∷ 7 ∷ []) 2 tt h)
+not-now s (form.Reduce t) sheet h e = absurd (miss (6 ∷ 7 ∷ []) 3 tt h)
+not-now s (form.Cover c d) sheet h e = absurd (miss (6 ∷ 7 ∷ []) 4 tt h)
+not-now s (form.Sound t c) sheet h e = absurd (miss (6 ∷ 7 ∷ []) 5 tt h)
 not-now s (form.Complete t c) sheet h e = ap answer-now (complete-members s t c sheet e .1)
 not-now s form.Three sheet h e = let z : _≡_ {A = ℕ} 0 1 = cc in absurd (omega arith)
 
-pub other-settled : (s : Text) (f : Form) (out : Text) → OneOf (4 ∷ 6 ∷ 7 ∷ []) (tagOf the-type f) → SettlesForm (sheet-of s f) out out Unreadable
+pub other-settled : (s : Text) (f : Form) (out : Text) → OneOf (6 ∷ 7 ∷ []) (tagOf the-type f) → SettlesForm (sheet-of s f) out out Unreadable
 other-settled s f out h sheet e = settles-as (not-now s f sheet h e) (unreadable-settles out)
 
 -- the whole call, by what was admitted and settled

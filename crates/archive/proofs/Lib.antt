@@ -8,6 +8,7 @@ pub mod PairReading
 pub mod Reversing
 pub mod RunRooms
 pub mod Solves
+pub mod Covers
 pub mod Sounds
 pub mod KindLaws
 pub mod VerdictLines

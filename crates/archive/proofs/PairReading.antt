@@ -22,6 +22,7 @@ use Rattle.reading.specs.Parsing.{Read, Parses}
 use Rattle.reading.specs.declared.Parsed.the-variants as parsed
 use Rattle.reading.proofs.Ordering.{back-none}
 use Rattle.substitution.specs.Building.{Made}
+use Rattle.sheet.specs.Lines.{lines-at}
 use Rattle.sheet.specs.Pairs.{pair-at}
 use Rattle.sheet.specs.Form.{text-of, Inside}
 use Rattle.sheet.specs.declared.Cursor.{Cursor}
@@ -30,6 +31,7 @@ use Rattle.sheet.specs.declared.PairLine.the-variants.{Sides, End}
 use Rattle.sheet.proofs.PairLaws.{paired}
 use Rattle.sheet.proofs.WalkLaws.{pairs-by, two-there, two-end}
 use Rattle.archive.specs.Pairs.{sides, pair-end, ReadPair, ReadsPair, PairsFrom, Reversed, ReadsReversed}
+use Rattle.archive.specs.declared.pairs.Added.the-variants as added
 use Rattle.archive.specs.declared.pairs.Pairs.the-variants.{Unreadable}
 
 -- ---- one pair
@@ -39,14 +41,14 @@ left-first : (e : Entry) (o : Option Tree) → parse (e .0) ≡ o → read-pair 
 unfolding read-pair
 left-first e o h = ap (λ (o : Option Tree). o >>= λ l. parse (e .1) >>= λ r. some (l, r)) h
 
-pub left-unread : (s : Text) {w v : List ℕ} (free : ℕ) (l r : Place) (list : ℕ) → Parses s w v free (l .from) (l .to) parsed.Unreadable → ReadsPair s w v free l r list Unreadable
+pub left-unread : (s : Text) {w v : List ℕ} (free : ℕ) (l r : Place) (list : ℕ) → Parses s w v free (l .from) (l .to) parsed.Unreadable → ReadsPair s w v free l r list added.Unreadable
 left-unread s free l r list h = (left-first (sides s l r) nothing (h .0), h .1 .len)
 
 module _ {s : Text} {w w₁ : List ℕ} {free : ℕ} (l r : Place) {list first middle : ℕ} (a : Arena s w free) (p : list < free) (one : Read s w w₁ free (l .from) (l .to) first middle) where
   then-right : (o : Option Tree) → parse (text-of s r) ≡ o → read-pair (sides s l r) ≡ (o >>= λ t. some (tree-at s w₁ first, t))
   then-right o h = left-first (sides s l r) (some (tree-at s w₁ first)) (one .reads) ∙ ap (λ (o : Option Tree). o >>= λ t. some (tree-at s w₁ first, t)) h
 
-  pub right-unread : {w₂ : List ℕ} → Parses s w₁ w₂ middle (r .from) (r .to) parsed.Unreadable → ReadsPair s w w₂ free l r list Unreadable
+  pub right-unread : {w₂ : List ℕ} → Parses s w₁ w₂ middle (r .from) (r .to) parsed.Unreadable → ReadsPair s w w₂ free l r list added.Unreadable
   right-unread h = (then-right nothing (h .0), h .1 .len ∙ one .outside .len)
 
   module _ {w₂ : List ℕ} {second end : ℕ} (two : Read s w₁ w₂ middle (r .from) (r .to) second end) where
@@ -74,23 +76,23 @@ read-first : (e : Entry) (es : List Entry) (o : Option Pair) → read-pair e ≡
 unfolding read-pairs
 read-first e es o h = ap (λ (o : Option Pair). o >>= λ p. every (map read-pair es) >>= λ qs. some (p ∷ qs)) h
 
--- the pairs es read as ps, and after them those from c on
-pub record Ahead (s : Text) (c : ℕ) (es : List Entry) (ps : List Pair) : Type 0 where
+-- the pairs es, before the lines rest, read as ps, and after them those from c on
+pub record Ahead (s : Text) (c : ℕ) (es : List Entry) (rest : List Text) (ps : List Pair) : Type 0 where
   pub later : List Entry
-  pub from : PairsFrom s c later
+  pub from : PairsFrom s c later rest
   pub read : read-pairs es ≡ (read-pairs later >>= λ qs. some (ps ++ qs))
 
-module _ {s : Text} {c : ℕ} {es : List Entry} {ps : List Pair} (h : Ahead s c es ps) where
+module _ {s : Text} {c : ℕ} {es : List Entry} {rest : List Text} {ps : List Pair} (h : Ahead s c es rest ps) where
   ahead-next : (l r : Place) (n : Cursor) → Sides l r n ≡ pair-at (bytes "left=") (bytes "right=") s c
-      → (fs : List Entry) × (h .later ≡ sides s l r ∷ fs) × PairsFrom s (n .at) fs
+      → (fs : List Entry) × (h .later ≡ sides s l r ∷ fs) × PairsFrom s (n .at) fs rest
   ahead-next l r n e =
-      let (fs, d, g) = two-there (bytes "left=") (bytes "right=") s c (h .later) (h .from .0) (sym (pairs-by s c) ∙ h .from .1) l r n e in
-      (fs, d, (h .from .0, pairs-by s (n .at) ∙ g))
+      let (fs, d, g) = two-there (bytes "left=") (bytes "right=") s c (h .later) rest (sym (pairs-by s c) ∙ h .from) l r n e in
+      (fs, d, pairs-by s (n .at) ∙ g)
 
   ahead-read : (fs : List Entry) → h .later ≡ fs → read-pairs es ≡ (read-pairs fs >>= λ qs. some (ps ++ qs))
   ahead-read fs d = h .read ∙ ap (λ (fs : List Entry). read-pairs fs >>= λ qs. some (ps ++ qs)) d
 
-  ahead-turn : (l r : Place) (n : Cursor) (p : Pair) → Sides l r n ≡ pair-at (bytes "left=") (bytes "right=") s c → read-pair (sides s l r) ≡ some p → Ahead s (n .at) es (ps ++ (p ∷ []))
+  ahead-turn : (l r : Place) (n : Cursor) (p : Pair) → Sides l r n ≡ pair-at (bytes "left=") (bytes "right=") s c → read-pair (sides s l r) ≡ some p → Ahead s (n .at) es rest (ps ++ (p ∷ []))
   ahead-turn l r n p e g =
       let (fs, d, k) = ahead-next l r n e in
       record {
@@ -109,15 +111,19 @@ module _ {s : Text} {c : ℕ} {es : List Entry} {ps : List Pair} (h : Ahead s c 
       let (fs, d, k) = ahead-next l r n e in
       ahead-read (sides s l r ∷ fs) d ∙ ap (λ (o : Option (List Pair)). o >>= λ qs. some (ps ++ qs)) (read-first (sides s l r) fs nothing g)
 
-  ahead-end : End ≡ pair-at (bytes "left=") (bytes "right=") s c → read-pairs es ≡ some (ps ++ [])
-  unfolding read-pairs
-  ahead-end e = ahead-read [] (two-end (bytes "left=") (bytes "right=") s c (h .later) (h .from .0) (sym (pairs-by s c) ∙ h .from .1) e .0)
+  module _ (e : End ≡ pair-at (bytes "left=") (bytes "right=") s c) where
+    none-later : (h .later ≡ []) × (lines-at s c ≡ some rest)
+    none-later = two-end (bytes "left=") (bytes "right=") s c (h .later) rest (sym (pairs-by s c) ∙ h .from) e
+
+    ahead-end : read-pairs es ≡ some (ps ++ [])
+    unfolding read-pairs
+    ahead-end = ahead-read [] (none-later .0)
 
 -- ---- the walk over all pairs: those up to c stand in the list, backwards
 
 pub record Reading (s : Text) (w : List ℕ) (at : ℕ) (v : List ℕ) (c list free : ℕ) : Type 0 where
   pub ps : List Pair
-  pub ahead : (es : List Entry) → PairsFrom s at es → Ahead s c es ps
+  pub ahead : (es : List Entry) (rest : List Text) → PairsFrom s at es rest → Ahead s c es rest ps
   pub arena : Arena s v free
   pub inside : list < free
   pub trees : (qs : List Pair) → back (trees-at s v list) (flatten qs) ≡ flatten (ps ++ qs)
@@ -128,7 +134,7 @@ pub record Reading (s : Text) (w : List ℕ) (at : ℕ) (v : List ℕ) (c list f
 pub reading-starts : (s : Text) (w : List ℕ) (at : ℕ) → 4 ≤ length w → at ≤ length s → Reading s w at w at 0 1
 reading-starts s w at p q = record {
   ps = [];
-  ahead = λ es f. record { later = es; from = f; read = go (read-pairs es) };
+  ahead = λ es rest f. record { later = es; from = f; read = go (read-pairs es) };
   arena = arena-none s w p;
   inside = omega arith;
   trees = λ qs. back-none s w (flatten qs) refl;
@@ -161,15 +167,17 @@ located s c l r n e =
     }
 
 module _ {s : Text} {w v : List ℕ} {at c list free : ℕ} (h : Reading s w at v c list free) where
-  pub reading-ends : End ≡ pair-at (bytes "left=") (bytes "right=") s c → Reversed s w v at list free
+  pub reading-ends : End ≡ pair-at (bytes "left=") (bytes "right=") s c → Reversed s w v at list free c
   unfolding flatten
   reading-ends e = record {
     ps = h .ps ++ [];
-    read = λ es f. ahead-end (h .ahead es f) e;
+    read = λ es rest f. ahead-end (h .ahead es rest f) e;
+    lines = λ es rest f. none-later (h .ahead es rest f) e .1;
+    within = h .within;
     arena = h .arena;
     inside = h .inside;
     trees = h .trees [];
-    used = omega (arith, h .used, h .within);
+    used = h .used;
     len = h .len;
   }
 
@@ -177,8 +185,8 @@ module _ {s : Text} {w v : List ℕ} {at c list free : ℕ} (h : Reading s w at 
     pub reading-room : pair-end free l r ≤ 1 + 2 * length s
     reading-room = let x = located s c l r n e in omega (arith, h .used, x .next, x .within)
 
-    pub reading-unread : (u : List ℕ) → ReadsPair s v u free l r list Unreadable → ReadsReversed s w u at Unreadable
-    reading-unread u x = ((λ es f. ahead-unread (h .ahead es f) l r n e (x .0)), x .1 ∙ h .len)
+    pub reading-unread : (u : List ℕ) → ReadsPair s v u free l r list added.Unreadable → ReadsReversed s w u at Unreadable
+    reading-unread u x = ((λ es rest f. ahead-unread (h .ahead es rest f) l r n e (x .0)), x .1 ∙ h .len)
 
     pub reading-turn : {u : List ℕ} {i m : ℕ} → ReadPair s v u free l r list i m → Reading s w at u (n .at) i m
     unfolding flatten back
@@ -186,7 +194,7 @@ module _ {s : Text} {w v : List ℕ} {at c list free : ℕ} (h : Reading s w at 
         let y = located s c l r n e in
         record {
           ps = h .ps ++ (x .pair ∷ []);
-          ahead = λ es f. ahead-turn (h .ahead es f) l r n (x .pair) e (x .read);
+          ahead = λ es rest f. ahead-turn (h .ahead es rest f) l r n (x .pair) e (x .read);
           arena = x .arena;
           inside = x .inside;
           trees = λ qs.

@@ -69,11 +69,13 @@ module _ (s : Text) (w : List ℕ) (n list : ℕ) (a : Arena s w n) where
           }
 
 -- the list of all pairs, turned round
-pub pairs-there : {s : Text} {w v u : List ℕ} {at i m j n : ℕ} → Reversed s w v at i m → Made s v u m n j (back (trees-at s v i) none) → n ≡ m + count (trees-at s v i) → (es : List Entry) → PairsFrom s at es
-    → ReadPairs s w u es j n
-pairs-there h d e es f = record {
+pub pairs-there : {s : Text} {w v u : List ℕ} {at i m c j n : ℕ} → Reversed s w v at i m c → Made s v u m n j (back (trees-at s v i) none) → n ≡ m + count (trees-at s v i) → (es : List Entry) (rest : List Text)
+    → PairsFrom s at es rest → ReadPairs s w u es rest j n c
+pairs-there h d e es rest f = record {
   ps = h .ps;
-  read = h .read es f;
+  read = h .read es rest f;
+  lines = h .lines es rest f;
+  within = h .within;
   arena = d .arena;
   inside = d .inside;
   trees = d .trees ∙ h .trees;

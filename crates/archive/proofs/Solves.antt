@@ -2,7 +2,7 @@
 use mathlib.Core.Path.{_≡_, refl, sym, ap, subst, _∙_}
 use mathlib.Core.Bool.{Bool, true, false}
 use mathlib.Core.List.{List, []}
-use mathlib.Core.Option.{Option, some, none, Option·some-injective}
+use mathlib.Core.Option.{Option, some, none}
 use Prim.Native.Nat.{ℕ, _+_, _*_, _≤_}
 use native.Mathlib.Omega.{arith}
 use lib.ListN.{length}
@@ -35,7 +35,8 @@ use Rattle.archive.specs.Pairs.{ReadPairs}
 use Rattle.archive.specs.Outcomes.{asks, solve-by, Asked, told, Listed}
 use Rattle.archive.specs.declared.answers.Settled.{Settled}
 use Rattle.archive.specs.declared.answers.Settled.the-variants.{Unreadable}
-use Rattle.archive.proofs.Giving.{settles-as, unreadable-settles}
+use Rattle.archive.proofs.Giving.{unreadable-settles}
+use Rattle.archive.proofs.KindLaws.{read-settled}
 use Rattle.archive.proofs.RunRooms.{pair-names, run-words, run-cells}
 
 -- both kinds are answered in one way
@@ -61,48 +62,44 @@ match-asked s fuel c f e d =
     let w = subst (Within s) e (d .within) in
     record { entries = h .0; lines = h .2; reads = d .reads ∙ ap some (h .1); short = d .short; fuelled = w .0; inside = w .1 }
 
--- a sheet that was read is settled as the form that stands for it
-pub form-settled : (s : Text) (f : Form) {out v : Text} {x : Settled} → Decoded s f → SettlesForm (read-sheet s) out v x → SettlesForm (sheet-of s f) out v x
-form-settled s f d h sheet e = h sheet (d .reads ∙ sym (d .decodes) ∙ e)
+-- the pairs that were read
+module _ {s : Text} {w v : List ℕ} {es : List Entry} {rest : List Text} {i m c : ℕ} (r : ReadPairs s w v es rest i m c) where
+  pub read-whole : Whole (trees-at s v i)
+  read-whole = ap (λ (ts : Trees). flatten (pairs-of ts)) (r .trees) ∙ ap flatten (pairs-flatten (r .ps)) ∙ sym (r .trees)
+
+  pub read-are : pairs-at s v i ≡ r .ps
+  read-are = ap pairs-of (r .trees) ∙ pairs-flatten (r .ps)
+
+  pub read-fit : FitPairs (pairs-at s v i)
+  read-fit = subst FitPairs (sym read-are) (pairs-fit es (r .ps) (r .read))
 
 module _ (s : Text) (b : Bool) (fuel at : ℕ) (a : Asked s b fuel at) where
-  asked-settled : (o : Option Text) {out v : Text} {x : Settled} → answer-now (asks b fuel (a .entries)) ≡ o → Settles o out v x → SettlesForm (read-sheet s) out v x
-  asked-settled o e h sheet g = settles-as (ap answer-now (Option·some-injective sheet (asks b fuel (a .entries)) (sym g ∙ a .reads)) ∙ e) h
-
   pub unread-settled : (out : Text) → read-pairs (a .entries) ≡ none → SettlesForm (read-sheet s) out out Unreadable
   unread-settled out e =
-      asked-settled none (solving-answer b fuel (a .entries) ∙ ap (λ (o : Option (List Pair)). o >>= λ ps. some (verdict-lines (solve-by b fuel ps))) e) (unreadable-settles out)
+      read-settled s (asks b fuel (a .entries)) none (a .reads) (solving-answer b fuel (a .entries) ∙ ap (λ (o : Option (List Pair)). o >>= λ ps. some (verdict-lines (solve-by b fuel ps))) e) (unreadable-settles out)
 
-  module _ {w v : List ℕ} {i m : ℕ} (r : ReadPairs s w v (a .entries) i m) where
-    pub read-whole : Whole (trees-at s v i)
-    read-whole = ap (λ (ts : Trees). flatten (pairs-of ts)) (r .trees) ∙ ap flatten (pairs-flatten (r .ps)) ∙ sym (r .trees)
-
-    pub read-are : pairs-at s v i ≡ r .ps
-    read-are = ap pairs-of (r .trees) ∙ pairs-flatten (r .ps)
-
-    pub read-fit : FitPairs (pairs-at s v i)
-    read-fit = subst FitPairs (sym read-are) (pairs-fit (a .entries) (r .ps) (r .read))
-
+  module _ {w v : List ℕ} {i m c : ℕ} (r : ReadPairs s w v (a .entries) [] i m c) where
     pub read-roomy : 65536 * (count-of 58 s + 16) + 16 * length s ≤ length w → Roomy v m fuel (pairs-at s v i)
     read-roomy enough =
         let sheet = asks b fuel (a .entries) in
         let p = ap read-pairs (pairs-asked b fuel (a .entries)) ∙ r .read in
         let e : 65536 * (count-of 58 s + 16) + 16 * length s ≤ length v = omega (arith, r .len) in
-        let (ns, l, o) = pair-names s sheet (a .reads) (r .ps) p (a .short) m fuel (length v) (r .used) (a .fuelled) e in
-        subst (Roomy v m fuel) (sym read-are)
+        let used : m ≤ 1 + 2 * length s = omega (arith, r .used, r .within) in
+        let (ns, l, o) = pair-names s sheet (a .reads) (r .ps) p (a .short) m fuel (length v) used (a .fuelled) e in
+        subst (Roomy v m fuel) (sym (read-are r))
         (record {
           names = ns;
           over = o;
-          room = (run-words s sheet (a .reads) (r .ps) p (a .short) m fuel (length v) (r .used) (a .fuelled) e (length ns) l, run-cells s sheet (a .reads) (r .ps) p (a .short) m fuel (length v) (r .used) (a .fuelled) e (length ns) l);
+          room = (run-words s sheet (a .reads) (r .ps) p (a .short) m fuel (length v) used (a .fuelled) e (length ns) l, run-cells s sheet (a .reads) (r .ps) p (a .short) m fuel (length v) used (a .fuelled) e (length ns) l);
         })
 
     -- the answer, from what the run gave
     pub solved-settled : (u : List ℕ) {out after : Text} {x : Settled} (y : Outcome) → Answers s v u m (solve-by b fuel (pairs-at s v i)) y → Settles (some (verdict-lines (told s u y))) out after x
         → SettlesForm (read-sheet s) out after x
     solved-settled u {out} {after} {x} y h k =
-        asked-settled (some (verdict-lines (told s u y)))
+        read-settled s (asks b fuel (a .entries)) (some (verdict-lines (told s u y))) (a .reads)
         (solving-answer b fuel (a .entries) ∙ ap (λ (o : Option (List Pair)). o >>= λ ps. some (verdict-lines (solve-by b fuel ps))) (r .read)
-        ∙ ap (λ (ps : List Pair). some (verdict-lines (solve-by b fuel ps))) (sym read-are) ∙ ap (λ (z : Answer). some (verdict-lines z)) (is-told y h))
+        ∙ ap (λ (ps : List Pair). some (verdict-lines (solve-by b fuel ps))) (sym (read-are r)) ∙ ap (λ (z : Answer). some (verdict-lines z)) (is-told y h))
         k
       where
         is-told : (y : Outcome) → Answers s v u m (solve-by b fuel (pairs-at s v i)) y → solve-by b fuel (pairs-at s v i) ≡ told s u y

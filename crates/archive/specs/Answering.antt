@@ -21,7 +21,7 @@ answer-now (asks-equal l r) = answer-of (asks-equal l r)
 answer-now (asks-unify fuel ps) = answer-of (asks-unify fuel ps)
 answer-now (asks-match fuel ps) = answer-of (asks-match fuel ps)
 answer-now (asks-reduce t) = answer-of (asks-reduce t)
-answer-now (asks-cover ps ms) = none
+answer-now (asks-cover ps ms) = answer-of (asks-cover ps ms)
 answer-now (asks-sound t m) = answer-of (asks-sound t m)
 answer-now (asks-complete t ms) = none
 

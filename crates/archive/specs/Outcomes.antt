@@ -1,4 +1,4 @@
--- The answer to a sheet of kind `unify` or `match`, as the code makes it. Definitions only.
+-- The answer to a sheet of kind `unify`, `match` or `cover`, as the code makes it. Definitions only.
 use Prim.Native.Nat.{ℕ, _<_, _≤_}
 use mathlib.Core.Path.{_≡_}
 use mathlib.Core.Bool.{Bool, true, false}
@@ -10,7 +10,7 @@ use Rattle.rules.specs.Maybe.{_>>=_}
 use Rattle.rules.specs.Substitution.{Pair}
 use Rattle.rules.specs.Solving.{solved, failed, unsupported, Answer, unify}
 use Rattle.rules.specs.Matching.{matcher}
-use Rattle.rules.specs.Sheet.{Sheet, Entry, asks-unify, asks-match, pairs, read-sheet}
+use Rattle.rules.specs.Sheet.{Sheet, Entry, Member, asks-unify, asks-match, asks-cover, pairs, members-from, none-waiting, read-sheet}
 use Rattle.tree.specs.Cells.{trees-at}
 use Rattle.tree.specs.Arena.{Arena}
 use Rattle.substitution.specs.Bindings.{bindings-at, Chain}
@@ -34,6 +34,17 @@ pub record Asked (s : Text) (matching : Bool) (fuel at : ℕ) : Type 0 where
   pub reads : read-sheet s ≡ some (asks matching fuel entries)
   pub short : length s ≤ 65536
   pub fuelled : fuel ≤ 65536
+  pub inside : at ≤ length s
+
+-- the sheet asks whether its pairs, which stand from a position on, are covered by the members after them
+pub record CoverAsked (s : Text) (at : ℕ) : Type 0 where
+  pub entries : List Entry
+  pub rest : List Text
+  pub members : List Member
+  pub lines : (lines-at s at >>= pairs) ≡ some (entries, rest)
+  pub later : none-waiting (members-from rest) ≡ some members
+  pub reads : read-sheet s ≡ some (asks-cover entries members)
+  pub short : length s ≤ 65536
   pub inside : at ≤ length s
 
 -- the answer that an outcome stands for

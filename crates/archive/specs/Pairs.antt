@@ -16,6 +16,8 @@ use Rattle.reading.specs.Machine.{back}
 use Rattle.sheet.specs.Lines.{lines-at}
 use Rattle.sheet.specs.Form.{text-of}
 use Rattle.sheet.specs.declared.Place.{Place}
+use Rattle.archive.specs.declared.pairs.Added.{Added}
+use Rattle.archive.specs.declared.pairs.Added.the-variants as added
 use Rattle.archive.specs.declared.pairs.Pairs.{Pairs}
 use Rattle.archive.specs.declared.pairs.Pairs.the-variants.{Stack, Unreadable}
 
@@ -37,42 +39,47 @@ pub record ReadPair (s : Text) (w v : List ℕ) (free : ℕ) (l r : Place) (list
   pub used : m ≤ pair-end free l r
   pub len : length v ≡ length w
 
-abbrev pub ReadsPair : Text → List ℕ → List ℕ → ℕ → Place → Place → ℕ → Pairs → Type 0
-ReadsPair s w v free l r list (Stack i m) = ReadPair s w v free l r list i m
-ReadsPair s w v free l r list Unreadable = (read-pair (sides s l r) ≡ nothing) × (length v ≡ length w)
+abbrev pub ReadsPair : Text → List ℕ → List ℕ → ℕ → Place → Place → ℕ → Added → Type 0
+ReadsPair s w v free l r list (added.List i m) = ReadPair s w v free l r list i m
+ReadsPair s w v free l r list added.Unreadable = (read-pair (sides s l r) ≡ nothing) × (length v ≡ length w)
 
--- es are the pairs from a position on
-abbrev pub PairsFrom : Text → ℕ → List Entry → Type 0
-PairsFrom s at es = (rest : List Text) × ((lines-at s at >>= pairs) ≡ some (es, rest))
+-- es are the pairs from a position on, and rest the lines after them
+abbrev pub PairsFrom : Text → ℕ → List Entry → List Text → Type 0
+PairsFrom s at es rest = (lines-at s at >>= pairs) ≡ some (es, rest)
 
--- the list from cell i on is that of all pairs, backwards
-pub record Reversed (s : Text) (w v : List ℕ) (at i m : ℕ) : Type 0 where
+-- the list from cell i on is that of all pairs, backwards; they end at c. Two cells for each byte of them are enough for this list and
+-- for turning it round
+pub record Reversed (s : Text) (w v : List ℕ) (at i m c : ℕ) : Type 0 where
   pub ps : List Pair
-  pub read : (es : List Entry) → PairsFrom s at es → read-pairs es ≡ some ps
+  pub read : (es : List Entry) (rest : List Text) → PairsFrom s at es rest → read-pairs es ≡ some ps
+  pub lines : (es : List Entry) (rest : List Text) → PairsFrom s at es rest → lines-at s c ≡ some rest
+  pub within : c ≤ length s
   pub arena : Arena s v m
   pub inside : i < m
   pub trees : back (trees-at s v i) none ≡ flatten ps
-  pub used : m + count (trees-at s v i) ≤ 1 + 2 * length s
+  pub used : m + count (trees-at s v i) ≤ 1 + 2 * c
   pub len : length v ≡ length w
 
 abbrev pub ReadsReversed : Text → List ℕ → List ℕ → ℕ → Pairs → Type 0
-ReadsReversed s w v at (Stack i m) = Reversed s w v at i m
-ReadsReversed s w v at Unreadable = ((es : List Entry) → PairsFrom s at es → read-pairs es ≡ nothing) × (length v ≡ length w)
+ReadsReversed s w v at (Stack i m n) = Reversed s w v at i m (n .at)
+ReadsReversed s w v at Unreadable = ((es : List Entry) (rest : List Text) → PairsFrom s at es rest → read-pairs es ≡ nothing) × (length v ≡ length w)
 
--- the list from cell i on is that of the pairs es
-pub record ReadPairs (s : Text) (w v : List ℕ) (es : List Entry) (i m : ℕ) : Type 0 where
+-- the list from cell i on is that of the pairs es; they end at c, where the lines rest follow
+pub record ReadPairs (s : Text) (w v : List ℕ) (es : List Entry) (rest : List Text) (i m c : ℕ) : Type 0 where
   pub ps : List Pair
   pub read : read-pairs es ≡ some ps
+  pub lines : lines-at s c ≡ some rest
+  pub within : c ≤ length s
   pub arena : Arena s v m
   pub inside : i < m
   pub trees : trees-at s v i ≡ flatten ps
-  pub used : m ≤ 1 + 2 * length s
+  pub used : m ≤ 1 + 2 * c
   pub len : length v ≡ length w
 
-abbrev pub ReadAs : Text → List ℕ → List ℕ → List Entry → Pairs → Type 0
-ReadAs s w v es (Stack i m) = ReadPairs s w v es i m
-ReadAs s w v es Unreadable = (read-pairs es ≡ nothing) × (length v ≡ length w)
+abbrev pub ReadAs : Text → List ℕ → List ℕ → List Entry → List Text → Pairs → Type 0
+ReadAs s w v es rest (Stack i m n) = ReadPairs s w v es rest i m (n .at)
+ReadAs s w v es rest Unreadable = (read-pairs es ≡ nothing) × (length v ≡ length w)
 
 -- the pairs from a position on are read, or one of them is unreadable
 abbrev pub ReadsPairs : Text → List ℕ → List ℕ → ℕ → Pairs → Type 0
-ReadsPairs s w v at r = (es : List Entry) (rest : List Text) → (lines-at s at >>= pairs) ≡ some (es, rest) → ReadAs s w v es r
+ReadsPairs s w v at r = (es : List Entry) (rest : List Text) → PairsFrom s at es rest → ReadAs s w v es rest r

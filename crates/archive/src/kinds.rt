@@ -9,6 +9,7 @@ use crate::verdicts::give_solved;
 use crate::verdicts::give_unsupported;
 use certificate::Equivalence;
 use certificate::equivalent_texts;
+use cover::covered::covered;
 use reading::Parsed;
 use reading::parse;
 use reduction::normalizing::normalize;
@@ -37,7 +38,7 @@ ghost use Rattle.unifier.specs.Stack.{Whole, pairs-at, FitPairs};
 ghost use Rattle.unifier.specs.Running.{Roomy, Answers as Solves};
 ghost use Rattle.archive.specs.Settling.{Settles};
 ghost use Rattle.archive.specs.Answering.{SettlesForm};
-ghost use Rattle.archive.specs.Outcomes.{solve-by, Asked, told, Listed};
+ghost use Rattle.archive.specs.Outcomes.{solve-by, Asked, CoverAsked, told, Listed};
 
 // Kind `equal`.
 fn equal(sheet: &[u8], work: &mut [u32], output: &mut [u8], left: Place, right: Place) -> Settled
@@ -125,7 +126,12 @@ fn solving(
     ensures { λ r. ⌜ SettlesForm (read-sheet (now (sheet .entry))) (now (output .entry)) (now (output .exit)) r ⌝ }
 {
     let read = read_pairs(sheet, work, pairs);
-    let Pairs::Stack { index, free } = read else {
+    let Pairs::Stack {
+        index,
+        free,
+        next: _,
+    } = read
+    else {
         return Settled::Unreadable;
     };
     let outcome = solve(sheet, work, free, index, fuel, matching);
@@ -158,6 +164,24 @@ fn sound_of(
     }
 }
 
+// Kind `cover`. The members stand where the pairs end.
+fn cover_of(sheet: &[u8], work: &mut [u32], output: &mut [u8], pairs: Cursor) -> Settled
+    requires { ⌜ CoverAsked (now sheet) (pairs .at) ⌝ }
+    requires { ⌜ 65536 * (count-of 58 (now sheet) + 16) + 16 * length (now sheet) ≤ length (now work) ⌝ }
+    ensures { λ r. ⌜ SettlesForm (read-sheet (now (sheet .entry))) (now (output .entry)) (now (output .exit)) r ⌝ }
+{
+    let read = read_pairs(sheet, work, pairs);
+    let Pairs::Stack { index, free, next } = read else {
+        return Settled::Unreadable;
+    };
+    let claim = covered(sheet, work, free, index, next);
+    match claim {
+        Claim::Yes => give(output, b"covered=yes\n"),
+        Claim::No => give(output, b"covered=no\n"),
+        Claim::Nothing => give(output, b"covered=none\n"),
+    }
+}
+
 // A sheet that is admitted, by its kind.
 pub fn settle(sheet: &[u8], work: &mut [u32], output: &mut [u8], form: Form) -> Settled
     requires { ⌜ Decoded (now sheet) form ⌝ }
@@ -170,6 +194,7 @@ pub fn settle(sheet: &[u8], work: &mut [u32], output: &mut [u8], form: Form) -> 
         Form::Unify { fuel, pairs } => solving(sheet, work, output, fuel, pairs, false),
         Form::Match { fuel, pairs } => solving(sheet, work, output, fuel, pairs, true),
         Form::Sound { term, member } => sound_of(sheet, work, output, term, member),
+        Form::Cover { pairs, members: _ } => cover_of(sheet, work, output, pairs),
         _ => Settled::Unreadable,
     }
 }

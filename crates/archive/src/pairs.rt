@@ -20,9 +20,19 @@ ghost use Rattle.reading.specs.Machine.{back};
 ghost use Rattle.substitution.specs.Building.{Made};
 ghost use Rattle.archive.specs.Pairs.{pair-end, ReadsPair, ReadsReversed, ReadsPairs};
 
-// A list of sides and the free end after it, or a side that cannot be read.
+// A pair before a list of sides and the free end after it, or a side that cannot be read.
+pub enum Added {
+    List { index: usize, free: usize },
+    Unreadable,
+}
+
+// The list of all sides, the free end after it, and where the pairs end; or a side that cannot be read.
 pub enum Pairs {
-    Stack { index: usize, free: usize },
+    Stack {
+        index: usize,
+        free: usize,
+        next: Cursor,
+    },
     Unreadable,
 }
 
@@ -34,7 +44,7 @@ fn read_pair(
     left: Place,
     right: Place,
     list: usize,
-) -> Pairs
+) -> Added
     requires { ⌜ Arena (now sheet) (now work) free ⌝ }
     requires { ⌜ Inside (now sheet) left × Inside (now sheet) right × (list < free) ⌝ }
     requires { ⌜ (length (now sheet) ≤ 65536) × (1048576 + 16 * length (now sheet) ≤ length (now work)) × (pair-end free left right ≤ 1 + 2 * length (now sheet)) ⌝ }
@@ -48,7 +58,7 @@ fn read_pair(
         free: middle,
     } = one
     else {
-        return Pairs::Unreadable;
+        return Added::Unreadable;
     };
     let right_from = right.from;
     let right_to = right.to;
@@ -58,12 +68,12 @@ fn read_pair(
         free: end,
     } = other
     else {
-        return Pairs::Unreadable;
+        return Added::Unreadable;
     };
     let pushed = push_pair(sheet, work, end, second, first, list);
     let index = pushed.index;
     let top = pushed.free;
-    Pairs::Stack { index, free: top }
+    Added::List { index, free: top }
 }
 
 // The pairs from a cursor on, the last first, each with its right side first.
@@ -80,10 +90,11 @@ fn read_reversed(sheet: &[u8], work: &mut [u32], start: Cursor) -> Pairs
             return Pairs::Stack {
                 index: list,
                 free: end,
+                next: cursor,
             };
         };
         let read = read_pair(sheet, work, end, left, right, list);
-        let Pairs::Stack { index, free } = read else {
+        let Added::List { index, free } = read else {
             return Pairs::Unreadable;
         };
         cursor = next;
@@ -122,7 +133,7 @@ pub fn read_pairs(sheet: &[u8], work: &mut [u32], start: Cursor) -> Pairs
     ensures { λ r. ⌜ ReadsPairs (now (sheet .entry)) (now (work .entry)) (now (work .exit)) (start .at) r ⌝ }
 {
     let reversed = read_reversed(sheet, work, start);
-    let Pairs::Stack { index, free } = reversed else {
+    let Pairs::Stack { index, free, next } = reversed else {
         return Pairs::Unreadable;
     };
     let list = reverse(sheet, work, free, index);
@@ -131,5 +142,6 @@ pub fn read_pairs(sheet: &[u8], work: &mut [u32], start: Cursor) -> Pairs
     Pairs::Stack {
         index: first,
         free: end,
+        next,
     }
 }

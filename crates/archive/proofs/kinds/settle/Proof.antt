@@ -1,8 +1,9 @@
 use mathlib.Core.Path.{subst}
 use native.Mathlib.Omega.{arith}
 use Rattle.sheet.specs.Form.{Within}
-use Rattle.archive.proofs.Solves.{unify-asked, match-asked, form-settled}
-use Rattle.archive.proofs.KindLaws.{least-words, colon-words, equal-settled, reduce-settled, sound-settled, other-settled}
+use Rattle.archive.proofs.Solves.{unify-asked, match-asked}
+use Rattle.archive.proofs.Covers.{cover-asked}
+use Rattle.archive.proofs.KindLaws.{form-settled, least-words, colon-words, equal-settled, reduce-settled, sound-settled, other-settled}
 use borrow.Author.Needs.{needs}
 use Rattle.archive.proofs.kinds.settle.Statement.{statement}
 use Rattle.archive.proofs.kinds.settle.Tie as tie
@@ -58,6 +59,14 @@ sound-of-requires : tie.Need-sound-of-requires
 sound-of-requires c κs =
     let h = subst (Within (c .before .before .before .before .before .before .before .before .args .sheet .now)) (c .before .before .before .form5 .given .1) (c .before .before .before .before .before .before .before .before .pre .0 .within) in
     ((c .before .before .before .before .before .before .before .before .pre .0 .short, least-words (c .before .before .before .before .before .before .before .before .args .sheet .now) (c .before .before .before .before .before .before .before .before .args .form) (c .before .before .before .before .before .before .before .before .pre .1)), h .0)
+
+-- src/kinds.rt:193:23
+enum-known-form-6 : tie.Need-enum-known-form-6
+enum-known-form-6 c = search needs
+
+-- src/kinds.rt:193:46
+cover-of-requires : tie.Need-cover-of-requires
+cover-of-requires c κs = (cover-asked (c .before .before .before .before .before .before .before .before .args .sheet .now) _ _ (c .before .before .before .before .before .before .before .before .args .form) (c .before .before .before .form6 .given .1) (c .before .before .before .before .before .before .before .before .pre .0), colon-words (c .before .before .before .before .before .before .before .before .args .sheet .now) (c .before .before .before .before .before .before .before .before .args .form) (c .before .before .before .before .before .before .before .before .pre .1))
 
 -- src/kinds.rt:162:1
 same-length : tie.Need-same-length
@@ -120,8 +129,20 @@ returns-5 : tie.Need-returns-5
 returns-5 c = sound-settled (c .before .before .before .before .before .before .before .before .before .before .before .before .before .args .sheet .now) _ _ (c .before .before .before .before .before .before .before .before .before .before .before .before .before .args .form) (c .before .before .before .before .before .before .before .before .form5 .given .1) (c .before .before .before .before .sound-of .ensures)
 
 -- src/kinds.rt:162:1
+same-length-11 : tie.Need-same-length-11
+same-length-11 c = search needs
+
+-- src/kinds.rt:162:1
+same-length-12 : tie.Need-same-length-12
+same-length-12 c = search needs
+
+-- src/kinds.rt:162:1
 returns-6 : tie.Need-returns-6
-returns-6 c = other-settled (c .before .before .before .before .args .sheet .now) (c .before .before .before .before .args .form) (c .before .before .before .before .args .output .now) (c .match .keys6)
+returns-6 c = form-settled (c .before .before .before .before .before .before .before .before .before .before .before .before .before .args .sheet .now) (c .before .before .before .before .before .before .before .before .before .before .before .before .before .args .form) (c .before .before .before .before .before .before .before .before .before .before .before .before .before .pre .0) (c .before .before .before .before .cover-of .ensures)
+
+-- src/kinds.rt:162:1
+returns-7 : tie.Need-returns-7
+returns-7 c = other-settled (c .before .before .before .before .args .sheet .now) (c .before .before .before .before .args .form) (c .before .before .before .before .args .output .now) (c .match .keys7)
 
 pub settle-spec : {M : Type 1} → statement M
 settle-spec =
@@ -137,6 +158,8 @@ settle-spec =
     solving-requires-2
     enum-known-form-5
     sound-of-requires
+    enum-known-form-6
+    cover-of-requires
     same-length
     same-length-2
     returns
@@ -152,4 +175,7 @@ settle-spec =
     same-length-9
     same-length-10
     returns-5
-    returns-6)
+    same-length-11
+    same-length-12
+    returns-6
+    returns-7)

@@ -37,7 +37,7 @@ solve-requires : tie.Need-solve-requires
 solve-requires c κs =
     let k = c .before .before .before .before .before .before .before .before .before .before .before .pre .0 in
     let r = rw (c .before .before .read .given .1) at (c .before .before .before .before .before .before .read-pairs .ensures (k .entries) [] (k .lines)) in
-    (r .arena, ((r .inside, k .fuelled, read-whole (c .before .before .before .before .before .before .before .before .before .before .before .args .sheet .now) (c .before .before .before .before .before .before .before .before .before .before .before .args .matching) (c .before .before .before .before .before .before .before .before .before .before .before .args .fuel) (c .before .before .before .before .before .before .before .before .before .before .before .args .pairs .at) k r, read-fit (c .before .before .before .before .before .before .before .before .before .before .before .args .sheet .now) (c .before .before .before .before .before .before .before .before .before .before .before .args .matching) (c .before .before .before .before .before .before .before .before .before .before .before .args .fuel) (c .before .before .before .before .before .before .before .before .before .before .before .args .pairs .at) k r), read-roomy (c .before .before .before .before .before .before .before .before .before .before .before .args .sheet .now) (c .before .before .before .before .before .before .before .before .before .before .before .args .matching) (c .before .before .before .before .before .before .before .before .before .before .before .args .fuel) (c .before .before .before .before .before .before .before .before .before .before .before .args .pairs .at) k r (c .before .before .before .before .before .before .before .before .before .before .before .pre .1)))
+    (r .arena, ((r .inside, k .fuelled, read-whole r, read-fit r), read-roomy (c .before .before .before .before .before .before .before .before .before .before .before .args .sheet .now) (c .before .before .before .before .before .before .before .before .before .before .before .args .matching) (c .before .before .before .before .before .before .before .before .before .before .before .args .fuel) (c .before .before .before .before .before .before .before .before .before .before .before .args .pairs .at) k r (c .before .before .before .before .before .before .before .before .before .before .before .pre .1)))
 
 -- src/kinds.rt:115:5
 give-outcome-requires : tie.Need-give-outcome-requires

@@ -1,0 +1,103 @@
+-- The answer to a sheet of kind `cover`: what its pairs and members are, and what is claimed of them.
+use mathlib.Core.Path.{_≡_, refl, sym, ap, subst, _∙_}
+use mathlib.Core.Bool.{Bool}
+use mathlib.Core.List.{List, _++_}
+use mathlib.Core.Option.{Option, some, none, Option·some-injective}
+use Prim.Native.Nat.{ℕ, _+_, _*_, _≤_}
+use native.Mathlib.Omega.{arith}
+use lib.ListN.{length}
+use Rattle.rules.specs.Bytes.{Text}
+use Rattle.rules.specs.Text.{bytes, count-of}
+use Rattle.rules.specs.Maybe.{_>>=_}
+use Rattle.rules.specs.Substitution.{Pair}
+use Rattle.rules.specs.Sheet.{Entry, Member, asks-cover, pairs, members-from, none-waiting, read-sheet}
+use Rattle.rules.specs.Cover.{covered}
+use Rattle.rules.specs.Answer.{read-pairs, line, claim, answer-of}
+use Rattle.sheet.specs.Lines.{lines-at}
+use Rattle.sheet.specs.Pairs.{entries-by, before}
+use Rattle.sheet.specs.Members.{members-at}
+use Rattle.sheet.specs.Form.{sheet-of, Within, Walked}
+use Rattle.sheet.specs.declared.Cursor.{Cursor}
+use Rattle.sheet.specs.declared.form.Form.{Form}
+use Rattle.sheet.specs.declared.form.Form.the-variants as form
+use Rattle.sheet.proofs.WalkLaws.{pairs-by, two-end, members-later, cover-parts}
+use Rattle.unifier.specs.Stack.{pairs-at}
+use Rattle.variants.specs.Soundness as code
+use Rattle.variants.specs.declared.soundness.Claim.{Claim}
+use Rattle.cover.specs.Covered.{Asks}
+use Rattle.archive.specs.Settling.{Settles}
+use Rattle.archive.specs.Admission.{Decoded}
+use Rattle.archive.specs.Answering.{answer-now, SettlesForm}
+use Rattle.archive.specs.Pairs.{ReadPairs}
+use Rattle.archive.specs.Outcomes.{CoverAsked}
+use Rattle.archive.specs.declared.answers.Settled.{Settled}
+use Rattle.archive.specs.declared.answers.Settled.the-variants.{Unreadable}
+use Rattle.archive.proofs.Giving.{unreadable-settles}
+use Rattle.archive.proofs.KindLaws.{read-settled}
+use Rattle.archive.proofs.Solves.{read-whole, read-are}
+
+-- the lines where all pairs were walked over are those after them
+walked-rest : (s : Text) (at c : ℕ) → Walked s at c → (es : List Entry) (rest : List Text) → (lines-at s at >>= pairs) ≡ some (es, rest) → lines-at s c ≡ some rest
+walked-rest s at c w es rest h = go (lines-at s c >>= entries-by (bytes "left=") (bytes "right=")) refl (sym (w .walk .chain) ∙ sym (pairs-by s at) ∙ h)
+  where
+    go : (o : Option (List Entry × List Text)) → (lines-at s c >>= entries-by (bytes "left=") (bytes "right=")) ≡ o → (o >>= before (w .walk .es)) ≡ some (es, rest) → lines-at s c ≡ some rest
+    go none k g = let z : _≡_ {A = ℕ} 0 1 = cc in absurd (omega arith)
+    go (some (fs, ls)) k g =
+        two-end (bytes "left=") (bytes "right=") s c fs ls k (w .stops) .1
+        ∙ ap (λ (p : List Entry × List Text). some (p .1)) (Option·some-injective (w .walk .es ++ fs, ls) (es, rest) g)
+
+lines-members : (s : Text) (c : ℕ) (rest : List Text) (ms : List Member) → lines-at s c ≡ some rest → members-at s c ≡ some ms → none-waiting (members-from rest) ≡ some ms
+unfolding members-at
+lines-members s c rest ms e h = sym (ap (λ (o : Option (List Text)). o >>= λ ls. none-waiting (members-from ls)) e) ∙ h
+
+-- the members of the form are those after its pairs
+pub cover-asked : (s : Text) (c d : Cursor) (f : Form) → f ≡ form.Cover c d → Decoded s f → CoverAsked s (c .at)
+cover-asked s c d f e h =
+    let (es, rest, ms, g, lines, there) = cover-parts s c d (h .sheet) (ap (sheet-of s) (sym e) ∙ h .decodes) in
+    let w = subst (Within s) e (h .within) in
+    record {
+      entries = es;
+      rest = rest;
+      members = ms;
+      lines = lines;
+      later = lines-members s (d .at) rest ms (walked-rest s (c .at) (d .at) (w .2) es rest lines) there;
+      reads = h .reads ∙ ap some g;
+      short = h .short;
+      inside = w .0;
+    }
+
+module _ (s : Text) (at : ℕ) (a : CoverAsked s at) where
+  -- the answer, by what the pairs read as
+  cover-answer : (o : Option (List Pair)) → read-pairs (a .entries) ≡ o
+      → answer-now (asks-cover (a .entries) (a .members)) ≡ (o >>= λ ps. some (line (bytes "covered=") (claim (covered ps (a .members)))))
+  unfolding answer-now answer-of
+  cover-answer o e = ap (λ (o : Option (List Pair)). o >>= λ ps. some (line (bytes "covered=") (claim (covered ps (a .members))))) e
+
+  pub cover-unread : (out : Text) → read-pairs (a .entries) ≡ none → SettlesForm (read-sheet s) out out Unreadable
+  cover-unread out e = read-settled s (asks-cover (a .entries) (a .members)) none (a .reads) (cover-answer none e) (unreadable-settles out)
+
+  module _ {w v : List ℕ} {i m c : ℕ} (r : ReadPairs s w v (a .entries) (a .rest) i m c) where
+    members-there : members-at s c ≡ some (a .members)
+    members-there = members-later s c (a .rest) (a .members) (r .lines) (a .later)
+
+    pub cover-asks : 65536 * (count-of 58 s + 16) + 16 * length s ≤ length w → Asks s v m i c
+    cover-asks enough = record {
+      entries = a .entries;
+      members = a .members;
+      reads = a .reads;
+      short = a .short;
+      pairs = r .read ∙ ap some (sym (read-are r));
+      whole = read-whole r;
+      later = members-there;
+      inside = r .within;
+      used = r .used;
+      words = omega (arith, r .len);
+    }
+
+    pub cover-settled : (given x : Claim) {out after : Text} {y : Settled} → ((ms : List Member) → members-at s c ≡ some ms → code.claim given ≡ covered (pairs-at s v i) ms) → given ≡ x
+        → Settles (some (line (bytes "covered=") (claim (code.claim x)))) out after y → SettlesForm (read-sheet s) out after y
+    cover-settled given x h e k =
+        read-settled s (asks-cover (a .entries) (a .members)) (some (line (bytes "covered=") (claim (code.claim x)))) (a .reads)
+        (cover-answer (some (r .ps)) (r .read) ∙ ap (λ (ps : List Pair). some (line (bytes "covered=") (claim (covered ps (a .members))))) (sym (read-are r))
+        ∙ ap (λ (o : Option Bool). some (line (bytes "covered=") (claim o))) (sym (h (a .members) members-there) ∙ ap code.claim e))
+        k
