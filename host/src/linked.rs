@@ -13,7 +13,7 @@ use crate::{
 
 /// The kinds that the library answers. It gives 4 to a sheet of another kind that is not refused
 /// by 1, 2, 3 or 11.
-pub const ANSWERED: &[&str] = &["equal", "unify", "match", "reduce", "sound"];
+pub const ANSWERED: &[&str] = &["equal", "unify", "match", "reduce", "cover", "sound"];
 
 /// A call that was not as the reference says.
 pub struct Difference {

@@ -1,4 +1,5 @@
 // Times of the linked library, on a thread with 2 MiB of stack, and of the Rust on a large one.
+mod families;
 mod solving;
 mod terms;
 
@@ -13,6 +14,7 @@ use oracle::Outcome;
 use crate::{
     deep, lent,
     linked::ANSWERED,
+    reference,
     sheet::{self, Pair, Sheet},
 };
 
@@ -46,7 +48,10 @@ fn samples(bytes: usize) -> Vec<Sample> {
         "equal" => terms::equalities(bytes),
         "reduce" => terms::reductions(),
         "unify" | "match" => solving::solvings(kind),
-        _ => Vec::new(),
+        "cover" => families::covers(),
+        "sound" => families::sounds(),
+        "complete" => families::completes(),
+        _ => unreachable!("no such kind"),
     };
     ANSWERED.iter().flat_map(|kind| of(kind)).collect()
 }
@@ -81,7 +86,7 @@ fn by_rust(sheet: &Sheet) -> String {
             .map(|term| format!("normal={}\n", oracle::render(&oracle::normalize(&term)))),
         Sheet::Unify(fuel, pairs) => solved(oracle::unify, *fuel, pairs),
         Sheet::Match(fuel, pairs) => solved(oracle::matcher, *fuel, pairs),
-        _ => unreachable!("a sample of another kind"),
+        _ => reference::claimed_by_rust(sheet),
     };
     told.unwrap_or("refusal 4".to_owned())
 }

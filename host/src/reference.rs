@@ -150,8 +150,18 @@ fn by_rust(sheet: &Sheet, modelled: &Option<String>) -> Option<String> {
             let term = oracle::parse(term)?;
             format!("normal={}\n", oracle::render(&oracle::normalize(&term)))
         }
+        _ => return claimed_by_rust(sheet),
+    })
+}
+
+/// The Rust's answer to a sheet of kind `cover`, `sound` or `complete`.
+pub fn claimed_by_rust(sheet: &Sheet) -> Option<String> {
+    Some(match sheet {
         Sheet::Cover(pairs, members) => {
-            read_all(pairs)?;
+            for (left, right) in pairs {
+                oracle::parse(left)?;
+                oracle::parse(right)?;
+            }
             claim("covered", oracle::covered(pairs, &family(members)))
         }
         Sheet::Sound(term, member) => claim(
@@ -164,6 +174,7 @@ fn by_rust(sheet: &Sheet, modelled: &Option<String>) -> Option<String> {
             let told = || oracle::complete(&term, &family(members));
             claim("complete", if kept_out { None } else { told() })
         }
+        _ => unreachable!("a sheet of a kind without members"),
     })
 }
 

@@ -24,17 +24,15 @@ sheet-in list stored = take (stored .answer - stored .sheet) (drop (stored .shee
 abbrev pub answer-in : Text → Record → Text
 answer-in list stored = take (stored .end - stored .answer) (drop (stored .answer) list)
 
--- a kind that the call does not answer yet
+-- the kind that the call does not answer yet
 abbrev pub unanswered : Text → Bool
-unanswered sheet =
-    begins-with (bytes "kind=cover\n") sheet
-    || begins-with (bytes "kind=complete\n") sheet
+unanswered sheet = begins-with (bytes "kind=complete\n") sheet
 
 -- a refusal that comes before the kind is answered
 abbrev pub early : ℕ → Bool
 early refusal = eqb refusal 1 || (eqb refusal 2 || (eqb refusal 3 || eqb refusal 11))
 
--- there are the words and the room that the record lends, and its reply is not that of a kind not answered yet
+-- there are the words and the room that the record lends, and its reply is not that of the kind not answered yet
 unfoldable pub lends : Text → ℕ → ℕ → Record → Bool
 lends sheet words room stored = leb (stored .words) words && (leb (stored .room) room && (early (stored .refusal) || not (unanswered sheet)))
 

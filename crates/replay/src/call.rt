@@ -29,11 +29,11 @@ pub enum Outcome {
     Skipped,
 }
 
-// Whether a sheet is of a kind that the call does not answer yet.
+// Whether a sheet is of the kind that the call does not answer yet.
 fn unanswered(sheet: &[u8]) -> bool
     ensures { λ r. ⌜ r ≡ unanswered (now (sheet .entry)) ⌝ }
 {
-    begins(sheet, b"kind=cover\n") || begins(sheet, b"kind=complete\n")
+    begins(sheet, b"kind=complete\n")
 }
 
 fn equals(a: usize, b: usize) -> bool
@@ -55,8 +55,8 @@ fn early(refusal: usize) -> bool
     equals(refusal, 1) || (equals(refusal, 2) || (equals(refusal, 3) || equals(refusal, 11)))
 }
 
-// Whether there are the words and the room that a record lends, and its reply is not that of a kind not
-// answered yet.
+// Whether there are the words and the room that a record lends, and its reply is not that of the kind
+// not answered yet.
 fn lends(sheet: &[u8], words: usize, room: usize, stored: Record) -> bool
     ensures { λ r. ⌜ r ≡ lends (now (sheet .entry)) words room stored ⌝ }
 {
@@ -85,7 +85,7 @@ fn agrees(sheet: &[u8], work: &mut [u32], output: &mut [u8], refusal: usize, ans
     equals(wide(given), refusal) && held
 }
 
-// Replays a record, if it lends what is there and its reply is not that of a kind not answered yet.
+// Replays a record, if it lends what is there and its reply is not that of the kind not answered yet.
 pub fn replay(list: &[u8], work: &mut [u32], output: &mut [u8], stored: Record) -> Outcome
     requires { ⌜ Inside (now list) stored ⌝ }
     ensures { λ r. ⌜ Replays (now (list .entry)) stored (now (work .entry)) (now (work .exit)) (now (output .entry)) (now (output .exit)) r ⌝ }

@@ -143,6 +143,11 @@ fn complete() -> Vec<Example> {
         ),
         complete("complete-without-firing", first, "no"),
         complete(
+            "complete-fresh-name-over-arguments",
+            &format!("{first}|member=x1:Msg(c(0))|key=x0:Msg|value=tamXCpair(x1:Msg(c(0)),x2:Msg)"),
+            "yes",
+        ),
+        complete(
             "complete-too-special",
             &format!("{first}|member=a|key=x0:Msg|value=tamXCpair(a,#1:Msg)"),
             "no",
