@@ -7,8 +7,7 @@ use mathlib.Core.Option.{Option, some, none as nothing}
 use Prim.Native.Nat.{ℕ, suc, _+_}
 use lib.ListN.{length}
 use Rattle.rules.specs.Bytes.{Text, same}
-use Rattle.rules.specs.Text.{bytes, is-one-of}
-use Rattle.rules.specs.Decimal.{decimal}
+use Rattle.rules.specs.Text.{is-one-of}
 use Rattle.rules.specs.Tree.{Tree, variable, atom, apply, Trees, none, more, sizes}
 use Rattle.rules.specs.Substitution.{Binding, Pair}
 use Rattle.rules.specs.Sums.{summands}
@@ -62,11 +61,6 @@ OverBindings ns [] = Unit {0}
 OverBindings ns (b ∷ bs) = Over ns (b .1) × OverBindings ns bs
 
 -- Fresh names
-
--- the name of the fresh variable x<n>:Msg
-unfoldable pub fresh-name : ℕ → Text
-unfolding decimal
-fresh-name n = bytes "x" ++ decimal n ++ bytes ":Msg"
 
 abbrev pub some-children : Trees → ℕ
 some-children none = 0

@@ -13,9 +13,9 @@ use Rattle.rules.specs.Tree.{Tree, variable, atom, apply, Trees, none, more}
 use Rattle.rules.specs.Substitution.{Pair}
 use Rattle.rules.specs.Reading.{parse}
 use Rattle.rules.specs.Reduction.{Rule, fst, snd, flip, sdec, kdec, rule-named}
-use Rattle.rules.specs.Variants.{Scheme, Joined, only, fresh, firings, before, root-schemes, join-first, schemes-from, joined, system}
+use Rattle.rules.specs.Variants.{Scheme, Joined, only, fresh-name, fresh, firings, before, root-schemes, join-first, schemes-from, joined, system}
 use Rattle.rules.specs.Schemes.{listing}
-use Rattle.rules.specs.Memory.{Over, Overs, OverPairs, fresh-name, some-children, rule-node, rule-nodes, rule-nodes-in}
+use Rattle.rules.specs.Memory.{Over, Overs, OverPairs, some-children, rule-node, rule-nodes, rule-nodes-in}
 use Rattle.laws.proofs.Basics.Tests.{or-left, or-right, same-self}
 use Rattle.laws.proofs.Reading.Colons.{parse-brackets}
 use Rattle.laws.proofs.Variants.Targets.{All, all-at, all-map, all-flat, one-all, two-all}

@@ -138,7 +138,7 @@ unread-member m u = member-reads m .1 (subst Unreadable (one-text m) u)
 
 -- What is read is built
 
-abbrev BuiltValues : List Binding → Type 0
+abbrev pub BuiltValues : List Binding → Type 0
 BuiltValues [] = Unit {0}
 BuiltValues (b ∷ bs) = Built (b .1) × BuiltValues bs
 
@@ -152,7 +152,7 @@ entries-built (e ∷ es) bs h =
     let k = ap (λ (z : Binding). z .1) (Option·some-injective (e .0, t) b f₁) in
     subst BuiltValues (Option·some-injective (b ∷ cs) bs h₂) (subst Built k (builds (e .1) t g), entries-built es cs i)
 
-value-built : (bs : List Binding) → BuiltValues bs → (x : Text) → variable-token x ≡ true → Built (lookup bs x)
+pub value-built : (bs : List Binding) → BuiltValues bs → (x : Text) → variable-token x ≡ true → Built (lookup bs x)
 unfolding lookup
 value-built [] h x v = a-variable v
 value-built (b ∷ bs) h x v = go (same (b .0) x) (value-built bs (h .1) x v)
@@ -161,11 +161,17 @@ value-built (b ∷ bs) h x v = go (same (b .0) x) (value-built bs (h .1) x v)
     go true k = h .0
     go false k = k
 
--- a member's term, and the instance of a term under its bindings
-pub member-built : (m : Member) (v : Variant) → read-member m ≡ some v → Built (v .0) × ((t : Tree) → Built t → Built (instantiate (v .1) t))
+-- a member's trees
+abbrev pub BuiltMember : Variant → Type 0
+BuiltMember v = Built (v .0) × BuiltValues (v .1)
+
+pub trees-built : (m : Member) (v : Variant) → read-member m ≡ some v → BuiltMember v
 unfolding read-member
-member-built m v h =
+trees-built m v h =
     let (t, e, h₁) = bound (parse (m .0)) _ v h in
     let (bs, f, h₂) = bound (every (map read-entry (m .1))) (λ cs. some (t, cs)) v h₁ in
-    subst (λ (w : Variant). Built (w .0) × ((u : Tree) → Built u → Built (instantiate (w .1) u))) (Option·some-injective (t, bs) v h₂)
-    (builds (m .0) t e, λ u b. substitute-built (lookup bs) (value-built bs (entries-built (m .1) bs f)) b)
+    subst BuiltMember (Option·some-injective (t, bs) v h₂) (builds (m .0) t e, entries-built (m .1) bs f)
+
+-- a member's term, and the instance of a term under its bindings
+pub member-built : (m : Member) (v : Variant) → read-member m ≡ some v → Built (v .0) × ((t : Tree) → Built t → Built (instantiate (v .1) t))
+member-built m v h = let (b, bs) = trees-built m v h in (b, λ u k. substitute-built (lookup (v .1)) (value-built (v .1) bs) k)
