@@ -17,3 +17,4 @@ pub mod Taken
 pub mod Keeping
 pub mod Names
 pub mod Weights
+pub mod UnifyFuel

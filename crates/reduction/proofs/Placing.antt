@@ -78,16 +78,24 @@ fixed-plain : (c : ℕ) → c < 7 → getD (fixed-name c) 1 0 ≡ 40 → ⊥
 unfolding every-below
 fixed-plain c h = eqb-false (getD (fixed-name c) 1 0) 40 (not-true (eqb (getD (fixed-name c) 1 0) 40) (below-holds 7 (λ m. not (eqb (getD (fixed-name m) 1 0) 40)) refl c h))
 
--- a fixed name written
+-- a fixed name over the list from cell first on
+pub linked-fixed-over : (s : Text) {w v : List ℕ} {n code first next count : ℕ} → Arena s w n → 0 < code → code < 7 → first < n → next < n → 4 * n + 4 ≤ length w
+    → count ≡ sizes (trees-at s w first) → Wrote w v n code 0 0 first next (1 + count) → Linked s w v n next (apply (fixed-name code) (trees-at s w first))
+unfolding named made size
+linked-fixed-over s {w} {v} {n} {code} {first} a p q f g room c x =
+    let m : name-at s v n ≡ fixed-name code = name-push x s in
+    let e : made 0 (name-at s v n) (trees-at s w first) ≡ apply (fixed-name code) (trees-at s w first) = ap (λ (y : Text). apply y (trees-at s w first)) m in
+    let here : Place s code 0 = record { inside = λ h. absurd (omega arith); code = λ h. (p, q) } in
+    let z = ap (λ (k : ℕ). 1 + k) c ∙ sym (ap size e) in
+    linked x s (a .links) g f (arena-push x s a room f g here (omega arith) (λ h. absurd (omega arith)) (λ h k. fixed-plain code q (ap (λ (y : Text). getD y 1 0) (sym m) ∙ k)) z) e
+
+-- a fixed name without children
 pub linked-fixed : (s : Text) {w v : List ℕ} {n code next : ℕ} → Arena s w n → 0 < code → code < 7 → next < n → 4 * n + 4 ≤ length w
     → Wrote w v n code 0 0 0 next 1 → Linked s w v n next (constant (fixed-name code))
-unfolding named made size
+unfolding size
 linked-fixed s {w} {v} {n} {code} {next} a p q g room x =
-    let m : name-at s v n ≡ fixed-name code = name-push x s in
-    let o = a .links .some in
-    let e : made 0 (name-at s v n) (trees-at s w 0) ≡ constant (fixed-name code) = ap₂ apply m (trees-none s w 0 refl) in
-    let here : Place s code 0 = record { inside = λ h. absurd (omega arith); code = λ h. (p, q) } in
-    linked x s (a .links) g o (arena-push x s a room o g here (omega arith) (λ h. absurd (omega arith)) (λ h k. fixed-plain code q (ap (λ (y : Text). getD y 1 0) (sym m) ∙ k)) (sym (ap size e))) e
+    let e = trees-none s w 0 refl in
+    rw e at (linked-fixed-over s a p q (a .links .some) g room (sym (ap sizes e)) x)
 
 -- the name of cell i over other children
 pub linked-over : (s : Text) {w v : List ℕ} {n first next count : ℕ} (i : ℕ) → Arena s w n → 0 < i → i < n → kind-of w i ≡ 0 → first < n → next < n → 4 * n + 4 ≤ length w

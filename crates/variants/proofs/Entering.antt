@@ -2,18 +2,20 @@
 use Prim.Native.Nat.{ℕ, _+_, _*_, _-_, _<_, _≤_}
 use native.Mathlib.Omega.{arith}
 use mathlib.Core.Path.{_≡_, refl, sym, ap, _∙_}
-use mathlib.Core.Bool.{true, false}
+use mathlib.Core.Bool.{Bool, true, false, cond}
 use mathlib.Core.List.{List, [], _∷_, _++_, map}
 use mathlib.Core.Option.{some, none as nothing}
-use lib.ListN.{length}
+use lib.ListN.{length, drop, length-take}
 use Rattle.rules.specs.Bytes.{Text}
 use Rattle.rules.specs.Text.{bytes}
 use Rattle.rules.specs.Maybe.{_>>=_, every}
-use Rattle.rules.specs.Tree.{Tree, variable}
+use Rattle.rules.specs.Tree.{Tree, variable, Trees, more, size, sizes}
+use Rattle.rules.specs.Reading.{parse}
 use Rattle.rules.specs.Substitution.{Binding}
 use Rattle.rules.specs.Sheet.{Entry}
 use Rattle.rules.specs.Variants.{read-entry}
 use Rattle.laws.proofs.Basics.Options.{bound}
+use Rattle.laws.proofs.Reading.Colons.{parse-size}
 use Rattle.tree.specs.Cells.{tree-at, trees-at}
 use Rattle.tree.specs.Arena.{Arena, Linked}
 use Rattle.tree.proofs.Decoding.{frame-trees, trees-none}
@@ -27,7 +29,7 @@ use Rattle.substitution.proofs.Keys.{bindings-none}
 use Rattle.substitution.proofs.Chains.{chain-none}
 use Rattle.reduction.specs.Building.{Kept}
 use Rattle.reduction.proofs.Placing.{kept-same, kept-then}
-use Rattle.sheet.specs.Lines.{lines-at}
+use Rattle.sheet.specs.Lines.{part-of, lines-at}
 use Rattle.sheet.specs.Pairs.{pair-at, entries-by, before}
 use Rattle.sheet.specs.Members.{Walks}
 use Rattle.sheet.specs.Form.{text-of, Inside}
@@ -43,6 +45,10 @@ use Rattle.variants.proofs.Lookups.{Turned, turned-none, turned-more, t
 
 pub kept-outside : {w v : List ℕ} {n e : ℕ} → Outside w v (4 * n) e → Kept w v n
 kept-outside o = record { len = o .len; below = o .below }
+
+-- a tree has at most as many nodes as its text has bytes
+pub part-size : (s : Text) (f t : ℕ) (x : Tree) → parse (part-of f t s) ≡ some x → size x ≤ t - f
+part-size s f t x e = omega (arith, parse-size (part-of f t s) x e, length-take (t - f) (drop f s))
 
 -- ---- one entry
 
@@ -92,8 +98,25 @@ pub record Entering (s : Text) (w : List ℕ) (n at : ℕ) (v : List ℕ) (c lis
   pub kept : Kept w v n
   pub grew : n ≤ m
   pub used : m ≤ n + 2 * (c - at)
+  pub light : sizes (trees-at s v list) ≤ c - at
   pub inside : list < m
   pub within : c ≤ length s
+
+no-trees : (s : Text) (w : List ℕ) (at : ℕ) → sizes (trees-at s w 0) ≤ at - at
+unfolding size
+no-trees s w at = omega (arith, ap sizes (trees-none s w 0 refl))
+
+binding-size : (x : Text) (t : Tree) (ts : Trees) → sizes (more (variable x) (more t ts)) ≡ 1 + (size t + sizes ts)
+unfolding size
+binding-size x t ts = refl
+
+with-size : (x : Text) (t : Tree) (ts : Trees) → sizes (with-binding x t ts) ≤ 1 + (size t + sizes ts)
+unfolding with-binding
+with-size x t ts = go (nameable x)
+  where
+    go : (b : Bool) → sizes (cond b (more (variable x) (more t ts)) ts) ≤ 1 + (size t + sizes ts)
+    go true = omega (arith, binding-size x t ts)
+    go false = omega arith
 
 pub entering-starts : (s : Text) (w : List ℕ) (n at : ℕ) → Arena s w n → at ≤ length s → Entering s w n at w at 0 n
 unfolding walk-starts every
@@ -107,6 +130,7 @@ entering-starts s w n at a p = record {
   kept = kept-same w n;
   grew = omega arith;
   used = omega arith;
+  light = no-trees s w at;
   inside = a .links .some;
   within = p;
 }
@@ -143,6 +167,7 @@ module _ {s : Text} {w : List ℕ} {n at : ℕ} {v : List ℕ} {c list m : ℕ} 
     kept = h .kept;
     grew = h .grew;
     used = h .used;
+    light = h .light;
     inside = h .inside;
   }
 
@@ -175,6 +200,8 @@ module _ {s : Text} {w : List ℕ} {n at : ℕ} {v : List ℕ} {c list m : ℕ} 
           kept = kept-then (h .kept) (x .kept) (h .grew);
           grew = omega (arith, h .grew, x .grew);
           used = omega (arith, h .used, x .used, y .next, h .walk .low);
+          light =
+              omega (arith, ap sizes (x .trees), with-size (text-of s l) (x .tree) (trees-at s v list), part-size s (r .from) (r .to) (x .tree) (x .read), h .light, y .next, h .walk .low);
           inside = x .inside;
           within = y .within;
         }

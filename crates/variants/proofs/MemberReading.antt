@@ -30,7 +30,7 @@ use Rattle.sheet.proofs.WalkLaws.{two-end, member-end, member-next, members-lat
 use Rattle.variants.specs.Members.{ReadEntries, ReadsEntries, ReadAs, ReadMember, ReadsMember}
 use Rattle.variants.specs.declared.members.Entries.the-variants as entries
 use Rattle.variants.specs.declared.members.Variant.the-variants as variant
-use Rattle.variants.proofs.Entering.{kept-outside, parts-before}
+use Rattle.variants.proofs.Entering.{kept-outside, part-size, parts-before}
 
 -- ---- the definition by what its texts read as
 
@@ -62,8 +62,11 @@ no-member s w n at e = (go, kept-same w n)
 
 module _ (s : Text) (at f t : ℕ) (c : Cursor) (e : Whole f t c ≡ value-at s (bytes "member=") at) where
   -- the text of the line, and where it ends
-  pub member-placed : (at < c .at) × (c .at ≤ length s) × (f ≤ t) × (t < length s) × (at + (t - f) < c .at)
-  member-placed = let h = keyed s (bytes "member=") at f t c e in omega (arith, h .begins, h .ends, h .after)
+  pub member-placed : (at < c .at) × (c .at ≤ length s) × (f ≤ t) × (t < length s) × (at + 8 + (t - f) ≡ c .at)
+  member-placed =
+      let h = keyed s (bytes "member=") at f t c e in
+      let l : length (bytes "member=") ≡ 7 = refl in
+      omega (arith, h .begins, h .ends, h .after)
 
   pub text-unread : {w v : List ℕ} (n : ℕ) → Parses s w v n f t parsed.Unreadable → ReadsMember s w v n at variant.Unreadable
   text-unread n x = (go, kept-outside (x .1))
@@ -112,6 +115,7 @@ module _ (s : Text) (at f t : ℕ) (c : Cursor) (e : Whole f t c ≡ value-at s 
         kept = kept-then (kept-outside (one .outside)) (x .kept) (one .grew);
         grew = omega (arith, one .grew, x .grew);
         used = omega (arith, one .room, x .used, x .walk .low, member-placed);
+        light = omega (arith, part-size s f t (tree-at s v index) (one .reads ∙ ap some same-tree), x .light, x .walk .low, member-placed);
         placed = (one .placed .0, omega (arith, one .placed, x .grew));
         inside = x .inside;
         onward = omega (arith, x .walk .low, member-placed);

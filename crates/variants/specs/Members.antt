@@ -9,7 +9,7 @@ use lib.ListN.{length, getD}
 use Rattle.rules.specs.Bytes.{Text}
 use Rattle.rules.specs.Text.{bytes}
 use Rattle.rules.specs.Maybe.{_>>=_, every}
-use Rattle.rules.specs.Tree.{Tree, variable, Trees, more, size}
+use Rattle.rules.specs.Tree.{Tree, variable, Trees, more, size, sizes}
 use Rattle.rules.specs.Reading.{parse}
 use Rattle.rules.specs.Substitution.{Binding, lookup}
 use Rattle.rules.specs.Sheet.{Entry, Member, distinct-keys}
@@ -83,6 +83,7 @@ pub record ReadEntries (s : Text) (w v : List ℕ) (n at i m c : ℕ) : Type 0 w
   pub kept : Kept w v n
   pub grew : n ≤ m
   pub used : m ≤ n + 2 * (c - at)
+  pub light : sizes (trees-at s v i) ≤ c - at
   pub inside : i < m
 
 abbrev pub ReadsEntries : Text → List ℕ → List ℕ → ℕ → ℕ → Entries → Type 0
@@ -98,7 +99,7 @@ pub record ReadAs (s : Text) (v : List ℕ) (k i c : ℕ) (m : Member) (ms : Lis
   pub alike : Alike (bindings-at s v i) bs
   pub later : members-at s c ≡ some ms
 
--- the member at a position, up to c
+-- the member at a position, up to c; its line's key and end leave two cells and two nodes
 pub record ReadMember (s : Text) (w v : List ℕ) (n at k i end c : ℕ) : Type 0 where
   pub reads : (m : Member) (ms : List Member) → members-at s at ≡ some (m ∷ ms) → ReadAs s v k i c m ms
   pub small : size (tree-at s v k) ≤ 4096
@@ -106,7 +107,8 @@ pub record ReadMember (s : Text) (w v : List ℕ) (n at k i end c : ℕ) : Type 
   pub arena : Arena s v end
   pub kept : Kept w v n
   pub grew : n ≤ end
-  pub used : end ≤ n + 2 * (c - at)
+  pub used : end + 2 ≤ n + 2 * (c - at)
+  pub light : size (tree-at s v k) + sizes (trees-at s v i) + 2 ≤ c - at
   pub placed : (0 < k) × (k < end)
   pub inside : i < end
   pub onward : at < c

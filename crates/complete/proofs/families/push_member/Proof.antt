@@ -1,0 +1,48 @@
+use native.Mathlib.Omega.{arith}
+use Rattle.complete.proofs.Gathering.{shared-arena, shared-sizes, member-made}
+use borrow.Author.Needs.{needs}
+use Rattle.complete.proofs.families.push_member.Statement.{statement}
+use Rattle.complete.proofs.families.push_member.Tie as tie
+use Rattle.complete.proofs.families.push_member.Reads as reads
+use Rattle.complete.proofs.families.push_member.Lts as lts
+use Rattle.reduction.proofs.building.nodes.Reads as nodes-reads
+use Rattle.tree.proofs.cells.push_cell.Reads as push-cell-reads
+use Rattle.tree.proofs.cells.share.Reads as share-reads
+
+-- src/families.rt:42:9
+share-requires : tie.Need-share-requires
+share-requires c κs = search needs
+
+-- src/families.rt:43:9
+nodes-requires : tie.Need-nodes-requires
+nodes-requires c κs =
+    let p = c .before .before .before .before .before .before .before .pre in
+    (shared-arena (c .before .before .before .before .before .before .before .args .value) (p .0) (c .before .before .before .share .result) (c .before .before .before .share .ensures .1) (c .before .before .before .share .ensures .0), (omega (arith, c .before .before .before .share .ensures .0), omega (arith, shared-sizes (c .before .before .before .before .before .before .before .args .value) (p .0) (c .before .before .before .share .result) (c .before .before .before .share .ensures .1) (c .before .before .before .share .ensures .0), p .1 .1 .0)))
+
+-- src/families.rt:44:60
+add-push-cell : tie.Need-add-push-cell
+add-push-cell c =
+    let p = c .before .before .before .before .before .before .before .before .before .pre in
+    omega (arith, c .before .nodes .ensures, shared-sizes (c .before .before .before .before .before .before .before .before .before .args .value) (p .0) (c .before .before .before .before .before .share .result) (c .before .before .before .before .before .share .ensures .1) (c .before .before .before .before .before .share .ensures .0), p .1 .1 .0)
+
+-- src/families.rt:44:9
+push-cell-requires : tie.Need-push-cell-requires
+push-cell-requires c κs =
+    let p = c .before .before .before .before .before .before .before .before .before .pre in
+    let z = shared-sizes (c .before .before .before .before .before .before .before .before .before .args .value) (p .0) (c .before .before .before .before .before .share .result) (c .before .before .before .before .before .share .ensures .1) (c .before .before .before .before .before .share .ensures .0) in
+    (omega (arith, c .before .before .before .before .before .share .ensures .0, c .before .before .before .before .before .share .ensures .1 .grown .len, p .1 .1 .1), ((omega arith, omega arith, omega arith, omega (arith, c .before .nodes .ensures, z, p .1 .1 .0)), (omega (arith, p .1 .1 .1), omega (arith, p .1 .0, p .1 .1 .1))))
+
+-- src/families.rt:28:1
+same-length : tie.Need-same-length
+same-length c = search needs
+
+-- src/families.rt:28:1
+returns : tie.Need-returns
+returns c =
+    let p = c .before .before .before .before .before .before .before .before .before .before .before .before .pre in
+    member-made (c .before .before .before .before .before .before .before .before .before .before .before .before .args .value) (p .0) (c .before .before .before .before .before .before .before .before .share .result) (c .before .before .before .before .before .before .before .before .share .ensures .1) (c .before .before .before .before .before .before .before .before .share .ensures .0) (c .before .before .push-cell .result) (p .1 .0 .3) (p .1 .1 .1 .0) (c .before .before .before .before .nodes .ensures) (c .before .before .push-cell .ensures .1) (c .before .before .push-cell .ensures .0)
+
+pub push-member-spec : {M : Type 1} → statement M
+push-member-spec =
+    tie.close
+    (tie.spec share-requires nodes-requires add-push-cell push-cell-requires same-length returns)

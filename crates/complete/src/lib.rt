@@ -1,0 +1,3 @@
+// Kind `complete` (variants.rs): what is read of a sheet before the schemes are gone through.
+pub mod indices; // indices.rt: whether the term's variables have indices
+pub mod families; // families.rt: the members as trees
