@@ -1,0 +1,8 @@
+pub mod Indexing
+pub mod Gathering
+pub mod Alike
+pub mod Rooms
+pub mod Generalizing
+pub mod Judging
+pub mod Deciding
+pub mod Asking

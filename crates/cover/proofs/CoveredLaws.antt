@@ -1,0 +1,102 @@
+-- The nodes of a list of trees, counted in a loop, and the variables of the pairs as a list of cells. Assumes nothing.
+use Prim.Native.Nat.{ℕ, suc, _+_, _*_, _-_, _<_, _≤_}
+use mathlib.Core.Path.{_≡_, refl, sym, ap, subst, _∙_}
+use mathlib.Core.List.{List, [], _∷_, map}
+use lib.ListN.{length}
+use lib.Seq.{slice, length-slice}
+use native.Mathlib.Omega.{arith}
+use Rattle.rules.specs.Bytes.{Text}
+use Rattle.rules.specs.Tree.{Trees, count, size, sizes}
+use Rattle.rules.specs.Memory.{variable-names-in}
+use Rattle.text.specs.Places.{text-at}
+use Rattle.tree.specs.Cells.{nodes-of, next-of, tree-at, trees-at}
+use Rattle.tree.specs.Arena.{Arena}
+use Rattle.tree.proofs.Decoding.{trees-none, sizes-more, sizes-is}
+use Rattle.unifier.specs.Stack.{Whole, pairs-at}
+use Rattle.unifier.proofs.Areas.{below-grown}
+use Rattle.cover.specs.Ordered.{ordered}
+use Rattle.cover.specs.Variables.{Ordered}
+use Rattle.cover.specs.Listing.{variable-list, backwards, Lists}
+use Rattle.cover.specs.Generals.{names-of, names-at, OfVariables}
+use Rattle.cover.specs.Covered.{Names}
+use Rattle.cover.proofs.Ordering.{variables-ordered}
+use Rattle.cover.proofs.CoverLaws.{names-list, variables-list}
+
+-- ---- nodes
+
+-- so many nodes have the trees before cell k of the list
+pub record Counting (s : Text) (w : List ℕ) (n list k nodes : ℕ) : Type 0 where
+  pub left : k < n
+  pub are : nodes + sizes (trees-at s w k) ≡ sizes (trees-at s w list)
+
+pub counting-starts : (s : Text) (w : List ℕ) (n list k nodes : ℕ) → list < n → k ≡ list → nodes ≡ 0 → Counting s w n list k nodes
+counting-starts s w n list k nodes p e f = record { left = omega arith; are = omega (arith, sizes-is s w e) }
+
+module _ (s : Text) {w : List ℕ} {n list k nodes : ℕ} (a : Arena s w n) (h : Counting s w n list k nodes) where
+  pub counting-ends : k ≡ 0 → nodes ≡ sizes (trees-at s w list)
+  unfolding size
+  counting-ends e = omega (arith, h .are, ap sizes (trees-none s w k e))
+
+  module _ (p : 0 < k) (c : ℕ) (e : c ≡ nodes-of w k) where
+    its-size : c ≡ size (tree-at s w k)
+    its-size = e ∙ a .cell k p (h .left) .counted
+
+    pub counting-room : nodes + c ≤ sizes (trees-at s w list)
+    counting-room = omega (arith, its-size, h .are, sizes-more s (a .links) k p (h .left))
+
+    pub counting-turn : (j : ℕ) → j ≡ next-of w k → Counting s w n list j (nodes + c)
+    counting-turn j f = record {
+      left = omega (arith, f, h .left, a .links .next k p (h .left));
+      are = omega (arith, its-size, h .are, sizes-more s (a .links) k p (h .left), sizes-is s w f);
+    }
+
+-- ---- variables
+
+length-map : (f : ℕ → Text) (xs : List ℕ) → length (map f xs) ≡ length xs
+length-map f [] = refl
+length-map f (x ∷ xs) = ap suc (length-map f xs)
+
+length-backwards : (xs l : List Text) → length (backwards xs l) ≡ length xs + length l
+unfolding backwards
+length-backwards [] l = omega arith
+length-backwards (x ∷ xs) l = let h = length-backwards xs (x ∷ l) in omega arith
+
+count-list : (xs : List Text) → count (variable-list xs) ≡ length xs
+unfolding variable-list
+count-list [] = refl
+count-list (x ∷ xs) = ap suc (count-list xs)
+
+-- the cells of a list of variables are as many as its names
+pub names-count : (s : Text) (w : List ℕ) (k : ℕ) → OfVariables (trees-at s w k) → count (trees-at s w k) ≡ length (names-at s w k)
+names-count s w k o =
+    let l : length (names-at s w k) ≡ length (names-of (trees-at s w k)) + 0 = length-backwards (names-of (trees-at s w k)) [] in
+    let c = ap count o in
+    let d = count-list (names-of (trees-at s w k)) in
+    omega arith
+
+module _ (s : Text) {w v u : List ℕ} {n at end most i m : ℕ} (stack : ℕ) (whole : Whole (trees-at s w stack)) (l : 4 * n ≤ at) (o : Ordered s w v at end most (variable-names-in (trees-at s w stack)))
+    (room : at + most ≤ length w) (h : Lists s v u n (end - at) (map (text-at s) (slice at end v)) i m) where
+  listed : names-of (trees-at s u i) ≡ h .back
+  listed = ap names-of (h .made .trees) ∙ names-list (h .back)
+
+  many : count (trees-at s u i) ≡ end - at
+  many =
+      let z = o .kept .len in
+      let a = o .most-is in
+      let b = length-slice at end v (omega arith) in
+      let c = length-map (text-at s) (slice at end v) in
+      let d = ap length (h .are) in
+      let e = length-backwards (h .back) [] in
+      let f = ap count (h .made .trees) in
+      let g = count-list (h .back) in
+      omega arith
+
+  pub names-made : Names s w u n stack i m
+  names-made = record {
+    arena = h .made .arena;
+    below = record { len = h .made .grown .len ∙ o .kept .len; words = λ p q. sym (o .kept .below p (omega arith)) ∙ h .made .grown .below p q };
+    inside = h .made .inside;
+    variables = subst OfVariables (sym (h .made .trees)) (variables-list (h .back));
+    are = ap (λ (xs : List Text). backwards xs []) listed ∙ h .are ∙ o .are ∙ ap (λ (ts : Trees). ordered (variable-names-in ts)) (sym whole) ∙ sym (variables-ordered (pairs-at s w stack));
+    used = omega (arith, h .used, many);
+  }
