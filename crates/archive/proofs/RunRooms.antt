@@ -23,7 +23,7 @@ module _ (s : Text) (sheet : Sheet) (reads : read-sheet s ≡ some sheet) (ps : 
       let (ns, l, h) = sheet-names s sheet reads in
       (ns, l, pairs-over ns (sheet-pairs sheet) ps pairs (sides-held ns sheet h))
 
-  pub run-words : (n : ℕ) → n ≤ count-of 58 s → 4 * (free + weight ps + 2 * fuel + 12293 * n) + 262144 ≤ words
+  pub run-words : (n : ℕ) → n ≤ count-of 58 s → 4 * (free + weight ps + 2 * fuel + 12293 * n) + 204802 ≤ words
   run-words n l = omega (arith, weight-size ps, pairs-sizes s sheet reads ps pairs)
 
   pub run-cells : (n : ℕ) → n ≤ count-of 58 s → free + weight ps + 2 * fuel + 12293 * n + 65536 < 2 ^ 32

@@ -20,9 +20,9 @@ use Rattle.tree.specs.Arena.{Arena}
 use Rattle.tree.proofs.Decoding.{sizes-more, trees-none}
 use Rattle.certificate.specs.Writer.{Kept}
 use Rattle.cover.specs.Ordered.{unique}
-use Rattle.cover.specs.Variables.{Variable, Variables, Named, repeats, Dropped, Ordered}
+use Rattle.cover.specs.Variables.{Spelled, Variable, Variables, Named, repeats, Dropped, Ordered}
 use Rattle.cover.proofs.Ordering.{unique-skip, unique-keep, unique-sort}
-use Rattle.cover.proofs.Naming.{texts-append, variables-append, variables-sort, kept-self, named-append, named-empty, arena-kept, tree-kept, next-kept, parts-built, parts-names}
+use Rattle.cover.proofs.Naming.{texts-append, variables-append, variables-sort, kept-self, named-append, named-empty, arena-kept, spelled-kept, tree-kept, next-kept, parts-built, parts-names}
 
 -- the texts of the words from i to end
 abbrev texts : Text → ℕ → ℕ → List ℕ → List Text
@@ -173,6 +173,9 @@ gathering-starts s w n list at i end p b e f = record {
 module _ {s : Text} {w v : List ℕ} {n list at i end : ℕ} (a : Arena s w n) (l : 4 * n ≤ at) (p : 0 < i) (g : Gathering s w v n list at i end) where
   pub here-arena : Arena s v n
   here-arena = arena-kept s a l (g .named .kept)
+
+  pub here-spelled : Spelled w n → Spelled v n
+  here-spelled = spelled-kept s a l (g .named .kept)
 
   here-tree : tree-at s w i ≡ tree-at s v i
   here-tree = tree-kept s a l (g .named .kept) i p (g .inside)

@@ -26,8 +26,10 @@ use Rattle.sheet.proofs.WalkLaws.{two-there, two-end}
 use Rattle.reading.specs.Parsing.{stack-end}
 use Rattle.substitution.specs.Bindings.{bindings-at}
 use Rattle.substitution.proofs.Keys.{bindings-none}
+use Rattle.unifier.specs.Area.{Below}
+use Rattle.unifier.proofs.Areas.{below-then}
 use Rattle.cover.specs.Generals.{names-of, OfVariables}
-use Rattle.cover.specs.Values.{value-in, resumed, entry-of, Valued, Unread, EntriesFrom, ValuesRead, OneUnread}
+use Rattle.cover.specs.Values.{value-in, resumed, entry-of, Valued, Unread, EntriesThen, ValuesRead, OneUnread}
 
 -- what is found, or else the variable itself, is what is looked up
 resumed-lookup : (y : Text) (bs : List Binding) → resumed (bound y bs) (some (variable y)) ≡ some (lookup bs y)
@@ -40,8 +42,8 @@ resumed-lookup y (b ∷ bs) = go (same (b .0) y) (resumed-lookup y bs)
     go false h = h
 
 -- the entries from c on are those that are left, and the bindings give what was found before
-abbrev pub Later : Text → List ℕ → List Text → ℕ → ℕ → List Entry → Type 0
-Later s v ns c list es = (fs : List Entry) × EntriesFrom s c fs × ((y : Text) → is-one-of ns y ≡ true → value-in es y ≡ resumed (bound y (bindings-at s v list)) (value-in fs y))
+abbrev pub Later : Text → List ℕ → List Text → ℕ → ℕ → List Entry → List Text → Type 0
+Later s v ns c list es rest = (fs : List Entry) × EntriesThen s c fs rest × ((y : Text) → is-one-of ns y ≡ true → value-in es y ≡ resumed (bound y (bindings-at s v list)) (value-in fs y))
 
 pub record Walking (s : Text) (w : List ℕ) (n names at : ℕ) (v : List ℕ) (c list end : ℕ) : Type 0 where
   pub arena : Arena s v end
@@ -52,7 +54,7 @@ pub record Walking (s : Text) (w : List ℕ) (n names at : ℕ) (v : List ℕ) (
   pub used : end + 2 * at ≤ n + 2 * c
   pub low : at ≤ c
   pub within : c ≤ length s
-  pub later : (es : List Entry) → EntriesFrom s at es → Later s v (names-of (trees-at s w names)) c list es
+  pub later : (es : List Entry) (rest : List Text) → EntriesThen s at es rest → Later s v (names-of (trees-at s w names)) c list es rest
 
 pub walking-starts : (s : Text) (w : List ℕ) (n names at : ℕ) → Arena s w n → at ≤ length s → Walking s w n names at w at 0 n
 unfolding bound
@@ -65,7 +67,7 @@ walking-starts s w n names at a p = record {
   used = omega arith;
   low = omega arith;
   within = p;
-  later = λ es f. (es, f, λ y o. sym (ap (λ (bs : List Binding). resumed (bound y bs) (value-in es y)) (bindings-none s w 0 refl)));
+  later = λ es rest f. (es, f, λ y o. sym (ap (λ (bs : List Binding). resumed (bound y bs) (value-in es y)) (bindings-none s w 0 refl)));
 }
 
 -- where two lines stand
@@ -94,18 +96,21 @@ module _ {s : Text} {w v : List ℕ} {n names at c list end : ℕ} (a : Arena s 
   pub names-there : OfVariables (trees-at s w names) → OfVariables (trees-at s v names)
   names-there o = subst OfVariables names-kept o
 
-  pub walking-ends : End ≡ pair-at (bytes "key=") (bytes "value=") s c → ValuesRead s w v n (names-of (trees-at s w names)) at list end
+  pub walking-ends : End ≡ pair-at (bytes "key=") (bytes "value=") s c → ValuesRead s w v n (names-of (trees-at s w names)) at list end c
   unfolding value-in entry-at
   walking-ends e = record {
+    low = h .low;
+    high = h .within;
+    ends = λ es rest f. (let (fs, g, k) = h .later es rest f in two-end (bytes "key=") (bytes "value=") s c fs rest g e .1);
     arena = h .arena;
     len = h .len;
     below = h .below;
     grew = h .grew;
     inside = h .inside;
-    used = omega (arith, h .used, h .within);
+    used = omega (arith, h .used, h .low);
     gives = λ es f y o. (
-        let (fs, g, k) = h .later es f in
-        k y o ∙ ap (λ (fs : List Entry). resumed (bound y (bindings-at s v list)) (value-in fs y)) (two-end (bytes "key=") (bytes "value=") s c fs (g .0) (g .1) e .0) ∙ resumed-lookup y (bindings-at s v list)
+        let (fs, g, k) = h .later es (f .0) (f .1) in
+        k y o ∙ ap (λ (fs : List Entry). resumed (bound y (bindings-at s v list)) (value-in fs y)) (two-end (bytes "key=") (bytes "value=") s c fs (f .0) g e .0) ∙ resumed-lookup y (bindings-at s v list)
         );
   }
 
@@ -113,14 +118,14 @@ module _ {s : Text} {w v : List ℕ} {n names at c list end : ℕ} (a : Arena s 
     pub walking-room : (stack-end end (r .from) (r .to) + 8 + 4 * at ≤ 4 * n + 11 * length s + 4 * at + 9) × (end + 2 * (r .to - r .from) + 2 ≤ n + 2 * length s)
     walking-room = let x = placed s c l r nx e in let u = h .used in let y = h .low in let z = x .next in let t = x .within in (omega arith, omega arith)
 
-    after-entry : (es : List Entry) → EntriesFrom s at es → (gs : List Entry) × EntriesFrom s (nx .at) gs × ((y : Text) → is-one-of (names-of (trees-at s v names)) y ≡ true → value-in es y ≡ resumed (bound y (bindings-at s v list)) (value-in (entry-of s l r ∷ gs) y))
-    after-entry es f =
-        let (fs, g, k) = h .later es f in
-        let (gs, d, t) = two-there (bytes "key=") (bytes "value=") s c fs (g .0) (g .1) l r nx e in
-        (gs, (g .0, t), λ y o. k y (ap (λ (ts : Trees). is-one-of (names-of ts) y) names-kept ∙ o) ∙ ap (λ (fs : List Entry). resumed (bound y (bindings-at s v list)) (value-in fs y)) d)
+    after-entry : (es : List Entry) (rest : List Text) → EntriesThen s at es rest → (gs : List Entry) × EntriesThen s (nx .at) gs rest × ((y : Text) → is-one-of (names-of (trees-at s v names)) y ≡ true → value-in es y ≡ resumed (bound y (bindings-at s v list)) (value-in (entry-of s l r ∷ gs) y))
+    after-entry es rest f =
+        let (fs, g, k) = h .later es rest f in
+        let (gs, d, t) = two-there (bytes "key=") (bytes "value=") s c fs rest g l r nx e in
+        (gs, t, λ y o. k y (ap (λ (ts : Trees). is-one-of (names-of ts) y) names-kept ∙ o) ∙ ap (λ (fs : List Entry). resumed (bound y (bindings-at s v list)) (value-in fs y)) d)
 
-    pub walking-unread : {u : List ℕ} → Unread s v u (names-of (trees-at s v names)) l r list → OneUnread s (names-of (trees-at s w names)) at × (length u ≡ length w)
-    walking-unread x = ((λ es f. (let (gs, g, k) = after-entry es f in (x .name, ap (λ (ts : Trees). is-one-of (names-of ts) (x .name)) names-kept ∙ x .one, k (x .name) (x .one) ∙ x .fails gs))), x .len ∙ h .len)
+    pub walking-unread : {u : List ℕ} → Unread s v u end (names-of (trees-at s v names)) l r list → OneUnread s (names-of (trees-at s w names)) at × Below w u n
+    walking-unread x = ((λ es f. (let (gs, g, k) = after-entry es (f .0) (f .1) in (x .name, ap (λ (ts : Trees). is-one-of (names-of ts) (x .name)) names-kept ∙ x .one, k (x .name) (x .one) ∙ x .fails gs))), below-then (record { len = h .len; words = h .below }) (x .below) (h .grew))
 
     pub walking-turn : {u : List ℕ} {b m : ℕ} → Valued s v u end (names-of (trees-at s v names)) l r list b m → Walking s w n names at u (nx .at) b m
     walking-turn x =
@@ -135,8 +140,8 @@ module _ {s : Text} {w v : List ℕ} {n names at c list end : ℕ} (a : Arena s 
           used = omega (arith, x .used, h .used, y .next);
           low = omega (arith, h .low, y .next);
           within = y .within;
-          later = λ es f. (
-              let (gs, t, k) = after-entry es f in
+          later = λ es rest f. (
+              let (gs, t, k) = after-entry es rest f in
               (gs, t, λ z o. (let o₁ = ap (λ (ts : Trees). is-one-of (names-of ts) z) (sym names-kept) ∙ o in k z o₁ ∙ x .keeps gs z o₁))
               );
         }

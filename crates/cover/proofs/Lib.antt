@@ -5,5 +5,6 @@ pub mod Listings
 pub mod Pairings
 pub mod Valuing
 pub mod Entries
-pub mod Covering
+pub mod CoverLaws
 pub mod MemberLaws
+pub mod Deciding

@@ -2,7 +2,6 @@
 use Prim.Native.Nat.{ℕ, _<_}
 use mathlib.Core.Path.{_≡_, sym, ap, _∙_}
 use mathlib.Core.List.{List}
-use lib.ListN.{length}
 use native.Mathlib.Omega.{arith}
 use Rattle.rules.specs.Bytes.{Text}
 use Rattle.rules.specs.Tree.{count}
@@ -10,37 +9,41 @@ use Rattle.tree.specs.Cells.{trees-at}
 use Rattle.tree.specs.Arena.{Arena}
 use Rattle.tree.proofs.Decoding.{frame-trees}
 use Rattle.substitution.specs.Bindings.{bindings-of, bindings-at}
+use Rattle.unifier.specs.Area.{Below}
 use Rattle.cover.specs.Generals.{names-of, names-at, paired, PairsUp}
 use Rattle.cover.specs.Values.{ValuesRead, OneUnread}
 use Rattle.cover.specs.Members.{MemberPairs, PairsMember}
 use Rattle.cover.specs.declared.members.Sides.the-variants.{Unreadable}
-use Rattle.cover.proofs.Covering.{one-listed, pairs-every, pairs-none}
+use Rattle.cover.proofs.CoverLaws.{one-listed, pairs-every, pairs-none}
 
-pub member-unread : (s : Text) (w v : List ℕ) (n names bindings at : ℕ) → OneUnread s (names-of (trees-at s w names)) at × (length v ≡ length w) → PairsMember s w v n names bindings at Unreadable
+pub member-unread : (s : Text) (w v : List ℕ) (n names bindings at : ℕ) → OneUnread s (names-of (trees-at s w names)) at × Below w v n → PairsMember s w v n names bindings at Unreadable
 member-unread s w v n names bindings at h = (
   (λ x es f. (let (y, o, e) = h .0 es f in pairs-none x es (bindings-at s w bindings) (names-at s w names) y (one-listed (names-of (trees-at s w names)) y ∙ o) e)),
   h .1,
 )
 
-module _ {s : Text} {w v : List ℕ} {n names bindings at b m : ℕ} (a : Arena s w n) (p : names < n) (q : bindings < n) (h : ValuesRead s w v n (names-of (trees-at s w names)) at b m) where
+module _ {s : Text} {w v : List ℕ} {n names bindings at b m c : ℕ} (a : Arena s w n) (p : names < n) (q : bindings < n) (h : ValuesRead s w v n (names-of (trees-at s w names)) at b m c) where
   pub names-are : trees-at s w names ≡ trees-at s v names
   names-are = frame-trees s v (a .links) (h .below) names p
 
   bindings-are : bindings-at s w bindings ≡ bindings-at s v bindings
   bindings-are = ap bindings-of (frame-trees s v (a .links) (h .below) bindings q)
 
-  pub member-paired : {u : List ℕ} (i t : ℕ) → PairsUp s v u m names b bindings i t → MemberPairs s w u n names bindings at i t
+  pub member-paired : {u : List ℕ} (i t : ℕ) → PairsUp s v u m names b bindings i t → MemberPairs s w u n names bindings at i t c
   member-paired i t d =
       let xs = names-at s w names in
       let g = h .grew in
-      let c = ap count names-are in
+      let k = ap count names-are in
       record {
+        low = h .low;
+        high = h .high;
+        ends = h .ends;
         ps = paired (bindings-at s v b) (bindings-at s v bindings) (names-at s v names);
         are = λ x es f. pairs-every x es (bindings-at s w bindings) (bindings-at s v b) xs (λ y o. h .gives es f y (sym (one-listed (names-of (trees-at s w names)) y) ∙ o))
             ∙ rw (bindings-are, names-are);
         arena = d .made .arena;
         len = d .made .grown .len ∙ h .len;
-        below = λ k l. h .below k l ∙ d .made .grown .below k (omega arith);
+        below = λ x l. h .below x l ∙ d .made .grown .below x (omega arith);
         grew = omega (arith, d .made .grew);
         inside = d .made .inside;
         trees = d .made .trees;

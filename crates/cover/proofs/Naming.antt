@@ -1,12 +1,11 @@
 -- The places of variables, gathered, sorted and without repeats. Assumes nothing.
-use Prim.Native.Nat.{ℕ, zero, suc, _+_, _*_, _<_, _≤_}
+use Prim.Native.Nat.{ℕ, _+_, _*_, _<_, _≤_}
 use mathlib.Core.Path.{_≡_, refl, sym, ap, ap₂, subst, _∙_}
-use mathlib.Core.Bool.{Bool, true, false, cond, false≢true}
+use mathlib.Core.Bool.{Bool, true, false, cond}
 use mathlib.Core.List.{List, [], _∷_, _++_, map}
 use lib.ListN.{length, getD, set, length-set}
 use lib.Seq.{slice, getD-set-other}
 use native.Mathlib.Omega.{arith}
-use native.Mathlib.Decide.{decLt}
 use Rattle.rules.specs.Bytes.{Text}
 use Rattle.rules.specs.Names.{variable-token}
 use Rattle.rules.specs.Tree.{Tree, variable, apply, Trees, more, size, sizes}
@@ -16,13 +15,13 @@ use Rattle.laws.proofs.Sheets.BuiltRun.{name-token}
 use Rattle.text.specs.Places.{text-at}
 use Rattle.text.specs.Sorting.{insertBy, sortBy}
 use Rattle.text.proofs.Slices.{slice-same, slice-set, slice-join, slice-none}
-use Rattle.tree.specs.Cells.{start-of, length-of, kind-of, first-of, next-of, fixed-name, name-at, tree-at, trees-at}
+use Rattle.tree.specs.Cells.{start-of, length-of, kind-of, first-of, next-of, name-at, tree-at, trees-at}
 use Rattle.tree.specs.Arena.{Cell, Arena}
-use Rattle.tree.proofs.Decoding.{Agree, same-next, trees-none, trees-more, tree-variable, tree-atom, tree-apply, size-pos, size-apply, sizes-more, frame-tree, frame-trees}
-use Rattle.tree.proofs.Naming.{name-part, name-fixed}
+use Rattle.tree.proofs.Decoding.{Agree, same-length, same-kind, same-next, trees-none, trees-more, tree-variable, tree-atom, tree-apply, size-pos, size-apply, sizes-more, frame-tree, frame-trees}
+use Rattle.tree.proofs.Naming.{name-part}
 use Rattle.certificate.specs.Writer.{Kept}
 use Rattle.equivalence.proofs.Scratch.{arena-frame}
-use Rattle.cover.specs.Variables.{Variable, Variables, Named}
+use Rattle.cover.specs.Variables.{Spelled, Variable, Variables, Named}
 
 -- ---- lists of places
 
@@ -53,35 +52,17 @@ module _ (s : Text) where
 
 -- ---- the place of a variable's cell
 
--- no fixed name is a variable
-fixed-token : (c : ℕ) → variable-token (fixed-name c) ≡ true → ⊥
-unfolding variable-token
-fixed-token zero e = false≢true e
-fixed-token (suc zero) e = false≢true e
-fixed-token (suc (suc zero)) e = false≢true e
-fixed-token (suc (suc (suc zero))) e = false≢true e
-fixed-token (suc (suc (suc (suc zero)))) e = false≢true e
-fixed-token (suc (suc (suc (suc (suc zero))))) e = false≢true e
-fixed-token (suc (suc (suc (suc (suc (suc zero)))))) e = false≢true e
-fixed-token (suc (suc (suc (suc (suc (suc (suc c))))))) e = false≢true e
-
-module _ (s : Text) (w : List ℕ) (k : ℕ) (c : Cell s w k) (p : 0 < kind-of w k) (q : kind-of w k < 7) (b : Built (tree-at s w k)) where
+module _ (s : Text) (w : List ℕ) (k : ℕ) (c : Cell s w k) (p : 0 < kind-of w k) (q : kind-of w k < 7) (z : 0 < length-of w k) (b : Built (tree-at s w k)) where
   token : variable-token (name-at s w k) ≡ true
   token = name-token (subst Built (tree-variable s w k p q) b)
 
-  some-bytes : 0 < length-of w k
-  some-bytes = elim (decLt 0 (length-of w k)) [
-    | yes h ↦ h
-    | no h ↦ absurd (fixed-token (start-of w k) (sym (ap variable-token (name-fixed s w k (omega arith))) ∙ token))
-  ]
-
   pub place-text : text-at s (getD w (4 * k) 0) ≡ name-at s w k
   unfolding text-at start-of length-of
-  place-text = sym (name-part s w k some-bytes)
+  place-text = sym (name-part s w k z)
 
   pub place-variable : Variable s (getD w (4 * k) 0)
   unfolding start-of length-of
-  place-variable = record { token = ap variable-token place-text ∙ token; inside = c .placed .inside some-bytes }
+  place-variable = record { token = ap variable-token place-text ∙ token; inside = c .placed .inside z }
 
 -- ---- what reading builds, by parts
 
@@ -105,6 +86,11 @@ module _ (s : Text) {w v : List ℕ} {n : ℕ} (a : Arena s w n) {at mid : ℕ} 
 
   pub arena-kept : Arena s v n
   arena-kept = arena-frame s a (g .len) cells-kept
+
+  pub spelled-kept : Spelled w n → Spelled v n
+  spelled-kept z k p q r t =
+      let e = same-kind w v cells-kept k q in
+      omega (arith, same-length w v cells-kept k q, z k p q (omega arith) (omega arith))
 
   pub tree-kept : (k : ℕ) → 0 < k → k < n → tree-at s w k ≡ tree-at s v k
   tree-kept k p q = frame-tree s v (a .links) cells-kept k p q
@@ -152,13 +138,14 @@ named-empty s w at r most ns e f =
     }
 
 module _ (s : Text) (w : List ℕ) (i : ℕ) where
-  pub named-variable : {n : ℕ} (at r : ℕ) → Arena s w n → 0 < i → i < n → 0 < kind-of w i → kind-of w i < 7 → Built (tree-at s w i) → at < length w → r ≡ at + 1
+  pub named-variable : {n : ℕ} (at r : ℕ) → Arena s w n → Spelled w n → 0 < i → i < n → 0 < kind-of w i → kind-of w i < 7 → Built (tree-at s w i) → at < length w → r ≡ at + 1
       → Named s w (set w at (getD w (4 * i) 0)) at r (size (tree-at s w i)) (variable-names (tree-at s w i))
   unfolding Variables variable-names
-  named-variable at r a x y p q b room e =
+  named-variable at r a sp x y p q b room e =
       let k = getD w (4 * i) 0 in
       let v = set w at k in
       let c = a .cell i x y in
+      let m = sp i x y p q in
       let z : slice at (at + 1) v ≡ k ∷ [] = slice-set at at w k (omega arith) room ∙ ap (λ (l : List ℕ). l ++ (k ∷ [])) (slice-none at at w (omega arith)) in
       let f : slice at r v ≡ k ∷ [] = ap (λ (t : ℕ). slice at t v) e ∙ z in
       let o = size-pos (tree-at s w i) in
@@ -166,8 +153,8 @@ module _ (s : Text) (w : List ℕ) (i : ℕ) where
         kept = record { len = length-set w at k; below = λ x h. getD-set-other w at x k 0 (λ g. omega arith); above = λ x h. getD-set-other w at x k 0 (λ g. omega arith) };
         grew = omega arith;
         most-is = omega arith;
-        places = subst (Variables s) (sym f) (place-variable s w i c p q b, tt);
-        are = ap (map (text-at s)) f ∙ ap (λ (t : Text). t ∷ []) (place-text s w i c p q b) ∙ sym (ap variable-names (tree-variable s w i p q));
+        places = subst (Variables s) (sym f) (place-variable s w i c p q m b, tt);
+        are = ap (map (text-at s)) f ∙ ap (λ (t : Text). t ∷ []) (place-text s w i c p q m b) ∙ sym (ap variable-names (tree-variable s w i p q));
       }
 
   pub named-atom : (at r : ℕ) → 7 ≤ kind-of w i → r ≡ at → Named s w w at r (size (tree-at s w i)) (variable-names (tree-at s w i))

@@ -23,6 +23,7 @@ use Rattle.substitution.specs.Bindings.{bindings-of, bindings-at}
 use Rattle.substitution.specs.Building.{Made}
 use Rattle.substitution.proofs.Keys.{key-name}
 use Rattle.substitution.proofs.Chains.{bindings-pair}
+use Rattle.unifier.specs.Area.{Below}
 use Rattle.reading.specs.Parsing.{Read}
 use Rattle.sheet.specs.Form.{text-of}
 use Rattle.sheet.specs.declared.Place.{Place}
@@ -124,12 +125,12 @@ module _ (s : Text) (w : List ℕ) (n : ℕ) (ns : List Text) (key value : Place
 
   module _ (e : bound (text-of s key) (bindings-at s w list) ≡ nothing) where
     -- the value is unreadable
-    pub value-unread : {v : List ℕ} → is-one-of ns (text-of s key) ≡ true → parse (text-of s value) ≡ nothing → length v ≡ length w → Unread s w v ns key value list
+    pub value-unread : {v : List ℕ} → is-one-of ns (text-of s key) ≡ true → parse (text-of s value) ≡ nothing → Below w v n → Unread s w v n ns key value list
     value-unread one f l = record {
       name = text-of s key;
       one = one;
       fails = λ fs. ap₂ resumed e (value-here its fs (text-of s key) (same-of-eq refl) ∙ f);
-      len = l;
+      below = l;
     }
 
     added : (t : Tree) → parse (text-of s value) ≡ some t → (fs : List Entry) (y : Text)

@@ -4,3 +4,5 @@ pub mod Listing
 pub mod Generals
 pub mod Values
 pub mod Members
+pub mod Covering
+pub mod Covered

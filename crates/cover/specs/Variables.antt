@@ -1,5 +1,5 @@
 -- The variables of trees as places in the work area. Definitions only.
-use Prim.Native.Nat.{ℕ, _+_, _/_, _%_, _≤_}
+use Prim.Native.Nat.{ℕ, _+_, _/_, _%_, _<_, _≤_}
 use mathlib.Core.Path.{_≡_}
 use mathlib.Core.Bool.{Bool, true, false}
 use mathlib.Core.List.{List, [], _∷_, map}
@@ -8,8 +8,13 @@ use lib.Seq.{slice}
 use Rattle.rules.specs.Bytes.{Text, same}
 use Rattle.rules.specs.Names.{variable-token}
 use Rattle.text.specs.Places.{text-at}
+use Rattle.tree.specs.Cells.{length-of, kind-of}
 use Rattle.certificate.specs.Writer.{Kept}
 use Rattle.cover.specs.Ordered.{ordered, unique}
+
+-- the variables of cells 1 to n - 1 are named by the sheet: none of them is fresh
+abbrev pub Spelled : List ℕ → ℕ → Type 0
+Spelled w n = (k : ℕ) → 0 < k → k < n → 0 < kind-of w k → kind-of w k < 7 → 0 < length-of w k
 
 -- a place whose text is a variable
 pub record Variable (s : Text) (x : ℕ) : Type 0 where

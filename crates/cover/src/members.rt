@@ -1,6 +1,6 @@
 // The pairs by which one member covers.
 use crate::generals::pair_variables;
-use crate::values::Values;
+use crate::values::Read;
 use crate::values::read_values;
 use sheet::Cursor;
 ghost use mathlib.Core.Path.{_≡_};
@@ -12,9 +12,13 @@ ghost use Rattle.tree.specs.Arena.{Arena};
 ghost use Rattle.cover.specs.Generals.{OfVariables};
 ghost use Rattle.cover.specs.Members.{PairsMember};
 
-// A list of sides and the free end after it, or a value that cannot be read.
+// A list of sides, the free end after it and where the member ends, or a value that cannot be read.
 pub enum Sides {
-    Stack { index: usize, free: usize },
+    Stack {
+        index: usize,
+        free: usize,
+        next: Cursor,
+    },
     Unreadable,
 }
 
@@ -34,9 +38,10 @@ pub fn member_pairs(
     ensures { λ r. ⌜ PairsMember (now (sheet .entry)) (now (work .entry)) (now (work .exit)) free names bindings (start .at) r ⌝ }
 {
     let read = read_values(sheet, work, free, names, start);
-    let Values::Bound {
+    let Read::Bound {
         bindings: values,
         free: end,
+        next,
     } = read
     else {
         return Sides::Unreadable;
@@ -44,5 +49,9 @@ pub fn member_pairs(
     let pushed = pair_variables(sheet, work, end, names, values, bindings);
     let index = pushed.index;
     let top = pushed.free;
-    Sides::Stack { index, free: top }
+    Sides::Stack {
+        index,
+        free: top,
+        next,
+    }
 }

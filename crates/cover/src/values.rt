@@ -98,6 +98,16 @@ fn read_value(
     }
 }
 
+// The bindings of a member's values, the free end after them and where its entries end, or a value that cannot be read.
+pub enum Read {
+    Bound {
+        bindings: usize,
+        free: usize,
+        next: Cursor,
+    },
+    Unreadable,
+}
+
 // The values of the entries from a cursor on, those whose keys are variables of the list from cell `names` on, as bindings.
 pub fn read_values(
     sheet: &[u8],
@@ -105,7 +115,7 @@ pub fn read_values(
     free: usize,
     names: usize,
     start: Cursor,
-) -> Values
+) -> Read
     requires { ⌜ Arena (now sheet) (now work) free ⌝ }
     requires { ⌜ (names < free) × OfVariables (trees-at (now sheet) (now work) names) ⌝ }
     requires { ⌜ (start .at ≤ length (now sheet)) × (length (now sheet) ≤ 65536) ⌝ }
@@ -118,9 +128,10 @@ pub fn read_values(
     loop {
         let entry = next_entry(sheet, cursor);
         let PairLine::Sides { left, right, next } = entry else {
-            return Values::Bound {
+            return Read::Bound {
                 bindings: list,
                 free: end,
+                next: cursor,
             };
         };
         let read = read_value(sheet, work, end, names, left, right, list);
@@ -129,7 +140,7 @@ pub fn read_values(
             free: top,
         } = read
         else {
-            return Values::Unreadable;
+            return Read::Unreadable;
         };
         cursor = next;
         list = bindings;

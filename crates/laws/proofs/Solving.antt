@@ -17,3 +17,5 @@ pub mod Taken
 pub mod Keeping
 pub mod Names
 pub mod Weights
+pub mod MatchFuel
+pub mod UnifyFuel

@@ -4,8 +4,8 @@ use substitution::instances::keep;
 use tree::cells::count_of;
 use tree::cells::first_of;
 use tree::cells::next_of;
-use tree::cells::push_cell;
 use tree::cells::push_like;
+use tree::cells::push_named;
 ghost use mathlib.Core.Path.{_≡_};
 ghost use Prim.Native.Nat.{_+_, _*_, _<_, _≤_, _^_};
 ghost use lib.ListN.{length};
@@ -24,7 +24,7 @@ pub fn leaf(sheet: &[u8], work: &mut [u32], free: usize, code: usize, next: usiz
     requires { ⌜ (4 * free + 4 ≤ length (now work)) × (free < 2 ^ 32) ⌝ }
     ensures { λ r. ⌜ NewTree (now (sheet .entry)) (now (work .entry)) (now (work .exit)) free 1 next (constant (fixed-name code)) (r .index) (r .free) ⌝ }
 {
-    let end = push_cell(work, free, code, 0, 0, 0, next, 1);
+    let end = push_named(sheet, work, free, code, 0, next, 1);
     Pushed {
         index: free,
         free: end,

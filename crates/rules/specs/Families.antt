@@ -17,7 +17,7 @@ use Rattle.rules.specs.Matching.{matcher}
 use Rattle.rules.specs.Reduction.{normalize}
 use Rattle.rules.specs.Rewriting.{NormalModulo}
 use Rattle.rules.specs.Cover.{variables, variables-of, entry-at, general}
-use Rattle.rules.specs.Variants.{Variant, read-member, index-of, fresh-base, Scheme, schemes-from, scheme-count, system}
+use Rattle.rules.specs.Variants.{Variant, read-member, index-of, Scheme, schemes-from, scheme-count, system}
 use Rattle.rules.specs.Memory.{member-texts, variable-names}
 
 -- some text does not read
@@ -65,21 +65,19 @@ pub data Unclaimed (term : Tree) (members : List Member) : Type 0 where
   member-unreadable : Unreadable (member-texts members) → Unclaimed term members
   index-missing : {x : Text} → List·Memᴰ x (variable-names term) → index-of x ≡ nothing → Unclaimed term members
   schemes-over : 4096 < scheme-count term → Unclaimed term members
-  scheme-unsupported : {base : ℕ} {s : Scheme} → fresh-base term 0 ≡ some base → List·Memᴰ s (schemes-from term base)
-      → unify 65536 (system term s) .0 ≡ unsupported → Unclaimed term members
+  scheme-unsupported : {s : Scheme} → List·Memᴰ s (schemes-from term 0) → unify 65536 (system term s) .0 ≡ unsupported → Unclaimed term members
 
--- what a claim is about: the members as read, and the schemes from a base on, all decided
+-- what a claim is about: the members as read, and the schemes, all decided
 pub record Claim (term : Tree) (members : List Member) : Type 0 where
   pub variants : List Variant
-  pub base : ℕ
   pub read : every (map read-member members) ≡ some variants
-  pub indexed : fresh-base term 0 ≡ some base
+  pub indexed : (x : Text) → List·Memᴰ x (variable-names term) → (i : ℕ) × (index-of x ≡ some i)
   pub limited : scheme-count term ≤ 4096
-  pub decided : (s : Scheme) → List·Memᴰ s (schemes-from term base) → ¬ (unify 65536 (system term s) .0 ≡ unsupported)
+  pub decided : (s : Scheme) → List·Memᴰ s (schemes-from term 0) → ¬ (unify 65536 (system term s) .0 ≡ unsupported)
 
 -- a solved scheme whose value is normal under its bindings
-pub record Target (term : Tree) (base : ℕ) (s : Scheme) (bs : List Binding) : Type 0 where
-  pub listed : List·Memᴰ s (schemes-from term base)
+pub record Target (term : Tree) (s : Scheme) (bs : List Binding) : Type 0 where
+  pub listed : List·Memᴰ s (schemes-from term 0)
   pub solution : unify 65536 (system term s) .0 ≡ solved bs
   pub normal : NormalModulo (instantiate bs (s .value))
 
@@ -91,7 +89,7 @@ Generalizes term m s bs =
 pub data CompleteMeans (term : Tree) (members : List Member) : Option Bool → Type 0 where
   no-claim : Unclaimed term members → CompleteMeans term members nothing
   is-complete : (c : Claim term members)
-      → ((s : Scheme) (bs : List Binding) → Target term (c .base) s bs → (m : Variant) × List·Memᴰ m (c .variants) × Generalizes term m s bs)
+      → ((s : Scheme) (bs : List Binding) → Target term s bs → (m : Variant) × List·Memᴰ m (c .variants) × Generalizes term m s bs)
       → CompleteMeans term members (some true)
-  is-missing : (c : Claim term members) {s : Scheme} {bs : List Binding} → Target term (c .base) s bs
+  is-missing : (c : Claim term members) {s : Scheme} {bs : List Binding} → Target term s bs
       → ((m : Variant) → List·Memᴰ m (c .variants) → ¬ Generalizes term m s bs) → CompleteMeans term members (some false)

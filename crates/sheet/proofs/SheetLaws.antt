@@ -1,5 +1,5 @@
 -- What the reading of each kind of sheet answers. Assumes nothing.
-use mathlib.Core.Path.{_≡_, refl, ap, sym, _∙_}
+use mathlib.Core.Path.{_≡_, refl, ap, sym, subst, _∙_}
 use mathlib.Core.Logic.{⊎-elim}
 use mathlib.Core.Bool.{Bool, true, false}
 use mathlib.Core.List.{List, [], _∷_, _++_}
@@ -216,7 +216,7 @@ module _ (s : Text) (at : ℕ) (c : Cursor) (w : Walked s at (c .at)) where
         let g : (lines-at s at >>= λ ls. pairs ls >>= later-of) ≡ some sheet =
         pairs-rest s at (c .at) w later-of (u .0) ∙ ap (λ (o : Option (List Text)). o >>= λ ls. later-of (w .walk .es ++ [], ls)) (u .1 .1)
         ∙ ap (λ (o : Option (List Member)). o >>= λ ms. some (asks-cover (w .walk .es ++ []) ms)) (k .1) in
-        let v : Within s (form.Cover start c) = (within, w .walk .high (omega arith)) in
+        let v : Within s (form.Cover start c) = (within, w .walk .high (omega arith), subst (λ (i : ℕ). Walked s i (c .at)) (sym b) w) in
         reads-form {r = form.Cover start c} (ap (λ (i : ℕ). lines-at s i >>= λ ls. pairs ls >>= later-of) b ∙ g ∙ sym d) sheet d v
 
 -- ---- the whole sheet

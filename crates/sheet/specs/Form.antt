@@ -56,13 +56,18 @@ sheet-of s form.Three = none
 abbrev pub Inside : Text → Place → Type 0
 Inside s p = (p .from ≤ p .to) × (p .to < length s)
 
--- places and cursors stand in the sheet, fuel is at most 65,536
+-- the pairs `left`, `right` that were walked over from `at` to c, and no more of them follow
+pub record Walked (s : Text) (at c : ℕ) : Type 0 where
+  pub walk : Walks (bytes "left=") (bytes "right=") s at c
+  pub stops : End ≡ pair-at (bytes "left=") (bytes "right=") s c
+
+-- places and cursors stand in the sheet, fuel is at most 65,536, the members of `cover` follow its pairs
 abbrev pub Within : Text → Form → Type 0
 Within s (form.Equal l r) = Inside s l × Inside s r
 Within s (form.Unify fuel c) = (fuel ≤ 65536) × (c .at ≤ length s)
 Within s (form.Match fuel c) = (fuel ≤ 65536) × (c .at ≤ length s)
 Within s (form.Reduce t) = Inside s t
-Within s (form.Cover c d) = (c .at ≤ length s) × (d .at ≤ length s)
+Within s (form.Cover c d) = (c .at ≤ length s) × (d .at ≤ length s) × Walked s (c .at) (d .at)
 Within s (form.Sound t c) = Inside s t × (c .at ≤ length s)
 Within s (form.Complete t c) = Inside s t × (c .at ≤ length s)
 Within s form.Three = Unit
@@ -72,11 +77,6 @@ pub record ReadsAs (s : Text) (o : Option Sheet) (r : Form) : Type 0 where
   pub decodes : sheet-of s r ≡ o
   pub three : o ≡ none → r ≡ form.Three
   pub within : Within s r
-
--- the pairs `left`, `right` that were walked over from `at` to c, and no more of them follow
-pub record Walked (s : Text) (at c : ℕ) : Type 0 where
-  pub walk : Walks (bytes "left=") (bytes "right=") s at c
-  pub stops : End ≡ pair-at (bytes "left=") (bytes "right=") s c
 
 -- twice the count of `(` in the `term` line, for `complete`
 abbrev pub form-raise : Text → Form → ℕ

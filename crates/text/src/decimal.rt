@@ -15,7 +15,6 @@ pub enum Number {
 
 // The number that a text is in decimal, with no leading zero, up to a bound.
 pub fn number_up_to(text: &[u8], bound: usize) -> Number
-    requires { ⌜ bound ≤ 65536 ⌝ }
     ensures { λ r. ⌜ r ≡ number-of (number-up-to bound (now (text .entry))) ⌝ }
 {
     if text.len() == 0 {
@@ -33,10 +32,14 @@ pub fn number_up_to(text: &[u8], bound: usize) -> Number
         if !is_digit(b) {
             return Number::Not;
         }
-        n = n * 10 + (b as usize - 48);
-        if bound < n {
+        let d = b as usize - 48;
+        if bound < d {
             return Number::Not;
         }
+        if (bound - d) / 10 < n {
+            return Number::Not;
+        }
+        n = n * 10 + d;
         i += 1;
     }
     Number::Is(n)

@@ -1,5 +1,5 @@
 -- The names of cells: parts of the sheet and fixed names, and the heads of trees. Assumes nothing.
-use Prim.Native.Nat.{ℕ, zero, suc, _+_, _-_, _<_, _≤_}
+use Prim.Native.Nat.{ℕ, _+_, _-_, _<_, _≤_}
 use mathlib.Core.Path.{_≡_, refl, sym, ap, ap₂, _∙_}
 use mathlib.Core.Bool.{Bool, true, false, _&&_, true≢false}
 use mathlib.Core.List.{List, [], _∷_, head-eq-of-cons-eq, tail-eq-of-cons-eq, append-cancel-right}
@@ -14,7 +14,7 @@ use Rattle.rules.specs.Tree.{atom-text, head}
 use Rattle.laws.proofs.Basics.Tests.{same-eq, same-of-eq, differ-of-ne}
 use Rattle.tree.specs.Cells.{start-of, length-of, kind-of, fixed-name, part, named, name-at, tree-at}
 use Rattle.tree.specs.Arena.{Cell}
-use Rattle.tree.proofs.Bounded.{every-below, below-holds, agree, agreeing}
+use Rattle.tree.proofs.FixedNames.{codes}
 use Rattle.tree.proofs.Decoding.{Kind, application, a-variable, an-atom, kind, tree-variable, tree-atom, tree-apply}
 
 -- the name of a cell, by its place
@@ -45,31 +45,6 @@ module _ (s : Text) (w : List ℕ) (k : ℕ) where
 pub length-small : (w : List ℕ) (k : ℕ) → length-of w k < 65536
 unfolding length-of
 length-small w k = omega arith
-
--- no other code has a name
-pub fixed-none : (c : ℕ) → (c ≡ 1 → ⊥) → (c ≡ 2 → ⊥) → (c ≡ 3 → ⊥) → (c ≡ 4 → ⊥) → (c ≡ 5 → ⊥) → (c ≡ 6 → ⊥) → fixed-name c ≡ []
-fixed-none zero h1 h2 h3 h4 h5 h6 = refl
-fixed-none (suc zero) h1 h2 h3 h4 h5 h6 = absurd (h1 refl)
-fixed-none (suc (suc zero)) h1 h2 h3 h4 h5 h6 = absurd (h2 refl)
-fixed-none (suc (suc (suc zero))) h1 h2 h3 h4 h5 h6 = absurd (h3 refl)
-fixed-none (suc (suc (suc (suc zero)))) h1 h2 h3 h4 h5 h6 = absurd (h4 refl)
-fixed-none (suc (suc (suc (suc (suc zero))))) h1 h2 h3 h4 h5 h6 = absurd (h5 refl)
-fixed-none (suc (suc (suc (suc (suc (suc zero)))))) h1 h2 h3 h4 h5 h6 = absurd (h6 refl)
-fixed-none (suc (suc (suc (suc (suc (suc (suc c))))))) h1 h2 h3 h4 h5 h6 = refl
-
-pub same-none : (t : Text) → eqb (length t) 0 ≡ same [] t
-unfolding same
-same-none [] = refl
-same-none (b ∷ t) = ne-eqb (length (b ∷ t)) 0 (omega arith)
-
--- two codes have one name where they are one
-pub codes : (a b : ℕ) → 0 < a → a < 7 → 0 < b → b < 7 → same (fixed-name a) (fixed-name b) ≡ eqb a b
-unfolding same every-below agree
-codes zero b p q p₁ q₁ = absurd (omega arith)
-codes (suc a) zero p q p₁ q₁ = absurd (omega arith)
-codes (suc a) (suc b) p q p₁ q₁ =
-    agreeing _ _ (below-holds 6 (λ y. agree (same (fixed-name (suc a)) (fixed-name (suc y))) (eqb (suc a) (suc y)))
-    (below-holds 6 (λ x. every-below 6 (λ y. agree (same (fixed-name (suc x)) (fixed-name (suc y))) (eqb (suc x) (suc y)))) refl a (omega arith)) b (omega arith))
 
 pub same-swap : (a b : Text) → same a b ≡ same b a
 unfolding same

@@ -2,8 +2,9 @@
 ghost use mathlib.Core.Path.{_≡_};
 ghost use Prim.Native.Nat.{_+_, _*_, _<_, _≤_, _^_};
 ghost use lib.ListN.{length};
-ghost use Rattle.rules.specs.Tree.{size, sizes};
-ghost use Rattle.tree.specs.Cells.{start-of, length-of, kind-of, nodes-of, first-of, next-of, tree-at, trees-at};
+ghost use Rattle.rules.specs.Tree.{apply, size, sizes};
+ghost use Rattle.rules.specs.Variants.{fresh};
+ghost use Rattle.tree.specs.Cells.{start-of, length-of, kind-of, nodes-of, first-of, next-of, fixed-name, tree-at, trees-at};
 ghost use Rattle.tree.specs.Arena.{Links, Arena, Wrote, Linked};
 
 // A word as an index.
@@ -123,6 +124,36 @@ pub fn share(sheet: &[u8], work: &mut [u32], free: usize, k: usize, next: usize)
     let count = count_of(work, k);
     let first = first_of(work, free, k);
     push_like(work, free, k, first, next, count)
+}
+
+// Writes the fixed name of a code over the list at `first`, before the list at `next`, and returns the free end after it. The new tree has
+// `count` nodes.
+pub fn push_named(
+    sheet: &[u8],
+    work: &mut [u32],
+    free: usize,
+    code: usize,
+    first: usize,
+    next: usize,
+    count: usize,
+) -> usize
+    requires { ⌜ Arena (now sheet) (now work) free ⌝ }
+    requires { ⌜ (0 < code) × (code < 7) × (first < free) × (next < free) ⌝ }
+    requires { ⌜ (count ≡ 1 + sizes (trees-at (now sheet) (now work) first)) × (count < 65536) ⌝ }
+    requires { ⌜ (4 * free + 4 ≤ length (now work)) × (free < 2 ^ 32) ⌝ }
+    ensures { λ r. ⌜ (r ≡ free + 1) × Linked (now (sheet .entry)) (now (work .entry)) (now (work .exit)) free next (apply (fixed-name code) (trees-at (now (sheet .entry)) (now (work .entry)) first)) ⌝ }
+{
+    push_cell(work, free, code, 0, 0, first, next, count)
+}
+
+// Writes the n-th fresh variable, before the list at `next`, and returns the free end after it.
+pub fn push_fresh(sheet: &[u8], work: &mut [u32], free: usize, n: usize, next: usize) -> usize
+    requires { ⌜ Arena (now sheet) (now work) free ⌝ }
+    requires { ⌜ (n < 24) × (next < free) ⌝ }
+    requires { ⌜ (4 * free + 4 ≤ length (now work)) × (free < 2 ^ 32) ⌝ }
+    ensures { λ r. ⌜ (r ≡ free + 1) × Linked (now (sheet .entry)) (now (work .entry)) (now (work .exit)) free next (fresh n) ⌝ }
+{
+    push_cell(work, free, n + 7, 0, 3, 0, next, 1)
 }
 
 // The number of nodes of the tree of cell i.

@@ -105,12 +105,13 @@ module _ {s : Text} {w v : List ℕ} {n fuel left waiting made end : ℕ} {start
   pub holds-solved : 0 < left → waiting ≡ 0 → (matcher fuel start ≡ (solved (bindings-at s v made), fuel - left)) × Bound s w v n made end
   holds-solved p e =
       let empty = stack-empty s v waiting (h .ps) (h .waits) e in
-      let z : fuel - left + 0 ≡ fuel - left = omega arith in (
+      let z : fuel - left + 0 ≡ fuel - left = omega arith in
+      let room = h .room in (
         h .ran
             ∙ ap (λ (qs : List Pair). later (fuel - left) (matching left qs (h .bs))) empty
             ∙ ap (λ (a : Answer). later (fuel - left) a) (matching-end left (h .bs) p)
             ∙ ap₂ (λ (cs : List Binding) (k : ℕ). (solved cs, k)) (sym made-are) z,
-        record { arena = h .arena; below = h .below; grew = h .grew; inside = h .list; chain = made-chain },
+        record { arena = h .arena; below = h .below; grew = h .grew; inside = h .list; chain = made-chain; room = omega (arith, room .0) },
       )
 
   pub holds-spent : left ≡ 0 → (matcher fuel start ≡ (unsupported, fuel)) × Below w v n

@@ -29,6 +29,7 @@ module _ {s : Text} {w v u : List ℕ} {n b m spent : ℕ} (k : ℕ) (ps : List 
       grew = omega (arith, r .list .grew, j .made .grew);
       inside = j .made .inside;
       chain = j .chain;
+      room = omega (arith, r .room, j .used, j .made .grown .len);
     },
   )
 

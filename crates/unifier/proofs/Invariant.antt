@@ -91,7 +91,7 @@ module _ {s : Text} {w v : List ℕ} {n fuel left waiting made end apart : ℕ} 
       record {
         is = h .ran ∙ ap (λ (qs : List Pair). resumed (h .bs) (fuel - left) (run left qs)) empty ∙ ap (λ (a : Answer). resumed (h .bs) (fuel - left) a) (run-end left p)
             ∙ ap₂ (λ (cs : List Binding) (k : ℕ). (solved (reverse cs), k)) (sym made-are) z;
-        list = record { arena = h .arena; below = h .below; grew = h .grew; inside = h .list; chain = subst Chain (sym (h .binds)) (chain-flatten (h .bs)) };
+        list = record { arena = h .arena; below = h .below; grew = h .grew; inside = h .list; chain = subst Chain (sym (h .binds)) (chain-flatten (h .bs)); room = omega (arith, room .0) };
         room = omega (arith, room .0);
         fits = omega (arith, room .1);
       }

@@ -6,7 +6,7 @@ use lib.ListN.{length, getD}
 
 -- room for k cells, and above them the words that one step may use and give up
 abbrev pub Room : List ℕ → ℕ → Type 0
-Room w k = (4 * k + 262144 ≤ length w) × (k + 65536 < 2 ^ 32)
+Room w k = (4 * k + 204802 ≤ length w) × (k + 65536 < 2 ^ 32)
 
 -- the words below cell n are kept; those from it on are free
 pub record Below (w v : List ℕ) (n : ℕ) : Type 0 where

@@ -88,6 +88,15 @@ unfolding total count-of
 colons-total [] = refl
 colons-total (b ∷ s) = ap (λ (n : ℕ). colon b + n) (colons-total s)
 
+pub colons-upto : (s : Text) → count-of 58 s ≤ length s
+unfolding count-of
+colons-upto [] = omega arith
+colons-upto (b ∷ s) = go (eqb b 58) (colons-upto s)
+  where
+    go : (x : Bool) → count-of 58 s ≤ length s → cond x 1 0 + count-of 58 s ≤ suc (length s)
+    go true h = omega arith
+    go false h = omega arith
+
 names-closed : (n : Text) (ts : Trees) (t : Tree) → close n ts ≡ some t → names-count t ≤ names-counts ts
 unfolding variable-names
 names-closed = closed-cases (λ n ts t. names-count t ≤ names-counts ts) (λ n ts c d. omega arith)

@@ -46,7 +46,7 @@ module _ (σ : Substitution) (h : (x : Text) → variable-token x ≡ true → B
     substitutes-built nil = nil
     substitutes-built (both b bs) = both (substitute-built b) (substitutes-built bs)
 
-lookup-built : (bs : List Binding) → BuiltBindings bs → (x : Text) → variable-token x ≡ true → Built (lookup bs x)
+pub lookup-built : (bs : List Binding) → BuiltBindings bs → (x : Text) → variable-token x ≡ true → Built (lookup bs x)
 unfolding lookup
 lookup-built [] h x v = a-variable v
 lookup-built (b ∷ bs) h x v = go (same (b .0) x) (lookup-built bs (h .2) x v)
@@ -124,7 +124,7 @@ sums-built b test l r p q =
 
 -- One step
 
-abbrev BuiltStep : Step → Type 0
+abbrev pub BuiltStep : Step → Type 0
 BuiltStep (goes-on ps) = BuiltPairs ps
 BuiltStep (bind x v ps) = (variable-token x ≡ true) × Built v × BuiltPairs ps
 BuiltStep fails = Unit {0}
@@ -216,7 +216,7 @@ differ-built (variable x) r ps p q k = eliminate-built x (name-token p) ps k r q
 differ-built (atom c d) r ps p q k = against-built (atom c d) r ps p q k
 differ-built (apply f ts) r ps p q k = against-built (apply f ts) r ps p q k
 
-step-built : (l r : Tree) (ps : List Pair) → Built l → Built r → BuiltPairs ps → BuiltStep (step l r ps)
+pub step-built : (l r : Tree) (ps : List Pair) → Built l → Built r → BuiltPairs ps → BuiltStep (step l r ps)
 unfolding step
 step-built l r ps p q k = go (same-tree l r)
   where

@@ -1,6 +1,6 @@
 -- The variables and nodes of all trees that are read from a sheet: at most its colons and its bytes; and a list of names that holds
 -- every such variable.
-use Prim.Native.Nat.{ℕ, _+_, _≤_}
+use Prim.Native.Nat.{ℕ, _+_, _≤_, _<_}
 use native.Mathlib.Omega.{arith}
 use mathlib.Core.Path.{_≡_, refl, sym, _∙_, ap, subst}
 use mathlib.Core.List.{List, [], _∷_, _++_, map}
@@ -8,7 +8,7 @@ use mathlib.Core.Option.{Option, some, none as nothing, Option·some-injective, 
 use mathlib.Core.Bool.{Bool, true, false}
 use lib.ListN.{length, length-append}
 use Rattle.rules.specs.Bytes.{Text, same}
-use Rattle.rules.specs.Text.{is-one-of, count-of}
+use Rattle.rules.specs.Text.{bytes, is-one-of, count-of}
 use Rattle.rules.specs.Maybe.{_>>=_, every}
 use Rattle.rules.specs.Tree.{Tree, variable, atom, apply, Trees, none, more, size}
 use Rattle.rules.specs.Substitution.{Binding, Pair, size-pairs}
@@ -21,7 +21,7 @@ use Rattle.rules.specs.Memory.{variable-names, variable-names-in, variable-name
 use Rattle.laws.proofs.Basics.Tests.{or-left, or-right, same-self}
 use Rattle.laws.proofs.Basics.Options.{bound}
 use Rattle.laws.proofs.Reading.Measures.{total}
-use Rattle.laws.proofs.Reading.Colons.{colon, colons-total, parse-colons, bytes-total, parse-size}
+use Rattle.laws.proofs.Reading.Colons.{colon, colons-total, colons-upto, parse-colons, bytes-total, parse-size}
 use Rattle.laws.proofs.Sheets.Calls.{pair-read}
 use Rattle.laws.proofs.Sheets.SheetTexts.{sheet-within}
 
@@ -59,6 +59,11 @@ unfolding total
 total-alike g h e [] = refl
 total-alike g h e (s ∷ ss) = let i = total-alike g h e ss in let j = e s in omega arith
 
+-- each variable that is read has a byte of its own
+pub names-bytes : (ss : List Text) → length (names-read ss) ≤ total length ss
+names-bytes ss =
+    omega (arith, names-total ss, read-within (λ t. length (variable-names t)) length (λ s t e. omega (arith, parse-colons s t e, colons-upto s)) ss)
+
 module _ (s : Text) (sheet : Sheet) (reads : read-sheet s ≡ some sheet) where
   -- each variable that is read has a colon of its own, and these are not the colons of the keys
   pub sheet-colons : length (names-read (sheet-texts sheet)) + total (count-of 58) (sheet-keys sheet) ≤ count-of 58 s
@@ -71,14 +76,19 @@ module _ (s : Text) (sheet : Sheet) (reads : read-sheet s ≡ some sheet) where
       let n = read-within (λ t. length (variable-names t)) (count-of 58) parse-colons (sheet-texts sheet) in
       omega arith
 
-  -- each node that is read has a byte of its own
-  pub sheet-sizes : total-read size (sheet-texts sheet) ≤ length s
-  sheet-sizes =
+  -- the texts and the keys are not all of the sheet
+  pub sheet-bytes : total length (sheet-texts sheet) + total length (sheet-keys sheet) < length s
+  sheet-bytes =
       let h = sheet-within (λ b. 1) s sheet reads in
       let i = bytes-total s in
+      let e = bytes-total (bytes "kind=") in
+      let j = total-alike (total (λ b. 1)) length bytes-total (sheet-keys sheet) in
       let k = total-alike (total (λ b. 1)) length bytes-total (sheet-texts sheet) in
-      let n = read-within size length parse-size (sheet-texts sheet) in
       omega arith
+
+  -- each node that is read has a byte of its own
+  pub sheet-sizes : total-read size (sheet-texts sheet) < length s
+  sheet-sizes = omega (arith, sheet-bytes, read-within size length parse-size (sheet-texts sheet))
 
 -- Pairs
 
@@ -98,7 +108,7 @@ read-some : (f : Tree → ℕ) (s : Text) (ss : List Text) (t : Tree) → parse 
 unfolding total-read
 read-some f s ss t e = ap {B = ℕ} (λ (o : Option Tree). elim o [ nothing ↦ total-read f ss | some u ↦ f u + total-read f ss ]) e
 
-names-some : (s : Text) (ss : List Text) (t : Tree) → parse s ≡ some t → names-read (s ∷ ss) ≡ variable-names t ++ names-read ss
+pub names-some : (s : Text) (ss : List Text) (t : Tree) → parse s ≡ some t → names-read (s ∷ ss) ≡ variable-names t ++ names-read ss
 unfolding names-read
 names-some s ss t e = ap {B = List Text} (λ (o : Option Tree). elim o [ nothing ↦ names-read ss | some u ↦ variable-names u ++ names-read ss ]) e
 
@@ -136,14 +146,18 @@ sides-within f (asks-sound t m) = omega arith
 sides-within f (asks-complete t ms) = omega arith
 
 module _ (s : Text) (sheet : Sheet) (reads : read-sheet s ≡ some sheet) (ps : List Pair) (pairs : read-pairs (sheet-pairs sheet) ≡ some ps) where
-  pub pairs-colons : length (variable-names-of-pairs ps) ≤ count-of 58 s
-  pairs-colons =
+  -- the variables of the pairs, and the colons of the members' keys
+  pub pairs-keys-colons : length (variable-names-of-pairs ps) + total (count-of 58) (sheet-keys sheet) ≤ count-of 58 s
+  pairs-keys-colons =
       let h = sheet-colons s sheet reads in
       let e = ap (λ (ns : List Text). length ns) (pairs-names (sheet-pairs sheet) ps pairs) in
       let i = names-total (side-texts (sheet-pairs sheet)) in
       let j = names-total (sheet-texts sheet) in
       let k = sides-within (λ t. length (variable-names t)) sheet in
       omega arith
+
+  pub pairs-colons : length (variable-names-of-pairs ps) ≤ count-of 58 s
+  pairs-colons = omega (arith, pairs-keys-colons)
 
   pub pairs-sizes : size-pairs ps ≤ length s
   pairs-sizes = let h = sheet-sizes s sheet reads in let e = pairs-size (sheet-pairs sheet) ps pairs in let k = sides-within size sheet in omega arith

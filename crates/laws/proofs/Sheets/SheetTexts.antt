@@ -13,6 +13,7 @@ use Rattle.rules.specs.Decimal.{number-up-to}
 use Rattle.rules.specs.Lines.{on-first, lines, after-key, value}
 use Rattle.rules.specs.Sheet.{Entry, Member, Members, Sheet, asks-equal, asks-unify, asks-match, asks-reduce, asks-cover, asks-sound, asks-complete, with-entry, pairs, entry-before, distinct-keys, member-before, members-from, none-waiting, at-end, one-member, Kind, Equal, Unify, Match, Reduce, Cover, Sound, Complete, kind-in, kinds, read-kind, read-sheet}
 use Rattle.rules.specs.Memory.{side-texts, entry-keys, entry-values, member-texts, member-keys, sheet-texts, sheet-keys}
+use Rattle.laws.proofs.Basics.Tests.{eqb-true}
 use Rattle.laws.proofs.Basics.Options.{bound}
 use Rattle.laws.proofs.Reading.Measures.{total}
 
@@ -44,23 +45,24 @@ module _ (byte : ℕ → ℕ) where
       go false (some []) ih k = absurd (Option·none-ne-some ls k)
       go false (some (l ∷ ks)) ih k = let i = ih (l ∷ ks) refl in let e = ap texts (Option·some-injective ((b ∷ l) ∷ ks) ls k) in omega arith
 
-  key-within : (key l v : Text) → after-key key l ≡ some v → text v ≤ text l
+  key-within : (key l v : Text) → after-key key l ≡ some v → text key + text v ≤ text l
   unfolding after-key total
   key-within [] l v h = let e = ap text (Option·some-injective l v h) in omega arith
   key-within (k ∷ ks) [] v h = absurd (Option·none-ne-some v h)
-  key-within (k ∷ ks) (b ∷ l) v h = go (eqb k b) h (key-within ks l v)
+  key-within (k ∷ ks) (b ∷ l) v h = go (eqb k b) refl h (key-within ks l v)
     where
-      go : (x : Bool) → elim x [ true ↦ after-key ks l | false ↦ nothing ] ≡ some v → (after-key ks l ≡ some v → text v ≤ text l) → text v ≤ byte b + text l
-      go true e ih = let i = ih e in omega arith
-      go false e ih = absurd (Option·none-ne-some v e)
+      go : (x : Bool) → eqb k b ≡ x → elim x [ true ↦ after-key ks l | false ↦ nothing ] ≡ some v → (after-key ks l ≡ some v → text ks + text v ≤ text l)
+          → byte k + text ks + text v ≤ byte b + text l
+      go true f e ih = let i = ih e in let j = ap byte (eqb-true k b f) in omega arith
+      go false f e ih = absurd (Option·none-ne-some v e)
 
-  value-within : (key : Text) (ls : List Text) (r : Text × List Text) → value key ls ≡ some r → text (r .0) + texts (r .1) ≤ texts ls
+  value-within : (key : Text) (ls : List Text) (r : Text × List Text) → value key ls ≡ some r → text key + (text (r .0) + texts (r .1)) ≤ texts ls
   unfolding value total
   value-within key [] r h = absurd (Option·none-ne-some r h)
   value-within key (l ∷ ls) r h =
       let (v, e, h₁) = bound (after-key key l) (λ w. some (w, ls)) r h in
       let i = key-within key l v e in
-      subst (λ (p : Text × List Text). text (p .0) + texts (p .1) ≤ text l + texts ls) (Option·some-injective (v, ls) r h₁) (omega arith)
+      subst (λ (p : Text × List Text). text key + (text (p .0) + texts (p .1)) ≤ text l + texts ls) (Option·some-injective (v, ls) r h₁) (omega arith)
 
   -- Pairs
 
@@ -240,7 +242,7 @@ module _ (byte : ℕ → ℕ) where
       let k = ap sheet-total (Option·some-injective (asks-complete (v .0) ms) sheet h₂) in
       omega arith
 
-  pub sheet-within : (s : Text) (sheet : Sheet) → read-sheet s ≡ some sheet → texts (sheet-texts sheet) + texts (sheet-keys sheet) ≤ text s
+  pub sheet-within : (s : Text) (sheet : Sheet) → read-sheet s ≡ some sheet → text (bytes "kind=") + (texts (sheet-texts sheet) + texts (sheet-keys sheet)) ≤ text s
   unfolding read-sheet
   sheet-within s sheet h =
       let (ls, e, h₁) = bound (lines s) _ sheet h in

@@ -58,11 +58,11 @@ module _ (P : Tree → Type 0) (k : Kept P) where
   children-keep (atom c d) h = tt
   children-keep (apply f ts) h = k .parts f ts h
 
-abbrev AllMaybe : (Tree → Type 0) → Option (List Tree) → Type 0
+abbrev pub AllMaybe : (Tree → Type 0) → Option (List Tree) → Type 0
 AllMaybe P nothing = Unit {0}
 AllMaybe P (some ts) = AllOf P ts
 
-remove-keep : (P : Tree → Type 0) (test : Tree → Tree → Bool) (t : Tree) (us : List Tree) → AllOf P us → AllMaybe P (remove test t us)
+pub remove-keep : (P : Tree → Type 0) (test : Tree → Tree → Bool) (t : Tree) (us : List Tree) → AllOf P us → AllMaybe P (remove test t us)
 unfolding remove
 remove-keep P test t [] h = tt
 remove-keep P test t (u ∷ us) h = go (test t u) (remove test t us) (remove-keep P test t us (h .1))

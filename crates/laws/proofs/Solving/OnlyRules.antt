@@ -42,7 +42,7 @@ module _ (t : Tree) (bt : Built t) where
   without-only [] b h = refl
   without-only (u ∷ us) b h = rw (not-equivalent bt (b .0) (h .0), without-only us (b .1) (h .1))
 
-cancels-only : {ts us ks os : List Tree} → BuiltList ts → BuiltList us → Cancels ts us ks os → cancel equivalent ts us ≡ (ks, os)
+pub cancels-only : {ts us ks os : List Tree} → BuiltList ts → BuiltList us → Cancels ts us ks os → cancel equivalent ts us ≡ (ks, os)
 unfolding cancel
 cancels-only bt bu done = refl
 cancels-only bt bu (paired {t = t} {ts = ts} {us = us} h c) =
@@ -54,7 +54,7 @@ cancels-only bt bu (single {t = t} {ts = ts} {us = us} h c) =
 
 -- Applications
 
-applied-head : {t : Tree} {f : Text} {ts : Trees} → Applies t f ts → head t ≡ f
+pub applied-head : {t : Tree} {f : Text} {ts : Trees} → Applies t f ts → head t ≡ f
 unfolding head
 applied-head of-atom = refl
 applied-head of-apply = refl

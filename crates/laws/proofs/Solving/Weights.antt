@@ -1,6 +1,6 @@
 -- What waiting pairs weigh: at most their nodes; pushing children lowers the weight by the cells of the pairs pushed, and what two sums
--- leave weighs less than they did by the cells of the summands left.
-use Prim.Native.Nat.{ℕ, _+_, _*_, _≤_}
+-- leave weighs less than they did by the cells of the summands left, and has fewer nodes.
+use Prim.Native.Nat.{ℕ, _+_, _*_, _≤_, _<_}
 use native.Mathlib.Omega.{arith}
 use mathlib.Core.Path.{_≡_, refl, sym, _∙_, ap, subst}
 use mathlib.Core.Bool.{Bool, true, false, cond, true≢false, false≢true}
@@ -18,7 +18,7 @@ use Rattle.rules.specs.Tidy.{Built, a-variable, an-atom, a-leaf, a-list, a-sum}
 use Rattle.rules.specs.Memory.{load, weight, pushed, kept-summands}
 use Rattle.laws.proofs.Basics.Tests.{and-right, same-eq}
 use Rattle.laws.proofs.Equality.Summands.{AllOf, all-append, all-unless}
-use Rattle.laws.proofs.Sheets.BuiltMatch.{mass, summands-mass, cancel-mass}
+use Rattle.laws.proofs.Sheets.BuiltMatch.{mass, summands-mass, rebuild-mass, cancel-mass}
 use Rattle.laws.proofs.Solving.Keeping.{other-way, cancel-keep}
 
 pub size-some : (t : Tree) → 1 ≤ size t
@@ -103,7 +103,7 @@ load-right (atom c d) ts h = refl
 load-right (apply f us) ts h = ap (λ (b : Bool). cond b (sizes ts + sizes us) 0) (other-way f tamtplus h)
 
 -- sizes of summands: none is larger than the tree, and in a sum each is smaller by two nodes
-abbrev Upto : ℕ → Tree → Type 0
+abbrev pub Upto : ℕ → Tree → Type 0
 Upto n t = size t ≤ n
 
 all-upto : (m n : ℕ) → m ≤ n → (ts : List Tree) → AllOf (Upto m) ts → AllOf (Upto n) ts
@@ -119,7 +119,7 @@ mutual
   summands-upto (apply f ts) =
       all-unless (Upto (1 + sizes ts)) (same f tamtplus) (summands-of ts) (apply f ts) (all-upto (sizes ts) (1 + sizes ts) (omega arith) (summands-of ts) (summands-of-upto ts)) (omega arith)
 
-  summands-of-upto : (ts : Trees) → AllOf (Upto (sizes ts)) (summands-of ts)
+  pub summands-of-upto : (ts : Trees) → AllOf (Upto (sizes ts)) (summands-of ts)
   summands-of-upto none = tt
   summands-of-upto (more t ts) =
       all-append (Upto (size t + sizes ts)) (summands t) (summands-of ts)
@@ -166,13 +166,13 @@ sum-view (a-leaf {f} w) e = subst (λ (n : Text). SumView (apply n none)) (sym (
 sum-view (a-list w l q b bs) e = absurd (true≢false (sym e ∙ q))
 sum-view (a-sum p q) e = of-two (a-sum p q)
 
--- what is left of two sums, at two cells a summand
+-- what is left of two sums, at two cells a summand, and its nodes
 module _ (x y : ℕ) where
   abbrev Paid : ℕ → Rest → Type 0
   Paid n emptied = Unit {0}
   Paid n mismatch = Unit {0}
   Paid n stuck = Unit {0}
-  Paid n (equation a b) = 2 * n + load a b ≤ x + y
+  Paid n (equation a b) = (2 * n + load a b ≤ x + y) × (size a + size b < x + y)
 
   remainder-paid : (b : Bool) (ks os : List Tree) → AllOf (Under x) ks → AllOf (Under y) os → AllOf Single ks → AllOf Single os → mass ks ≤ x + 1 → mass os ≤ y + 1
       → Paid (length ks + length os) (remainder b ks os)
@@ -180,13 +180,19 @@ module _ (x y : ℕ) where
   remainder-paid b [] [] p q s t i j = tt
   remainder-paid b [] (o ∷ os) p q s t i j = tt
   remainder-paid b (k ∷ ks) [] p q s t i j = tt
-  remainder-paid b (k ∷ []) (o ∷ []) p q s t i j = let u = p .0 in let v = q .0 in omega (arith, load-size k o)
+  remainder-paid b (k ∷ []) (o ∷ []) p q s t i j = let u = p .0 in let v = q .0 in (omega (arith, load-size k o), omega arith)
   remainder-paid b (k ∷ []) (o ∷ n ∷ os) p q s t i j =
       let u = p .0 in
-      omega (arith, load-left k (more o (more (rebuild n os) none)) (s .0), mass-length (o ∷ n ∷ os), size-some k)
+      (
+        omega (arith, load-left k (more o (more (rebuild n os) none)) (s .0), mass-length (o ∷ n ∷ os), size-some k),
+        omega (arith, rebuild-mass o (n ∷ os)),
+      )
   remainder-paid true (k ∷ n ∷ ks) (o ∷ []) p q s t i j =
       let u = q .0 in
-      omega (arith, load-right o (more k (more (rebuild n ks) none)) (t .0), mass-length (k ∷ n ∷ ks), size-some o)
+      (
+        omega (arith, load-right o (more k (more (rebuild n ks) none)) (t .0), mass-length (k ∷ n ∷ ks), size-some o),
+        omega (arith, rebuild-mass k (n ∷ ks)),
+      )
   remainder-paid false (k ∷ n ∷ ks) (o ∷ []) p q s t i j = tt
   remainder-paid true (k ∷ n ∷ ks) (o ∷ m ∷ os) p q s t i j = tt
   remainder-paid false (k ∷ n ∷ ks) (o ∷ m ∷ os) p q s t i j = tt
@@ -229,12 +235,14 @@ sum-load of-none (of-two q) = omega arith
 sum-load (of-two p) of-none = omega arith
 sum-load (of-two p) (of-two q) = omega arith
 
--- what two sums leave; of one summand against m others, `kept-summands` is m + 1
-pub sum-weight : (b : Bool) (test : Tree → Tree → Bool) (l r : Tree) → Built l → Built r → same (head l) tamtplus ≡ true → same (head r) tamtplus ≡ true
-    → (x y : Tree) → cancel-sums b test l r ≡ equation x y → 2 * kept-summands test l r + load x y ≤ load l r + 2
-sum-weight b test l r bl br e f x y g =
-    let v = sum-view bl e in
-    let w = sum-view br f in
-    let h = subst (Paid (size l) (size r) (kept-summands test l r)) g (sums-paid b test v w) in
-    let k = sum-load v w in
-    omega arith
+module _ (b : Bool) (test : Tree → Tree → Bool) (l r : Tree) (bl : Built l) (br : Built r) (e : same (head l) tamtplus ≡ true) (f : same (head r) tamtplus ≡ true)
+    (x y : Tree) (g : cancel-sums b test l r ≡ equation x y) where
+  sum-paid : Paid (size l) (size r) (kept-summands test l r) (equation x y)
+  sum-paid = subst (Paid (size l) (size r) (kept-summands test l r)) g (sums-paid b test (sum-view bl e) (sum-view br f))
+
+  -- what two sums leave; of one summand against m others, `kept-summands` is m + 1
+  pub sum-weight : 2 * kept-summands test l r + load x y ≤ load l r + 2
+  sum-weight = let h = sum-paid .0 in omega (arith, sum-load (sum-view bl e) (sum-view br f))
+
+  pub sum-nodes : size x + size y < size l + size r
+  sum-nodes = sum-paid .1

@@ -1,15 +1,14 @@
 -- What the answers of complete mean.
-use Prim.Native.Nat.{ℕ, suc, _≤_, max}
+use Prim.Native.Nat.{ℕ, _≤_}
 use native.Mathlib.Omega.{arith}
 use mathlib.Core.Path.{_≡_, refl, sym, _∙_, ap, subst}
 use mathlib.Core.Bool.{Bool, true, false, true≢false}
-use mathlib.Core.List.{List, [], _∷_, _++_, map, List·Memᴰ, List·Memᴰ·head, List·Memᴰ·tail, List·Memᴰ·not-nil, List·Memᴰ·append-cases, Memᴰ·append-left, Memᴰ·append-right}
-use mathlib.Core.Logic.{_↔_, _⊎_, inl, inr}
+use mathlib.Core.List.{List, [], _∷_, _++_, map, List·Memᴰ, List·Memᴰ·head, List·Memᴰ·tail, List·Memᴰ·not-nil}
+use mathlib.Core.Logic.{_↔_}
 use mathlib.Core.Option.{Option, some, none as nothing, Option·some-injective, Option·none-ne-some}
 use lib.Dec.{leb}
-use Rattle.rules.specs.Bytes.{Text}
 use Rattle.rules.specs.Maybe.{_>>=_, guard, every}
-use Rattle.rules.specs.Tree.{Tree, variable, atom, apply, Trees, none, more, size}
+use Rattle.rules.specs.Tree.{Tree, size}
 use Rattle.rules.specs.Substitution.{Binding, Pair, lookup, instantiate}
 use Rattle.rules.specs.Sums.{equivalent}
 use Rattle.rules.specs.Equality.{reflexive, symmetric, transitive}
@@ -18,9 +17,8 @@ use Rattle.rules.specs.Solving.{Verdict, solved, failed, unsupported, unify}
 use Rattle.rules.specs.Reduction.{normalize}
 use Rattle.rules.specs.Rewriting.{NormalModulo}
 use Rattle.rules.specs.Cover.{variables, covering}
-use Rattle.rules.specs.Variants.{Variant, read-member, instance-of, index-of, fresh-base, fresh-base-in, Scheme, schemes-from, scheme-count, schemes, system, solved-schemes, generalized, all-generalized, complete}
+use Rattle.rules.specs.Variants.{Variant, read-member, instance-of, all-indexed, Scheme, schemes-from, scheme-count, schemes, system, solved-schemes, generalized, all-generalized, complete}
 use Rattle.rules.specs.Tidy.{Built}
-use Rattle.rules.specs.Memory.{variable-names, variable-names-in}
 use Rattle.rules.specs.Families.{Unclaimed, member-unreadable, index-missing, schemes-over, scheme-unsupported, Claim, Target, Generalizes, CompleteMeans, no-claim, is-complete, is-missing}
 use Rattle.laws.proofs.Basics.Tests.{leb-true, leb-false, true-leb}
 use Rattle.laws.proofs.Equality.Canonical.{equivalent-sound, equivalent-complete}
@@ -30,6 +28,7 @@ use Rattle.laws.proofs.Reduction.Unique.{still}
 use Rattle.laws.proofs.Reduction.Modulo.{reduced}
 use Rattle.laws.proofs.Variants.Readable.{members-unread, unread-members}
 use Rattle.laws.proofs.Variants.Covered.{covering-is, any, any-some, some-any}
+use Rattle.laws.proofs.Variants.Fresh.{index-absent, index-present}
 use Rattle.laws.proofs.Variants.Targets.{target-built, target-within}
 
 -- the test for a normal tree, on trees as reading builds them
@@ -38,50 +37,6 @@ normal-test t b = (
   λ e u a. reduced t b .to-normal u (transitive (symmetric (equivalent-sound b (built-normal t b) e)) a),
   λ n. equivalent-complete (of-path (sym (still t b (n t reflexive)))),
 )
-
--- Indices
-
-mutual
-  unfolding fresh-base variable-names
-
-  index-absent : (t : Tree) (base : ℕ) → fresh-base t base ≡ nothing → (x : Text) × List·Memᴰ x (variable-names t) × (index-of x ≡ nothing)
-  index-absent (variable x) base h = (x, List·Memᴰ·head refl, go (index-of x) h)
-    where
-      go : (o : Option ℕ) → (o >>= λ i. some (max base (suc i))) ≡ nothing → o ≡ nothing
-      go nothing k = refl
-      go (some i) k = absurd (Option·none-ne-some (max base (suc i)) (sym k))
-  index-absent (atom c d) base h = absurd (Option·none-ne-some base (sym h))
-  index-absent (apply f ts) base h = index-absent-in ts base h
-
-  index-absent-in : (ts : Trees) (base : ℕ) → fresh-base-in ts base ≡ nothing → (x : Text) × List·Memᴰ x (variable-names-in ts) × (index-of x ≡ nothing)
-  index-absent-in none base h = absurd (Option·none-ne-some base (sym h))
-  index-absent-in (more t ts) base h = go (fresh-base t base) refl h (λ k. index-absent t base k) (λ b k. index-absent-in ts b k)
-    where
-      go : (o : Option ℕ) → fresh-base t base ≡ o → (o >>= λ b. fresh-base-in ts b) ≡ nothing
-          → (fresh-base t base ≡ nothing → (x : Text) × List·Memᴰ x (variable-names t) × (index-of x ≡ nothing))
-          → ((b : ℕ) → fresh-base-in ts b ≡ nothing → (x : Text) × List·Memᴰ x (variable-names-in ts) × (index-of x ≡ nothing))
-          → (x : Text) × List·Memᴰ x (variable-names t ++ variable-names-in ts) × (index-of x ≡ nothing)
-      go nothing e k ih ih₂ = let (x, m, i) = ih e in (x, Memᴰ·append-left (variable-names-in ts) m, i)
-      go (some b) e k ih ih₂ = let (x, m, i) = ih₂ b k in (x, Memᴰ·append-right (variable-names t) m, i)
-
-mutual
-  unfolding fresh-base variable-names
-
-  base-absent : (t : Tree) (base : ℕ) (x : Text) → List·Memᴰ x (variable-names t) → index-of x ≡ nothing → fresh-base t base ≡ nothing
-  base-absent (variable y) base x (List·Memᴰ·head e) h = ap (λ (o : Option ℕ). o >>= λ i. some (max base (suc i))) (ap index-of (sym e) ∙ h)
-  base-absent (variable y) base x (List·Memᴰ·tail m) h = absurd (List·Memᴰ·not-nil m)
-  base-absent (atom c d) base x m h = absurd (List·Memᴰ·not-nil m)
-  base-absent (apply f ts) base x m h = base-absent-in ts base x m h
-
-  base-absent-in : (ts : Trees) (base : ℕ) (x : Text) → List·Memᴰ x (variable-names-in ts) → index-of x ≡ nothing → fresh-base-in ts base ≡ nothing
-  base-absent-in none base x m h = absurd (List·Memᴰ·not-nil m)
-  base-absent-in (more t ts) base x m h = go (List·Memᴰ·append-cases (variable-names t) m) (λ k. base-absent t base x k h) (λ b k. base-absent-in ts b x k h) (fresh-base t base) refl
-    where
-      go : List·Memᴰ x (variable-names t) ⊎ List·Memᴰ x (variable-names-in ts) → (List·Memᴰ x (variable-names t) → fresh-base t base ≡ nothing)
-          → ((b : ℕ) → List·Memᴰ x (variable-names-in ts) → fresh-base-in ts b ≡ nothing) → (o : Option ℕ) → fresh-base t base ≡ o → (o >>= λ b. fresh-base-in ts b) ≡ nothing
-      go a ih ih₂ nothing e = refl
-      go (inl k) ih ih₂ (some b) e = absurd (Option·none-ne-some b (sym (ih k) ∙ e))
-      go (inr k) ih ih₂ (some b) e = ih₂ b k
 
 -- Schemes that are solved
 
@@ -211,16 +166,16 @@ module _ (term : Tree) (ms : List Variant) where
   solved-met s bs f k cs u n =
       subst (λ (ds : List Binding). NormalModulo (instantiate ds (s .value)) → Generalized term ms s ds) (Option·some-injective bs cs (ap solution (sym f ∙ u))) k n
 
-  module _ (built : Built term) (small : size term ≤ 4096) (base : ℕ) where
-    first-judged : (s : Scheme) (ss : List Scheme) (bs : List Binding) (vs : List Variant) → List·Memᴰ s (schemes-from term base)
+  module _ (built : Built term) (small : size term ≤ 4096) where
+    first-judged : (s : Scheme) (ss : List Scheme) (bs : List Binding) (vs : List Variant) → List·Memᴰ s (schemes-from term 0)
         → unify 65536 (system term s) .0 ≡ solved bs → Judged ss (all-generalized (variables term []) ms vs)
         → Judged (s ∷ ss) (all-generalized (variables term []) ms ((s .value, bs) ∷ vs))
     first-judged s ss bs vs m f j =
-        subst (Judged (s ∷ ss)) (sym (decided-by (s .value) bs vs (target-within term built small base s m 65536 bs f)))
+        subst (Judged (s ∷ ss)) (sym (decided-by (s .value) bs vs (target-within term built small 0 s m 65536 bs f)))
         (go (equivalent (instantiate bs (s .value)) (normalize (instantiate bs (s .value)))) refl (generalized (variables term []) ms bs (instantiate bs (s .value))) refl)
       where
         normality : (equivalent (instantiate bs (s .value)) (normalize (instantiate bs (s .value))) ≡ true) ↔ NormalModulo (instantiate bs (s .value))
-        normality = normal-test (instantiate bs (s .value)) (target-built term built small base s m 65536 bs f)
+        normality = normal-test (instantiate bs (s .value)) (target-built term built small 0 s m 65536 bs f)
 
         go : (a : Bool) → equivalent (instantiate bs (s .value)) (normalize (instantiate bs (s .value))) ≡ a
             → (b : Bool) → generalized (variables term []) ms bs (instantiate bs (s .value)) ≡ b
@@ -230,7 +185,7 @@ module _ (term : Tree) (ms : List Variant) where
         go true e true g = with-first s ss (solved-met s bs f (λ n. generalized-true term ms s bs g)) (all-generalized (variables term []) ms vs) j
         go true e false g = (s, bs, List·Memᴰ·head refl, f, normality .0 e, generalized-false term ms s bs g)
 
-    judge : {ss : List Scheme} {vs : List Variant} → ((s : Scheme) → List·Memᴰ s ss → List·Memᴰ s (schemes-from term base)) → Solves term ss vs
+    judge : {ss : List Scheme} {vs : List Variant} → ((s : Scheme) → List·Memᴰ s ss → List·Memᴰ s (schemes-from term 0)) → Solves term ss vs
         → Judged ss (all-generalized (variables term []) ms vs)
     unfolding all-generalized
     judge within nil = λ s m. absurd (List·Memᴰ·not-nil m)
@@ -243,32 +198,32 @@ module _ (term : Tree) (ms : List Variant) where
 -- The answer
 
 module _ (term : Tree) (built : Built term) (small : size term ≤ 4096) (members : List Member) where
-  claimed : (c : Claim term members) (r : Option Bool) → Judged term (c .variants) (schemes-from term (c .base)) r → CompleteMeans term members r
+  claimed : (c : Claim term members) (r : Option Bool) → Judged term (c .variants) (schemes-from term 0) r → CompleteMeans term members r
   claimed c nothing j = absurd j
   claimed c (some true) j = is-complete c (λ s bs t. j s (t .listed) bs (t .solution) (t .normal))
   claimed c (some false) j = let (s, bs, m, u, n, g) = j in is-missing c {s = s} {bs = bs} (record { listed = m; solution = u; normal = n }) g
 
-  -- the members read, the base is known, the schemes are not too many
-  after-count : (ms : List Variant) (base : ℕ) → every (map read-member members) ≡ some ms → fresh-base term 0 ≡ some base → scheme-count term ≤ 4096
-      → (o : Option (List Variant)) → Sorted term (schemes-from term base) o → CompleteMeans term members (o >>= λ found. all-generalized (variables term []) ms found)
-  after-count ms base e f l nothing h = let (s, m, u) = h in no-claim (scheme-unsupported f m u)
-  after-count ms base e f l (some vs) h =
-      claimed (record { variants = ms; base = base; read = e; indexed = f; limited = l; decided = λ s m u. all-decided term h s m u })
-      (all-generalized (variables term []) ms vs) (judge term ms built small base (λ s m. m) h)
+  -- the members read, each variable has an index, the schemes are not too many
+  after-count : (ms : List Variant) → every (map read-member members) ≡ some ms → all-indexed term ≡ true → scheme-count term ≤ 4096
+      → (o : Option (List Variant)) → Sorted term (schemes-from term 0) o → CompleteMeans term members (o >>= λ found. all-generalized (variables term []) ms found)
+  after-count ms e f l nothing h = let (s, m, u) = h in no-claim (scheme-unsupported m u)
+  after-count ms e f l (some vs) h =
+      claimed (record { variants = ms; read = e; indexed = index-present term f; limited = l; decided = λ s m u. all-decided term h s m u })
+      (all-generalized (variables term []) ms vs) (judge term ms built small (λ s m. m) h)
 
   abbrev from-schemes : List Variant → List Scheme → Option Bool
   from-schemes ms ss = solved-schemes term ss >>= λ found. all-generalized (variables term []) ms found
 
-  after-base : (ms : List Variant) (base : ℕ) → every (map read-member members) ≡ some ms → fresh-base term 0 ≡ some base → (b : Bool) → leb (scheme-count term) 4096 ≡ b
-      → CompleteMeans term members ((guard b >>= λ _. some (schemes-from term base)) >>= from-schemes ms)
-  after-base ms base e f false g = no-claim (schemes-over (leb-false (scheme-count term) 4096 g))
-  after-base ms base e f true g =
-      after-count ms base e f (leb-true (scheme-count term) 4096 g) (solved-schemes term (schemes-from term base)) (sort-schemes term (schemes-from term base))
+  after-indices : (ms : List Variant) → every (map read-member members) ≡ some ms → all-indexed term ≡ true → (b : Bool) → leb (scheme-count term) 4096 ≡ b
+      → CompleteMeans term members ((guard b >>= λ _. some (schemes-from term 0)) >>= from-schemes ms)
+  after-indices ms e f false g = no-claim (schemes-over (leb-false (scheme-count term) 4096 g))
+  after-indices ms e f true g =
+      after-count ms e f (leb-true (scheme-count term) 4096 g) (solved-schemes term (schemes-from term 0)) (sort-schemes term (schemes-from term 0))
 
-  after-members : (ms : List Variant) → every (map read-member members) ≡ some ms → (o : Option ℕ) → fresh-base term 0 ≡ o
-      → CompleteMeans term members ((o >>= λ base. guard (leb (scheme-count term) 4096) >>= λ _. some (schemes-from term base)) >>= from-schemes ms)
-  after-members ms e nothing f = let (x, m, i) = index-absent term 0 f in no-claim (index-missing m i)
-  after-members ms e (some base) f = after-base ms base e f (leb (scheme-count term) 4096) refl
+  after-members : (ms : List Variant) → every (map read-member members) ≡ some ms → (b : Bool) → all-indexed term ≡ b
+      → CompleteMeans term members ((guard b >>= λ _. guard (leb (scheme-count term) 4096) >>= λ _. some (schemes-from term 0)) >>= from-schemes ms)
+  after-members ms e false f = let (x, m, i) = index-absent term f in no-claim (index-missing m i)
+  after-members ms e true f = after-indices ms e f (leb (scheme-count term) 4096) refl
 
   complete-view : CompleteMeans term members (complete term members)
   unfolding complete schemes
@@ -276,24 +231,22 @@ module _ (term : Tree) (built : Built term) (small : size term ≤ 4096) (member
     where
       go : (o : Option (List Variant)) → every (map read-member members) ≡ o → CompleteMeans term members (o >>= λ ms. schemes term >>= from-schemes ms)
       go nothing e = no-claim (member-unreadable (members-unread members e))
-      go (some ms) e = after-members ms e (fresh-base term 0) refl
+      go (some ms) e = after-members ms e (all-indexed term) refl
 
   -- no two of the cases hold
 
   not-both : Unclaimed term members → Claim term members → ⊥
   not-both (member-unreadable u) c = Option·none-ne-some (c .variants) (sym (unread-members members u) ∙ c .read)
-  not-both (index-missing {x} m i) c = Option·none-ne-some (c .base) (sym (base-absent term 0 x m i) ∙ c .indexed)
+  not-both (index-missing {x} m i) c = let (k, e) = c .indexed x m in Option·none-ne-some k (sym i ∙ e)
   not-both (schemes-over h) c = let l = c .limited in omega arith
-  not-both (scheme-unsupported {base} {s} f m u) c =
-      c .decided s (subst (λ (b : ℕ). List·Memᴰ s (schemes-from term b)) (Option·some-injective base (c .base) (sym f ∙ c .indexed)) m) u
+  not-both (scheme-unsupported {s} m u) c = c .decided s m u
 
   contrary : (c d : Claim term members)
-      → ((s : Scheme) (bs : List Binding) → Target term (c .base) s bs → (m : Variant) × List·Memᴰ m (c .variants) × Generalizes term m s bs)
-      → {s : Scheme} {bs : List Binding} → Target term (d .base) s bs → ((m : Variant) → List·Memᴰ m (d .variants) → ¬ Generalizes term m s bs) → ⊥
+      → ((s : Scheme) (bs : List Binding) → Target term s bs → (m : Variant) × List·Memᴰ m (c .variants) × Generalizes term m s bs)
+      → {s : Scheme} {bs : List Binding} → Target term s bs → ((m : Variant) → List·Memᴰ m (d .variants) → ¬ Generalizes term m s bs) → ⊥
   contrary c d f {s} {bs} t g =
-      let b = Option·some-injective (d .base) (c .base) (sym (d .indexed) ∙ c .indexed) in
       let v = Option·some-injective (c .variants) (d .variants) (sym (c .read) ∙ d .read) in
-      let (m, h, k) = f s bs (subst (λ (n : ℕ). Target term n s bs) b t) in
+      let (m, h, k) = f s bs t in
       g m (subst (λ (vs : List Variant). List·Memᴰ m vs) v h) k
 
   agree : {p q : Option Bool} → CompleteMeans term members p → CompleteMeans term members q → p ≡ q

@@ -40,7 +40,7 @@ covering-is ps = (λ e f. true≢false (sym e ∙ ap (λ (v : Verdict). not (is-
 -- One member
 
 module _ (bs : List Binding) (m : Member) where
-  paired : (xs : List Text) (ps : List Pair) → every (map (pair-at bs m) xs) ≡ some ps → Against bs m xs ps
+  pub paired : (xs : List Text) (ps : List Pair) → every (map (pair-at bs m) xs) ≡ some ps → Against bs m xs ps
   unfolding every pair-at
   paired [] ps h = subst (Against bs m []) (Option·some-injective [] ps h) nil
   paired (x ∷ xs) ps h =

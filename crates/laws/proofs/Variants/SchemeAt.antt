@@ -78,7 +78,7 @@ quotient i m k h = div-lt-iff-lt-mul (positive i m k h) .1 h
 mutual
   unfolding schemes-from scheme-count scheme-at root-count root-at
 
-  scheme-found : (t : Tree) (n i : ℕ) → i < scheme-count t → getElem? (schemes-from t n) i ≡ some (scheme-at t n i)
+  pub scheme-found : (t : Tree) (n i : ℕ) → i < scheme-count t → getElem? (schemes-from t n) i ≡ some (scheme-at t n i)
   scheme-found (variable x) n zero h = refl
   scheme-found (variable x) n (suc i) h = absurd (omega arith)
   scheme-found (atom c d) n zero h = refl

@@ -3,25 +3,21 @@
 use Prim.Native.Nat.{ℕ, _+_, _≤_}
 use native.Mathlib.Omega.{arith}
 use mathlib.Core.Path.{_≡_, refl, sym, subst}
-use mathlib.Core.Bool.{true, false≢true}
 use mathlib.Core.List.{List, [], _∷_, _++_, map, flatMap, List·Memᴰ, List·Memᴰ·head, List·Memᴰ·tail}
 use mathlib.Core.Option.{Option, some, none as nothing}
 use Rattle.rules.specs.Bytes.{Text, same}
 use Rattle.rules.specs.Text.{bytes}
-use Rattle.rules.specs.Names.{digit, all, number, word, indexed, variable-token, letter-name}
-use Rattle.rules.specs.Decimal.{decimal}
+use Rattle.rules.specs.Names.{word, letter-name}
 use Rattle.rules.specs.Tree.{Tree, variable, atom, apply, Trees, none, more, size, sizes}
 use Rattle.rules.specs.Substitution.{Binding, Pair, instantiate}
 use Rattle.rules.specs.Solving.{solved, unify}
 use Rattle.rules.specs.Reduction.{Rule, fst, snd, flip, sdec, kdec, rule-named, pair, senc, kem, role-a, role-b, arguments1, arguments2}
 use Rattle.rules.specs.Variants.{Scheme, Joined, only, fresh, firings, before, root-schemes, join-first, schemes-from, joined, system}
 use Rattle.rules.specs.Tidy.{Built, a-variable, a-leaf, a-list, Builts, nil, both}
-use Rattle.laws.proofs.Basics.Tests.{and-left, and-right, and-both}
-use Rattle.laws.proofs.Basics.Numerals.{decimal-number}
-use Rattle.laws.proofs.Reading.TokenKinds.{no-colon}
 use Rattle.laws.proofs.Equality.Building.{built-first, built-rest, built-children, Alike, no-more, one-more, builts, rebuilt}
 use Rattle.laws.proofs.Solving.Weights.{size-some}
 use Rattle.laws.proofs.Sheets.BuiltRun.{BuiltPairs, Writable, instance-built, unify-writable}
+use Rattle.laws.proofs.Variants.Fresh.{fresh-token}
 use Rattle.laws.proofs.Variants.Waiting.{waits-after, unify-limit}
 
 -- Lists of which every element has a property
@@ -49,27 +45,15 @@ module _ {A B : Type 0} (P : A → Type 0) (Q : B → Type 0) where
   all-flat f q [] h = tt
   all-flat f q (a ∷ l) h = all-append Q (f a) (flatMap f l) (q a (h .0)) (all-flat f q l (h .1))
 
-pairs-append : (ps qs : List Pair) → BuiltPairs ps → BuiltPairs qs → BuiltPairs (ps ++ qs)
+pub pairs-append : (ps qs : List Pair) → BuiltPairs ps → BuiltPairs qs → BuiltPairs (ps ++ qs)
 pairs-append [] qs h k = k
 pairs-append (p ∷ ps) qs h k = (h .0, h .1, pairs-append ps qs (h .2) k)
 
 -- Fresh variables and the terms of the rules
 
-index-sort : (d : Text) → all digit d ≡ true → indexed (d ++ bytes ":Msg") ≡ true
-unfolding all indexed
-index-sort [] h = refl
-index-sort (b ∷ d) h =
-    rw (no-colon b (and-left (digit b) (all digit d) h))
-    (and-both (digit b) (indexed (d ++ bytes ":Msg")) (and-left (digit b) (all digit d) h) (index-sort d (and-right (digit b) (all digit d) h)))
-
-fresh-token : (d : Text) → number d ≡ true → variable-token (120 ∷ (d ++ bytes ":Msg")) ≡ true
-unfolding number variable-token
-fresh-token [] h = absurd (false≢true h)
-fresh-token (b ∷ d) h = and-both (digit b) (indexed (d ++ bytes ":Msg")) (and-left (digit b) (all digit d) h) (index-sort d (and-right (digit b) (all digit d) h))
-
 fresh-built : (n : ℕ) → Built (fresh n)
 unfolding fresh
-fresh-built n = a-variable (fresh-token (decimal n) (decimal-number n))
+fresh-built n = a-variable (fresh-token n)
 
 pair-built : {a b : Tree} → Built a → Built b → Built (pair a b)
 unfolding word letter-name same
@@ -178,7 +162,7 @@ module _ (term : Tree) (built : Built term) (small : size term ≤ 4096) (base :
   abbrev good : Good term s
   good = all-at (Good term) (schemes-from term base) s listed (schemes-good term base built)
 
-  system-built : BuiltPairs (system term s)
+  pub system-built : BuiltPairs (system term s)
   system-built = pairs-append (s .equations) ((term, term) ∷ (s .value, s .value) ∷ []) (good .2) (built, built, (good .1, good .1, tt))
 
   pub target-built : (k : ℕ) (bs : List Binding) → unify k (system term s) .0 ≡ solved bs → Built (instantiate bs (s .value))

@@ -12,7 +12,7 @@ use Rattle.tree.proofs.names.name_is.Lts as lts
 use Rattle.text.proofs.same.Reads as same-reads
 use Rattle.tree.proofs.cells.length_of.Reads as length-of-reads
 use Rattle.tree.proofs.cells.start_of.Reads as start-of-reads
-use Rattle.tree.proofs.names.fixed_is.Reads as fixed-is-reads
+use Rattle.tree.proofs.fixed.fixed_is.Reads as fixed-is-reads
 use Rattle.tree.proofs.names.name_of.Reads as name-of-reads
 
 length-of-requires : tie.Need-length-of-requires

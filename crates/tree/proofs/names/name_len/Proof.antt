@@ -8,7 +8,7 @@ use Rattle.tree.proofs.names.name_len.Reads as reads
 use Rattle.tree.proofs.names.name_len.Lts as lts
 use Rattle.tree.proofs.cells.length_of.Reads as length-of-reads
 use Rattle.tree.proofs.cells.start_of.Reads as start-of-reads
-use Rattle.tree.proofs.names.fixed_len.Reads as fixed-len-reads
+use Rattle.tree.proofs.fixed.fixed_len.Reads as fixed-len-reads
 
 length-of-requires : tie.Need-length-of-requires
 length-of-requires c κs = search needs
@@ -20,7 +20,11 @@ fixed-len-requires : tie.Need-fixed-len-requires
 fixed-len-requires c κs = search needs
 
 returns : tie.Need-returns
-returns c = (fixed-length _ _ _ (sym (c .before .before .before .length-of .ensures) ∙ c .before .before .if1 .taken) (c .before .start-of .ensures) (c .fixed-len .ensures .0), c .fixed-len .ensures .1)
+returns c =
+    let p = c .before .before .before .before .before .before .pre in
+    let k = c .before .before .before .before .before .before .args .k in
+    let z = sym (c .before .before .before .length-of .ensures) ∙ c .before .before .if1 .taken in
+    (fixed-length _ _ _ z (c .before .start-of .ensures) (c .fixed-len .ensures .0), omega (arith, p .0 .cell k (p .1 .0) (p .1 .1) .placed .code z, c .before .start-of .ensures, c .fixed-len .ensures .1))
 
 returns-2 : tie.Need-returns-2
 returns-2 c =

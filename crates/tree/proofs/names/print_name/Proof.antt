@@ -11,7 +11,7 @@ use Rattle.tree.proofs.names.print_name.Lts as lts
 use Rattle.tree.proofs.cells.length_of.Reads as length-of-reads
 use Rattle.tree.proofs.cells.start_of.Reads as start-of-reads
 use Rattle.tree.proofs.names.name_of.Reads as name-of-reads
-use Rattle.tree.proofs.names.print_fixed.Reads as print-fixed-reads
+use Rattle.tree.proofs.fixed.print_fixed.Reads as print-fixed-reads
 use Rattle.tree.proofs.names.print_text.Reads as print-text-reads
 
 length-of-requires : tie.Need-length-of-requires

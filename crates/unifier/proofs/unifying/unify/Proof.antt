@@ -1,4 +1,5 @@
 use Rattle.unifier.proofs.Finishing.{finished, finished-solved, finished-over}
+use native.Mathlib.Omega.{arith}
 use borrow.Author.Needs.{needs}
 use Rattle.unifier.proofs.unifying.unify.Statement.{statement}
 use Rattle.unifier.proofs.unifying.unify.Tie as tie
@@ -18,7 +19,7 @@ enum-known-ran-3 c = search needs
 compose-requires : tie.Need-compose-requires
 compose-requires c κs =
     let r = rw (c .before .before .ran3 .given .1) at (c .before .before .before .before .before .before .run .ensures) in
-    (r .list .arena, ((r .list .inside, r .list .chain), (r .room, r .fits)))
+    (r .list .arena, ((r .list .inside, r .list .chain), (omega (arith, r .room), r .fits)))
 
 enum-known-composed : tie.Need-enum-known-composed
 enum-known-composed c = search needs

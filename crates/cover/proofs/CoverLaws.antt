@@ -89,8 +89,8 @@ module _ (v : Text) (es : List Entry) (bs : List Binding) where
   unfolding covers
   covers-by xs e = ap {B = Bool} (λ (o : Option (List Pair)). elim o [ nothing ↦ true | some ps ↦ covering ps ]) e
 
-  pub covers-read : (ms : List Binding) (xs : List Text) → ((x : Text) → is-one-of xs x ≡ true → value-in es x ≡ some (lookup ms x)) → covers xs bs (v, es) ≡ covering (paired ms bs xs)
-  covers-read ms xs h = covers-by xs (pairs-every ms xs h)
+  pub covers-read : (xs : List Text) (ps : List Pair) → every (map (pair-at bs (v, es)) xs) ≡ some ps → covers xs bs (v, es) ≡ covering ps
+  covers-read xs ps e = covers-by xs e
 
-  pub covers-unread : (xs : List Text) (y : Text) → is-one-of xs y ≡ true → value-in es y ≡ nothing → covers xs bs (v, es) ≡ true
-  covers-unread xs y o e = covers-by xs (pairs-none xs y o e)
+  pub covers-unread : (xs : List Text) → every (map (pair-at bs (v, es)) xs) ≡ nothing → covers xs bs (v, es) ≡ true
+  covers-unread xs e = covers-by xs e
