@@ -17,7 +17,7 @@ use Rattle.rules.specs.Matching.{matcher}
 use Rattle.rules.specs.Reduction.{normalize}
 use Rattle.rules.specs.Rewriting.{NormalModulo}
 use Rattle.rules.specs.Cover.{variables, variables-of, entry-at, general}
-use Rattle.rules.specs.Variants.{Variant, read-member, index-of, fresh-base, Scheme, schemes-from, scheme-count, system}
+use Rattle.rules.specs.Variants.{Variant, read-member, index-of, fresh-base, fresh-from, Scheme, schemes-from, scheme-count, system}
 use Rattle.rules.specs.Memory.{member-texts, variable-names}
 
 -- some text does not read
@@ -65,7 +65,7 @@ pub data Unclaimed (term : Tree) (members : List Member) : Type 0 where
   member-unreadable : Unreadable (member-texts members) → Unclaimed term members
   index-missing : {x : Text} → List·Memᴰ x (variable-names term) → index-of x ≡ nothing → Unclaimed term members
   schemes-over : 4096 < scheme-count term → Unclaimed term members
-  scheme-unsupported : {base : ℕ} {s : Scheme} → fresh-base term 0 ≡ some base → List·Memᴰ s (schemes-from term base)
+  scheme-unsupported : {base : ℕ} {s : Scheme} → fresh-base term 0 ≡ some base → List·Memᴰ s (schemes-from (fresh-from base) term 0)
       → unify 65536 (system term s) .0 ≡ unsupported → Unclaimed term members
 
 -- what a claim is about: the members as read, and the schemes from a base on, all decided
@@ -75,11 +75,11 @@ pub record Claim (term : Tree) (members : List Member) : Type 0 where
   pub read : every (map read-member members) ≡ some variants
   pub indexed : fresh-base term 0 ≡ some base
   pub limited : scheme-count term ≤ 4096
-  pub decided : (s : Scheme) → List·Memᴰ s (schemes-from term base) → ¬ (unify 65536 (system term s) .0 ≡ unsupported)
+  pub decided : (s : Scheme) → List·Memᴰ s (schemes-from (fresh-from base) term 0) → ¬ (unify 65536 (system term s) .0 ≡ unsupported)
 
 -- a solved scheme whose value is normal under its bindings
 pub record Target (term : Tree) (base : ℕ) (s : Scheme) (bs : List Binding) : Type 0 where
-  pub listed : List·Memᴰ s (schemes-from term base)
+  pub listed : List·Memᴰ s (schemes-from (fresh-from base) term 0)
   pub solution : unify 65536 (system term s) .0 ≡ solved bs
   pub normal : NormalModulo (instantiate bs (s .value))
 

@@ -4,17 +4,17 @@ use mathlib.Core.Path.{_≡_}
 use mathlib.Core.Bool.{Bool, true, cond}
 use mathlib.Core.List.{List, [], _∷_, _++_}
 use mathlib.Core.Option.{Option, some, none as nothing}
-use Prim.Native.Nat.{ℕ, suc, _+_}
+use Prim.Native.Nat.{ℕ, zero, suc, _+_}
 use lib.ListN.{length}
 use Rattle.rules.specs.Bytes.{Text, same}
 use Rattle.rules.specs.Text.{bytes, is-one-of}
-use Rattle.rules.specs.Decimal.{decimal}
 use Rattle.rules.specs.Tree.{Tree, variable, atom, apply, Trees, none, more, size, sizes}
 use Rattle.rules.specs.Substitution.{Binding, Pair}
 use Rattle.rules.specs.Sums.{summands}
 use Rattle.rules.specs.Solving.{cancel}
 use Rattle.rules.specs.Reading.{parse}
 use Rattle.rules.specs.Reduction.{Rule, rule-named}
+use Rattle.rules.specs.Schemes.{root-count}
 use Rattle.rules.specs.Sheet.{Sheet, Entry, Member, asks-equal, asks-unify, asks-match, asks-reduce, asks-cover, asks-sound, asks-complete}
 
 -- Names
@@ -63,11 +63,6 @@ OverBindings ns (b ∷ bs) = Over ns (b .1) × OverBindings ns bs
 
 -- Fresh names
 
--- the name of the fresh variable x<n>:Msg
-unfoldable pub fresh-name : ℕ → Text
-unfolding decimal
-fresh-name n = bytes "x" ++ decimal n ++ bytes ":Msg"
-
 abbrev pub some-children : Trees → ℕ
 some-children none = 0
 some-children (more t ts) = 1
@@ -88,6 +83,25 @@ unfoldable mutual
   pub rule-nodes-in : Trees → ℕ
   rule-nodes-in none = 0
   rule-nodes-in (more t ts) = rule-nodes t + rule-nodes-in ts
+
+-- one where there is more than one choice
+abbrev pub site : ℕ → ℕ
+site zero = 0
+site (suc zero) = 0
+site (suc (suc k)) = 1
+
+-- how many nodes have more than one choice: a scheme takes at most two fresh variables and two equations for each
+unfoldable mutual
+  unfolding root-count
+
+  pub sites : Tree → ℕ
+  sites (variable x) = 0
+  sites (atom c d) = 0
+  sites (apply f ts) = sites-in ts + site (root-count f ts)
+
+  pub sites-in : Trees → ℕ
+  sites-in none = 0
+  sites-in (more t ts) = sites t + sites-in ts
 
 -- Texts of a sheet
 

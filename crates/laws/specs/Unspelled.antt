@@ -1,0 +1,15 @@
+-- Names that no sheet spells, for variables that stand for fresh ones: x, more zeros than a sheet has bytes, a colon and Msg. Definitions
+-- only.
+use Prim.Native.Nat.{ℕ, zero, suc, _+_}
+use mathlib.Core.List.{[], _∷_, _++_}
+use Rattle.rules.specs.Bytes.{Text}
+use Rattle.rules.specs.Text.{bytes}
+
+unfoldable pub zeros : ℕ → Text
+zeros zero = []
+zeros (suc n) = 48 ∷ zeros n
+
+-- the n-th of them
+unfoldable pub unspelled : ℕ → Text
+unfolding zeros
+unspelled n = 120 ∷ (zeros (65536 + n) ++ bytes ":Msg")
