@@ -24,8 +24,9 @@ host: the reference of the call, generated sheets and the stored list
   host library [--count N] [--seed S] [--kinds equal,unify,..]
                                         the linked library against the reference, on the stored
                                         list and on generated sheets of these kinds
-  host measure [--bytes B]              times of the linked library and of the Rust on sheets
-                                        of about B bytes
+  host measure [--bytes B] [--kinds equal,..]
+                                        times of the linked library and of the Rust on sheets
+                                        of these kinds, of about B bytes
   host definitions [--count N] [--seed S] [--chunk K] --out FILE
                                         write rows for the definitions, K rows to a theorem
   host --help                           this text
@@ -195,7 +196,7 @@ fn compare_library(words: &[String]) -> Outcome {
 }
 
 fn measured(words: &[String]) -> Outcome {
-    let options = options(words, &["--bytes"], 0)?;
+    let options = options(words, &["--bytes", "--kinds"], 0)?;
     if !(1_000..=sheet::LONGEST).contains(&options.bytes) {
         return Err(format!("--bytes takes 1000 to {}", sheet::LONGEST));
     }
@@ -203,7 +204,7 @@ fn measured(words: &[String]) -> Outcome {
         return Err(format!("{}; nothing was measured", library::notice()));
     }
     notice::absent("the library is measured alone");
-    if measure::print(options.bytes) {
+    if measure::print(options.bytes, &options.kinds) {
         Ok(ExitCode::SUCCESS)
     } else {
         Ok(ExitCode::FAILURE)

@@ -13,7 +13,6 @@ use oracle::Outcome;
 
 use crate::{
     deep, lent,
-    linked::ANSWERED,
     reference,
     sheet::{self, Pair, Sheet},
 };
@@ -43,7 +42,7 @@ fn sum(summands: &[String]) -> String {
     format!("tamtplus({})", summands.join(","))
 }
 
-fn samples(bytes: usize) -> Vec<Sample> {
+fn samples(bytes: usize, kinds: &[&str]) -> Vec<Sample> {
     let of = |kind: &str| match kind {
         "equal" => terms::equalities(bytes),
         "reduce" => terms::reductions(),
@@ -53,7 +52,7 @@ fn samples(bytes: usize) -> Vec<Sample> {
         "complete" => families::completes(),
         _ => unreachable!("no such kind"),
     };
-    ANSWERED.iter().flat_map(|kind| of(kind)).collect()
+    kinds.iter().flat_map(|kind| of(kind)).collect()
 }
 
 // The least of a few times, and the last result.
@@ -179,11 +178,11 @@ fn row(sample: &Sample) -> bool {
 /// Prints the table, each row once it is known; whether every answer is the Rust's. `cleared` and
 /// `dirty` are calls with a work area of zeros and of other numbers, `clearing` is a plain clearing
 /// of the words that the sheet needs, and the ratio is that of the Rust to `dirty`.
-pub fn print(bytes: usize) -> bool {
+pub fn print(bytes: usize, kinds: &[&str]) -> bool {
     println!(
         "| kind | terms | bytes | cleared ms | dirty ms | clearing ms | Rust ms | ratio | answer |"
     );
     println!("|---|---|---|---|---|---|---|---|---|");
-    let agreed: Vec<bool> = samples(bytes).iter().map(row).collect();
+    let agreed: Vec<bool> = samples(bytes, kinds).iter().map(row).collect();
     agreed.into_iter().all(|same| same)
 }
