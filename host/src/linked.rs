@@ -11,10 +11,6 @@ use crate::{
     tally::Tally,
 };
 
-/// The kinds that the library answers. It gives 4 to a sheet of another kind that is not refused
-/// by 1, 2, 3 or 11.
-pub const ANSWERED: &[&str] = &["equal", "unify", "match", "reduce", "cover", "sound"];
-
 /// A call that was not as the reference says.
 pub struct Difference {
     pub name: String,
@@ -36,13 +32,11 @@ pub struct Comparison {
     pub smallest: Option<Difference>,
 }
 
-/// The reply that the library gives now with so many words, from the reference's to the sheet.
-pub fn now(bytes: &[u8], words: usize, reply: Reply) -> Reply {
+/// The reply with so many words, from the reference's with as many as are asked for.
+pub fn with_words(bytes: &[u8], words: usize, reply: Reply) -> Reply {
     match sheet::read(bytes) {
-        Err(_) => reply,
         Ok(sheet) if sheet::words_needed(bytes, &sheet) > words as u64 => Reply::Refused(11),
-        Ok(sheet) if ANSWERED.contains(&sheet.kind()) => reply,
-        Ok(_) => Reply::Refused(4),
+        _ => reply,
     }
 }
 
@@ -50,7 +44,7 @@ impl Comparison {
     /// One call; more words than can be lent are cut to the most.
     pub fn add(&mut self, name: &str, bytes: &[u8], words: u64, room: usize, reply: Reply) {
         let words = words.min(MOST_WORDS as u64) as usize;
-        let reply = now(bytes, words, reply);
+        let reply = with_words(bytes, words, reply);
         let found = self.lent.differences(name, bytes, (words, room), &reply);
         self.calls += 1;
         self.tally.add(bytes, &reply);

@@ -13,7 +13,6 @@ use oracle::Outcome;
 
 use crate::{
     deep, lent,
-    linked::ANSWERED,
     reference,
     sheet::{self, Pair, Sheet},
 };
@@ -53,8 +52,7 @@ fn samples(bytes: usize, kinds: &[&str]) -> Vec<Sample> {
         "complete" => families::completes(),
         _ => unreachable!("no such kind"),
     };
-    let asked = |kind: &&&str| kinds.contains(*kind);
-    ANSWERED.iter().filter(asked).flat_map(|kind| of(kind)).collect()
+    kinds.iter().flat_map(|kind| of(kind)).collect()
 }
 
 // The least of a few times, and the last result.

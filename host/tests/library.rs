@@ -4,9 +4,9 @@ use host::{
     deep,
     generate::KINDS,
     lent,
-    linked::{self, ANSWERED, Comparison},
+    linked::Comparison,
     notice,
-    reference::{self, Reply},
+    reference::Reply,
     sheet, store,
 };
 
@@ -40,8 +40,7 @@ fn the_library_replies_to_generated_sheets() {
     notice::absent("the library was compared with the model alone");
     let comparison = deep::run(|| {
         let mut comparison = Comparison::default();
-        comparison.add_generated(2_000, 21, &KINDS);
-        comparison.add_generated(2_000, 22, ANSWERED);
+        comparison.add_generated(4_000, 21, &KINDS);
         comparison
     });
     assert_eq!(comparison.calls, 4_000);
@@ -82,18 +81,6 @@ fn a_difference_is_found_and_the_smallest_sheet_kept() {
     let smallest = comparison.smallest.unwrap();
     assert_eq!(smallest.name, "wrong");
     assert_eq!(smallest.found.len(), 2, "{smallest}");
-}
-
-#[test]
-fn a_kind_that_is_not_answered_gives_4_after_11() {
-    let bytes = b"kind=complete\nterm=a\nmember=a\n";
-    if ANSWERED.contains(&"complete") {
-        return;
-    }
-    let needed = sheet::words_needed(bytes, &sheet::read(bytes).unwrap()) as usize;
-    let reply = reference::call(bytes, needed as u64, 99);
-    assert_eq!(linked::now(bytes, needed, reply.clone()), Reply::Refused(4));
-    assert_eq!(linked::now(bytes, needed - 1, reply), Reply::Refused(11));
 }
 
 #[test]
@@ -168,5 +155,22 @@ fn deep_members_do_not_exhaust_a_small_stack() {
             under("c(0)"),
         );
         assert_eq!(on_a_small_stack(name, &sheet), "sound=yes\n");
+    }
+}
+
+#[test]
+fn deep_schemes_do_not_exhaust_a_small_stack() {
+    if notice::library_absent("deep schemes were not tried on it") {
+        return;
+    }
+    let under = |leaf| nested("h(", leaf, 4_000);
+    let (stays, first) = (under("tamXCfst(x0:Msg)"), under("x1:Msg"));
+    let pair = "key=x0:Msg\nvalue=tamXCpair(x1:Msg,x2:Msg)\n";
+    let both = format!("member={stays}\nmember={first}\n{pair}");
+    let one = format!("member={stays}\n");
+    for (members, said) in [(both, "yes"), (one, "no")] {
+        let sheet = format!("kind=complete\nterm={stays}\n{members}");
+        let answer = on_a_small_stack("schemes", &sheet);
+        assert_eq!(answer, format!("complete={said}\n"));
     }
 }

@@ -27,7 +27,7 @@ use Rattle.variants.specs.declared.soundness.Claim.{Claim}
 use Rattle.cover.specs.Covered.{Asks}
 use Rattle.archive.specs.Settling.{Settles}
 use Rattle.archive.specs.Admission.{Decoded}
-use Rattle.archive.specs.Answering.{answer-now, SettlesForm}
+use Rattle.archive.specs.Answering.{SettlesForm}
 use Rattle.archive.specs.Pairs.{ReadPairs}
 use Rattle.archive.specs.Outcomes.{CoverAsked}
 use Rattle.archive.specs.declared.answers.Settled.{Settled}
@@ -69,8 +69,8 @@ cover-asked s c d f e h =
 module _ (s : Text) (at : ℕ) (a : CoverAsked s at) where
   -- the answer, by what the pairs read as
   cover-answer : (o : Option (List Pair)) → read-pairs (a .entries) ≡ o
-      → answer-now (asks-cover (a .entries) (a .members)) ≡ (o >>= λ ps. some (line (bytes "covered=") (claim (covered ps (a .members)))))
-  unfolding answer-now answer-of
+      → answer-of (asks-cover (a .entries) (a .members)) ≡ (o >>= λ ps. some (line (bytes "covered=") (claim (covered ps (a .members)))))
+  unfolding answer-of
   cover-answer o e = ap (λ (o : Option (List Pair)). o >>= λ ps. some (line (bytes "covered=") (claim (covered ps (a .members))))) e
 
   pub cover-unread : (out : Text) → read-pairs (a .entries) ≡ none → SettlesForm (read-sheet s) out out Unreadable

@@ -13,7 +13,7 @@ use Rattle.rules.specs.Sheet.{Sheet, Member, asks-equal, asks-reduce, asks-soun
 use Rattle.sheet.specs.Members.{members-at}
 use Rattle.sheet.specs.declared.Cursor.{Cursor}
 use Rattle.rules.specs.Answer.{answer-of}
-use Rattle.rules.specs.Call.{Reply, refused, admitted, refusal-number, written, overwritten, cleared, work-after}
+use Rattle.rules.specs.Call.{Reply, refused, admitted, settled, call, refusal-number, written, overwritten, cleared, work-after}
 use Rattle.sheet.specs.Form.{text-of, sheet-of, form-words}
 use Rattle.sheet.specs.declared.Place.{Place}
 use Rattle.sheet.specs.declared.form.Form.{Form}
@@ -24,7 +24,7 @@ use Rattle.sheet.proofs.WalkLaws.{sound-member, complete-members}
 use Rattle.archive.specs.Clearing.{zeroed}
 use Rattle.archive.specs.Settling.{settles, settled-number, settled-count, Settles}
 use Rattle.archive.specs.Admission.{refusal-code, Decoded, Stands}
-use Rattle.archive.specs.Answering.{answer-now, SettlesForm, call-now, reply-number, reply-count, Answers}
+use Rattle.archive.specs.Answering.{SettlesForm, reply-number, reply-count, Answers}
 use Rattle.archive.specs.declared.Reply as code
 use Rattle.archive.specs.declared.Reply.the-variants as reply
 use Rattle.archive.specs.declared.admission.Refusal.{Refusal}
@@ -33,32 +33,31 @@ use Rattle.archive.specs.declared.answers.Settled.the-variants.{Unreadab
 use Rattle.archive.proofs.Giving.{settles-as, unreadable-settles}
 
 -- a sheet that was read is settled with its answer, and as the form that stands for it
-pub read-settled : (s : Text) (sheet : Sheet) (o : Option Text) {out v : Text} {x : Settled} → read-sheet s ≡ some sheet → answer-now sheet ≡ o → Settles o out v x → SettlesForm (read-sheet s) out v x
-read-settled s sheet o r e h other g = settles-as (ap answer-now (Option·some-injective other sheet (sym g ∙ r)) ∙ e) h
+pub read-settled : (s : Text) (sheet : Sheet) (o : Option Text) {out v : Text} {x : Settled} → read-sheet s ≡ some sheet → answer-of sheet ≡ o → Settles o out v x → SettlesForm (read-sheet s) out v x
+read-settled s sheet o r e h other g = settles-as (ap answer-of (Option·some-injective other sheet (sym g ∙ r)) ∙ e) h
 
 pub form-settled : (s : Text) (f : Form) {out v : Text} {x : Settled} → Decoded s f → SettlesForm (read-sheet s) out v x → SettlesForm (sheet-of s f) out v x
 form-settled s f d h sheet e = h sheet (d .reads ∙ sym (d .decodes) ∙ e)
 
 pub equal-settled : (s : Text) (l r : Place) (f : Form) {out v : Text} {x : Settled} → f ≡ form.Equal l r
     → Settles (answer-of (asks-equal (text-of s l) (text-of s r))) out v x → SettlesForm (sheet-of s f) out v x
-unfolding sheet-of answer-now
+unfolding sheet-of
 equal-settled s l r f {out} {v} {x} e h sheet g =
     let z : asks-equal (text-of s l) (text-of s r) ≡ sheet = cc (ap (sheet-of s) e) in
-    subst (λ (t : Sheet). Settles (answer-now t) out v x) z h
+    subst (λ (t : Sheet). Settles (answer-of t) out v x) z h
 
 pub reduce-settled : (s : Text) (t : Place) (f : Form) {out v : Text} {x : Settled} → f ≡ form.Reduce t
     → Settles (answer-of (asks-reduce (text-of s t))) out v x → SettlesForm (sheet-of s f) out v x
-unfolding sheet-of answer-now
+unfolding sheet-of
 reduce-settled s t f {out} {v} {x} e h sheet g =
     let z : asks-reduce (text-of s t) ≡ sheet = cc (ap (sheet-of s) e) in
-    subst (λ (t : Sheet). Settles (answer-now t) out v x) z h
+    subst (λ (t : Sheet). Settles (answer-of t) out v x) z h
 
 pub sound-settled : (s : Text) (t : Place) (c : Cursor) (f : Form) {out v : Text} {x : Settled} → f ≡ form.Sound t c
     → ((m : Member) → members-at s (c .at) ≡ some (m ∷ []) → Settles (answer-of (asks-sound (text-of s t) m)) out v x) → SettlesForm (sheet-of s f) out v x
-unfolding answer-now
 sound-settled s t c f {out} {v} {x} e h sheet g =
     let k = sound-member s t c sheet (ap (sheet-of s) (sym e) ∙ g) in
-    subst (λ (z : Sheet). Settles (answer-now z) out v x) (sym (k .1)) (h (k .0) (k .2))
+    subst (λ (z : Sheet). Settles (answer-of z) out v x) (sym (k .1)) (h (k .0) (k .2))
 
 -- every kind has the words of what is read and of one step, and those of its colons
 pub least-words : (s : Text) (f : Form) {n : ℕ} → form-words s f ≤ n → 1048576 + 16 * length s ≤ n
@@ -70,15 +69,15 @@ unfolding form-words
 colon-words s f h = omega arith
 
 -- the kind that is not answered yet
-not-now : (s : Text) (f : Form) (sheet : Sheet) → OneOf (6 ∷ 7 ∷ []) (tagOf the-type f) → sheet-of s f ≡ some sheet → answer-now sheet ≡ none
-unfolding sheet-of answer-now
+not-now : (s : Text) (f : Form) (sheet : Sheet) → OneOf (6 ∷ 7 ∷ []) (tagOf the-type f) → sheet-of s f ≡ some sheet → answer-of sheet ≡ none
+unfolding sheet-of
 not-now s (form.Equal l r) sheet h e = absurd (miss (6 ∷ 7 ∷ []) 0 tt h)
 not-now s (form.Unify fuel c) sheet h e = absurd (miss (6 ∷ 7 ∷ []) 1 tt h)
 not-now s (form.Match fuel c) sheet h e = absurd (miss (6 ∷ 7 ∷ []) 2 tt h)
 not-now s (form.Reduce t) sheet h e = absurd (miss (6 ∷ 7 ∷ []) 3 tt h)
 not-now s (form.Cover c d) sheet h e = absurd (miss (6 ∷ 7 ∷ []) 4 tt h)
 not-now s (form.Sound t c) sheet h e = absurd (miss (6 ∷ 7 ∷ []) 5 tt h)
-not-now s (form.Complete t c) sheet h e = ap answer-now (complete-members s t c sheet e .1)
+not-now s (form.Complete t c) sheet h e = ap answer-of (complete-members s t c sheet e .1)
 not-now s form.Three sheet h e = let z : _≡_ {A = ℕ} 0 1 = cc in absurd (omega arith)
 
 pub other-settled : (s : Text) (f : Form) (out : Text) → OneOf (6 ∷ 7 ∷ []) (tagOf the-type f) → SettlesForm (sheet-of s f) out out Unreadable
@@ -87,9 +86,9 @@ other-settled s f out h sheet e = settles-as (not-now s f sheet h e) (unreadable
 -- the whole call, by what was admitted and settled
 module _ (s : Text) (w : List ℕ) (out : Text) where
   pub refused-answers : (x : Refusal) → admitted s (length w) ≡ refused (refusal-code x) → Answers s w w out out (reply.Refused x)
-  unfolding call-now work-after
+  unfolding call settled settles work-after
   refused-answers x e =
-      let f : call-now s (length w) (length out) ≡ refused (refusal-code x) = rw e in
+      let f : call s (length w) (length out) ≡ refused (refusal-code x) = rw e in
       record {
         number = sym (ap refusal-number f);
         written-is = sym (ap written f);
@@ -103,10 +102,10 @@ module _ (s : Text) (w : List ℕ) (out : Text) where
 
     pub settled-answers : (v : List ℕ) (after : Text) (x : Settled) (r : code.Reply) → SettlesForm (sheet-of s f) out after x → v ≡ zeroed needed w
         → (reply-number r ≡ settled-number x) × (reply-count r ≡ settled-count x) → Answers s w v out after r
-    unfolding call-now work-after
+    unfolding call settled settles work-after
     settled-answers v after x r h z q =
         let k = h (a .decoded .sheet) (a .decoded .decodes) in
-        let g : call-now s (length w) (length out) ≡ settles (answer-now (a .decoded .sheet)) (length out) = rw (a .passes) in
+        let g : call s (length w) (length out) ≡ settles (answer-of (a .decoded .sheet)) (length out) = rw (a .passes) in
         record {
           number = q .0 ∙ k .number ∙ sym (ap refusal-number g);
           written-is = q .1 ∙ k .count ∙ sym (ap written g);

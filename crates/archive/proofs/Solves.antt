@@ -30,7 +30,7 @@ use Rattle.unifier.proofs.Children.{pairs-flatten}
 use Rattle.unifier.proofs.Fitting.{pairs-fit}
 use Rattle.archive.specs.Settling.{Settles}
 use Rattle.archive.specs.Admission.{Decoded}
-use Rattle.archive.specs.Answering.{answer-now, SettlesForm}
+use Rattle.archive.specs.Answering.{SettlesForm}
 use Rattle.archive.specs.Pairs.{ReadPairs}
 use Rattle.archive.specs.Outcomes.{asks, solve-by, Asked, told, Listed}
 use Rattle.archive.specs.declared.answers.Settled.{Settled}
@@ -40,8 +40,8 @@ use Rattle.archive.proofs.KindLaws.{read-settled}
 use Rattle.archive.proofs.RunRooms.{pair-names, run-words, run-cells}
 
 -- both kinds are answered in one way
-solving-answer : (b : Bool) (fuel : ℕ) (es : List Entry) → answer-now (asks b fuel es) ≡ (read-pairs es >>= λ ps. some (verdict-lines (solve-by b fuel ps)))
-unfolding answer-now answer-of
+solving-answer : (b : Bool) (fuel : ℕ) (es : List Entry) → answer-of (asks b fuel es) ≡ (read-pairs es >>= λ ps. some (verdict-lines (solve-by b fuel ps)))
+unfolding answer-of
 solving-answer true fuel es = refl
 solving-answer false fuel es = refl
 

@@ -1,6 +1,6 @@
 -- What the call wrote, compared with the answer stored, and a record's replay.
 use mathlib.Core.Path.{_≡_, refl, sym, ap, _∙_}
-use mathlib.Core.Bool.{Bool, true, false, _&&_, _||_}
+use mathlib.Core.Bool.{Bool, true, false, _&&_}
 use mathlib.Core.List.{List, [], _++_}
 use Prim.Native.Nat.{ℕ, _-_, _≤_}
 use native.Mathlib.Omega.{arith}
@@ -9,21 +9,14 @@ use lib.ListN.{length, take, drop, length-append, length-drop}
 use lib.Seq.{take-all, take-at, length-take-le}
 use borrow.Author.Tests.{le-leb, leb-true}
 use Rattle.rules.specs.Bytes.{Text, same}
-use Rattle.rules.specs.Call.{Reply, refused, passed, refusal-number, written, overwritten, work-after}
-use Rattle.archive.specs.Answering.{call-now, Calls}
+use Rattle.laws.proofs.Basics.Tests.{and-left, and-right}
+use Rattle.rules.specs.Call.{Reply, refused, passed, call, refusal-number, written, overwritten, work-after}
+use Rattle.archive.specs.Answering.{Calls}
 use Rattle.replay.specs.Replaying.{agreeing, Compares, Replays, lends, outcome, sheet-in, answer-in}
 use Rattle.replay.specs.declared.call.Record.{Record}
 use Rattle.replay.specs.declared.call.Outcome.the-variants.{Skipped}
 
 -- a test of several parts, by the part that decides it
-pub or-here : (a b r : Bool) → r ≡ a → r ≡ true → r ≡ a || b
-or-here a b r e t =
-    let h : a ≡ true = sym e ∙ t in
-    rw h t
-
-pub or-next : (a b r : Bool) → a ≡ false → r ≡ b → r ≡ a || b
-or-next a b r e f = rw e f
-
 pub and-no : (a b r : Bool) → r ≡ a → r ≡ false → r ≡ a && b
 and-no a b r e t =
     let h : a ≡ false = sym e ∙ t in
@@ -53,41 +46,28 @@ module _ (s : Text) (w v : List ℕ) (out after : Text) (number count : ℕ) (re
     output = called .output;
   }
     where
-      go : (n m : ℕ) (a : Text) → n ≡ refusal-number (call-now s (length w) (length out)) → m ≡ written (call-now s (length w) (length out))
-          → a ≡ overwritten (call-now s (length w) (length out)) out
-          → eqb n refusal && (leb m (length a) && same (take m a) answer) ≡ agreeing (call-now s (length w) (length out)) refusal answer
-      go n m a p q o = rw (p, q, o) (reply-agrees (call-now s (length w) (length out)) out refusal answer)
+      go : (n m : ℕ) (a : Text) → n ≡ refusal-number (call s (length w) (length out)) → m ≡ written (call s (length w) (length out))
+          → a ≡ overwritten (call s (length w) (length out)) out
+          → eqb n refusal && (leb m (length a) && same (take m a) answer) ≡ agreeing (call s (length w) (length out)) refusal answer
+      go n m a p q o = rw (p, q, o) (reply-agrees (call s (length w) (length out)) out refusal answer)
 
 module _ (list : Text) (stored : Record) (w : List ℕ) (out : Text) where
-  pub skipped : lends (sheet-in list stored) (length w) (length out) stored ≡ false → Replays list stored w w out out Skipped
+  pub skipped : lends (length w) (length out) stored ≡ false → Replays list stored w w out out Skipped
   skipped e = record { says = rw e; work = rw e; output = rw e }
 
-  pub lends-words : (b : Bool) → b ≡ lends (sheet-in list stored) (length w) (length out) stored → b ≡ true → stored .words ≤ length w
+  pub lends-words : (b : Bool) → b ≡ lends (length w) (length out) stored → b ≡ true → stored .words ≤ length w
   unfolding lends
-  lends-words b e t = leb-true (stored .words) (length w) (first (leb (stored .words) (length w)) _ (sym e ∙ t))
-    where
-      first : (x y : Bool) → x && y ≡ true → x ≡ true
-      first true y h = refl
-      first false y h = h
+  lends-words b e t = leb-true (stored .words) (length w) (and-left (leb (stored .words) (length w)) (leb (stored .room) (length out)) (sym e ∙ t))
 
-  pub lends-room : (b : Bool) → b ≡ lends (sheet-in list stored) (length w) (length out) stored → b ≡ true → stored .room ≤ length out
+  pub lends-room : (b : Bool) → b ≡ lends (length w) (length out) stored → b ≡ true → stored .room ≤ length out
   unfolding lends
-  lends-room b e t = leb-true (stored .room) (length out) (second (leb (stored .words) (length w)) (leb (stored .room) (length out)) _ (sym e ∙ t))
-    where
-      second : (x y z : Bool) → x && (y && z) ≡ true → y ≡ true
-      second true true z h = refl
-      second true false z h = h
-      second false y z h = go y h
-        where
-          go : (y : Bool) → false ≡ true → y ≡ true
-          go true h = refl
-          go false h = h
+  lends-room b e t = leb-true (stored .room) (length out) (and-right (leb (stored .words) (length w)) (leb (stored .room) (length out)) (sym e ∙ t))
 
-  pub replayed : (v' : List ℕ) (after' : Text) (b q r : Bool) → b ≡ q → r ≡ lends (sheet-in list stored) (length w) (length out) stored → r ≡ true
+  pub replayed : (v' : List ℕ) (after' : Text) (b q r : Bool) → b ≡ q → r ≡ lends (length w) (length out) stored → r ≡ true
       → Compares (sheet-in list stored) (take (stored .words) w) v' (take (stored .room) out) after' (stored .refusal) (answer-in list stored) b
       → Replays list stored w (v' ++ drop (stored .words) w) out (after' ++ drop (stored .room) out) (outcome true q)
   replayed v' after' b q r h l t c =
-      let e : lends (sheet-in list stored) (length w) (length out) stored ≡ true = sym l ∙ t in
+      let e : lends (length w) (length out) stored ≡ true = sym l ∙ t in
       let m : length (take (stored .words) w) ≡ stored .words = length-take-le (stored .words) w (lends-words r l t) in
       let n : length (take (stored .room) out) ≡ stored .room = length-take-le (stored .room) out (lends-room r l t) in
       record {

@@ -1,15 +1,14 @@
 -- What a record in form is, when a record is replayed and what its replay gives. Definitions only.
 use Prim.Native.Nat.{ℕ, _-_}
 use mathlib.Core.Path.{_≡_}
-use mathlib.Core.Bool.{Bool, true, false, cond, not, _&&_, _||_}
+use mathlib.Core.Bool.{Bool, true, false, cond, _&&_}
 use mathlib.Core.List.{List, [], _++_}
 use lib.Dec.{eqb, leb}
 use lib.ListN.{length, getD, take, drop}
 use Rattle.rules.specs.Bytes.{Text, same}
 use Rattle.rules.specs.Text.{bytes}
-use Rattle.rules.specs.Call.{Reply, refused, passed, overwritten, work-after}
+use Rattle.rules.specs.Call.{Reply, refused, passed, call, overwritten, work-after}
 use Rattle.text.specs.Prefix.{begins-with}
-use Rattle.archive.specs.Answering.{call-now}
 use Rattle.replay.specs.declared.call.Record.{Record}
 use Rattle.replay.specs.declared.call.Outcome.{Outcome}
 use Rattle.replay.specs.declared.call.Outcome.the-variants.{Agrees, Differs, Skipped}
@@ -24,17 +23,9 @@ sheet-in list stored = take (stored .answer - stored .sheet) (drop (stored .shee
 abbrev pub answer-in : Text → Record → Text
 answer-in list stored = take (stored .end - stored .answer) (drop (stored .answer) list)
 
--- the kind that the call does not answer yet
-abbrev pub unanswered : Text → Bool
-unanswered sheet = begins-with (bytes "kind=complete\n") sheet
-
--- a refusal that comes before the kind is answered
-abbrev pub early : ℕ → Bool
-early refusal = eqb refusal 1 || (eqb refusal 2 || (eqb refusal 3 || eqb refusal 11))
-
--- there are the words and the room that the record lends, and its reply is not that of the kind not answered yet
-unfoldable pub lends : Text → ℕ → ℕ → Record → Bool
-lends sheet words room stored = leb (stored .words) words && (leb (stored .room) room && (early (stored .refusal) || not (unanswered sheet)))
+-- there are the words and the room that the record lends
+unfoldable pub lends : ℕ → ℕ → Record → Bool
+lends words room stored = leb (stored .words) words && leb (stored .room) room
 
 -- the reply is the one stored: its number and its bytes
 unfoldable pub agreeing : Reply Text → ℕ → Text → Bool
@@ -44,9 +35,9 @@ agreeing (passed text) refusal answer = eqb 0 refusal && same text answer
 
 -- r says whether the call's reply is the one stored; every word and byte after it is the call's
 pub record Compares (s : Text) (w v : List ℕ) (out after : Text) (refusal : ℕ) (answer : Text) (r : Bool) : Type 0 where
-  pub agrees : r ≡ agreeing (call-now s (length w) (length out)) refusal answer
+  pub agrees : r ≡ agreeing (call s (length w) (length out)) refusal answer
   pub work : v ≡ work-after s w
-  pub output : after ≡ overwritten (call-now s (length w) (length out)) out
+  pub output : after ≡ overwritten (call s (length w) (length out)) out
 
 -- what is said of a record, replayed or not, that agrees or not
 abbrev pub outcome : Bool → Bool → Outcome
@@ -56,6 +47,6 @@ outcome true false = Differs
 
 -- r is what the record's replay gives, with the words and the bytes that the record lends; the others are kept
 pub record Replays (list : Text) (stored : Record) (w v : List ℕ) (out after : Text) (r : Outcome) : Type 0 where
-  pub says : r ≡ outcome (lends (sheet-in list stored) (length w) (length out) stored) (agreeing (call-now (sheet-in list stored) (stored .words) (stored .room)) (stored .refusal) (answer-in list stored))
-  pub work : v ≡ cond (lends (sheet-in list stored) (length w) (length out) stored) (work-after (sheet-in list stored) (take (stored .words) w) ++ drop (stored .words) w) w
-  pub output : after ≡ cond (lends (sheet-in list stored) (length w) (length out) stored) (overwritten (call-now (sheet-in list stored) (stored .words) (stored .room)) (take (stored .room) out) ++ drop (stored .room) out) out
+  pub says : r ≡ outcome (lends (length w) (length out) stored) (agreeing (call (sheet-in list stored) (stored .words) (stored .room)) (stored .refusal) (answer-in list stored))
+  pub work : v ≡ cond (lends (length w) (length out) stored) (work-after (sheet-in list stored) (take (stored .words) w) ++ drop (stored .words) w) w
+  pub output : after ≡ cond (lends (length w) (length out) stored) (overwritten (call (sheet-in list stored) (stored .words) (stored .room)) (take (stored .room) out) ++ drop (stored .room) out) out

@@ -1,6 +1,5 @@
 // One record of the list through the call.
 use archive::yukhtsami_answer;
-use text::begins;
 use text::places::wide;
 use text::same;
 ghost use mathlib.Core.Path.{_≡_};
@@ -9,7 +8,7 @@ ghost use lib.Dec.{eqb, leb};
 ghost use lib.ListN.{length, take};
 ghost use Rattle.rules.specs.Bytes.{same};
 ghost use Rattle.replay.specs.Inside.{Inside};
-ghost use Rattle.replay.specs.Replaying.{unanswered, early, lends, Compares, Replays};
+ghost use Rattle.replay.specs.Replaying.{lends, Compares, Replays};
 
 // A record: the words and bytes of output lent, the refusal, where its label, its sheet and its
 // answer start, and where its answer ends.
@@ -29,13 +28,6 @@ pub enum Outcome {
     Skipped,
 }
 
-// Whether a sheet is of the kind that the call does not answer yet.
-fn unanswered(sheet: &[u8]) -> bool
-    ensures { λ r. ⌜ r ≡ unanswered (now (sheet .entry)) ⌝ }
-{
-    begins(sheet, b"kind=complete\n")
-}
-
 fn equals(a: usize, b: usize) -> bool
     ensures { λ r. ⌜ r ≡ eqb a b ⌝ }
 {
@@ -48,20 +40,11 @@ fn reaches(room: usize, count: usize) -> bool
     count <= room
 }
 
-// Whether a refusal comes before the kind is answered.
-fn early(refusal: usize) -> bool
-    ensures { λ r. ⌜ r ≡ early refusal ⌝ }
+// Whether there are the words and the room that a record lends.
+fn lends(words: usize, room: usize, stored: Record) -> bool
+    ensures { λ r. ⌜ r ≡ lends words room stored ⌝ }
 {
-    equals(refusal, 1) || (equals(refusal, 2) || (equals(refusal, 3) || equals(refusal, 11)))
-}
-
-// Whether there are the words and the room that a record lends, and its reply is not that of the kind
-// not answered yet.
-fn lends(sheet: &[u8], words: usize, room: usize, stored: Record) -> bool
-    ensures { λ r. ⌜ r ≡ lends (now (sheet .entry)) words room stored ⌝ }
-{
-    reaches(words, stored.words)
-        && (reaches(room, stored.room) && (early(stored.refusal) || !unanswered(sheet)))
+    reaches(words, stored.words) && reaches(room, stored.room)
 }
 
 // Whether so many bytes of the output are the answer.
@@ -85,7 +68,7 @@ fn agrees(sheet: &[u8], work: &mut [u32], output: &mut [u8], refusal: usize, ans
     equals(wide(given), refusal) && held
 }
 
-// Replays a record, if it lends what is there and its reply is not that of the kind not answered yet.
+// Replays a record, if it lends what is there.
 pub fn replay(list: &[u8], work: &mut [u32], output: &mut [u8], stored: Record) -> Outcome
     requires { ⌜ Inside (now list) stored ⌝ }
     ensures { λ r. ⌜ Replays (now (list .entry)) stored (now (work .entry)) (now (work .exit)) (now (output .entry)) (now (output .exit)) r ⌝ }
@@ -97,7 +80,7 @@ pub fn replay(list: &[u8], work: &mut [u32], output: &mut [u8], stored: Record) 
     let room = stored.room;
     let refusal = stored.refusal;
     let sheet = &list[from..middle];
-    if !lends(sheet, work.len(), output.len(), stored) {
+    if !lends(work.len(), output.len(), stored) {
         return Outcome::Skipped;
     }
     let answer = &list[middle..to];

@@ -114,14 +114,25 @@ fn composed(rng: &mut Rng) -> String {
     lines
 }
 
+// Few schemes, and up to 4,096 and beyond; now and then many members that generalize none.
 fn schemes(rng: &mut Rng) -> String {
     let flips = |count: usize| leaves("g", "tamXCflip(x0:Msg)", count);
-    let term = match rng.below(3) {
+    let opened = |count: usize| {
+        let one = |index| format!("tamXCsdec(x{index}:Msg,k)");
+        let list: Vec<String> = (0..count).map(one).collect();
+        format!("g({})", list.join(","))
+    };
+    let term = match rng.weighted(&[6, 6, 2, 1, 1, 1]) {
         0 => chain("tamXCfst", "c(0)", rng.between(1, 6)),
         1 => flips(rng.between(1, 4)),
-        _ => leaves("g", "tamXCfst(a)", 13),
+        2 => leaves("g", "tamXCfst(a)", rng.between(12, 13)),
+        3 => flips(rng.between(7, 8)),
+        4 => opened(rng.between(8, 13)),
+        _ => chain("tamXCsnd", "x0:Msg", rng.between(9, 13)),
     };
-    format!("kind=complete\nterm={term}\nmember={term}\n")
+    let others = "member=c(9)\n".repeat(rng.below(40));
+    let last = if rng.once_in(2) { "#0:Msg" } else { &term };
+    format!("kind=complete\nterm={term}\n{others}member={last}\n")
 }
 
 fn instance(rng: &mut Rng) -> String {
