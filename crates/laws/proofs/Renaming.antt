@@ -6,3 +6,4 @@ pub mod Unifying
 pub mod Matching
 pub mod Reducing
 pub mod Completing
+pub mod Unspelled
