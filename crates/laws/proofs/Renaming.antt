@@ -7,3 +7,5 @@ pub mod Matching
 pub mod Reducing
 pub mod Completing
 pub mod Unspelled
+pub mod Naming
+pub mod Exchange
