@@ -1,5 +1,5 @@
 -- Every name of a tree that is read stands in its text.
-use Prim.Native.Nat.{ℕ, zero, suc, _+_, _≤_}
+use Prim.Native.Nat.{ℕ, zero, suc, _≤_}
 use native.Mathlib.Omega.{arith}
 use mathlib.Core.Path.{_≡_, refl, sym, _∙_, ap, subst}
 use mathlib.Core.List.{List, [], _∷_, _++_, append-assoc}
@@ -35,12 +35,11 @@ abbrev Between : Text → Text → Type 0
 Between s x = (p : Text) × (q : Text) × (s ≡ p ++ (x ++ q))
 
 part-between : (s x : Text) → PartOf s x → Between s x
-part-between s x (a, n, e) =
-    (
-      take a s,
-      drop n (drop a s),
-      sym (take-append-drop a s) ∙ ap (λ (r : Text). take a s ++ r) (sym (take-append-drop n (drop a s)) ∙ ap (λ (y : Text). y ++ drop n (drop a s)) e),
-    )
+part-between s x (a, n, e) = (
+  take a s,
+  drop n (drop a s),
+  sym (take-append-drop a s) ∙ ap (λ (r : Text). take a s ++ r) (sym (take-append-drop n (drop a s)) ∙ ap (λ (y : Text). y ++ drop n (drop a s)) e),
+)
 
 between-part : (s x : Text) → Between s x → PartOf s x
 between-part s x (p, q, e) =
@@ -55,7 +54,7 @@ part-of-part s t x h k =
       p ++ u,
       v ++ q,
       e ∙ ap (λ (y : Text). p ++ (y ++ q)) f ∙ ap (λ (y : Text). p ++ y) (append-assoc u (x ++ v) q ∙ ap (λ (y : Text). u ++ y) (append-assoc x v q))
-      ∙ sym (append-assoc p u (x ++ (v ++ q))),
+          ∙ sym (append-assoc p u (x ++ (v ++ q))),
     )
 
 pub part-length : (s x : Text) → PartOf s x → length x ≤ length s

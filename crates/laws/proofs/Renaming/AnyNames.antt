@@ -2,10 +2,10 @@
 -- spells, or a fresh one that is not spelled, over arguments. So it is with the members of a sheet.
 use Prim.Native.Nat.{ℕ, suc, max, _≤_, _<_}
 use native.Mathlib.Omega.{arith}
-use mathlib.Core.Path.{_≡_, refl, sym, _∙_, ap, subst}
+use mathlib.Core.Path.{_≡_, sym, _∙_, ap, subst}
 use mathlib.Core.Bool.{Bool, true, false, cond}
 use mathlib.Core.List.{List, [], _∷_, map}
-use mathlib.Core.Option.{Option, some, none as nothing, Option·some-injective}
+use mathlib.Core.Option.{some, Option·some-injective}
 use lib.ListN.{length}
 use Rattle.rules.specs.Bytes.{Text}
 use Rattle.rules.specs.Names.{variable-token}
@@ -15,7 +15,7 @@ use Rattle.rules.specs.Reading.{parse}
 use Rattle.rules.specs.Sheet.{Member, asks-complete, read-sheet}
 use Rattle.rules.specs.Cover.{variables}
 use Rattle.rules.specs.Variants.{Variant, read-member, index-of, fresh-base, fresh-base-in, fresh-from, Scheme, schemes-from, scheme-count, solved-schemes, all-generalized, complete}
-use Rattle.rules.specs.Schemes.{pending, judged, judged-from}
+use Rattle.rules.specs.Schemes.{pending, judged-from}
 use Rattle.rules.specs.Memory.{variable-names, variable-names-in, member-texts, sheet-texts}
 use Rattle.rules.specs.Substitution.{Binding}
 use Rattle.rules.specs.Tidy.{Built}
@@ -23,7 +23,7 @@ use Rattle.laws.specs.Parts.{PartOf}
 use Rattle.laws.specs.Unspelled.{unspelled, chosen}
 use Rattle.laws.proofs.Basics.Options.{bound}
 use Rattle.laws.proofs.Reading.Builds.{builds}
-use Rattle.laws.proofs.Reading.Spelled.{Named, NamedIn, AllNames, AllHeads, named-map, part-spelled}
+use Rattle.laws.proofs.Reading.Spelled.{NamedIn, AllHeads, named-map, part-spelled}
 use Rattle.laws.proofs.Sheets.SheetParts.{sheet-parts, TreesOf, members-all}
 use Rattle.laws.proofs.Variants.Targets.{All, all-append, Good, schemes-good, fresh-tokens}
 use Rattle.laws.proofs.Variants.OnePass.{one-pass, complete-judged}

@@ -1,6 +1,6 @@
 -- The renaming that takes each name that no sheet spells, put in place of a fresh one that is not spelled, to that fresh name, x<i>:Msg
 -- from a base on, and back. It keeps every other name, so each with an index below the base.
-use Prim.Native.Nat.{ℕ, suc, _+_, _-_, _≤_, _<_}
+use Prim.Native.Nat.{ℕ, suc, _+_, _-_, _<_}
 use native.Mathlib.Omega.{arith}
 use mathlib.Core.Path.{_≡_, refl, sym, _∙_, ap, ap₂}
 use mathlib.Core.Bool.{Bool, true, false, cond, not, _&&_, true≢false, false≢true}

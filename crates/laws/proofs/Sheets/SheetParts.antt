@@ -243,6 +243,6 @@ module _ (P : Text → Type 0) (Q : Tree → Type 0) (reads : (x : Text) (t : Tr
       let (ws, i, h₂) = bound (every (map read-member ms)) (λ us. some (v ∷ us)) vs h₁ in
       subst (All (TreesOf Q)) (Option·some-injective (v ∷ ws) vs h₂) (
         subst (TreesOf Q) (Option·some-injective (t, bs) v e₂)
-        (reads (m .0) t (k .0) f, entries-all (m .1) bs g (all-left P (entry-values (m .1)) (member-texts ms) (k .1))),
+            (reads (m .0) t (k .0) f, entries-all (m .1) bs g (all-left P (entry-values (m .1)) (member-texts ms) (k .1))),
         members-all ms ws i (all-right P (entry-values (m .1)) (member-texts ms) (k .1)),
       )
