@@ -15,7 +15,8 @@ use crate::{
 const HELP: &str = "\
 host: the reference of the call, generated sheets and the stored list
 
-  host answer FILE                      the reference's answer to the sheet in FILE; a refusal
+  host answer FILE                      the proved call's answer to the sheet in FILE, or the
+                                        reference's where the library is absent; a refusal
                                         goes to standard error and is the exit status (100:
                                         the command line or the file is at fault)
   host store                            write the stored list anew
@@ -84,13 +85,35 @@ fn options(words: &[String], allowed: &[&str], count: usize) -> Result<Options, 
     Ok(found)
 }
 
+// The most bytes of output that are lent for an answer.
+const MOST_ROOM: usize = 1 << 30;
+
+// The reply of the proved call, with the words that the sheet needs and as much room as its answer takes.
+fn replied(bytes: &[u8]) -> Reply {
+    let needed = sheet::read(bytes).map_or(0, |read| sheet::words_needed(bytes, &read));
+    let mut work = vec![0; needed as usize];
+    let mut output = vec![0; sheet::LONGEST];
+    loop {
+        match library::answer(bytes, &mut work, &mut output) {
+            Ok(written) => return Reply::Answer(output[..written].to_vec()),
+            Err(12) if output.len() < MOST_ROOM => output.resize(4 * output.len(), 0),
+            Err(refusal) => return Reply::Refused(refusal),
+        }
+    }
+}
+
 fn answer(words: &[String]) -> Outcome {
     let [file] = words else {
         return Err("answer takes one file; see host --help".to_owned());
     };
-    notice::absent("the model answers alone");
     let bytes = fs::read(file).map_err(|error| format!("{file}: {error}"))?;
-    match reference::call(&bytes, u64::MAX, usize::MAX) {
+    let reply = if notice::library_absent("the reference answers") {
+        notice::absent("the model answers alone");
+        reference::call(&bytes, u64::MAX, usize::MAX)
+    } else {
+        replied(&bytes)
+    };
+    match reply {
         Reply::Answer(answer) => {
             print!("{}", String::from_utf8_lossy(&answer));
             Ok(ExitCode::SUCCESS)

@@ -25,14 +25,14 @@ use Rattle.unifier.specs.Stack.{pairs-at}
 use Rattle.variants.specs.Soundness as code
 use Rattle.variants.specs.declared.soundness.Claim.{Claim}
 use Rattle.cover.specs.Covered.{Asks}
-use Rattle.archive.specs.Settling.{Settles}
+use Rattle.archive.specs.Settling.{Settles, claim-text}
 use Rattle.archive.specs.Admission.{Decoded}
 use Rattle.archive.specs.Answering.{SettlesForm}
 use Rattle.archive.specs.Pairs.{ReadPairs}
 use Rattle.archive.specs.Outcomes.{CoverAsked}
 use Rattle.archive.specs.declared.answers.Settled.{Settled}
 use Rattle.archive.specs.declared.answers.Settled.the-variants.{Unreadable}
-use Rattle.archive.proofs.Giving.{unreadable-settles}
+use Rattle.archive.proofs.Giving.{unreadable-settles, claim-line}
 use Rattle.archive.proofs.KindLaws.{read-settled}
 use Rattle.archive.proofs.Solves.{read-whole, read-are}
 
@@ -76,11 +76,11 @@ module _ (s : Text) (at : ℕ) (a : CoverAsked s at) where
   pub cover-unread : (out : Text) → read-pairs (a .entries) ≡ none → SettlesForm (read-sheet s) out out Unreadable
   cover-unread out e = read-settled s (asks-cover (a .entries) (a .members)) none (a .reads) (cover-answer none e) (unreadable-settles out)
 
-  module _ {w v : List ℕ} {i m c : ℕ} (r : ReadPairs s w v (a .entries) (a .rest) i m c) where
-    members-there : members-at s c ≡ some (a .members)
-    members-there = members-later s c (a .rest) (a .members) (r .lines) (a .later)
+  module _ {w v : List ℕ} {i m d : ℕ} (r : ReadPairs s w v (a .entries) (a .rest) i m d) where
+    members-there : members-at s d ≡ some (a .members)
+    members-there = members-later s d (a .rest) (a .members) (r .lines) (a .later)
 
-    pub cover-asks : 65536 * (count-of 58 s + 16) + 16 * length s ≤ length w → Asks s v m i c
+    pub cover-asks : 65536 * (count-of 58 s + 16) + 16 * length s ≤ length w → Asks s v m i d
     cover-asks enough = record {
       entries = a .entries;
       members = a .members;
@@ -94,10 +94,10 @@ module _ (s : Text) (at : ℕ) (a : CoverAsked s at) where
       words = omega (arith, r .len);
     }
 
-    pub cover-settled : (given x : Claim) {out after : Text} {y : Settled} → ((ms : List Member) → members-at s c ≡ some ms → code.claim given ≡ covered (pairs-at s v i) ms) → given ≡ x
-        → Settles (some (line (bytes "covered=") (claim (code.claim x)))) out after y → SettlesForm (read-sheet s) out after y
-    cover-settled given x h e k =
-        read-settled s (asks-cover (a .entries) (a .members)) (some (line (bytes "covered=") (claim (code.claim x)))) (a .reads)
+    pub cover-settled : (c : Claim) {out after : Text} {y : Settled} → ((ms : List Member) → members-at s d ≡ some ms → code.claim c ≡ covered (pairs-at s v i) ms)
+        → Settles (some (claim-text c (bytes "covered=yes\n") (bytes "covered=no\n") (bytes "covered=none\n"))) out after y → SettlesForm (read-sheet s) out after y
+    cover-settled c h k =
+        read-settled s (asks-cover (a .entries) (a .members)) (some (claim-text c (bytes "covered=yes\n") (bytes "covered=no\n") (bytes "covered=none\n"))) (a .reads)
         (cover-answer (some (r .ps)) (r .read) ∙ ap (λ (ps : List Pair). some (line (bytes "covered=") (claim (covered ps (a .members))))) (sym (read-are r))
-        ∙ ap (λ (o : Option Bool). some (line (bytes "covered=") (claim o))) (sym (h (a .members) members-there) ∙ ap code.claim e))
+        ∙ ap (λ (o : Option Bool). some (line (bytes "covered=") (claim o))) (sym (h (a .members) members-there)) ∙ ap some (sym (claim-line (bytes "covered=") c)))
         k

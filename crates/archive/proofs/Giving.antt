@@ -11,11 +11,15 @@ use native.Mathlib.Nat.{zero-add}
 use borrow.Author.Tests.{le-leb, lt-leb}
 use Rattle.rules.specs.Bytes.{Text}
 use Rattle.rules.specs.Call.{Reply, refused, passed, refusal-number, written, overwritten}
-use Rattle.rules.specs.Answer.{line}
+use Rattle.rules.specs.Text.{bytes}
+use Rattle.rules.specs.Answer.{line, claim}
+use Rattle.variants.specs.Soundness as code
+use Rattle.variants.specs.declared.soundness.Claim.{Claim}
+use Rattle.variants.specs.declared.soundness.Claim.the-variants as claims
 use Rattle.tree.proofs.Printing.{printed-then}
 use Rattle.tree.specs.Output as Output
 use Rattle.tree.specs.Output.{Printed}
-use Rattle.archive.specs.Settling.{settles, Settles}
+use Rattle.archive.specs.Settling.{settles, Settles, claim-text}
 use Rattle.archive.specs.declared.answers.Settled.{Settled}
 use Rattle.archive.specs.declared.answers.Settled.the-variants.{Written, Unreadable, Short}
 
@@ -65,3 +69,9 @@ pub line-settles : (key v out a b c : Text) {i j n : ℕ} → length key + lengt
 line-settles key v out a b c {n = n} h p q r =
     let e = line-length key v in
     written-settles (line key v) out c n (omega arith) (line-printed key v (omega arith) p q r)
+
+-- what is claimed, as a line
+pub claim-line : (key : Text) (c : Claim) → claim-text c (line key (bytes "yes")) (line key (bytes "no")) (line key (bytes "none")) ≡ line key (claim (code.claim c))
+claim-line key claims.Yes = refl
+claim-line key claims.No = refl
+claim-line key claims.Nothing = refl

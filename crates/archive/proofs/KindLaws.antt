@@ -5,8 +5,6 @@ use mathlib.Core.Option.{Option, some, none, Option·some-injective}
 use Prim.Native.Nat.{ℕ, _+_, _*_, _≤_}
 use lib.ListN.{length}
 use native.Mathlib.Omega.{arith}
-use denote.Enum.Declared.{tagOf}
-use types.Run.{OneOf, miss}
 use Rattle.rules.specs.Bytes.{Text}
 use Rattle.rules.specs.Text.{count-of}
 use Rattle.rules.specs.Sheet.{Sheet, Member, asks-equal, asks-reduce, asks-sound, read-sheet}
@@ -14,13 +12,12 @@ use Rattle.sheet.specs.Members.{members-at}
 use Rattle.sheet.specs.declared.Cursor.{Cursor}
 use Rattle.rules.specs.Answer.{answer-of}
 use Rattle.rules.specs.Call.{Reply, refused, admitted, settled, call, refusal-number, written, overwritten, cleared, work-after}
-use Rattle.sheet.specs.Form.{text-of, sheet-of, form-words}
+use Rattle.sheet.specs.Form.{text-of, sheet-of, form-raise, form-words}
 use Rattle.sheet.specs.declared.Place.{Place}
 use Rattle.sheet.specs.declared.form.Form.{Form}
 use Rattle.sheet.specs.declared.form.Form.the-variants as form
-use Rattle.sheet.proofs.form.Form.{the-type}
 use Rattle.sheet.proofs.WordLaws.{words-same}
-use Rattle.sheet.proofs.WalkLaws.{sound-member, complete-members}
+use Rattle.sheet.proofs.WalkLaws.{sound-member}
 use Rattle.archive.specs.Clearing.{zeroed}
 use Rattle.archive.specs.Settling.{settles, settled-number, settled-count, Settles}
 use Rattle.archive.specs.Admission.{refusal-code, Decoded, Stands}
@@ -30,7 +27,7 @@ use Rattle.archive.specs.declared.Reply.the-variants as reply
 use Rattle.archive.specs.declared.admission.Refusal.{Refusal}
 use Rattle.archive.specs.declared.answers.Settled.{Settled}
 use Rattle.archive.specs.declared.answers.Settled.the-variants.{Unreadable}
-use Rattle.archive.proofs.Giving.{settles-as, unreadable-settles}
+use Rattle.archive.proofs.Giving.{settles-as}
 
 -- a sheet that was read is settled with its answer, and as the form that stands for it
 pub read-settled : (s : Text) (sheet : Sheet) (o : Option Text) {out v : Text} {x : Settled} → read-sheet s ≡ some sheet → answer-of sheet ≡ o → Settles o out v x → SettlesForm (read-sheet s) out v x
@@ -68,20 +65,16 @@ pub colon-words : (s : Text) (f : Form) {n : ℕ} → form-words s f ≤ n → 6
 unfolding form-words
 colon-words s f h = omega arith
 
--- the kind that is not answered yet
-not-now : (s : Text) (f : Form) (sheet : Sheet) → OneOf (6 ∷ 7 ∷ []) (tagOf the-type f) → sheet-of s f ≡ some sheet → answer-of sheet ≡ none
-unfolding sheet-of
-not-now s (form.Equal l r) sheet h e = absurd (miss (6 ∷ 7 ∷ []) 0 tt h)
-not-now s (form.Unify fuel c) sheet h e = absurd (miss (6 ∷ 7 ∷ []) 1 tt h)
-not-now s (form.Match fuel c) sheet h e = absurd (miss (6 ∷ 7 ∷ []) 2 tt h)
-not-now s (form.Reduce t) sheet h e = absurd (miss (6 ∷ 7 ∷ []) 3 tt h)
-not-now s (form.Cover c d) sheet h e = absurd (miss (6 ∷ 7 ∷ []) 4 tt h)
-not-now s (form.Sound t c) sheet h e = absurd (miss (6 ∷ 7 ∷ []) 5 tt h)
-not-now s (form.Complete t c) sheet h e = ap answer-of (complete-members s t c sheet e .1)
-not-now s form.Three sheet h e = let z : _≡_ {A = ℕ} 0 1 = cc in absurd (omega arith)
+-- the words of `complete`
+pub complete-words : (s : Text) (t : Place) (c : Cursor) (f : Form) {n : ℕ} → f ≡ form.Complete t c → form-words s f ≤ n
+    → 65536 * (count-of 58 s + 2 * count-of 40 (text-of s t) + 16) + 16 * length s ≤ n
+unfolding form-words
+complete-words s t c f e h = let k = ap (form-raise s) e in omega arith
 
-pub other-settled : (s : Text) (f : Form) (out : Text) → OneOf (6 ∷ 7 ∷ []) (tagOf the-type f) → SettlesForm (sheet-of s f) out out Unreadable
-other-settled s f out h sheet e = settles-as (not-now s f sheet h e) (unreadable-settles out)
+-- no sheet that is read stands as three
+pub never-three : (s : Text) (f : Form) (out : Text) → f ≡ form.Three → Decoded s f → SettlesForm (sheet-of s f) out out Unreadable
+unfolding sheet-of
+never-three s f out e d sheet g = let z : _≡_ {A = ℕ} 0 1 = cc (ap (sheet-of s) e) in absurd (omega arith)
 
 -- the whole call, by what was admitted and settled
 module _ (s : Text) (w : List ℕ) (out : Text) where

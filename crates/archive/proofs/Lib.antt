@@ -9,6 +9,7 @@ pub mod Reversing
 pub mod RunRooms
 pub mod Solves
 pub mod Covers
+pub mod Completes
 pub mod Sounds
 pub mod KindLaws
 pub mod VerdictLines

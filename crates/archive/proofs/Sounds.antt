@@ -12,14 +12,16 @@ use Rattle.rules.specs.Variants.{sound}
 use Rattle.rules.specs.Answer.{line, claim, answer-of}
 use Rattle.variants.specs.Soundness as code
 use Rattle.variants.specs.declared.soundness.Claim.{Claim}
+use Rattle.archive.specs.Settling.{claim-text}
+use Rattle.archive.proofs.Giving.{claim-line}
 
 pub sound-unreadable : (t : Text) (m : Member) → parse t ≡ none → answer-of (asks-sound t m) ≡ none
 unfolding answer-of
 sound-unreadable t m e = ap (λ (o : Option Tree). o >>= λ u. some (line (bytes "sound=") (claim (sound u m)))) e
 
-pub sound-line : (t : Text) (m : Member) (u : Tree) (c x : Claim) → parse t ≡ some u → code.claim c ≡ sound u m → c ≡ x
-    → answer-of (asks-sound t m) ≡ some (line (bytes "sound=") (claim (code.claim x)))
+pub sound-line : (t : Text) (m : Member) (u : Tree) (c : Claim) → parse t ≡ some u → code.claim c ≡ sound u m
+    → answer-of (asks-sound t m) ≡ some (claim-text c (bytes "sound=yes\n") (bytes "sound=no\n") (bytes "sound=none\n"))
 unfolding answer-of
-sound-line t m u c x e f g =
+sound-line t m u c e f =
     ap (λ (o : Option Tree). o >>= λ u. some (line (bytes "sound=") (claim (sound u m)))) e
-    ∙ ap (λ (o : Option Bool). some (line (bytes "sound=") (claim o))) (sym f ∙ ap code.claim g)
+    ∙ ap (λ (o : Option Bool). some (line (bytes "sound=") (claim o))) (sym f) ∙ ap some (sym (claim-line (bytes "sound=") c))

@@ -1,4 +1,4 @@
--- The answer to a sheet of kind `unify`, `match` or `cover`, as the code makes it. Definitions only.
+-- What a sheet of kind `unify`, `match`, `cover` or `complete` asks, and the answer as the code makes it. Definitions only.
 use Prim.Native.Nat.{ℕ, _<_, _≤_}
 use mathlib.Core.Path.{_≡_}
 use mathlib.Core.Bool.{Bool, true, false}
@@ -10,11 +10,14 @@ use Rattle.rules.specs.Maybe.{_>>=_}
 use Rattle.rules.specs.Substitution.{Pair}
 use Rattle.rules.specs.Solving.{solved, failed, unsupported, Answer, unify}
 use Rattle.rules.specs.Matching.{matcher}
-use Rattle.rules.specs.Sheet.{Sheet, Entry, Member, asks-unify, asks-match, asks-cover, pairs, members-from, none-waiting, read-sheet}
+use Rattle.rules.specs.Sheet.{Sheet, Entry, Member, asks-unify, asks-match, asks-cover, asks-complete, pairs, members-from, none-waiting, read-sheet}
 use Rattle.tree.specs.Cells.{trees-at}
 use Rattle.tree.specs.Arena.{Arena}
 use Rattle.substitution.specs.Bindings.{bindings-at, Chain}
 use Rattle.sheet.specs.Lines.{lines-at}
+use Rattle.sheet.specs.Members.{members-at}
+use Rattle.sheet.specs.Form.{text-of, Inside}
+use Rattle.sheet.specs.declared.Place.{Place}
 use Rattle.unifier.specs.declared.unifying.Outcome.{Outcome}
 use Rattle.unifier.specs.declared.unifying.Outcome.the-variants as outcome
 
@@ -45,6 +48,16 @@ pub record CoverAsked (s : Text) (at : ℕ) : Type 0 where
   pub later : none-waiting (members-from rest) ≡ some members
   pub reads : read-sheet s ≡ some (asks-cover entries members)
   pub short : length s ≤ 65536
+  pub inside : at ≤ length s
+
+-- the sheet asks whether its members, which stand from a position on, are complete for its term
+pub record CompleteAsked (s : Text) (t : Place) (at : ℕ) : Type 0 where
+  pub members : List Member
+  pub reads : read-sheet s ≡ some (asks-complete (text-of s t) members)
+  pub later : members-at s at ≡ some members
+  pub short : length s ≤ 65536
+  pub placed : Inside s t
+  pub follows : t .to ≤ at
   pub inside : at ≤ length s
 
 -- the answer that an outcome stands for

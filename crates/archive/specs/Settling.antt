@@ -6,6 +6,8 @@ use lib.Dec.{leb}
 use lib.ListN.{length}
 use Rattle.rules.specs.Bytes.{Text}
 use Rattle.rules.specs.Call.{Reply, passed, _>>=_, given, need, refusal-number, written, overwritten}
+use Rattle.variants.specs.declared.soundness.Claim.{Claim}
+use Rattle.variants.specs.declared.soundness.Claim.the-variants as claims
 use Rattle.archive.specs.declared.answers.Settled.{Settled}
 use Rattle.archive.specs.declared.answers.Settled.the-variants.{Written, Unreadable, Short}
 
@@ -32,3 +34,9 @@ pub record Settles (o : Option Text) (out v : Text) (r : Settled) : Type 0 where
   pub number : settled-number r ≡ refusal-number (settles o (length out))
   pub count : settled-count r ≡ written (settles o (length out))
   pub output : v ≡ overwritten (settles o (length out)) out
+
+-- one of three texts, by what is claimed
+abbrev pub claim-text : Claim → Text → Text → Text → Text
+claim-text claims.Yes yes no none = yes
+claim-text claims.No yes no none = no
+claim-text claims.Nothing yes no none = none

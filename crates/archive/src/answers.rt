@@ -4,13 +4,14 @@ use tree::measuring::measure_term;
 use tree::names::print_byte;
 use tree::names::print_text;
 use tree::writing::write_term;
+use variants::soundness::Claim;
 ghost use mathlib.Core.Option.{some};
 ghost use Prim.Native.Nat.{_<_};
 ghost use Rattle.rules.specs.Writing.{render};
 ghost use Rattle.rules.specs.Answer.{line};
 ghost use Rattle.tree.specs.Cells.{tree-at};
 ghost use Rattle.tree.specs.Arena.{Arena};
-ghost use Rattle.archive.specs.Settling.{Settles};
+ghost use Rattle.archive.specs.Settling.{Settles, claim-text};
 
 // What a sheet that is admitted gives: the count of bytes written, or refusal 4 or 12.
 pub enum Settled {
@@ -28,6 +29,17 @@ pub fn give(output: &mut [u8], text: &[u8]) -> Settled
     }
     let end = print_text(output, 0, text);
     Settled::Written(end)
+}
+
+// Writes one of three texts, by what is claimed.
+pub fn give_claim(output: &mut [u8], claim: Claim, yes: &[u8], no: &[u8], none: &[u8]) -> Settled
+    ensures { λ r. ⌜ Settles (some (claim-text claim (now (yes .entry)) (now (no .entry)) (now (none .entry)))) (now (output .entry)) (now (output .exit)) r ⌝ }
+{
+    match claim {
+        Claim::Yes => give(output, yes),
+        Claim::No => give(output, no),
+        Claim::Nothing => give(output, none),
+    }
 }
 
 // Writes a line of a key and the term of cell i as the whole answer, if it fits. The term is measured before a byte is written.

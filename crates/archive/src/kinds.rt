@@ -1,6 +1,7 @@
-// One function for each kind of sheet that is answered. The work area that they are lent is the words that the sheet needs.
+// One function for each kind of sheet. The work area that they are lent is the words that the sheet needs.
 use crate::answers::Settled;
 use crate::answers::give;
+use crate::answers::give_claim;
 use crate::answers::give_term;
 use crate::pairs::Pairs;
 use crate::pairs::read_pairs;
@@ -9,6 +10,7 @@ use crate::verdicts::give_solved;
 use crate::verdicts::give_unsupported;
 use certificate::Equivalence;
 use certificate::equivalent_texts;
+use complete::completing::complete;
 use cover::covered::covered;
 use reading::Parsed;
 use reading::parse;
@@ -16,10 +18,11 @@ use reduction::normalizing::normalize;
 use sheet::Cursor;
 use sheet::Place;
 use sheet::form::Form;
+use sheet::part;
+use text::count_of;
 use unifier::matching::matcher;
 use unifier::unifying::Outcome;
 use unifier::unifying::unify;
-use variants::soundness::Claim;
 use variants::soundness::sound;
 ghost use mathlib.Core.Path.{_≡_};
 ghost use mathlib.Core.List.{[], _∷_};
@@ -38,7 +41,7 @@ ghost use Rattle.unifier.specs.Stack.{Whole, pairs-at, FitPairs};
 ghost use Rattle.unifier.specs.Running.{Roomy, Answers as Solves};
 ghost use Rattle.archive.specs.Settling.{Settles};
 ghost use Rattle.archive.specs.Answering.{SettlesForm};
-ghost use Rattle.archive.specs.Outcomes.{solve-by, Asked, CoverAsked, told, Listed};
+ghost use Rattle.archive.specs.Outcomes.{solve-by, Asked, CoverAsked, CompleteAsked, told, Listed};
 
 // Kind `equal`.
 fn equal(sheet: &[u8], work: &mut [u32], output: &mut [u8], left: Place, right: Place) -> Settled
@@ -157,11 +160,13 @@ fn sound_of(
         return Settled::Unreadable;
     };
     let claim = sound(sheet, work, free, index, member);
-    match claim {
-        Claim::Yes => give(output, b"sound=yes\n"),
-        Claim::No => give(output, b"sound=no\n"),
-        Claim::Nothing => give(output, b"sound=none\n"),
-    }
+    give_claim(
+        output,
+        claim,
+        b"sound=yes\n",
+        b"sound=no\n",
+        b"sound=none\n",
+    )
 }
 
 // Kind `cover`. The members stand where the pairs end.
@@ -175,14 +180,46 @@ fn cover_of(sheet: &[u8], work: &mut [u32], output: &mut [u8], pairs: Cursor) ->
         return Settled::Unreadable;
     };
     let claim = covered(sheet, work, free, index, next);
-    match claim {
-        Claim::Yes => give(output, b"covered=yes\n"),
-        Claim::No => give(output, b"covered=no\n"),
-        Claim::Nothing => give(output, b"covered=none\n"),
-    }
+    give_claim(
+        output,
+        claim,
+        b"covered=yes\n",
+        b"covered=no\n",
+        b"covered=none\n",
+    )
 }
 
-// A sheet that is admitted, by its kind.
+// Kind `complete`. Cells start at 1. A scheme has at most the names of the term, and two for each of its brackets.
+fn complete_of(
+    sheet: &[u8],
+    work: &mut [u32],
+    output: &mut [u8],
+    term: Place,
+    members: Cursor,
+) -> Settled
+    requires { ⌜ CompleteAsked (now sheet) term (members .at) ⌝ }
+    requires { ⌜ 65536 * (count-of 58 (now sheet) + 2 * count-of 40 (text-of (now sheet) term) + 16) + 16 * length (now sheet) ≤ length (now work) ⌝ }
+    ensures { λ r. ⌜ SettlesForm (read-sheet (now (sheet .entry))) (now (output .entry)) (now (output .exit)) r ⌝ }
+{
+    let from = term.from;
+    let to = term.to;
+    let parsed = parse(sheet, work, 1, from, to);
+    let Parsed::Tree { index, free } = parsed else {
+        return Settled::Unreadable;
+    };
+    let text = part(sheet, from, to);
+    let named = count_of(text, 58) + 2 * count_of(text, 40);
+    let claim = complete(sheet, work, free, index, named, members);
+    give_claim(
+        output,
+        claim,
+        b"complete=yes\n",
+        b"complete=no\n",
+        b"complete=none\n",
+    )
+}
+
+// A sheet that is admitted, by its kind. No form that is admitted is `Three`.
 pub fn settle(sheet: &[u8], work: &mut [u32], output: &mut [u8], form: Form) -> Settled
     requires { ⌜ Decoded (now sheet) form ⌝ }
     requires { ⌜ form-words (now sheet) form ≤ length (now work) ⌝ }
@@ -195,6 +232,7 @@ pub fn settle(sheet: &[u8], work: &mut [u32], output: &mut [u8], form: Form) -> 
         Form::Match { fuel, pairs } => solving(sheet, work, output, fuel, pairs, true),
         Form::Sound { term, member } => sound_of(sheet, work, output, term, member),
         Form::Cover { pairs, members: _ } => cover_of(sheet, work, output, pairs),
-        _ => Settled::Unreadable,
+        Form::Complete { term, members } => complete_of(sheet, work, output, term, members),
+        Form::Three => Settled::Unreadable,
     }
 }

@@ -103,7 +103,7 @@ module _ (s : Text) (at : ℕ) where
       unfolding sheet-of
       complete-read =
           let k = counted-is count (members-at s (n .at)) q in
-          let w : Within s (form.Complete (place f t) n) = in-sheet in
+          let w : Within s (form.Complete (place f t) n) = (in-sheet .0, omega (arith, has-term .after), in-sheet .1) in
           reads-form {r = form.Complete (place f t) n} (sym (complete-there s at f t n has-term)) (asks-complete (part-of f t s) (k .0))
           (complete-there s at f t n has-term ∙ ap (λ (o : Option (List Member)). o >>= λ ms. some (asks-complete (part-of f t s) ms)) (k .1)) w
 

@@ -61,7 +61,7 @@ pub record Walked (s : Text) (at c : ℕ) : Type 0 where
   pub walk : Walks (bytes "left=") (bytes "right=") s at c
   pub stops : End ≡ pair-at (bytes "left=") (bytes "right=") s c
 
--- places and cursors stand in the sheet, fuel is at most 65,536, the members of `cover` follow its pairs
+-- places and cursors stand in the sheet, fuel is at most 65,536, the members of `cover` follow its pairs and those of `complete` its term
 abbrev pub Within : Text → Form → Type 0
 Within s (form.Equal l r) = Inside s l × Inside s r
 Within s (form.Unify fuel c) = (fuel ≤ 65536) × (c .at ≤ length s)
@@ -69,7 +69,7 @@ Within s (form.Match fuel c) = (fuel ≤ 65536) × (c .at ≤ length s)
 Within s (form.Reduce t) = Inside s t
 Within s (form.Cover c d) = (c .at ≤ length s) × (d .at ≤ length s) × Walked s (c .at) (d .at)
 Within s (form.Sound t c) = Inside s t × (c .at ≤ length s)
-Within s (form.Complete t c) = Inside s t × (c .at ≤ length s)
+Within s (form.Complete t c) = Inside s t × (t .to ≤ c .at) × (c .at ≤ length s)
 Within s form.Three = Unit
 
 -- r is what was read: it stands for that sheet, and is 3 where there is none
