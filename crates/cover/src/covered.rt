@@ -21,7 +21,7 @@ ghost use Rattle.unifier.specs.Stack.{Whole};
 ghost use Rattle.cover.specs.Covered.{Names, Asks, ClaimsCovered};
 
 // The nodes of all trees of the list from cell `list` on.
-fn nodes_in(sheet: &[u8], work: &[u32], free: usize, list: usize) -> usize
+pub fn nodes_in(sheet: &[u8], work: &[u32], free: usize, list: usize) -> usize
     requires { ⌜ Arena (now sheet) (now work) free ⌝ }
     requires { ⌜ (list < free) × (sizes (trees-at (now sheet) (now work) list) < 2 ^ 32) ⌝ }
     ensures { λ r. ⌜ r ≡ sizes (trees-at (now (sheet .entry)) (now (work .entry)) list) ⌝ }
