@@ -1,3 +1,4 @@
 pub mod Indexing
 pub mod Gathering
 pub mod AnyOrder
+pub mod Generals

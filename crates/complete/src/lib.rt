@@ -1,3 +1,4 @@
 // Kind `complete` (variants.rs): what is read of a sheet before the schemes are gone through.
 pub mod indices; // indices.rt: whether the term's variables have indices
 pub mod families; // families.rt: the members as trees
+pub mod generalizing; // generalizing.rt: whether a member generalizes
