@@ -1,7 +1,8 @@
 -- The words of a sheet of kind `complete` are enough for each of its schemes. Assumes nothing.
 use Prim.Native.Nat.{ℕ, _+_, _*_, _<_, _≤_, _^_}
 use mathlib.Core.Path.{_≡_, refl, sym, ap, subst, _∙_}
-use mathlib.Core.List.{List, [], _∷_, map, reverse, reverseAux, List·Memᴰ, List·Memᴰ·head, List·Memᴰ·tail}
+use mathlib.Core.Bool.{true}
+use mathlib.Core.List.{List, [], _∷_, map, reverse, reverseAux, List·Memᴰ, List·Memᴰ·head, List·Memᴰ·tail, List·Memᴰ·not-nil}
 use mathlib.Core.Option.{Option, some, Option·some-injective}
 use lib.ListN.{length}
 use native.Mathlib.Omega.{arith}
@@ -19,13 +20,12 @@ use Rattle.rules.specs.Schemes.{scheme-at}
 use Rattle.rules.specs.Memory.{OverPairs, variable-names, entry-keys, entry-values, member-texts, member-keys, sheet-texts, sheet-keys, weight, sites}
 use Rattle.laws.proofs.Basics.Options.{bound}
 use Rattle.laws.proofs.Reading.Measures.{total}
-use Rattle.laws.proofs.Reading.Colons.{colon, colons-total, colons-upto, parse-colons, parse-size, parse-brackets}
+use Rattle.laws.proofs.Reading.Colons.{parse-colons, parse-size, parse-brackets}
 use Rattle.laws.proofs.Reading.Builds.{builds, reads-within}
 use Rattle.laws.proofs.Solving.Keeping.{Sides}
 use Rattle.laws.proofs.Solving.Weights.{Upto}
 use Rattle.laws.proofs.Sheets.BuiltRun.{BuiltPairs}
-use Rattle.laws.proofs.Sheets.SheetTexts.{sheet-within}
-use Rattle.laws.proofs.Sheets.NamesRead.{sheet-bytes, names-over, includes-self}
+use Rattle.laws.proofs.Sheets.NamesRead.{texts-colons, sheet-bytes, names-over, includes-self}
 use Rattle.laws.proofs.Variants.Targets.{All}
 use Rattle.laws.proofs.Variants.VariableNames.{variables-length}
 use Rattle.laws.proofs.Variants.VariableOrder.{Token, variables-once}
@@ -54,10 +54,7 @@ fit-sides (q ∷ qs) b h = (record { built = b .0; small = h .0 }, record { buil
 
 read-from : (ms : List Member) (us : List Variant) → every (map read-member ms) ≡ some us → (v : Variant) → List·Memᴰ v us → (m : Member) × List·Memᴰ m ms × (read-member m ≡ some v)
 unfolding every
-read-from [] us e v l = absurd (none-listed v (subst (List·Memᴰ v) (sym (Option·some-injective [] us e)) l))
-  where
-    none-listed : (v : Variant) → List·Memᴰ v [] → ⊥
-    none-listed v ()
+read-from [] us e v l = absurd (List·Memᴰ·not-nil (subst (List·Memᴰ v) (sym (Option·some-injective [] us e)) l))
 read-from (m ∷ ms) us e v l =
     let (u, f, e₁) = bound (read-member m) _ us e in
     let (rest, g, e₂) = bound (every (map read-member ms)) (λ r. some (u ∷ r)) us e₁ in
@@ -75,13 +72,6 @@ turned-listed v (u ∷ vs) us l = turned-listed v vs (u ∷ us) (List·Memᴰ·t
 reverse-listed : (v : Variant) (vs us : List Variant) → List·Memᴰ v vs → List·Memᴰ v (reverseAux vs us)
 reverse-listed v (u ∷ vs) us (List·Memᴰ·head e) = turned-listed v vs (u ∷ us) (List·Memᴰ·head e)
 reverse-listed v (u ∷ vs) us (List·Memᴰ·tail l) = reverse-listed v vs (u ∷ us) l
-
--- ---- colons
-
-total-alike : (g h : Text → ℕ) → ((s : Text) → g s ≡ h s) → (ss : List Text) → total g ss ≡ total h ss
-unfolding total
-total-alike g h e [] = refl
-total-alike g h e (s ∷ ss) = let i = total-alike g h e ss in let j = e s in omega arith
 
 -- ---- a sheet of kind `complete`
 
@@ -103,15 +93,7 @@ module _ {s : Text} {w : List ℕ} {free term named at : ℕ} (k : Asks s w free
 
   text-colons : (m : Member) → List·Memᴰ m (k .members) → count-of 58 (k .text) + total (count-of 58) (entry-keys (m .1)) ≤ count-of 58 s
   unfolding sheet-texts sheet-keys total
-  text-colons m l =
-      omega (
-        arith,
-        sheet-within colon s sheet (k .reads),
-        colons-total s,
-        total-alike (total colon) (count-of 58) colons-total (sheet-keys sheet),
-        total-alike (total colon) (count-of 58) colons-total (sheet-texts sheet),
-        keys-within (count-of 58) (k .members) m l,
-      )
+  text-colons m l = omega (arith, texts-colons s sheet (k .reads), keys-within (count-of 58) (k .members) m l)
 
   text-bytes : (m : Member) → List·Memᴰ m (k .members) → size tree + (length (m .0) + total length (entry-values (m .1))) < length s
   unfolding sheet-texts total
@@ -120,20 +102,13 @@ module _ {s : Text} {w : List ℕ} {free term named at : ℕ} (k : Asks s w free
   colons-few : count-of 58 s ≤ 65536
   colons-few = count-bound 58 s (k .short) refl
 
-  text-colons-few : count-of 58 (k .text) ≤ count-of 58 s
+  pub asked-colons : count-of 58 (k .text) ≤ count-of 58 s
   unfolding sheet-texts sheet-keys total
-  text-colons-few =
-      omega (
-        arith,
-        sheet-within colon s sheet (k .reads),
-        colons-total s,
-        total-alike (total colon) (count-of 58) colons-total (sheet-keys sheet),
-        total-alike (total colon) (count-of 58) colons-total (sheet-texts sheet),
-      )
+  asked-colons = omega (arith, texts-colons s sheet (k .reads))
 
-  text-bytes-few : size tree < length s
+  pub asked-bytes : size tree < length s
   unfolding sheet-texts total
-  text-bytes-few = omega (arith, parse-size (k .text) tree (k .parsed), sheet-bytes s sheet (k .reads))
+  asked-bytes = omega (arith, parse-size (k .text) tree (k .parsed), sheet-bytes s sheet (k .reads))
 
   brackets-few : count-of 40 (k .text) ≤ 65536
   unfolding sheet-texts total
@@ -142,7 +117,7 @@ module _ {s : Text} {w : List ℕ} {free term named at : ℕ} (k : Asks s w free
   sites-most : sites tree ≤ count-of 40 (k .text)
   sites-most = omega (arith, sites-nodes tree, parse-brackets (k .text) tree (k .parsed))
 
-  module _ (name : ℕ → Text) (tokens : (n : ℕ) → variable-token (name n) ≡ true) {v : List ℕ} {stop : ℕ} (z : length v ≡ length w)
+  module _ (name : ℕ → Text) (tokens : (n : ℕ) → variable-token (name n) ≡ true) (v : List ℕ) (stop : ℕ) (z : length v ≡ length w)
       (ends : stop ≤ 26 + length (variables tree []) + 2 * length s) (i : ℕ) (l : i < scheme-count tree) where
     scheme-is : List·Memᴰ (scheme-at name tree 0 i) (schemes-from name tree 0)
     scheme-is = scheme-listed name tree 0 i l
@@ -214,7 +189,7 @@ module _ {s : Text} {w : List ℕ} {free term named at : ℕ} (k : Asks s w free
     pub asked-judgeable : {ts : Trees} {vs : List Variant} → Family ts vs → every (map read-member (k .members)) ≡ some (reverse vs) → Judgeable name s v stop named (variables tree []) ts tree i
     asked-judgeable {ts} {vs} f r =
         let (ms, few, over) = asked-over in
-        let left = words-left 0 0 0 (omega (arith, text-colons-few)) (omega (arith, text-bytes-few)) (omega arith) in
+        let left = words-left 0 0 0 (omega (arith, asked-colons)) (omega (arith, asked-bytes)) (omega arith) in
         record {
           names = ms;
           over = over;

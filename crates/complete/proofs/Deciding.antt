@@ -37,17 +37,17 @@ use Rattle.complete.proofs.Generals.{all-matched-same}
 
 -- ---- the answer
 
-ends-at : {state : Judged} {r : Claim} (k : Judgement) → judgement state ≡ some k → claim r ≡ answered k → Ends state r
-ends-at k e f j g = f ∙ ap answered (Option·some-injective k j (sym e ∙ g))
+ends-at : (state : Judged) (r : Claim) (k : Judgement) → judgement state ≡ some k → claim r ≡ answered k → Ends state r
+ends-at state r k e f j g = f ∙ ap answered (Option·some-injective k j (sym e ∙ g))
 
 pub ends-pending : Ends Pending Yes
-ends-pending = ends-at {state = Pending} {r = Yes} pending refl refl
+ends-pending = ends-at Pending Yes pending refl refl
 
 pub ends-missing : Ends Missing No
-ends-missing = ends-at {state = Missing} {r = No} (settled (some false)) refl refl
+ends-missing = ends-at Missing No (settled (some false)) refl refl
 
 pub ends-over : Ends Over Nothing
-ends-over = ends-at {state = Over} {r = Nothing} (settled nothing) refl refl
+ends-over = ends-at Over Nothing (settled nothing) refl refl
 
 pub ends-unsupported : Ends Unsupported Nothing
 ends-unsupported j g = absurd (Option·none-ne-some j g)
@@ -55,21 +55,21 @@ ends-unsupported j g = absurd (Option·none-ne-some j g)
 -- ---- one scheme
 
 module _ (name : ℕ → Text) (xs : List Text) (ms : List Variant) (term : Tree) (i : ℕ) (before : Judged) where
-  verdict-by : {v : Verdict} → unify 65536 (system-of name term i) .0 ≡ v → {r : Judged}
+  verdict-by : {v : Verdict} → unify 65536 (system-of name term i) .0 ≡ v → (r : Judged)
       → ((j : Judgement) → judgement before ≡ some j → judgement r ≡ judge-verdict xs ms (scheme-at name term 0 i .value) v j) → Decides name xs ms term i before r
-  verdict-by e h j f = h j f ∙ ap (λ (v : Verdict). judge-verdict xs ms (scheme-at name term 0 i .value) v j) (sym e)
+  verdict-by e r h j f = h j f ∙ ap (λ (v : Verdict). judge-verdict xs ms (scheme-at name term 0 i .value) v j) (sym e)
 
-  pub unsupported-ends : unify 65536 (system-of name term i) .0 ≡ unsupported → Decides name xs ms term i before Unsupported
-  unsupported-ends e = verdict-by e {r = Unsupported} (λ j f. refl)
+  unsupported-ends : unify 65536 (system-of name term i) .0 ≡ unsupported → Decides name xs ms term i before Unsupported
+  unsupported-ends e = verdict-by e Unsupported (λ j f. refl)
 
-  pub failed-stays : unify 65536 (system-of name term i) .0 ≡ failed → Decides name xs ms term i before before
-  failed-stays e = verdict-by e {r = before} (λ j f. f)
+  failed-stays : unify 65536 (system-of name term i) .0 ≡ failed → Decides name xs ms term i before before
+  failed-stays e = verdict-by e before (λ j f. f)
 
-  pub settled-stays : (bs : List Binding) → unify 65536 (system-of name term i) .0 ≡ solved bs → OneOf (1 ∷ 2 ∷ 3 ∷ []) (tagOf the-type before) → Decides name xs ms term i before before
-  settled-stays bs e o = verdict-by e {r = before} (λ j f. f ∙ go before o j f)
+  settled-stays : (bs : List Binding) → unify 65536 (system-of name term i) .0 ≡ solved bs → OneOf (1 ∷ 2 ∷ 3 ∷ []) (tagOf the-type before) → Decides name xs ms term i before before
+  unfolding judge
+  settled-stays bs e o = verdict-by e before (λ j f. f ∙ go before o j f)
     where
       stays : (r : Option Bool) (j : Judgement) → some (settled r) ≡ some j → some j ≡ some (judge xs ms bs (scheme-at name term 0 i .value) j)
-      unfolding judge
       stays r j g = subst (λ (k : Judgement). some k ≡ some (judge xs ms bs (scheme-at name term 0 i .value) k)) (Option·some-injective (settled r) j g) refl
 
       go : (b : Judged) → OneOf (1 ∷ 2 ∷ 3 ∷ []) (tagOf the-type b) → (j : Judgement) → judgement b ≡ some j → some j ≡ some (judge xs ms bs (scheme-at name term 0 i .value) j)
@@ -78,20 +78,41 @@ module _ (name : ℕ → Text) (xs : List Text) (ms : List Variant) (term : Tree
       go Over o j g = stays nothing j g
       go Unsupported o j g = absurd (Option·none-ne-some j g)
 
-  pub solved-decides : (bs : List Binding) → unify 65536 (system-of name term i) .0 ≡ solved bs → before ≡ Pending → (r : Judged)
+  solved-decides : (bs : List Binding) → unify 65536 (system-of name term i) .0 ≡ solved bs → before ≡ Pending → (r : Judged)
       → judgement r ≡ some (judge xs ms bs (scheme-at name term 0 i .value) pending) → Decides name xs ms term i before r
-  solved-decides bs e b r h = verdict-by e {r = r} (λ j f. (
+  solved-decides bs e b r h = verdict-by e r (λ j f. (
     let k : pending ≡ j = Option·some-injective pending j (sym (ap judgement b) ∙ f) in
     h ∙ ap (λ (j : Judgement). some (judge xs ms bs (scheme-at name term 0 i .value) j)) k
   ))
 
 -- a scheme decides the same by all names that its cells have
-pub by-names : {s : Text} {w v : List ℕ} {n i : ℕ} {term : Tree} {c : System} (name other : ℕ → Text) (xs : List Text) (ms : List Variant) (before r : Judged)
+by-names : {s : Text} {w v : List ℕ} {n i : ℕ} {term : Tree} {c : System} (name other : ℕ → Text) (xs : List Text) (ms : List Variant) (before r : Judged)
     → Systems s w v n other i term c → Systems s w v n name i term c → Decides name xs ms term i before r → Decides other xs ms term i before r
 by-names {i = i} {term = term} name other xs ms before r a b h j f =
     h j f
     ∙ ap₂ (λ (t : Tree) (ps : List Pair). judge-verdict xs ms t (unify 65536 ps .0) j) (sym (b .value .tree) ∙ a .value .tree)
     (sym (pairs-are (system-of name term i) (b .stack .trees)) ∙ pairs-are (system-of other term i) (a .stack .trees))
+
+module _ {s : Text} {w v : List ℕ} {n fresh named names members term i : ℕ} {c : System} (k : CanJudge s w n fresh named names members term i)
+    (systems : (name : ℕ → Text) → Fresh s w n fresh name → Systems s w v n name i (tree-at s w term) c) (before : Judged) where
+  abbrev its-verdict : Verdict
+  its-verdict = unify 65536 (system-of (k .name) (tree-at s w term) i) .0
+
+  judged-by : {u : List ℕ} (r : Judged) → Decides (k .name) (names-at s w names) (variants-at s w members) (tree-at s w term) i before r → Below w u n → Judges s w u n fresh names members term i before r
+  judged-by r d b = ((λ other f. by-names (k .name) other (names-at s w names) (variants-at s w members) before r (systems other f) (systems (k .name) (k .cells)) d), b)
+
+  pub judged-unsupported : {u : List ℕ} → (its-verdict ≡ unsupported) × Below w u n → Judges s w u n fresh names members term i before Unsupported
+  judged-unsupported x = judged-by Unsupported (unsupported-ends (k .name) (names-at s w names) (variants-at s w members) (tree-at s w term) i before (x .0)) (x .1)
+
+  pub judged-failed : {u : List ℕ} → (its-verdict ≡ failed) × Below w u n → Judges s w u n fresh names members term i before before
+  judged-failed x = judged-by before (failed-stays (k .name) (names-at s w names) (variants-at s w members) (tree-at s w term) i before (x .0)) (x .1)
+
+  pub judged-settled : {u : List ℕ} (bs : List Binding) → its-verdict ≡ solved bs → OneOf (1 ∷ 2 ∷ 3 ∷ []) (tagOf the-type before) → Below w u n → Judges s w u n fresh names members term i before before
+  judged-settled bs e o b = judged-by before (settled-stays (k .name) (names-at s w names) (variants-at s w members) (tree-at s w term) i before bs e o) b
+
+  pub judged-solved : {u : List ℕ} (bs : List Binding) → its-verdict ≡ solved bs → before ≡ Pending → (r : Judged)
+      → (judgement r ≡ some (judge (names-at s w names) (variants-at s w members) bs (scheme-at (k .name) (tree-at s w term) 0 i .value) pending)) × Below w u n → Judges s w u n fresh names members term i before r
+  judged-solved bs e p r x = judged-by r (solved-decides (k .name) (names-at s w names) (variants-at s w members) (tree-at s w term) i before bs e p r (x .0)) (x .1)
 
 -- ---- all schemes
 
@@ -157,8 +178,8 @@ module _ (s : Text) (w : List ℕ) (n fresh term names members count : ℕ) (a :
       scheme = rw (sym (list-now names nb), sym (list-now members mb), sym term-now) (judgeable-same (g .name) (h .below .len) (g .schemes i l));
     }
 
-    pub going-ends : count ≡ scheme-count (tree-at s w term) → count ≤ i → {r : Claim} → Ends state r → JudgesAll s w v n fresh names members term r
-    going-ends e l f =
+    pub going-ends : count ≡ scheme-count (tree-at s w term) → count ≤ i → (r : Claim) → Ends state r → JudgesAll s w v n fresh names members term r
+    going-ends e l r f =
         (
           (λ name g. f (h .so-far) (h .is)
           ∙ sym (h .are name g ∙ judged-end name (tree-at s w term) (names-at s w names) (variants-at s w members) i (h .so-far) (omega arith))),

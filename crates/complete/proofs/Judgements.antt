@@ -28,9 +28,11 @@ use Rattle.tree.specs.Arena.{Arena}
 use Rattle.tree.proofs.Decoding.{frame-tree, frame-trees}
 use Rattle.substitution.specs.Bindings.{bindings-of, bindings-at}
 use Rattle.substitution.specs.Building.{Placed, instance-at}
-use Rattle.certificate.specs.Writer as words
+use Rattle.certificate.specs.Writer as writer
 use Rattle.reduction.specs.Building.{Kept, NewTree}
 use Rattle.reduction.proofs.NormalForms.{normalizes-size}
+use Rattle.schemes.specs.Building.{Systems}
+use Rattle.schemes.specs.declared.systems.System.{System}
 use Rattle.unifier.specs.Stack.{pairs-of, pairs-at, Whole, FitPairs}
 use Rattle.unifier.specs.Area.{Room, Below}
 use Rattle.unifier.specs.Running.{Roomy, Answers}
@@ -93,7 +95,7 @@ module _ {s : Text} {w v u : List ℕ} {n index end left i stop : ℕ} (value bi
   normal-is : (r : Bool) → r ≡ equivalent (tree-at s u index) (tree-at s u i) → equivalent made-tree (normalize made-tree) ≡ r
   normal-is r e = sym (e ∙ ap₂ equivalent made-now normal-now)
 
-  module _ {x : List ℕ} {lim : ℕ} (k : words.Kept u x (4 * stop) lim) where
+  module _ {x : List ℕ} {lim : ℕ} (k : writer.Kept u x (4 * stop) lim) where
     below-end : Below v x end
     below-end = record { len = k .len ∙ two .kept .len; words = λ p q. two .kept .below p q ∙ sym (k .below p (omega (arith, two .grew))) }
 
@@ -122,8 +124,7 @@ module _ {s : Text} {w v u : List ℕ} {n index end left i stop : ℕ} (value bi
         → AllMatched s x (end + 2 + 2 * count (trees-at s x names)) (names-at s x names) (bindings-at s x bindings) (tree-at s x index) (trees-at s x members)
     matched-now o h =
         let c = names-count s w names o in
-        let d = ap count (list-now names nb) in
-        let m = all-matched-same s w x (n + 4098 + 2 * length xs) (end + 2 + 2 * count (trees-at s x names)) xs bs made-tree (trees-at s w members) (below-free .len) (omega (arith, one .used)) h in
+        let m = all-matched-same s w x (n + 4098 + 2 * length xs) (end + 2 + 2 * count (trees-at s w names)) xs bs made-tree (trees-at s w members) (below-free .len) (omega (arith, one .used)) h in
         rw (sym (list-now names nb), sym (list-now bindings bb), sym (list-now members mb), instance-now) m
 
     -- it is, and the members are gone through
@@ -131,7 +132,7 @@ module _ {s : Text} {w v u : List ℕ} {n index end left i stop : ℕ} (value bi
         → (g ≡ generalized (names-at s x names) (variants-at s x members) (bindings-at s x bindings) (tree-at s x index)) × Below x z end
         → (some (judge-tests true g) ≡ some (judge xs ms bs (tree-at s w value) pending)) × Below w z n
     searched r g e f y =
-        let q : g ≡ generalized xs ms bs made-tree = y .0 ∙ rw (list-now names nb, list-now bindings bb, list-now members mb, sym instance-now) refl in
+        let q : g ≡ generalized xs ms bs made-tree = y .0 ∙ rw (sym instance-now, list-now names nb, list-now bindings bb, list-now members mb) refl in
         (
           ap some (sym (judge-there xs ms bs (tree-at s w value) made-small ∙ ap₂ judge-tests (normal-is r e ∙ f) (sym q))),
           below-then below-free (y .1) (one .before .grew),
@@ -151,24 +152,37 @@ enough-unify ns ps nodes named o b e l = go (leb (nodes + 4096 * named + 1) 6553
     go true f = let h = leb-true (nodes + 4096 * named + 1) 65535 f in unify-enough (nodes + 4096 * named + 1) 65536 ns ps o b (omega arith) (omega arith)
     go false f = refl
 
-module _ {name : ℕ → Text} {s : Text} {w v : List ℕ} {n named end value stack i : ℕ} {xs : List Text} {ts : Trees} {term : Tree} (k : Judgeable name s w n named xs ts term i) (a : Arena s v end) (kept : Below w v n) (grew : n ≤ end)
-    (used : end ≤ n + 2 * size term + 1024) (sb : stack < end) (system-is : trees-at s v stack ≡ flatten (system-of name term i)) where
+module _ {name : ℕ → Text} {s : Text} {w v : List ℕ} {n named i : ℕ} {xs : List Text} {ts : Trees} {term : Tree} {c : System} (k : Judgeable name s w n named xs ts term i)
+    (y : Systems s w v n name i term c) where
+  abbrev end : ℕ
+  end = c .free
+
+  abbrev stack : ℕ
+  stack = c .stack
+
+  kept : Below w v n
+  kept = record { len = y .written .kept .len; words = y .written .kept .below }
+
   abbrev ps : List Pair
   ps = system-of name term i
 
   pub system-nodes : sizes (trees-at s v stack) ≡ size-pairs ps
-  system-nodes = ap sizes system-is ∙ flatten-size ps
+  system-nodes = ap sizes (y .stack .trees) ∙ flatten-size ps
 
   pub nodes-few : (sizes (trees-at s v stack) + 4096 * named < 2 ^ 32) × (sizes (trees-at s v stack) < 2 ^ 32) × (end + sizes (trees-at s v stack) + 2 * fuel-for (sizes (trees-at s v stack)) named + 12293 * named < 2 ^ 32)
   nodes-few =
       let r = k .room in
+      let g = y .written .used in
       let e = system-nodes in
       let f = ap (λ (x : ℕ). fuel-for x named) e in
       (omega (arith, r .1), omega (arith, r .1), omega (arith, r .1))
 
-  module _ (limit nodes fuel : ℕ) (c : nodes ≡ sizes (trees-at s v stack)) (d : fuel ≡ fuel-for nodes named) (e : limit ≡ 4 * (end + nodes + 2 * fuel + 12293 * named) + 204802) where
+  pub limit-few : (nodes fuel : ℕ) → nodes ≡ sizes (trees-at s v stack) → fuel ≡ fuel-for nodes named → end + nodes + 2 * fuel + 12293 * named < 2 ^ 32
+  limit-few nodes fuel e f = let g = f ∙ ap (λ (x : ℕ). fuel-for x named) e in omega (arith, nodes-few .2)
+
+  module _ (limit nodes fuel : ℕ) (z : nodes ≡ sizes (trees-at s v stack)) (d : fuel ≡ fuel-for nodes named) (e : limit ≡ 4 * (end + nodes + 2 * fuel + 12293 * named) + 204802) where
     nodes-are : nodes ≡ size-pairs ps
-    nodes-are = c ∙ system-nodes
+    nodes-are = z ∙ system-nodes
 
     fuel-is : fuel ≡ fuel-for (size-pairs ps) named
     fuel-is = d ∙ ap (λ (x : ℕ). fuel-for x named) nodes-are
@@ -177,7 +191,7 @@ module _ {name : ℕ → Text} {s : Text} {w v : List ℕ} {n named end value st
     fuel-most = omega (arith, d, fuel-few nodes named .0)
 
     pub limit-inside : limit ≤ length v
-    limit-inside = let r = k .room in omega (arith, r .0, kept .len, nodes-are, fuel-is)
+    limit-inside = let r = k .room in omega (arith, r .0, kept .len, nodes-are, fuel-is, y .written .used)
 
     cells-inside : 4 * end ≤ limit
     cells-inside = omega arith
@@ -186,10 +200,10 @@ module _ {name : ℕ → Text} {s : Text} {w v : List ℕ} {n named end value st
     part = take limit v
 
     pub run-arena : Arena s part end
-    run-arena = part-arena limit v limit-inside end cells-inside s a
+    run-arena = part-arena limit v limit-inside end cells-inside s (y .written .arena)
 
     part-stack : trees-at s part stack ≡ flatten ps
-    part-stack = sym (frame-trees s part (a .links) (part-agrees limit v limit-inside end cells-inside) stack sb) ∙ system-is
+    part-stack = sym (frame-trees s part (y .written .arena .links) (part-agrees limit v limit-inside end cells-inside) stack (y .stack .inside)) ∙ y .stack .trees
 
     part-pairs : pairs-at s part stack ≡ ps
     part-pairs = pairs-are ps part-stack
@@ -204,14 +218,14 @@ module _ {name : ℕ → Text} {s : Text} {w v : List ℕ} {n named end value st
     run-roomy =
         let r = k .room in
         let l = length-take-le limit v limit-inside in
-        let x : 4 * (end + weight ps + 2 * fuel + 12293 * length (k .names)) + 204802 ≤ length part = omega (arith, l, weight-size ps, nodes-are, k .few) in
-        let y : end + weight ps + 2 * fuel + 12293 * length (k .names) + 65536 < 2 ^ 32 = omega (arith, weight-size ps, fuel-is, k .few, r .1) in
-        subst (λ (qs : List Pair). Roomy part end fuel qs) (sym part-pairs) (record { names = k .names; over = k .over; room = (x, y) })
+        let words : 4 * (end + weight ps + 2 * fuel + 12293 * length (k .names)) + 204802 ≤ length part = omega (arith, l, weight-size ps, nodes-are, k .few) in
+        let cells : end + weight ps + 2 * fuel + 12293 * length (k .names) + 65536 < 2 ^ 32 = omega (arith, weight-size ps, fuel-is, k .few, r .1, y .written .used) in
+        subst (λ (qs : List Pair). Roomy part end fuel qs) (sym part-pairs) (record { names = k .names; over = k .over; room = (words, cells) })
 
-    verdict-is : {y : Answer} → unify fuel (pairs-at s part stack) ≡ y → unify 65536 ps .0 ≡ y .0
+    verdict-is : {x : Answer} → unify fuel (pairs-at s part stack) ≡ x → unify 65536 ps .0 ≡ x .0
     verdict-is f =
-        sym (ap (λ (y : Answer). y .0) (enough-unify (k .names) ps nodes named (k .over) (fit-built ps (k .fit)) nodes-are (k .few)))
-        ∙ ap (λ (x : ℕ). unify x ps .0) (sym d) ∙ ap (λ (qs : List Pair). unify fuel qs .0) (sym part-pairs) ∙ ap (λ (y : Answer). y .0) f
+        sym (ap (λ (x : Answer). x .0) (enough-unify (k .names) ps nodes named (k .over) (fit-built ps (k .fit)) nodes-are (k .few)))
+        ∙ ap (λ (x : ℕ). unify x ps .0) (sym d) ∙ ap (λ (qs : List Pair). unify fuel qs .0) (sym part-pairs) ∙ ap (λ (x : Answer). x .0) f
 
     module _ (u : List ℕ) where
       abbrev area : List ℕ
@@ -224,7 +238,7 @@ module _ {name : ℕ → Text} {s : Text} {w v : List ℕ} {n named end value st
       back b = back-below limit v limit-inside end cells-inside u (lengths b) b
 
       pub run-kept : Below part u end → Below w area n
-      run-kept b = below-then kept (back b) grew
+      run-kept b = below-then kept (back b) (y .written .grew)
 
       pub run-failed : (spent : ℕ) → Answers s part u end (unify fuel (pairs-at s part stack)) (outcome.Failed spent) → (unify 65536 ps .0 ≡ failed) × Below w area n
       run-failed spent g = (verdict-is (g .0), run-kept (g .1))
@@ -240,7 +254,7 @@ module _ {name : ℕ → Text} {s : Text} {w v : List ℕ} {n named end value st
         top-inside = omega (arith, g .1 .room, long)
 
         pub top-few : top ≤ solved-end name n term named i
-        top-few = omega (arith, g .1 .room, long, nodes-are, fuel-is)
+        top-few = omega (arith, g .1 .room, long, nodes-are, fuel-is, y .written .used)
 
         pub solved-kept : Below w area n
         solved-kept = run-kept (g .1 .below)
@@ -256,5 +270,36 @@ module _ {name : ℕ → Text} {s : Text} {w v : List ℕ} {n named end value st
             verdict-is (g .0)
             ∙ ap (λ (us : Trees). solved (bindings-of us)) (frame-trees s area (g .1 .arena .links) (back-agrees limit v limit-inside top top-inside u long) b (g .1 .inside))
 
-        pub cell-now : (j : ℕ) → 0 < j → j < end → tree-at s v j ≡ tree-at s area j
-        cell-now j p q = frame-tree s area (a .links) (back (g .1 .below) .words) j p q
+        value-now : tree-at s area (c .value) ≡ scheme-at name term 0 i .value
+        value-now = sym (frame-tree s area (y .written .arena .links) (back (g .1 .below) .words) (c .value) (y .value .some-cell) (y .value .inside)) ∙ y .value .tree
+
+        pub value-inside : (0 < c .value) × (c .value < top)
+        value-inside = (y .value .some-cell, omega (arith, y .value .inside, g .1 .grew))
+
+        pub top-grew : n ≤ top
+        top-grew = omega (arith, y .written .grew, g .1 .grew)
+
+        module _ (names members : ℕ) (ar : Arena s w n) (nb : names < n) (mb : members < n) (xs-are : xs ≡ names-at s w names) (ts-are : ts ≡ trees-at s w members) where
+          list-kept : (j : ℕ) → j < n → trees-at s w j ≡ trees-at s area j
+          list-kept j l = frame-trees s area (ar .links) (solved-kept .words) j l
+
+          pub solved-variables : OfVariables (trees-at s w names) → OfVariables (trees-at s area names)
+          solved-variables o = subst OfVariables (list-kept names nb) o
+
+          names-kept : xs ≡ names-at s area names
+          names-kept = xs-are ∙ ap (λ (us : Trees). backwards (names-of us) []) (list-kept names nb)
+
+          members-kept : ts ≡ trees-at s area members
+          members-kept = ts-are ∙ list-kept members mb
+
+          pub solved-matched : AllMatched s area (top + 4098 + 2 * length (names-at s area names)) (names-at s area names) (bindings-at s area b) (instantiate (bindings-at s area b) (tree-at s area (c .value))) (trees-at s area members)
+          solved-matched =
+              let m = all-matched-same s w area (solved-end name n term named i + 4098 + 2 * length xs) (top + 4098 + 2 * length xs) xs (bindings-at s area b) (instantiate (bindings-at s area b) (scheme-at name term 0 i .value)) ts
+                  (solved-kept .len) (omega (arith, top-few)) (k .matched (bindings-at s area b) is-solved) in
+              rw (sym names-kept, sym members-kept, value-now) m
+
+          -- what the solved scheme decides
+          pub solved-judged : {r : Option Judgement} {u₂ : List ℕ}
+              → (r ≡ some (judge (names-at s area names) (variants-at s area members) (bindings-at s area b) (tree-at s area (c .value)) pending)) × Below area u₂ top
+              → (r ≡ some (judge xs (variants-of ts) (bindings-at s area b) (scheme-at name term 0 i .value) pending)) × Below w u₂ n
+          solved-judged x = (x .0 ∙ rw (sym names-kept, sym members-kept, value-now) refl, below-then solved-kept (x .1) top-grew)

@@ -2,3 +2,8 @@ pub mod Indexing
 pub mod Gathering
 pub mod AnyOrder
 pub mod Generals
+pub mod Alike
+pub mod Rooms
+pub mod Judgements
+pub mod Deciding
+pub mod Asking

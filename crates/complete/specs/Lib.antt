@@ -1,3 +1,5 @@
 pub mod Indices
 pub mod Families
 pub mod Generalizing
+pub mod Judging
+pub mod Completing

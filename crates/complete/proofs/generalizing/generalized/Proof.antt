@@ -1,5 +1,6 @@
 use mathlib.Core.Path.{sym, _∙_}
 use Rattle.unifier.proofs.Areas.{below-then}
+use Prim.Native.Nat.{_<_}
 use native.Mathlib.Omega.{arith}
 use Rattle.complete.proofs.Generals.{Searching, arena-below, searching-starts, searching-ends, here-member, here-variables, here-matched, searching-found, searching-turn}
 use Rattle.complete.proofs.generalizing.generalized.Statement.{statement}
