@@ -1,4 +1,5 @@
--- Renaming: a renaming of variables that keeps sorts goes through the tests, the substitutions, unify, match and reduction.
+-- Renaming: a renaming of variables that keeps sorts goes through the tests, the substitutions, unify, match and reduction; so the
+-- names of the fresh variables may be others.
 pub mod Renamed
 pub mod Instances
 pub mod Sums
@@ -6,3 +7,7 @@ pub mod Unifying
 pub mod Matching
 pub mod Reducing
 pub mod Completing
+pub mod Unspelled
+pub mod Naming
+pub mod Exchange
+pub mod AnyNames
