@@ -8,6 +8,7 @@ pub mod Covered
 pub mod Waiting
 pub mod Targets
 pub mod Complete
+pub mod Sites
 pub mod FreshNames
 pub mod VariableNames
 pub mod VariableOrder

@@ -18,7 +18,7 @@ use Rattle.rules.specs.Solving.{Verdict, solved, failed, unsupported, unify}
 use Rattle.rules.specs.Reduction.{normalize}
 use Rattle.rules.specs.Rewriting.{NormalModulo}
 use Rattle.rules.specs.Cover.{variables, covering}
-use Rattle.rules.specs.Variants.{Variant, read-member, instance-of, index-of, fresh-base, fresh-base-in, Scheme, schemes-from, scheme-count, schemes, system, solved-schemes, generalized, all-generalized, complete}
+use Rattle.rules.specs.Variants.{Variant, read-member, instance-of, index-of, fresh-base, fresh-base-in, fresh-from, Scheme, schemes-from, scheme-count, schemes, system, solved-schemes, generalized, all-generalized, complete}
 use Rattle.rules.specs.Tidy.{Built}
 use Rattle.rules.specs.Memory.{variable-names, variable-names-in}
 use Rattle.rules.specs.Families.{Unclaimed, member-unreadable, index-missing, schemes-over, scheme-unsupported, Claim, Target, Generalizes, CompleteMeans, no-claim, is-complete, is-missing}
@@ -30,7 +30,7 @@ use Rattle.laws.proofs.Reduction.Unique.{still}
 use Rattle.laws.proofs.Reduction.Modulo.{reduced}
 use Rattle.laws.proofs.Variants.Readable.{members-unread, unread-members}
 use Rattle.laws.proofs.Variants.Covered.{covering-is, any, any-some, some-any}
-use Rattle.laws.proofs.Variants.Targets.{target-built, target-within}
+use Rattle.laws.proofs.Variants.Targets.{fresh-tokens, target-built, target-within}
 
 -- the test for a normal tree, on trees as reading builds them
 pub normal-test : (t : Tree) → Built t → (equivalent t (normalize t) ≡ true) ↔ NormalModulo t
@@ -212,15 +212,15 @@ module _ (term : Tree) (ms : List Variant) where
       subst (λ (ds : List Binding). NormalModulo (instantiate ds (s .value)) → Generalized term ms s ds) (Option·some-injective bs cs (ap solution (sym f ∙ u))) k n
 
   module _ (built : Built term) (small : size term ≤ 4096) (base : ℕ) where
-    first-judged : (s : Scheme) (ss : List Scheme) (bs : List Binding) (vs : List Variant) → List·Memᴰ s (schemes-from term base)
+    first-judged : (s : Scheme) (ss : List Scheme) (bs : List Binding) (vs : List Variant) → List·Memᴰ s (schemes-from (fresh-from base) term 0)
         → unify 65536 (system term s) .0 ≡ solved bs → Judged ss (all-generalized (variables term []) ms vs)
         → Judged (s ∷ ss) (all-generalized (variables term []) ms ((s .value, bs) ∷ vs))
     first-judged s ss bs vs m f j =
-        subst (Judged (s ∷ ss)) (sym (decided-by (s .value) bs vs (target-within term built small base s m 65536 bs f)))
+        subst (Judged (s ∷ ss)) (sym (decided-by (s .value) bs vs (target-within (fresh-from base) (fresh-tokens base) term built small 0 s m 65536 bs f)))
         (go (equivalent (instantiate bs (s .value)) (normalize (instantiate bs (s .value)))) refl (generalized (variables term []) ms bs (instantiate bs (s .value))) refl)
       where
         normality : (equivalent (instantiate bs (s .value)) (normalize (instantiate bs (s .value))) ≡ true) ↔ NormalModulo (instantiate bs (s .value))
-        normality = normal-test (instantiate bs (s .value)) (target-built term built small base s m 65536 bs f)
+        normality = normal-test (instantiate bs (s .value)) (target-built (fresh-from base) (fresh-tokens base) term built small 0 s m 65536 bs f)
 
         go : (a : Bool) → equivalent (instantiate bs (s .value)) (normalize (instantiate bs (s .value))) ≡ a
             → (b : Bool) → generalized (variables term []) ms bs (instantiate bs (s .value)) ≡ b
@@ -230,7 +230,7 @@ module _ (term : Tree) (ms : List Variant) where
         go true e true g = with-first s ss (solved-met s bs f (λ n. generalized-true term ms s bs g)) (all-generalized (variables term []) ms vs) j
         go true e false g = (s, bs, List·Memᴰ·head refl, f, normality .0 e, generalized-false term ms s bs g)
 
-    judge : {ss : List Scheme} {vs : List Variant} → ((s : Scheme) → List·Memᴰ s ss → List·Memᴰ s (schemes-from term base)) → Solves term ss vs
+    judge : {ss : List Scheme} {vs : List Variant} → ((s : Scheme) → List·Memᴰ s ss → List·Memᴰ s (schemes-from (fresh-from base) term 0)) → Solves term ss vs
         → Judged ss (all-generalized (variables term []) ms vs)
     unfolding all-generalized
     judge within nil = λ s m. absurd (List·Memᴰ·not-nil m)
@@ -243,14 +243,14 @@ module _ (term : Tree) (ms : List Variant) where
 -- The answer
 
 module _ (term : Tree) (built : Built term) (small : size term ≤ 4096) (members : List Member) where
-  claimed : (c : Claim term members) (r : Option Bool) → Judged term (c .variants) (schemes-from term (c .base)) r → CompleteMeans term members r
+  claimed : (c : Claim term members) (r : Option Bool) → Judged term (c .variants) (schemes-from (fresh-from (c .base)) term 0) r → CompleteMeans term members r
   claimed c nothing j = absurd j
   claimed c (some true) j = is-complete c (λ s bs t. j s (t .listed) bs (t .solution) (t .normal))
   claimed c (some false) j = let (s, bs, m, u, n, g) = j in is-missing c {s = s} {bs = bs} (record { listed = m; solution = u; normal = n }) g
 
   -- the members read, the base is known, the schemes are not too many
   after-count : (ms : List Variant) (base : ℕ) → every (map read-member members) ≡ some ms → fresh-base term 0 ≡ some base → scheme-count term ≤ 4096
-      → (o : Option (List Variant)) → Sorted term (schemes-from term base) o → CompleteMeans term members (o >>= λ found. all-generalized (variables term []) ms found)
+      → (o : Option (List Variant)) → Sorted term (schemes-from (fresh-from base) term 0) o → CompleteMeans term members (o >>= λ found. all-generalized (variables term []) ms found)
   after-count ms base e f l nothing h = let (s, m, u) = h in no-claim (scheme-unsupported f m u)
   after-count ms base e f l (some vs) h =
       claimed (record { variants = ms; base = base; read = e; indexed = f; limited = l; decided = λ s m u. all-decided term h s m u })
@@ -260,13 +260,13 @@ module _ (term : Tree) (built : Built term) (small : size term ≤ 4096) (member
   from-schemes ms ss = solved-schemes term ss >>= λ found. all-generalized (variables term []) ms found
 
   after-base : (ms : List Variant) (base : ℕ) → every (map read-member members) ≡ some ms → fresh-base term 0 ≡ some base → (b : Bool) → leb (scheme-count term) 4096 ≡ b
-      → CompleteMeans term members ((guard b >>= λ _. some (schemes-from term base)) >>= from-schemes ms)
+      → CompleteMeans term members ((guard b >>= λ _. some (schemes-from (fresh-from base) term 0)) >>= from-schemes ms)
   after-base ms base e f false g = no-claim (schemes-over (leb-false (scheme-count term) 4096 g))
   after-base ms base e f true g =
-      after-count ms base e f (leb-true (scheme-count term) 4096 g) (solved-schemes term (schemes-from term base)) (sort-schemes term (schemes-from term base))
+      after-count ms base e f (leb-true (scheme-count term) 4096 g) (solved-schemes term (schemes-from (fresh-from base) term 0)) (sort-schemes term (schemes-from (fresh-from base) term 0))
 
   after-members : (ms : List Variant) → every (map read-member members) ≡ some ms → (o : Option ℕ) → fresh-base term 0 ≡ o
-      → CompleteMeans term members ((o >>= λ base. guard (leb (scheme-count term) 4096) >>= λ _. some (schemes-from term base)) >>= from-schemes ms)
+      → CompleteMeans term members ((o >>= λ base. guard (leb (scheme-count term) 4096) >>= λ _. some (schemes-from (fresh-from base) term 0)) >>= from-schemes ms)
   after-members ms e nothing f = let (x, m, i) = index-absent term 0 f in no-claim (index-missing m i)
   after-members ms e (some base) f = after-base ms base e f (leb (scheme-count term) 4096) refl
 
@@ -285,7 +285,7 @@ module _ (term : Tree) (built : Built term) (small : size term ≤ 4096) (member
   not-both (index-missing {x} m i) c = Option·none-ne-some (c .base) (sym (base-absent term 0 x m i) ∙ c .indexed)
   not-both (schemes-over h) c = let l = c .limited in omega arith
   not-both (scheme-unsupported {base} {s} f m u) c =
-      c .decided s (subst (λ (b : ℕ). List·Memᴰ s (schemes-from term b)) (Option·some-injective base (c .base) (sym f ∙ c .indexed)) m) u
+      c .decided s (subst (λ (b : ℕ). List·Memᴰ s (schemes-from (fresh-from b) term 0)) (Option·some-injective base (c .base) (sym f ∙ c .indexed)) m) u
 
   contrary : (c d : Claim term members)
       → ((s : Scheme) (bs : List Binding) → Target term (c .base) s bs → (m : Variant) × List·Memᴰ m (c .variants) × Generalizes term m s bs)

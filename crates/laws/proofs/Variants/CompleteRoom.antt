@@ -8,6 +8,7 @@ use mathlib.Core.Option.{some, Option·some-injective}
 use lib.ListN.{length, length-append}
 use Rattle.rules.specs.Bytes.{Text, same}
 use Rattle.rules.specs.Text.{count-of}
+use Rattle.rules.specs.Names.{variable-token}
 use Rattle.rules.specs.Maybe.{_>>=_, every}
 use Rattle.rules.specs.Tree.{Tree, size}
 use Rattle.rules.specs.Substitution.{Binding, Pair, pick, lookup, instantiate}
@@ -108,27 +109,29 @@ module _ (s text : Text) (ms : List Member) (reads : read-sheet s ≡ some (asks
         texts-within length ms m listed,
       )
 
-  pub complete-room : (v : Variant) → read-member m ≡ some v → (base : ℕ) (r : Scheme) → List·Memᴰ r (schemes-from term base)
+  -- by names that are variable tokens
+  pub complete-room : (name : ℕ → Text) → ((n : ℕ) → variable-token (name n) ≡ true) → (v : Variant) → read-member m ≡ some v
+      → (n : ℕ) (r : Scheme) → List·Memᴰ r (schemes-from name term n)
       → (k : ℕ) (bs : List Binding) → unify k (system term r) .0 ≡ solved bs
       → MatchRoom s (map (λ x. (lookup (v .1) x, lookup bs x)) (variables term []) ++ ((v .0, instantiate bs (r .value)) ∷ []))
       (length (variables term [])) (length (m .0) + total length (entry-values (m .1))) (total (count-of 58) (entry-keys (m .1))) 4095
-  complete-room v h base r at k bs e =
+  complete-room name fresh v h n r at k bs e =
       let t = builds text term parsed in
       let small = reads-within text term parsed in
       let xs = variables term [] in
       let qs : List Pair = map (λ x. (lookup (v .1) x, lookup bs x)) xs in
       let (once, tokens) = variables-once term t in
-      let limits = unify-limited k (system term r) bs (system-built term t small base r at) e xs tokens in
+      let limits = unify-limited k (system term r) bs (system-built name fresh term t small n r at) e xs tokens in
       let a = member-against m v h bs xs in
       let p = member-parts m v h .0 in
       let value = instantiate bs (r .value) in
-      let within = target-within term t small base r at k bs e in
+      let within = target-within name fresh term t small n r at k bs e in
       let g = cover-built bs m tokens limits a in
       record {
         nodes = omega (arith, nodes-last qs (v .0) value, cover-nodes bs m once a, parse-size (m .0) (v .0) p);
         weighs = omega (arith, weight-last qs (v .0) value, cover-weight bs m once tokens limits a, load-size (v .0) value, parse-size (m .0) (v .0) p);
         colons = complete-colons;
         bytes = complete-bytes;
-        built = pairs-append qs ((v .0, value) ∷ []) (g .0) (builds (m .0) (v .0) p, target-built term t small base r at k bs e, tt);
+        built = pairs-append qs ((v .0, value) ∷ []) (g .0) (builds (m .0) (v .0) p, target-built name fresh term t small n r at k bs e, tt);
         within = sides-last (Upto 4096) (Upto 4096) qs (v .0) value (g .1) (reads-within (m .0) (v .0) p) within;
       }

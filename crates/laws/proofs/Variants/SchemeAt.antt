@@ -6,6 +6,7 @@ use mathlib.Core.Path.{_≡_, refl, sym, _∙_, ap, subst}
 use mathlib.Core.List.{List, [], _∷_, _++_, map, flatMap}
 use mathlib.Core.Option.{some, Option·none-ne-some, Option·some-injective}
 use lib.ListN.{length, length-map, getD, getElem?}
+use Rattle.rules.specs.Bytes.{Text}
 use Rattle.rules.specs.Tree.{Tree, variable, atom, apply, Trees, none, more}
 use Rattle.rules.specs.Variants.{root-schemes, schemes-from, joined, join-first, scheme-count, scheme-counts}
 use Rattle.rules.specs.Schemes.{root-count, root-at, scheme-at, joined-at, listing}
@@ -73,39 +74,40 @@ positive i m (suc k) h = omega arith
 quotient : (i m k : ℕ) → i < m * k → i / k < m
 quotient i m k h = div-lt-iff-lt-mul (positive i m k h) .1 h
 
--- The schemes
+-- The schemes, by the names of their fresh variables
 
-mutual
-  unfolding schemes-from scheme-count scheme-at root-count root-at
+module _ (name : ℕ → Text) where
+  mutual
+    unfolding schemes-from scheme-count scheme-at root-count root-at
 
-  scheme-found : (t : Tree) (n i : ℕ) → i < scheme-count t → getElem? (schemes-from t n) i ≡ some (scheme-at t n i)
-  scheme-found (variable x) n zero h = refl
-  scheme-found (variable x) n (suc i) h = absurd (omega arith)
-  scheme-found (atom c d) n zero h = refl
-  scheme-found (atom c d) n (suc i) h = absurd (omega arith)
-  scheme-found (apply f ts) n i h =
-      let k = root-count f ts in
-      let j = joined-at ts n (i / k) in
-      let q = joined-found ts n (i / k) (quotient i (scheme-counts ts) k h) in
-      let e = roots-count f ts (joined ts n) (children-kept ts n) in
-      let l = each-at (λ x. length (root-schemes f x)) k (joined ts n) e (i / k) j q in
-      let p : i % k < length (root-schemes f j) = subst (λ (m : ℕ). i % k < m) (sym l) (mod-lt i (positive i (scheme-counts ts) k h)) in
-      at-divided (root-schemes f) k (joined ts n) e i j (scheme-at (apply f ts) n i) q (at-inside (root-schemes f j) (i % k) _ p)
+    pub scheme-found : (t : Tree) (n i : ℕ) → i < scheme-count t → getElem? (schemes-from name t n) i ≡ some (scheme-at name t n i)
+    scheme-found (variable x) n zero h = refl
+    scheme-found (variable x) n (suc i) h = absurd (omega arith)
+    scheme-found (atom c d) n zero h = refl
+    scheme-found (atom c d) n (suc i) h = absurd (omega arith)
+    scheme-found (apply f ts) n i h =
+        let k = root-count f ts in
+        let j = joined-at name ts n (i / k) in
+        let q = joined-found ts n (i / k) (quotient i (scheme-counts ts) k h) in
+        let e = roots-count name f ts (joined name ts n) (children-kept name ts n) in
+        let l = each-at (λ x. length (root-schemes name f x)) k (joined name ts n) e (i / k) j q in
+        let p : i % k < length (root-schemes name f j) = subst (λ (m : ℕ). i % k < m) (sym l) (mod-lt i (positive i (scheme-counts ts) k h)) in
+        at-divided (root-schemes name f) k (joined name ts n) e i j (scheme-at name (apply f ts) n i) q (at-inside (root-schemes name f j) (i % k) _ p)
 
-  joined-found : (ts : Trees) (n i : ℕ) → i < scheme-counts ts → getElem? (joined ts n) i ≡ some (joined-at ts n i)
-  joined-found none n zero h = refl
-  joined-found none n (suc i) h = absurd (omega arith)
-  joined-found (more t ts) n i h =
-      let k = scheme-counts ts in
-      let s = scheme-at t n (i / k) in
-      let p = positive i (scheme-count t) k h in
-      at-divided (λ r. map (join-first r) (joined ts (r .next))) k (schemes-from t n)
-      (each (λ r. length (map (join-first r) (joined ts (r .next)))) k (λ r. length-map (joined ts (r .next)) (join-first r) ∙ joined-counted ts (r .next)) (schemes-from t n))
-      i s (joined-at (more t ts) n i) (scheme-found t n (i / k) (quotient i (scheme-count t) k h))
-      (at-map (join-first s) (joined ts (s .next)) (i % k) (joined-at ts (s .next) (i % k)) (joined-found ts (s .next) (i % k) (mod-lt i p)))
+    joined-found : (ts : Trees) (n i : ℕ) → i < scheme-counts ts → getElem? (joined name ts n) i ≡ some (joined-at name ts n i)
+    joined-found none n zero h = refl
+    joined-found none n (suc i) h = absurd (omega arith)
+    joined-found (more t ts) n i h =
+        let k = scheme-counts ts in
+        let s = scheme-at name t n (i / k) in
+        let p = positive i (scheme-count t) k h in
+        at-divided (λ r. map (join-first r) (joined name ts (r .next))) k (schemes-from name t n)
+        (each (λ r. length (map (join-first r) (joined name ts (r .next)))) k (λ r. length-map (joined name ts (r .next)) (join-first r) ∙ joined-counted name ts (r .next)) (schemes-from name t n))
+        i s (joined-at name (more t ts) n i) (scheme-found t n (i / k) (quotient i (scheme-count t) k h))
+        (at-map (join-first s) (joined name ts (s .next)) (i % k) (joined-at name ts (s .next) (i % k)) (joined-found ts (s .next) (i % k) (mod-lt i p)))
 
--- made one at a time, the schemes of a term are its schemes in order
-pub schemes-listed : (t : Tree) (n : ℕ) → listing (scheme-count t) (scheme-at t n) ≡ schemes-from t n
-schemes-listed t n =
-    ap (λ (k : ℕ). listing k (scheme-at t n)) (sym (schemes-counted t n))
-    ∙ listed (schemes-from t n) (scheme-at t n) (λ i h. scheme-found t n i (subst (λ (k : ℕ). i < k) (schemes-counted t n) h))
+  -- made one at a time, the schemes of a term are its schemes in order
+  pub schemes-listed : (t : Tree) (n : ℕ) → listing (scheme-count t) (scheme-at name t n) ≡ schemes-from name t n
+  schemes-listed t n =
+      ap (λ (k : ℕ). listing k (scheme-at name t n)) (sym (schemes-counted name t n))
+      ∙ listed (schemes-from name t n) (scheme-at name t n) (λ i h. scheme-found t n i (subst (λ (k : ℕ). i < k) (schemes-counted name t n) h))

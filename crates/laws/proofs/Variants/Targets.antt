@@ -14,7 +14,7 @@ use Rattle.rules.specs.Tree.{Tree, variable, atom, apply, Trees, none, more, si
 use Rattle.rules.specs.Substitution.{Binding, Pair, instantiate}
 use Rattle.rules.specs.Solving.{solved, unify}
 use Rattle.rules.specs.Reduction.{Rule, fst, snd, flip, sdec, kdec, rule-named, pair, senc, kem, role-a, role-b, arguments1, arguments2}
-use Rattle.rules.specs.Variants.{Scheme, Joined, only, fresh, firings, before, root-schemes, join-first, schemes-from, joined, system}
+use Rattle.rules.specs.Variants.{fresh-name, fresh-from, Scheme, Joined, only, fresh, firings, before, root-schemes, join-first, schemes-from, joined, system}
 use Rattle.rules.specs.Tidy.{Built, a-variable, a-leaf, a-list, Builts, nil, both}
 use Rattle.laws.proofs.Basics.Tests.{and-left, and-right, and-both}
 use Rattle.laws.proofs.Basics.Numerals.{decimal-number}
@@ -67,9 +67,10 @@ unfolding number variable-token
 fresh-token [] h = absurd (false≢true h)
 fresh-token (b ∷ d) h = and-both (digit b) (indexed (d ++ bytes ":Msg")) (and-left (digit b) (all digit d) h) (index-sort d (and-right (digit b) (all digit d) h))
 
-fresh-built : (n : ℕ) → Built (fresh n)
-unfolding fresh
-fresh-built n = a-variable (fresh-token (decimal n) (decimal-number n))
+-- the fresh names from a base on are variable tokens
+pub fresh-tokens : (base n : ℕ) → variable-token (fresh-from base n) ≡ true
+unfolding fresh-name
+fresh-tokens base n = fresh-token (decimal (base + n)) (decimal-number (base + n))
 
 pair-built : {a b : Tree} → Built a → Built b → Built (pair a b)
 unfolding word letter-name same
@@ -96,7 +97,7 @@ role-b-built = a-leaf refl
 abbrev Small : Scheme → Type 0
 Small s = (size (s .value) ≤ 1) × Built (s .value) × BuiltPairs (s .equations)
 
-abbrev Good : Tree → Scheme → Type 0
+abbrev pub Good : Tree → Scheme → Type 0
 Good t s = (size (s .value) ≤ size t) × Built (s .value) × BuiltPairs (s .equations)
 
 abbrev GoodJoined : Trees → Joined → Type 0
@@ -121,70 +122,75 @@ one-small f h us b = one-all Small f us (λ a e. h a (built-first (subst Builts 
 two-small : (f : Tree × Tree → List Scheme) → ((a c : Tree) → Built a → Built c → All Small (f (a, c))) → (us : Trees) → Builts us → All Small (only (arguments2 us) f)
 two-small f h us b = two-all Small f us (λ a c e. let k = subst Builts e b in h a c (built-first k) (built-first (built-rest k)))
 
-fresh-size : (n : ℕ) → size (fresh n) ≤ 1
-unfolding fresh size
-fresh-size n = omega arith
+variable-size : (x : Text) → size (variable x) ≤ 1
+unfolding size
+variable-size x = omega arith
 
 role-size : (f : Text) → size (apply f none) ≤ 1
 unfolding size
 role-size f = omega arith
 
-firings-small : (r : Rule) (us : Trees) (n : ℕ) → Builts us → All Small (firings r us n)
-unfolding firings
-firings-small fst us n b = one-small _ (λ a p. ((fresh-size n, fresh-built n, (p, pair-built (fresh-built n) (fresh-built (n + 1)), tt)), tt)) us b
-firings-small snd us n b = one-small _ (λ a p. ((fresh-size (n + 1), fresh-built (n + 1), (p, pair-built (fresh-built n) (fresh-built (n + 1)), tt)), tt)) us b
-firings-small flip us n b =
-    one-small _ (λ a p. ((role-size (bytes "tamXCroleB"), role-b-built, (p, role-a-built, tt)), ((role-size (bytes "tamXCroleA"), role-a-built, (p, role-b-built, tt)), tt))) us b
-firings-small sdec us n b =
-    two-small _ (λ a c p q. ((fresh-size n, fresh-built n, (p, senc-built (fresh-built n) (fresh-built (n + 1)), (q, fresh-built (n + 1), tt))), tt)) us b
-firings-small kdec us n b =
-    two-small _ (λ a c p q. ((fresh-size n, fresh-built n, (p, kem-built (fresh-built n) (fresh-built (n + 1)), (q, fresh-built (n + 1), tt))), tt)) us b
-
 before-good : (t : Tree) (es : List Pair) → BuiltPairs es → (s : Scheme) → Small s → Good t (before es s)
 before-good t es k s h = let l = h .0 in (omega (arith, size-some t), h .1, pairs-append (s .equations) es (h .2) k)
-
-root-good : (f : Text) (ts : Trees) (j : Joined) → Built (apply f ts) → GoodJoined ts j → All (Good (apply f ts)) (root-schemes f j)
-unfolding root-schemes size
-root-good f ts j b h = ((let l = h .0 in omega arith, rebuilt b (h .1), h .2), go (rule-named f))
-  where
-    go : (o : Option Rule) → All (Good (apply f ts)) (only o (λ r. map (before (j .equations)) (firings r (j .values) (j .next))))
-    go nothing = tt
-    go (some r) =
-        all-map Small (Good (apply f ts)) (before (j .equations)) (before-good (apply f ts) (j .equations) (h .2)) (firings r (j .values) (j .next))
-        (firings-small r (j .values) (j .next) (builts (h .1)))
 
 first-good : (t : Tree) (ts : Trees) (s : Scheme) → Good t s → (j : Joined) → GoodJoined ts j → GoodJoined (more t ts) (join-first s j)
 unfolding size
 first-good t ts s g j h = (let l = g .0 in let k = h .0 in omega arith, one-more (g .1) (h .1), pairs-append (s .equations) (j .equations) (g .2) (h .2))
 
-mutual
-  unfolding schemes-from
+-- by names that are variable tokens
+module _ (name : ℕ → Text) (tokens : (n : ℕ) → variable-token (name n) ≡ true) where
+  fresh-built : (n : ℕ) → Built (fresh name n)
+  fresh-built n = a-variable (tokens n)
 
-  schemes-good : (t : Tree) (n : ℕ) → Built t → All (Good t) (schemes-from t n)
-  schemes-good (variable x) n b = ((omega arith, b, tt), tt)
-  schemes-good (atom c d) n b = ((omega arith, b, tt), tt)
-  schemes-good (apply f ts) n b = all-flat (GoodJoined ts) (Good (apply f ts)) (root-schemes f) (λ j h. root-good f ts j b h) (joined ts n) (joined-good ts n (built-children b))
+  firings-small : (r : Rule) (us : Trees) (n : ℕ) → Builts us → All Small (firings name r us n)
+  unfolding firings
+  firings-small fst us n b = one-small _ (λ a p. ((variable-size _, fresh-built n, (p, pair-built (fresh-built n) (fresh-built (n + 1)), tt)), tt)) us b
+  firings-small snd us n b = one-small _ (λ a p. ((variable-size _, fresh-built (n + 1), (p, pair-built (fresh-built n) (fresh-built (n + 1)), tt)), tt)) us b
+  firings-small flip us n b =
+      one-small _ (λ a p. ((role-size (bytes "tamXCroleB"), role-b-built, (p, role-a-built, tt)), ((role-size (bytes "tamXCroleA"), role-a-built, (p, role-b-built, tt)), tt))) us b
+  firings-small sdec us n b =
+      two-small _ (λ a c p q. ((variable-size _, fresh-built n, (p, senc-built (fresh-built n) (fresh-built (n + 1)), (q, fresh-built (n + 1), tt))), tt)) us b
+  firings-small kdec us n b =
+      two-small _ (λ a c p q. ((variable-size _, fresh-built n, (p, kem-built (fresh-built n) (fresh-built (n + 1)), (q, fresh-built (n + 1), tt))), tt)) us b
 
-  joined-good : (ts : Trees) (n : ℕ) → Builts ts → All (GoodJoined ts) (joined ts n)
-  joined-good none n b = ((omega arith, no-more, tt), tt)
-  joined-good (more t ts) n b =
-      all-flat (Good t) (GoodJoined (more t ts)) (λ s. map (join-first s) (joined ts (s .next)))
-      (λ s g. all-map (GoodJoined ts) (GoodJoined (more t ts)) (join-first s) (first-good t ts s g) (joined ts (s .next)) (joined-good ts (s .next) (built-rest b)))
-      (schemes-from t n) (schemes-good t n (built-first b))
+  root-good : (f : Text) (ts : Trees) (j : Joined) → Built (apply f ts) → GoodJoined ts j → All (Good (apply f ts)) (root-schemes name f j)
+  unfolding root-schemes size
+  root-good f ts j b h = ((let l = h .0 in omega arith, rebuilt b (h .1), h .2), go (rule-named f))
+    where
+      go : (o : Option Rule) → All (Good (apply f ts)) (only o (λ r. map (before (j .equations)) (firings name r (j .values) (j .next))))
+      go nothing = tt
+      go (some r) =
+          all-map Small (Good (apply f ts)) (before (j .equations)) (before-good (apply f ts) (j .equations) (h .2)) (firings name r (j .values) (j .next))
+          (firings-small r (j .values) (j .next) (builts (h .1)))
 
--- Solved schemes
+  mutual
+    unfolding schemes-from
 
-module _ (term : Tree) (built : Built term) (small : size term ≤ 4096) (base : ℕ) (s : Scheme) (listed : List·Memᴰ s (schemes-from term base)) where
-  abbrev good : Good term s
-  good = all-at (Good term) (schemes-from term base) s listed (schemes-good term base built)
+    pub schemes-good : (t : Tree) (n : ℕ) → Built t → All (Good t) (schemes-from name t n)
+    schemes-good (variable x) n b = ((omega arith, b, tt), tt)
+    schemes-good (atom c d) n b = ((omega arith, b, tt), tt)
+    schemes-good (apply f ts) n b = all-flat (GoodJoined ts) (Good (apply f ts)) (root-schemes name f) (λ j h. root-good f ts j b h) (joined name ts n) (joined-good ts n (built-children b))
 
-  pub system-built : BuiltPairs (system term s)
-  system-built = pairs-append (s .equations) ((term, term) ∷ (s .value, s .value) ∷ []) (good .2) (built, built, (good .1, good .1, tt))
+    joined-good : (ts : Trees) (n : ℕ) → Builts ts → All (GoodJoined ts) (joined name ts n)
+    joined-good none n b = ((omega arith, no-more, tt), tt)
+    joined-good (more t ts) n b =
+        all-flat (Good t) (GoodJoined (more t ts)) (λ s. map (join-first s) (joined name ts (s .next)))
+        (λ s g. all-map (GoodJoined ts) (GoodJoined (more t ts)) (join-first s) (first-good t ts s g) (joined name ts (s .next)) (joined-good ts (s .next) (built-rest b)))
+        (schemes-from name t n) (schemes-good t n (built-first b))
 
-  pub target-built : (k : ℕ) (bs : List Binding) → unify k (system term s) .0 ≡ solved bs → Built (instantiate bs (s .value))
-  target-built k bs e = instance-built bs (subst Writable e (unify-writable k (system term s) system-built) .0) (good .1)
+  -- Solved schemes
 
-  -- the value waits beside itself during every binding
-  pub target-within : (k : ℕ) (bs : List Binding) → unify k (system term s) .0 ≡ solved bs → size (instantiate bs (s .value)) ≤ 4096
-  target-within k bs e =
-      unify-limit k (system term s) (s .value) (waits-after (s .value) (s .equations) (term, term)) (let h = good .0 in omega arith) bs e
+  module _ (term : Tree) (built : Built term) (small : size term ≤ 4096) (n : ℕ) (s : Scheme) (listed : List·Memᴰ s (schemes-from name term n)) where
+    abbrev good : Good term s
+    good = all-at (Good term) (schemes-from name term n) s listed (schemes-good term n built)
+
+    pub system-built : BuiltPairs (system term s)
+    system-built = pairs-append (s .equations) ((term, term) ∷ (s .value, s .value) ∷ []) (good .2) (built, built, (good .1, good .1, tt))
+
+    pub target-built : (k : ℕ) (bs : List Binding) → unify k (system term s) .0 ≡ solved bs → Built (instantiate bs (s .value))
+    target-built k bs e = instance-built bs (subst Writable e (unify-writable k (system term s) system-built) .0) (good .1)
+
+    -- the value waits beside itself during every binding
+    pub target-within : (k : ℕ) (bs : List Binding) → unify k (system term s) .0 ≡ solved bs → size (instantiate bs (s .value)) ≤ 4096
+    target-within k bs e =
+        unify-limit k (system term s) (s .value) (waits-after (s .value) (s .equations) (term, term)) (let h = good .0 in omega arith) bs e
