@@ -6,3 +6,6 @@ pub mod Unifying
 pub mod Matching
 pub mod Reducing
 pub mod Completing
+pub mod Unspelled
+pub mod Naming
+pub mod Exchange

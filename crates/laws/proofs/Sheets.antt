@@ -8,6 +8,7 @@ pub mod Calls
 pub mod Refusals
 pub mod Answers
 pub mod SheetTexts
+pub mod SheetParts
 pub mod NamesRead
 pub mod Alike
 pub mod Table

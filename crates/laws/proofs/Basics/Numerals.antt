@@ -120,3 +120,11 @@ pub decimal-read : (n : ℕ) → read-number (decimal n) ≡ some n
 unfolding read-number decimal
 decimal-read n =
     ap (λ (b : Bool). cond b (some (value-from 0 (digits-in (suc n) n))) none) (digits-proper n) ∙ ap some (digits-value (suc n) n (omega arith))
+
+pub decimal-proper : (n : ℕ) → proper (decimal n) ≡ true
+unfolding decimal
+decimal-proper = digits-proper
+
+pub decimal-value : (n : ℕ) → value-from 0 (decimal n) ≡ n
+unfolding decimal
+decimal-value n = digits-value (suc n) n (omega arith)

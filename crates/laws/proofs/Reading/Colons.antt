@@ -16,12 +16,13 @@ use Rattle.rules.specs.Tree.{Tree, variable, atom, apply, Trees, none, more, co
 use Rattle.rules.specs.Reduction.{Rule, rule-named}
 use Rattle.rules.specs.Memory.{variable-names, variable-names-in, rule-node, rule-nodes, rule-nodes-in}
 use Rattle.rules.specs.Reading.{leaf, single, constant-name, atom-of, nested, sum-of, close, parse}
+use Rattle.laws.proofs.Basics.Tests.{same-eq}
 use Rattle.laws.proofs.Basics.Options.{bound}
 use Rattle.laws.proofs.Reading.Measures.{total, Measure, read-measured}
 
 -- What closing makes of a name and its list: an atom, a sum or an application
 module _ (P : Text → Trees → Tree → Type 0) (atoms : (n : Text) (ts : Trees) (c : ℕ) (d : Text) → P n ts (atom c d))
-    (sums : (n : Text) (t u : Tree) (us : Trees) → P n (more t (more u us)) (nested t (more u us)))
+    (sums : (n : Text) (t u : Tree) (us : Trees) → n ≡ tamtplus → P n (more t (more u us)) (nested t (more u us)))
     (applications : (n : Text) (ts : Trees) → P n ts (apply n ts)) where
   atom-closed : (n : Text) (ts : Trees) (t : Tree) → atom-of n ts ≡ some t → P n ts t
   unfolding atom-of
@@ -31,20 +32,20 @@ module _ (P : Text → Trees → Tree → Type 0) (atoms : (n : Text) (ts : Tree
       let (x, g, h₃) = bound (guard (all digit d)) (λ _. some (atom (getD n 0 0) d)) t h₂ in
       subst (P n ts) (Option·some-injective (atom (getD n 0 0) d) t h₃) (atoms n ts (getD n 0 0) d)
 
-  sum-closed : (n : Text) (ts : Trees) (t : Tree) → sum-of ts ≡ some t → P n ts t
+  sum-closed : (n : Text) (ts : Trees) (t : Tree) → n ≡ tamtplus → sum-of ts ≡ some t → P n ts t
   unfolding sum-of
-  sum-closed n none t h = absurd (Option·none-ne-some t h)
-  sum-closed n (more a none) t h = absurd (Option·none-ne-some t h)
-  sum-closed n (more a (more b us)) t h = subst (P n (more a (more b us))) (Option·some-injective (nested a (more b us)) t h) (sums n a b us)
+  sum-closed n none t e h = absurd (Option·none-ne-some t h)
+  sum-closed n (more a none) t e h = absurd (Option·none-ne-some t h)
+  sum-closed n (more a (more b us)) t e h = subst (P n (more a (more b us))) (Option·some-injective (nested a (more b us)) t h) (sums n a b us e)
 
-  closed-cases : (n : Text) (ts : Trees) (t : Tree) → close n ts ≡ some t → P n ts t
+  pub closed-cases : (n : Text) (ts : Trees) (t : Tree) → close n ts ≡ some t → P n ts t
   unfolding close
-  closed-cases n ts t h = go (letter-name n) (same n tamtplus) h
+  closed-cases n ts t h = go (letter-name n) (same n tamtplus) refl h
     where
-      go : (b c : Bool) → elim b [ true ↦ atom-of n ts | false ↦ elim c [ true ↦ sum-of ts | false ↦ some (apply n ts) ] ] ≡ some t → P n ts t
-      go true c k = atom-closed n ts t k
-      go false true k = sum-closed n ts t k
-      go false false k = subst (P n ts) (Option·some-injective (apply n ts) t k) (applications n ts)
+      go : (b c : Bool) → same n tamtplus ≡ c → elim b [ true ↦ atom-of n ts | false ↦ elim c [ true ↦ sum-of ts | false ↦ some (apply n ts) ] ] ≡ some t → P n ts t
+      go true c e k = atom-closed n ts t k
+      go false true e k = sum-closed n ts t (same-eq n tamtplus e) k
+      go false false e k = subst (P n ts) (Option·some-injective (apply n ts) t k) (applications n ts)
 
 -- Colons
 
@@ -100,7 +101,7 @@ colons-upto (b ∷ s) = go (eqb b 58) (colons-upto s)
 names-closed : (n : Text) (ts : Trees) (t : Tree) → close n ts ≡ some t → names-count t ≤ names-counts ts
 unfolding variable-names
 names-closed = closed-cases (λ n ts t. names-count t ≤ names-counts ts) (λ n ts c d. omega arith)
-    (λ n t u us. omega (arith, nested-names t (more u us), names-more t (more u us))) (λ n ts. omega arith)
+    (λ n t u us e. omega (arith, nested-names t (more u us), names-more t (more u us))) (λ n ts. omega arith)
 
 unfoldable colon-measure : Measure
 unfolding variable-names count-of
@@ -146,7 +147,7 @@ bytes-total (b ∷ s) = let h = bytes-total s in omega arith
 
 size-closed : (n : Text) (ts : Trees) (t : Tree) → close n ts ≡ some t → size t ≤ 1 + (sizes ts + count ts)
 unfolding size
-size-closed = closed-cases (λ n ts t. size t ≤ 1 + (sizes ts + count ts)) (λ n ts c d. omega arith) (λ n t u us. omega (arith, nested-size t (more u us)))
+size-closed = closed-cases (λ n ts t. size t ≤ 1 + (sizes ts + count ts)) (λ n ts c d. omega arith) (λ n t u us e. omega (arith, nested-size t (more u us)))
     (λ n ts. omega arith)
 
 unfoldable node-measure : Measure
@@ -198,7 +199,7 @@ rule-upto (some r) (more t ts) = omega arith
 rules-closed : (n : Text) (ts : Trees) (t : Tree) → close n ts ≡ some t → rule-nodes t ≤ 1 + rule-nodes-in ts
 unfolding rule-nodes
 rules-closed = closed-cases (λ n ts t. rule-nodes t ≤ 1 + rule-nodes-in ts) (λ n ts c d. omega arith)
-    (λ n t u us. omega (arith, nested-rules t (more u us))) (λ n ts. omega (arith, rule-upto (rule-named n) ts))
+    (λ n t u us e. omega (arith, nested-rules t (more u us))) (λ n ts. omega (arith, rule-upto (rule-named n) ts))
 
 abbrev opening : ℕ → ℕ
 opening b = cond (eqb b 40) 1 0

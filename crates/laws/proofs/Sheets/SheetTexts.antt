@@ -23,6 +23,15 @@ module _ {A : Type 0} (f : A → ℕ) where
   total-append [] ys = omega arith
   total-append (x ∷ xs) ys = let h = total-append xs ys in omega arith
 
+pub ended : (ls : List Text) (a sheet : Sheet) → at-end ls a ≡ some sheet → a ≡ sheet
+ended [] a sheet h = Option·some-injective a sheet h
+ended (l ∷ ls) a sheet h = absurd (Option·none-ne-some sheet h)
+
+pub the-member : (ms : List Member) (m : Member) → one-member ms ≡ some m → ms ≡ m ∷ []
+the-member [] m h = absurd (Option·none-ne-some m h)
+the-member (n ∷ []) m h = ap (λ (x : Member). x ∷ []) (Option·some-injective n m h)
+the-member (n ∷ n₂ ∷ ns) m h = absurd (Option·none-ne-some m h)
+
 module _ (byte : ℕ → ℕ) where
   -- of a text, and of all texts
   abbrev text : Text → ℕ
@@ -176,15 +185,6 @@ module _ (byte : ℕ → ℕ) where
 
   abbrev sheet-total : Sheet → ℕ
   sheet-total sheet = texts (sheet-texts sheet) + texts (sheet-keys sheet)
-
-  ended : (ls : List Text) (a sheet : Sheet) → at-end ls a ≡ some sheet → a ≡ sheet
-  ended [] a sheet h = Option·some-injective a sheet h
-  ended (l ∷ ls) a sheet h = absurd (Option·none-ne-some sheet h)
-
-  the-member : (ms : List Member) (m : Member) → one-member ms ≡ some m → ms ≡ m ∷ []
-  the-member [] m h = absurd (Option·none-ne-some m h)
-  the-member (n ∷ []) m h = ap (λ (x : Member). x ∷ []) (Option·some-injective n m h)
-  the-member (n ∷ n₂ ∷ ns) m h = absurd (Option·none-ne-some m h)
 
   -- the kinds with fuel
   fuelled-within : (asks : ℕ → List Entry → Sheet) → ((k : ℕ) (es : List Entry) → sheet-total (asks k es) ≡ texts (side-texts es))

@@ -17,7 +17,7 @@ use Rattle.rules.specs.Schemes.{root-count, listing}
 use Rattle.rules.specs.Memory.{Over, Overs, OverPairs, site, sites, sites-in}
 use Rattle.laws.proofs.Basics.Tests.{or-left, or-right, same-self}
 use Rattle.laws.proofs.Reading.Colons.{parse-brackets}
-use Rattle.laws.proofs.Variants.Sites.{site-some, site-alike, sites-nodes}
+use Rattle.laws.proofs.Variants.Sites.{one-fires, two-fires, site-alike, sites-nodes}
 use Rattle.laws.proofs.Variants.Targets.{All, all-at, all-map, all-flat, one-all, two-all}
 
 over-append : (ns : List Text) (ps qs : List Pair) → OverPairs ns ps → OverPairs ns qs → OverPairs ns (ps ++ qs)
@@ -48,7 +48,7 @@ module _ (name : ℕ → Text) (ns : List Text) where
     one k f names h =
         one-all (Uses n (2 * site (1 + with-one (suc k) us))) f us
         (λ a e.
-        let i : site (1 + with-one (suc k) us) ≡ 1 = ap (λ (ts : Trees). site (1 + with-one (suc k) ts)) e ∙ site-some k in
+        let i = one-fires k e in
         let (x, y) = two-fresh n (site (1 + with-one (suc k) us)) names i in
         subst (λ (m : ℕ). All (Uses n (2 * m)) (f a)) (sym i) (h a (subst (Overs ns) e o .0) x y))
 
@@ -58,7 +58,7 @@ module _ (name : ℕ → Text) (ns : List Text) where
     two f names h =
         two-all (Uses n (2 * site (1 + with-two 1 us))) f us
         (λ a c e.
-        let i : site (1 + with-two 1 us) ≡ 1 = ap (λ (ts : Trees). site (1 + with-two 1 ts)) e in
+        let i = two-fires e in
         let (x, y) = two-fresh n (site (1 + with-two 1 us)) names i in
         let p = subst (Overs ns) e o in
         subst (λ (m : ℕ). All (Uses n (2 * m)) (f (a, c))) (sym i) (h a c (p .0) (p .1 .0) x y))

@@ -2,7 +2,7 @@
 use Prim.Native.Nat.{ℕ, zero, suc, _+_, _*_, _≤_, _^_}
 use native.Mathlib.Nat.{le-trans, le-of-eq, mul-le-mul}
 use native.Mathlib.Omega.{arith}
-use mathlib.Core.Path.{_≡_, refl, ap}
+use mathlib.Core.Path.{_≡_, refl, _∙_, ap}
 use mathlib.Core.Bool.{Bool, true, false}
 use mathlib.Core.Option.{Option, some, none as nothing}
 use lib.Dec.{leb}
@@ -15,8 +15,15 @@ use Rattle.rules.specs.Memory.{some-children, rule-node, rule-nodes, rule-nodes
 use Rattle.laws.proofs.Basics.Tests.{leb-true, leb-false}
 use Rattle.laws.proofs.Variants.SchemeCount.{alike}
 
-pub site-some : (k : ℕ) → site (1 + suc k) ≡ 1
+site-some : (k : ℕ) → site (1 + suc k) ≡ 1
 site-some k = let e : 1 + suc k ≡ suc (suc k) = omega arith in ap site e
+
+-- children that a rule fires over
+pub one-fires : (k : ℕ) {us : Trees} {a : Tree} → us ≡ more a none → site (1 + with-one (suc k) us) ≡ 1
+one-fires k e = ap (λ (ts : Trees). site (1 + with-one (suc k) ts)) e ∙ site-some k
+
+pub two-fires : {us : Trees} {a c : Tree} → us ≡ more a (more c none) → site (1 + with-two 1 us) ≡ 1
+two-fires e = ap (λ (ts : Trees). site (1 + with-two 1 ts)) e
 
 -- whether there is a site depends on the number of children only
 pub site-alike : (o : Option Rule) (us ts : Trees) → count us ≡ count ts → site (1 + firing-count o us) ≡ site (1 + firing-count o ts)
