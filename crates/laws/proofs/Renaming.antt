@@ -9,3 +9,4 @@ pub mod Completing
 pub mod Unspelled
 pub mod Naming
 pub mod Exchange
+pub mod AnyNames
