@@ -2,8 +2,7 @@
 use Prim.Native.Nat.{ℕ, zero, suc, _+_, _-_, _<_, _≤_}
 use mathlib.Core.Path.{_≡_, refl, sym, ap, _∙_}
 use mathlib.Core.Bool.{not}
-use mathlib.Core.List.{_∷_, _++_}
-use mathlib.Core.Option.{some}
+use mathlib.Core.List.{_++_}
 use lib.Dec.{eqb}
 use lib.ListN.{length, getD}
 use native.Mathlib.Nat.{zero-add}
@@ -12,18 +11,13 @@ use native.Mathlib.Decide.{decLt}
 use borrow.Author.Tests.{eq-eqb, ne-eqb, eqb-false, not-true}
 use Rattle.rules.specs.Bytes.{Text, same}
 use Rattle.rules.specs.Text.{bytes}
-use Rattle.rules.specs.Sorts.{Msg, sort-named, variable-sort}
 use Rattle.laws.specs.Unspelled.{zeros, unspelled}
 use Rattle.laws.proofs.Basics.Tests.{same-of-eq, differ-of-ne, ne-of-differ}
+use Rattle.laws.proofs.Renaming.Unspelled.{unspelled-sort, unspelled-length}
 use Rattle.tree.specs.Cells.{fixed-name, kind-of-sort, variable-kind}
 use Rattle.tree.proofs.Bounded.{every-below, below-holds, agree, agreeing}
 
 -- ---- the bytes of a name that no sheet spells
-
-zeros-length : (n : ℕ) (t : Text) → length (zeros n ++ t) ≡ n + length t
-unfolding zeros
-zeros-length zero t = omega arith
-zeros-length (suc n) t = omega (arith, zeros-length n t)
 
 zeros-byte : (n : ℕ) (t : Text) (i : ℕ) → i < n → getD (zeros n ++ t) i 0 ≡ 48
 unfolding zeros
@@ -35,15 +29,6 @@ zeros-then : (n : ℕ) (t : Text) (i : ℕ) → getD (zeros n ++ t) (n + i) 0 �
 unfolding zeros
 zeros-then zero t i = rw zero-add
 zeros-then (suc n) t i = let e : suc n + i ≡ suc (n + i) = omega arith in rw e (zeros-then n t i)
-
-zeros-sort : (n : ℕ) (t : Text) → variable-sort (zeros n ++ t) ≡ variable-sort t
-unfolding zeros variable-sort
-zeros-sort zero t = refl
-zeros-sort (suc n) t = zeros-sort n t
-
-unspelled-length : (n : ℕ) → length (unspelled n) ≡ 65541 + n
-unfolding unspelled
-unspelled-length n = omega (arith, zeros-length (65536 + n) (bytes ":Msg"))
 
 pub unspelled-first : (n a : ℕ) → a ≡ 0 → 120 ≡ getD (unspelled n) a 0
 unfolding unspelled
@@ -60,8 +45,7 @@ unspelled-end n a i e = let f : a ≡ suc (65536 + n + i) = omega arith in rw f 
 
 -- it is of the sort Msg
 pub unspelled-kind : (n : ℕ) → 3 ≡ variable-kind (unspelled n)
-unfolding unspelled variable-sort sort-named same
-unspelled-kind n = sym (ap kind-of-sort (zeros-sort (65536 + n) (bytes ":Msg")))
+unspelled-kind n = sym (ap kind-of-sort (unspelled-sort n))
 
 -- ---- the name of a code
 
