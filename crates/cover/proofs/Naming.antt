@@ -105,8 +105,7 @@ children-spelled h = record { built = children-built (h .built); short = h .shor
 first-spelled : {t : Tree} {ts : Trees} → SpelledAll (more t ts) → Spelled t × SpelledAll ts
 unfolding variable-names
 first-spelled {t} {ts} h =
-    let b = first-built (h .built) in
-    (
+    let b = first-built (h .built) in (
       record { built = b .0; short = λ x m. h .short x (Memᴰ·append-left (variable-names-in ts) m) },
       record { built = b .1; short = λ x m. h .short x (Memᴰ·append-right (variable-names t) m) },
     )
