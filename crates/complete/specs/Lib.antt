@@ -1,2 +1,4 @@
 pub mod Indices
+pub mod Searching
+pub mod Fresh
 pub mod Families
