@@ -1,4 +1,6 @@
 pub mod Indexing
+pub mod Finding
+pub mod FreshCells
 pub mod Gathering
 pub mod AnyOrder
 pub mod Generals

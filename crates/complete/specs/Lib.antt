@@ -1,4 +1,6 @@
 pub mod Indices
+pub mod Searching
+pub mod Fresh
 pub mod Families
 pub mod Generalizing
 pub mod Judging
