@@ -1,17 +1,22 @@
--- Variables with an index, by their names. Definitions only.
-use mathlib.Core.Bool.{Bool, true, false, _&&_}
+-- One above the indices of variables, by their names. Definitions only.
+use Prim.Native.Nat.{ℕ, suc, max}
 use mathlib.Core.List.{List, [], _∷_}
-use mathlib.Core.Option.{some, none}
+use mathlib.Core.Option.{Option, some, none}
 use Rattle.rules.specs.Bytes.{Text}
+use Rattle.rules.specs.Maybe.{_>>=_}
 use Rattle.rules.specs.Variants.{index-of}
+use Rattle.complete.specs.declared.indices.Base.{Base}
+use Rattle.complete.specs.declared.indices.Base.the-variants.{From, Nothing}
 
--- the variable has an index
-unfoldable pub has-index : Text → Bool
+-- one above every index, from a base on; none where a name has no index
+unfoldable pub names-base-from : ℕ → List Text → Option ℕ
 unfolding index-of
-has-index x = elim (index-of x) [ none ↦ false | some i ↦ true ]
+names-base-from base [] = some base
+names-base-from base (x ∷ xs) = index-of x >>= λ i. names-base-from (max base (suc i)) xs
 
--- every one of them has
-unfoldable pub names-indexed : List Text → Bool
-unfolding has-index
-names-indexed [] = true
-names-indexed (x ∷ xs) = has-index x && names-indexed xs
+abbrev pub names-base : List Text → Option ℕ
+names-base xs = names-base-from 0 xs
+
+abbrev pub base-found : Option ℕ → Base
+base-found none = Nothing
+base-found (some base) = From base

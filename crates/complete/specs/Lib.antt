@@ -1,2 +1,7 @@
 pub mod Indices
+pub mod Searching
+pub mod Fresh
 pub mod Families
+pub mod Generalizing
+pub mod Judging
+pub mod Completing

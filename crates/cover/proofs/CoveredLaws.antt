@@ -13,7 +13,7 @@ use Rattle.tree.specs.Cells.{nodes-of, next-of, tree-at, trees-at}
 use Rattle.tree.specs.Arena.{Arena}
 use Rattle.tree.proofs.Decoding.{trees-none, sizes-more, sizes-is}
 use Rattle.unifier.specs.Stack.{Whole, pairs-at}
-use Rattle.unifier.proofs.Areas.{below-grown}
+use Rattle.unifier.specs.Area.{Below}
 use Rattle.cover.specs.Ordered.{ordered}
 use Rattle.cover.specs.Variables.{Ordered}
 use Rattle.cover.specs.Listing.{variable-list, backwards, Lists}
@@ -74,13 +74,19 @@ names-count s w k o =
     let d = count-list (names-of (trees-at s w k)) in
     omega arith
 
-module _ (s : Text) {w v u : List ℕ} {n at end most i m : ℕ} (stack : ℕ) (whole : Whole (trees-at s w stack)) (l : 4 * n ≤ at) (o : Ordered s w v at end most (variable-names-in (trees-at s w stack)))
+module _ (s : Text) {w v u : List ℕ} {n at end most i m : ℕ} (list : ℕ) (l : 4 * n ≤ at) (o : Ordered s w v at end most (variable-names-in (trees-at s w list)))
     (room : at + most ≤ length w) (h : Lists s v u n (end - at) (map (text-at s) (slice at end v)) i m) where
-  listed : names-of (trees-at s u i) ≡ h .back
-  listed = ap names-of (h .made .trees) ∙ names-list (h .back)
+  pub listed-names : names-at s u i ≡ ordered (variable-names-in (trees-at s w list))
+  listed-names = ap (λ (xs : List Text). backwards xs []) (ap names-of (h .made .trees) ∙ names-list (h .back)) ∙ h .are ∙ o .are
 
-  many : count (trees-at s u i) ≡ end - at
-  many =
+  pub listed-variables : OfVariables (trees-at s u i)
+  listed-variables = subst OfVariables (sym (h .made .trees)) (variables-list (h .back))
+
+  pub listed-below : Below w u n
+  listed-below = record { len = h .made .grown .len ∙ o .kept .len; words = λ p q. sym (o .kept .below p (omega arith)) ∙ h .made .grown .below p q }
+
+  pub listed-used : m ≡ n + count (trees-at s u i)
+  listed-used =
       let z = o .kept .len in
       let a = o .most-is in
       let b = length-slice at end v (omega arith) in
@@ -89,14 +95,15 @@ module _ (s : Text) {w v u : List ℕ} {n at end most i m : ℕ} (stack : ℕ) (
       let e = length-backwards (h .back) [] in
       let f = ap count (h .made .trees) in
       let g = count-list (h .back) in
-      omega arith
+      omega (arith, h .used)
 
-  pub names-made : Names s w u n stack i m
-  names-made = record {
+  -- where the trees are those of pairs
+  pub names-made : Whole (trees-at s w list) → Names s w u n list i m
+  names-made whole = record {
     arena = h .made .arena;
-    below = record { len = h .made .grown .len ∙ o .kept .len; words = λ p q. sym (o .kept .below p (omega arith)) ∙ h .made .grown .below p q };
+    below = listed-below;
     inside = h .made .inside;
-    variables = subst OfVariables (sym (h .made .trees)) (variables-list (h .back));
-    are = ap (λ (xs : List Text). backwards xs []) listed ∙ h .are ∙ o .are ∙ ap (λ (ts : Trees). ordered (variable-names-in ts)) (sym whole) ∙ sym (variables-ordered (pairs-at s w stack));
-    used = omega (arith, h .used, many);
+    variables = listed-variables;
+    are = listed-names ∙ ap (λ (ts : Trees). ordered (variable-names-in ts)) (sym whole) ∙ sym (variables-ordered (pairs-at s w list));
+    used = listed-used;
   }

@@ -31,7 +31,7 @@ use Rattle.cover.specs.Listing.{variable-list, backwards, Lists}
 use Rattle.cover.proofs.Dropping.{first-word}
 
 -- the second byte of a variable is a digit
-second-byte : (n : Text) → variable-token n ≡ true → getD n 1 0 ≡ 40 → ⊥
+pub second-byte : (n : Text) → variable-token n ≡ true → getD n 1 0 ≡ 40 → ⊥
 unfolding variable-token digit
 second-byte [] h e = false≢true h
 second-byte (b ∷ []) h e = false≢true h

@@ -4,8 +4,8 @@ use mathlib.Core.Path.{_≡_, refl, sym, ap, ap₂, subst, _∙_}
 use mathlib.Core.List.{List, [], _∷_}
 use native.Mathlib.Omega.{arith}
 use Rattle.rules.specs.Bytes.{Text}
-use Rattle.rules.specs.Tree.{Tree, variable, Trees, more, count}
-use Rattle.rules.specs.Substitution.{lookup, flatten}
+use Rattle.rules.specs.Tree.{Tree, variable, Trees, none, more, count}
+use Rattle.rules.specs.Substitution.{lookup, Pair, flatten}
 use Rattle.tree.specs.Cells.{kind-of, next-of, name-at, tree-at, trees-at}
 use Rattle.tree.specs.Arena.{Arena}
 use Rattle.tree.proofs.Decoding.{kind, same-next, same-name, trees-none, trees-more, frame-tree, frame-trees}
@@ -14,42 +14,47 @@ use Rattle.substitution.specs.Building.{Made}
 use Rattle.substitution.proofs.Keys.{key-name}
 use Rattle.substitution.proofs.Growing.{grown-same, grown-then}
 use Rattle.cover.specs.Listing.{variable-list, backwards}
-use Rattle.cover.specs.Generals.{names-of, OfVariables, names-at, paired, PairsUp}
+use Rattle.cover.specs.Generals.{names-of, OfVariables, names-at, paired, flatten-before, PairsUp}
 
 -- a list of variables, by its first and the others
 pub first-variable : (t : Tree) (ts : Trees) → OfVariables (more t ts) → (t ≡ variable (key-of t)) × OfVariables ts
 unfolding names-of variable-list
 first-variable t ts e = (cc, cc)
 
+pub before-none : (ps : List Pair) → flatten-before ps none ≡ flatten ps
+unfolding flatten-before flatten
+before-none [] = refl
+before-none (p ∷ ps) = ap (λ (ts : Trees). more (p .0) (more (p .1) ts)) (before-none ps)
+
 -- the variables of the list before cell k are paired in the list from cell `list` on
-pub record Pairing (s : Text) (w v : List ℕ) (n names values bindings k list m : ℕ) : Type 0 where
+pub record Pairing (s : Text) (w v : List ℕ) (n names values bindings rest k list m : ℕ) : Type 0 where
   pub done : List Text
-  pub made : Made s w v n m list (flatten (paired (bindings-at s w values) (bindings-at s w bindings) done))
+  pub made : Made s w v n m list (flatten-before (paired (bindings-at s w values) (bindings-at s w bindings) done) (trees-at s w rest))
   pub are : backwards (names-of (trees-at s w k)) done ≡ names-at s w names
   pub variables : OfVariables (trees-at s w k)
   pub left : k < n
   pub used : m + 2 * count (trees-at s w k) ≡ n + 2 * count (trees-at s w names)
 
-module _ (s : Text) (w : List ℕ) (n names values bindings : ℕ) (a : Arena s w n) (vs : values < n) (bs : bindings < n) where
-  pub pairing-starts : names < n → OfVariables (trees-at s w names) → Pairing s w w n names values bindings names 0 n
-  unfolding paired flatten
-  pairing-starts p o = record {
+module _ (s : Text) (w : List ℕ) (n names values bindings rest : ℕ) (a : Arena s w n) (vs : values < n) (bs : bindings < n) where
+  pub pairing-starts : names < n → OfVariables (trees-at s w names) → rest < n → Pairing s w w n names values bindings rest names rest n
+  unfolding paired flatten-before
+  pairing-starts p o q = record {
     done = [];
-    made = record { arena = a; grown = grown-same w n n; grew = omega arith; inside = a .links .some; trees = trees-none s w 0 refl };
+    made = record { arena = a; grown = grown-same w n n; grew = omega arith; inside = q; trees = refl };
     are = refl;
     variables = o;
     left = p;
     used = refl;
   }
 
-  module _ {v : List ℕ} {k list m : ℕ} (h : Pairing s w v n names values bindings k list m) where
-    pub pairing-ends : k ≡ 0 → PairsUp s w v n names values bindings list m
+  module _ {v : List ℕ} {k list m : ℕ} (h : Pairing s w v n names values bindings rest k list m) where
+    pub pairing-ends : k ≡ 0 → PairsUp s w v n names values bindings rest list m
     unfolding names-of backwards
     pairing-ends e =
         let z = trees-none s w k e in
         let f : h .done ≡ names-at s w names = sym (ap (λ (ts : Trees). backwards (names-of ts) (h .done)) z) ∙ h .are in
         record {
-          made = subst (λ (xs : List Text). Made s w v n m list (flatten (paired (bindings-at s w values) (bindings-at s w bindings) xs))) f (h .made);
+          made = subst (λ (xs : List Text). Made s w v n m list (flatten-before (paired (bindings-at s w values) (bindings-at s w bindings) xs) (trees-at s w rest))) f (h .made);
           used = omega (arith, h .used, ap count z);
         }
 
@@ -73,8 +78,8 @@ module _ (s : Text) (w : List ℕ) (n names values bindings : ℕ) (a : Arena s 
       looked-up b q = ap₂ (λ (ts : Trees) (x : Text). lookup (bindings-of ts) x) (sym (frame-trees s v (a .links) (h .made .grown .below) b q)) now-name
 
       pub pairing-turn : {u : List ℕ} (l r next i e : ℕ) → next ≡ next-of v k → tree-at s v l ≡ lookup (bindings-at s v values) (name-at s v k) → tree-at s v r ≡ lookup (bindings-at s v bindings) (name-at s v k)
-          → Made s v u m e i (more (tree-at s v l) (more (tree-at s v r) (trees-at s v list))) → e ≡ m + 2 → Pairing s w u n names values bindings next i e
-      unfolding paired flatten names-of backwards
+          → Made s v u m e i (more (tree-at s v l) (more (tree-at s v r) (trees-at s v list))) → e ≡ m + 2 → Pairing s w u n names values bindings rest next i e
+      unfolding paired flatten-before names-of backwards
       pairing-turn l r next i e f g₁ g₂ d z =
           let j = f ∙ sym (same-next w v (h .made .grown .below) k (h .left)) in
           let fall = a .links .next k p (h .left) in

@@ -4,7 +4,7 @@ use mathlib.Core.Path.{_≡_}
 use mathlib.Core.List.{List, [], _∷_}
 use Rattle.rules.specs.Bytes.{Text}
 use Rattle.rules.specs.Tree.{Trees, none, more, count}
-use Rattle.rules.specs.Substitution.{Binding, Pair, lookup, flatten}
+use Rattle.rules.specs.Substitution.{Binding, Pair, lookup}
 use Rattle.tree.specs.Cells.{trees-at}
 use Rattle.substitution.specs.Bindings.{key-of, bindings-at}
 use Rattle.substitution.specs.Building.{Made}
@@ -30,7 +30,12 @@ unfolding lookup
 paired ms bs [] = []
 paired ms bs (x ∷ xs) = (lookup ms x, lookup bs x) ∷ paired ms bs xs
 
--- from w, with the free end n, to v, with the free end m: the list from cell i on is that of the pairs
-pub record PairsUp (s : Text) (w v : List ℕ) (n names values bindings i m : ℕ) : Type 0 where
-  pub made : Made s w v n m i (flatten (paired (bindings-at s w values) (bindings-at s w bindings) (names-at s w names)))
+-- left, right, left, right, before a list
+unfoldable pub flatten-before : List Pair → Trees → Trees
+flatten-before [] ts = ts
+flatten-before (p ∷ ps) ts = more (p .0) (more (p .1) (flatten-before ps ts))
+
+-- from w, with the free end n, to v, with the free end m: the list from cell i on is that of the pairs, before the list from cell rest on
+pub record PairsUp (s : Text) (w v : List ℕ) (n names values bindings rest i m : ℕ) : Type 0 where
+  pub made : Made s w v n m i (flatten-before (paired (bindings-at s w values) (bindings-at s w bindings) (names-at s w names)) (trees-at s w rest))
   pub used : m ≡ n + 2 * count (trees-at s w names)

@@ -28,8 +28,8 @@ fn value_at(sheet: &[u8], work: &[u32], free: usize, b: usize, x: usize) -> usiz
     value
 }
 
-// The pairs of all variables of the list from cell `names` on, the last of the list first. The left sides are the trees that the bindings
-// from cell `values` on give them, the right ones those of the bindings from cell `bindings` on.
+// The pairs of all variables of the list from cell `names` on, the last of the list first, before the list from cell `rest` on. The left
+// sides are the trees that the bindings from cell `values` on give them, the right ones those of the bindings from cell `bindings` on.
 pub fn pair_variables(
     sheet: &[u8],
     work: &mut [u32],
@@ -37,14 +37,15 @@ pub fn pair_variables(
     names: usize,
     values: usize,
     bindings: usize,
+    rest: usize,
 ) -> Pushed
     requires { ⌜ Arena (now sheet) (now work) free ⌝ }
-    requires { ⌜ (names < free) × (values < free) × (bindings < free) × OfVariables (trees-at (now sheet) (now work) names) ⌝ }
+    requires { ⌜ (names < free) × (values < free) × (bindings < free) × OfVariables (trees-at (now sheet) (now work) names) × (rest < free) ⌝ }
     requires { ⌜ (4 * (free + 2 * count (trees-at (now sheet) (now work) names)) ≤ length (now work)) × (free + 2 * count (trees-at (now sheet) (now work) names) < 2 ^ 32) ⌝ }
-    ensures { λ r. ⌜ PairsUp (now (sheet .entry)) (now (work .entry)) (now (work .exit)) free names values bindings (r .index) (r .free) ⌝ }
+    ensures { λ r. ⌜ PairsUp (now (sheet .entry)) (now (work .entry)) (now (work .exit)) free names values bindings rest (r .index) (r .free) ⌝ }
 {
     let mut k = names;
-    let mut list: usize = 0;
+    let mut list = rest;
     let mut end = free;
     while k != 0 {
         let left = value_at(sheet, work, end, values, k);

@@ -16,7 +16,7 @@ ghost use Rattle.cover.specs.Variables.{Variable, Variables};
 ghost use Rattle.cover.specs.Listing.{Lists};
 
 // Writes the variable at a place before the list at `next`, and returns the free end after it.
-fn push_variable(sheet: &[u8], work: &mut [u32], free: usize, x: u32, next: usize) -> usize
+pub fn push_variable(sheet: &[u8], work: &mut [u32], free: usize, x: u32, next: usize) -> usize
     requires { ⌜ Arena (now sheet) (now work) free ⌝ }
     requires { ⌜ Variable (now sheet) x × (length (now sheet) ≤ 65536) ⌝ }
     requires { ⌜ (next < free) × (4 * free + 4 ≤ length (now work)) × (free < 2 ^ 32) ⌝ }

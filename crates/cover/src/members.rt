@@ -46,7 +46,7 @@ pub fn member_pairs(
     else {
         return Sides::Unreadable;
     };
-    let pushed = pair_variables(sheet, work, end, names, values, bindings);
+    let pushed = pair_variables(sheet, work, end, names, values, bindings, 0);
     let index = pushed.index;
     let top = pushed.free;
     Sides::Stack {

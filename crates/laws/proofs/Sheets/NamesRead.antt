@@ -65,13 +65,19 @@ names-bytes ss =
     omega (arith, names-total ss, read-within (λ t. length (variable-names t)) length (λ s t e. omega (arith, parse-colons s t e, colons-upto s)) ss)
 
 module _ (s : Text) (sheet : Sheet) (reads : read-sheet s ≡ some sheet) where
-  -- each variable that is read has a colon of its own, and these are not the colons of the keys
-  pub sheet-colons : length (names-read (sheet-texts sheet)) + total (count-of 58) (sheet-keys sheet) ≤ count-of 58 s
-  sheet-colons =
+  -- the texts and the keys have colons of their own
+  pub texts-colons : total (count-of 58) (sheet-texts sheet) + total (count-of 58) (sheet-keys sheet) ≤ count-of 58 s
+  texts-colons =
       let h = sheet-within colon s sheet reads in
       let i = colons-total s in
       let j = total-alike (total colon) (count-of 58) colons-total (sheet-keys sheet) in
       let k = total-alike (total colon) (count-of 58) colons-total (sheet-texts sheet) in
+      omega arith
+
+  -- each variable that is read has a colon of its own, and these are not the colons of the keys
+  pub sheet-colons : length (names-read (sheet-texts sheet)) + total (count-of 58) (sheet-keys sheet) ≤ count-of 58 s
+  sheet-colons =
+      let h = texts-colons in
       let l = names-total (sheet-texts sheet) in
       let n = read-within (λ t. length (variable-names t)) (count-of 58) parse-colons (sheet-texts sheet) in
       omega arith

@@ -39,7 +39,7 @@ same-length c = search needs
 returns : tie.Need-returns
 returns c =
     let p = c .before .before .before .before .before .before .before .before .before .before .pre in
-    names-made (c .before .before .before .before .before .before .before .before .before .before .args .sheet .now) (c .before .before .before .before .before .before .before .before .before .before .args .stack) (p .1 .0 .1) (omega arith) (c .before .before .before .before .before .before .variables-of .ensures) (omega (arith, p .1 .0 .3, p .1 .1 .0)) (c .before .before .list-variables .ensures)
+    names-made (c .before .before .before .before .before .before .before .before .before .before .args .sheet .now) (c .before .before .before .before .before .before .before .before .before .before .args .stack) (omega arith) (c .before .before .before .before .before .before .variables-of .ensures) (omega (arith, p .1 .0 .3, p .1 .1 .0)) (c .before .before .list-variables .ensures) (p .1 .0 .1)
 
 pub names-of-spec : {M : Type 1} → statement M
 names-of-spec =

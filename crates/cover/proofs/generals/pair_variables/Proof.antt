@@ -10,16 +10,16 @@ use Rattle.substitution.proofs.bindings.push_pair.Reads as push-pair-reads
 use Rattle.tree.proofs.cells.next_of.Reads as next-of-reads
 
 abbrev Inv-loop : tie.InvT-loop
-Inv-loop sheet work₀ free names values bindings k₀ list₀ end₀ work k list end = Pairing sheet work₀ work free names values bindings k list end
+Inv-loop sheet work₀ free names values bindings rest k₀ list₀ end₀ work k list end = Pairing sheet work₀ work free names values bindings rest k list end
 
 abbrev μ-loop : tie.MeasureT-loop
-μ-loop sheet work₀ free names values bindings k₀ list₀ end₀ work k list end = k
+μ-loop sheet work₀ free names values bindings rest k₀ list₀ end₀ work k list end = k
 
 -- src/generals.rt:49:5
 loop-holds : tie.Need-loop-holds Inv-loop μ-loop
 loop-holds c =
     let a = c .before .before .args in
-    pairing-starts (a .sheet .now) (a .work .now) (a .free) (a .names) (a .values) (a .bindings) (c .before .before .pre .0) (c .before .before .pre .1 .0 .1) (c .before .before .pre .1 .0 .2) (c .before .before .pre .1 .0 .0) (c .before .before .pre .1 .0 .3)
+    pairing-starts (a .sheet .now) (a .work .now) (a .free) (a .names) (a .values) (a .bindings) (a .rest) (c .before .before .pre .0) (c .before .before .pre .1 .0 .1) (c .before .before .pre .1 .0 .2) (c .before .before .pre .1 .0 .0) (c .before .before .pre .1 .0 .3) (c .before .before .pre .1 .0 .4)
 
 -- src/generals.rt:50:13
 value-at-requires : tie.Need-value-at-requires Inv-loop μ-loop
@@ -27,7 +27,7 @@ value-at-requires c κs =
     let a = c .before .before .before .before .before .args in
     let h = c .before .before .loop .inv in
     let q : 0 < c .before .before .loop .k = omega (arith, c .before .loop-test .taken) in
-    (h .made .arena, (omega (arith, h .made .grew, c .before .before .before .before .before .pre .1 .0 .1, c .before .before .before .before .before .pre .1 .0 .2), (q, omega (arith, h .left, h .made .grew), now-variable (a .sheet .now) (a .work .now) (a .free) (a .names) (a .values) (a .bindings) (c .before .before .before .before .before .pre .0) (c .before .before .before .before .before .pre .1 .0 .1) (c .before .before .before .before .before .pre .1 .0 .2) h q)))
+    (h .made .arena, (omega (arith, h .made .grew, c .before .before .before .before .before .pre .1 .0 .1, c .before .before .before .before .before .pre .1 .0 .2), (q, omega (arith, h .left, h .made .grew), now-variable (a .sheet .now) (a .work .now) (a .free) (a .names) (a .values) (a .bindings) (a .rest) (c .before .before .before .before .before .pre .0) (c .before .before .before .before .before .pre .1 .0 .1) (c .before .before .before .before .before .pre .1 .0 .2) h q)))
 
 -- src/generals.rt:51:13
 value-at-requires-2 : tie.Need-value-at-requires-2 Inv-loop μ-loop
@@ -35,7 +35,7 @@ value-at-requires-2 c κs =
     let a = c .before .before .before .before .before .before .before .args in
     let h = c .before .before .before .before .loop .inv in
     let q : 0 < c .before .before .before .before .loop .k = omega (arith, c .before .before .before .loop-test .taken) in
-    (h .made .arena, (omega (arith, h .made .grew, c .before .before .before .before .before .before .before .pre .1 .0 .1, c .before .before .before .before .before .before .before .pre .1 .0 .2), (q, omega (arith, h .left, h .made .grew), now-variable (a .sheet .now) (a .work .now) (a .free) (a .names) (a .values) (a .bindings) (c .before .before .before .before .before .before .before .pre .0) (c .before .before .before .before .before .before .before .pre .1 .0 .1) (c .before .before .before .before .before .before .before .pre .1 .0 .2) h q)))
+    (h .made .arena, (omega (arith, h .made .grew, c .before .before .before .before .before .before .before .pre .1 .0 .1, c .before .before .before .before .before .before .before .pre .1 .0 .2), (q, omega (arith, h .left, h .made .grew), now-variable (a .sheet .now) (a .work .now) (a .free) (a .names) (a .values) (a .bindings) (a .rest) (c .before .before .before .before .before .before .before .pre .0) (c .before .before .before .before .before .before .before .pre .1 .0 .1) (c .before .before .before .before .before .before .before .pre .1 .0 .2) h q)))
 
 -- src/generals.rt:52:13
 next-of-requires : tie.Need-next-of-requires Inv-loop μ-loop
@@ -51,7 +51,7 @@ push-pair-requires c κs =
     let q : 0 < c .before .before .before .before .before .before .before .before .loop .k = omega (arith, c .before .before .before .before .before .before .before .loop-test .taken) in
     let l = c .before .before .before .before .before .value-at .ensures in
     let r = c .before .before .before .value-at2 .ensures in
-    let room = now-room (a .sheet .now) (a .work .now) (a .free) (a .names) (a .values) (a .bindings) (c .before .before .before .before .before .before .before .before .before .before .before .pre .0) (c .before .before .before .before .before .before .before .before .before .before .before .pre .1 .0 .1) (c .before .before .before .before .before .before .before .before .before .before .before .pre .1 .0 .2) h q in
+    let room = now-room (a .sheet .now) (a .work .now) (a .free) (a .names) (a .values) (a .bindings) (a .rest) (c .before .before .before .before .before .before .before .before .before .before .before .pre .0) (c .before .before .before .before .before .before .before .before .before .before .before .pre .1 .0 .1) (c .before .before .before .before .before .before .before .before .before .before .before .pre .1 .0 .2) h q in
     (h .made .arena, ((l .0, l .1, r .0, r .1, h .made .inside), (omega (arith, room, h .made .grown .len, c .before .before .before .before .before .before .before .before .before .before .before .pre .1 .1 .0), omega (arith, room, c .before .before .before .before .before .before .before .before .before .before .before .pre .1 .1 .1))))
 
 -- src/generals.rt:49:5
@@ -64,7 +64,7 @@ loop-again c =
     let a = c .before .before .before .before .before .before .before .before .before .before .before .before .before .before .args in
     let h = c .before .before .before .before .before .before .before .before .before .before .before .loop .inv in
     let q : 0 < c .before .before .before .before .before .before .before .before .before .before .before .loop .k = omega (arith, c .before .before .before .before .before .before .before .before .before .before .loop-test .taken) in
-    pairing-turn (a .sheet .now) (a .work .now) (a .free) (a .names) (a .values) (a .bindings) (c .before .before .before .before .before .before .before .before .before .before .before .before .before .before .pre .0) (c .before .before .before .before .before .before .before .before .before .before .before .before .before .before .pre .1 .0 .1) (c .before .before .before .before .before .before .before .before .before .before .before .before .before .before .pre .1 .0 .2) h q (c .before .before .before .before .before .before .before .before .value-at .result) (c .before .before .before .before .before .before .value-at2 .result) (c .before .before .before .before .next-of .result) (c .before .before .push-pair .result .index) (c .before .before .push-pair .result .free) (c .before .before .before .before .next-of .ensures .0) (c .before .before .before .before .before .before .before .before .value-at .ensures .2) (c .before .before .before .before .before .before .value-at2 .ensures .2) (c .before .before .push-pair .ensures .0) (c .before .before .push-pair .ensures .1)
+    pairing-turn (a .sheet .now) (a .work .now) (a .free) (a .names) (a .values) (a .bindings) (a .rest) (c .before .before .before .before .before .before .before .before .before .before .before .before .before .before .pre .0) (c .before .before .before .before .before .before .before .before .before .before .before .before .before .before .pre .1 .0 .1) (c .before .before .before .before .before .before .before .before .before .before .before .before .before .before .pre .1 .0 .2) h q (c .before .before .before .before .before .before .before .before .value-at .result) (c .before .before .before .before .before .before .value-at2 .result) (c .before .before .before .before .next-of .result) (c .before .before .push-pair .result .index) (c .before .before .push-pair .result .free) (c .before .before .before .before .next-of .ensures .0) (c .before .before .before .before .before .before .before .before .value-at .ensures .2) (c .before .before .before .before .before .before .value-at2 .ensures .2) (c .before .before .push-pair .ensures .0) (c .before .before .push-pair .ensures .1)
 
 -- src/generals.rt:33:1
 same-length : tie.Need-same-length Inv-loop μ-loop
@@ -74,7 +74,7 @@ same-length c = c .before .loop .inv .made .grown .len
 returns : tie.Need-returns Inv-loop μ-loop
 returns c =
     let a = c .before .before .before .before .args in
-    pairing-ends (a .sheet .now) (a .work .now) (a .free) (a .names) (a .values) (a .bindings) (c .before .before .before .before .pre .0) (c .before .before .before .before .pre .1 .0 .1) (c .before .before .before .before .pre .1 .0 .2) (c .before .loop .inv) (omega (arith, c .loop-test .left))
+    pairing-ends (a .sheet .now) (a .work .now) (a .free) (a .names) (a .values) (a .bindings) (a .rest) (c .before .before .before .before .pre .0) (c .before .before .before .before .pre .1 .0 .1) (c .before .before .before .before .pre .1 .0 .2) (c .before .loop .inv) (omega (arith, c .loop-test .left))
 
 pub pair-variables-spec : {M : Type 1} → statement M
 pair-variables-spec =

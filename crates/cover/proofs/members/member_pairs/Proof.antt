@@ -45,7 +45,7 @@ pair-variables-requires c κs =
     let g = h .grew in
     let u = h .used in
     let n = h .len in
-    (h .arena, ((omega (arith, p .1 .0 .0), h .inside, omega (arith, p .1 .0 .1), subst OfVariables t (p .1 .0 .2)), (omega (arith, p .1 .1 .1 .0), omega (arith, p .1 .1 .1 .1))))
+    (h .arena, ((omega (arith, p .1 .0 .0), h .inside, omega (arith, p .1 .0 .1), subst OfVariables t (p .1 .0 .2), h .arena .links .some), (omega (arith, p .1 .1 .1 .0), omega (arith, p .1 .1 .1 .1))))
 
 -- src/members.rt:22:1
 same-length-2 : tie.Need-same-length-2

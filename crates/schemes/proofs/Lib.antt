@@ -1,0 +1,11 @@
+pub mod Dividing
+pub mod ByChildren
+pub mod Bounds
+pub mod Writing
+pub mod Stepping
+pub mod Patterns
+pub mod Firings
+pub mod Counts
+pub mod Chaining
+pub mod OneTerm
+pub mod Rooting
