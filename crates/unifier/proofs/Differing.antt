@@ -1,7 +1,10 @@
 -- How many pairs are known not to be all of one tree twice: after a pair is dropped, and after children are pushed. Assumes nothing.
 use Prim.Native.Nat.{ℕ, zero, suc, _+_, _-_, _<_, _≤_}
 use mathlib.Core.Path.{_≡_, refl, sym, ap, subst, _∙_}
-use mathlib.Core.Bool.{Bool, true, false, _&&_, true≢false}
+use mathlib.Core.Bool.{Bool, true, false, cond, _&&_, true≢false}
+use mathlib.Core.Logic.{_⊎_, inl, inr}
+use lib.Dec.{eqb}
+use borrow.Author.Tests.{eq-eqb, ne-eqb, eqb-true}
 use mathlib.Core.List.{List, _∷_}
 use native.Mathlib.Omega.{arith}
 use Rattle.rules.specs.Bytes.{Text, same}
@@ -11,7 +14,7 @@ use Rattle.rules.specs.Solving.{push-children}
 use Rattle.tree.specs.Cells.{next-of, trees-at}
 use Rattle.tree.specs.Arena.{Links}
 use Rattle.tree.proofs.Decoding.{trees-none, trees-more}
-use Rattle.unifier.specs.Differing.{all-same, Differing}
+use Rattle.unifier.specs.Differing.{all-same, Differing, common-count}
 
 pub differing-none : (ps : List Pair) → Differing 0 ps
 differing-none ps p = absurd (omega arith)
@@ -71,6 +74,15 @@ pub differing-pushed : (l r : Tree) (ps : List Pair) (k : ℕ) {ts us : Trees} �
 differing-pushed l r ps k e f h d c =
     differing-children l r ps k h d (λ p. (sym (ap (λ (vs : Trees). count vs) e) ∙ c p .0, sym (ap (λ (vs : Trees). count vs) f) ∙ c p .1))
 
+-- a number that is not 0 is that of both lists
+pub common-both : (ts us : Trees) (k : ℕ) → k ≡ common-count ts us → 0 < k → (count ts ≡ k) × (count us ≡ k)
+unfolding common-count
+common-both ts us k e p = go (eqb (count ts) (count us)) refl e
+  where
+    go : (b : Bool) → eqb (count ts) (count us) ≡ b → k ≡ cond b (count ts) 0 → (count ts ≡ k) × (count us ≡ k)
+    go true f g = (sym g, sym (eqb-true (count ts) (count us) f) ∙ sym g)
+    go false f g = absurd (omega arith)
+
 -- The number of pairs, cell by cell
 
 -- k trees of the list from cell x on stand before cell a
@@ -88,6 +100,13 @@ counted-end w x k {a} e c s =
     let f : count (trees-at s w a) ≡ 0 = ap (λ (vs : Trees). count vs) (trees-none s w a e) in
     let g = c s in
     omega arith
+
+-- a list of no trees has no cell
+counted-none : (s : Text) {w : List ℕ} {n a : ℕ} → Links w n → a < n → count (trees-at s w a) ≡ 0 → a ≡ 0
+counted-none s {w} {a = zero} o q e = refl
+counted-none s {w} {a = suc a} o q e =
+    let f : count (trees-at s w (suc a)) ≡ suc (count (trees-at s w (next-of w (suc a)))) = ap (λ (vs : Trees). count vs) (trees-more s o (suc a) (omega arith) q) in
+    absurd (omega arith)
 
 -- k trees of the lists from cells x and y on stand before cells a and b
 pub record Counting (w : List ℕ) (n x y a b k : ℕ) : Type 0 where
@@ -110,5 +129,21 @@ module _ {w : List ℕ} {n x y a b k : ℕ} (h : Counting w n x y a b k) where
     right = counted-next w y k o q (h .right-inside) (f .0) (h .right);
   }
 
-  pub counting-end : a ≡ 0 → b ≡ 0 → (s : Text) → (count (trees-at s w x) ≡ k) × (count (trees-at s w y) ≡ k)
-  counting-end e f s = (counted-end w x k e (h .left) s, counted-end w y k f (h .right) s)
+  pub counting-end : a ≡ 0 → b ≡ 0 → (s : Text) → k ≡ common-count (trees-at s w x) (trees-at s w y)
+  unfolding common-count
+  counting-end e f s =
+      let i = counted-end w x k e (h .left) s in
+      let j = counted-end w y k f (h .right) s in
+      sym (rw (eq-eqb (count (trees-at s w x)) (count (trees-at s w y)) (i ∙ sym j)) i)
+
+  -- one list ends before the other
+  pub counting-apart : Links w n → (a ≡ 0 → b ≡ 0 → ⊥) → (a ≡ 0) ⊎ (b ≡ 0) → (s : Text) → 0 ≡ common-count (trees-at s w x) (trees-at s w y)
+  unfolding common-count
+  counting-apart o u v s =
+      let i = h .left s in
+      let j = h .right s in
+      rw (ne-eqb (count (trees-at s w x)) (count (trees-at s w y)) (λ z. u (counted-none s o (h .left-inside) (counts v .0 z)) (counted-none s o (h .right-inside) (counts v .1 z))))
+    where
+      counts : (a ≡ 0) ⊎ (b ≡ 0) → (count (trees-at s w x) ≡ count (trees-at s w y) → count (trees-at s w a) ≡ 0) × (count (trees-at s w x) ≡ count (trees-at s w y) → count (trees-at s w b) ≡ 0)
+      counts (inl e) = let c : count (trees-at s w a) ≡ 0 = ap (λ (vs : Trees). count vs) (trees-none s w a e) in let i = h .left s in let j = h .right s in ((λ z. c), λ z. omega arith)
+      counts (inr e) = let c : count (trees-at s w b) ≡ 0 = ap (λ (vs : Trees). count vs) (trees-none s w b e) in let i = h .left s in let j = h .right s in ((λ z. omega arith), λ z. c)

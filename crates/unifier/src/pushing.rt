@@ -8,12 +8,13 @@ ghost use mathlib.Core.Path.{_≡_};
 ghost use Prim.Native.Nat.{_+_, _*_, _<_, _≤_, _^_};
 ghost use lib.ListN.{length};
 ghost use Rattle.rules.specs.Bytes.{Text};
-ghost use Rattle.rules.specs.Tree.{children, count};
+ghost use Rattle.rules.specs.Tree.{children};
 ghost use Rattle.rules.specs.Memory.{pushed};
 ghost use Rattle.tree.specs.Cells.{tree-at, trees-at};
 ghost use Rattle.tree.specs.Arena.{Links, Arena};
 ghost use Rattle.substitution.specs.Building.{Made};
 ghost use Rattle.unifier.specs.Stack.{pushes};
+ghost use Rattle.unifier.specs.Differing.{common-count};
 
 // The first child of cell k, 0 for a leaf.
 pub fn child_of(work: &[u32], free: usize, k: usize) -> usize
@@ -31,7 +32,7 @@ pub fn child_of(work: &[u32], free: usize, k: usize) -> usize
 pub fn paired(work: &[u32], free: usize, left: usize, right: usize) -> usize
     requires { ⌜ Links (now work) free ⌝ }
     requires { ⌜ (left < free) × (right < free) ⌝ }
-    ensures { λ r. ⌜ (0 < r → (s : Text) → (count (trees-at s (now (work .entry)) left) ≡ r) × (count (trees-at s (now (work .entry)) right) ≡ r)) ⌝ }
+    ensures { λ r. ⌜ ((s : Text) → r ≡ common-count (trees-at s (now (work .entry)) left) (trees-at s (now (work .entry)) right)) ⌝ }
 {
     let mut a = left;
     let mut b = right;

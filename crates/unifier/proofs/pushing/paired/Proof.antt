@@ -1,5 +1,6 @@
 use native.Mathlib.Omega.{arith}
-use Rattle.unifier.proofs.Differing.{Counting, counting-start, counting-next, counting-end}
+use mathlib.Core.Logic.{inl, inr}
+use Rattle.unifier.proofs.Differing.{Counting, counting-start, counting-next, counting-end, counting-apart}
 use Rattle.unifier.proofs.pushing.paired.Statement.{statement}
 use Rattle.unifier.proofs.pushing.paired.Tie as tie
 
@@ -13,7 +14,7 @@ loop-holds : tie.Need-loop-holds Inv-loop μ-loop
 loop-holds c = counting-start (c .before .pre .1 .0) (c .before .pre .1 .1)
 
 returns : tie.Need-returns Inv-loop μ-loop
-returns c = λ p. absurd (omega arith)
+returns c = counting-apart (c .before .before .loop .inv) (c .before .before .before .before .pre .0) (λ e f. omega arith) (inr (c .if1 .taken))
 
 next-of-requires : tie.Need-next-of-requires Inv-loop μ-loop
 next-of-requires c κs = (c .before .before .before .before .pre .0, (omega arith, c .before .before .loop .inv .left-inside))
@@ -31,10 +32,10 @@ loop-again : tie.Need-loop-again Inv-loop μ-loop
 loop-again c = counting-next (c .before .before .before .before .loop .inv) (c .before .before .before .before .before .before .pre .0) (omega arith) (omega arith) (c .before .next-of .ensures) (c .next-of2 .ensures)
 
 returns-2 : tie.Need-returns-2 Inv-loop μ-loop
-returns-2 c = λ p. absurd (omega arith)
+returns-2 c = counting-apart (c .before .before .loop .inv) (c .before .before .before .before .pre .0) (λ e f. omega arith) (inl (omega arith))
 
 returns-3 : tie.Need-returns-3 Inv-loop μ-loop
-returns-3 c = λ p s. counting-end (c .before .before .loop .inv) (omega arith) (omega arith) s
+returns-3 c = counting-end (c .before .before .loop .inv) (omega arith) (omega arith)
 
 pub paired-spec : {M : Type 1} → statement M
 paired-spec =

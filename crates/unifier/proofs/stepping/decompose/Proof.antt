@@ -10,7 +10,7 @@ use Rattle.unifier.specs.Stack.{pairs-at}
 use Rattle.unifier.proofs.Areas.{below-same}
 use Rattle.unifier.proofs.Sums.{cell-head, sum-told, no-sum-told, sum-cell}
 use Rattle.unifier.proofs.Steps.{held, heads-differ, decompose-sums, decompose-children, children-room, children-pushed}
-use Rattle.unifier.proofs.Differing.{differing-pushed}
+use Rattle.unifier.proofs.Differing.{differing-pushed, common-both}
 use borrow.Author.Needs.{needs}
 use Rattle.unifier.proofs.stepping.decompose.Statement.{statement}
 use Rattle.unifier.proofs.stepping.decompose.Tie as tie
@@ -70,7 +70,7 @@ returns-3 c =
     let a = c .before .before .before .before .before .before .before .before .before .before .before .before .before .before .before .before .before .before .args in
     let p = c .before .before .before .before .before .before .before .before .before .before .before .before .before .before .before .before .before .before .pre in
     let e : same (head (tree-at (a .sheet .now) (a .work .now) (a .left))) tamtplus ≡ false = no-sum-told (a .sheet .now) (a .work .now) (a .left) (p .1 .1 .0 .1 .built) (c .before .before .before .before .before .before .before .before .before .before .before .is-sum .ensures) (c .before .before .before .before .before .before .before .before .before .before .if2 .left) in
-    let d = differing-pushed (tree-at (a .sheet .now) (a .work .now) (a .left)) (tree-at (a .sheet .now) (a .work .now) (a .right)) (pairs-at (a .sheet .now) (a .work .now) (a .rest)) (c .before .before .before .before .paired .result) (c .before .before .before .before .before .before .before .before .child-of .ensures .1 (a .sheet .now)) (c .before .before .before .before .before .before .child-of2 .ensures .1 (a .sheet .now)) (held (c .before .before .before .before .before .before .before .before .before .before .before .before .before .before .same-head .ensures) (c .before .before .before .before .before .before .before .before .before .before .before .before .before .if1 .left)) (p .1 .1 .1 .1) (λ z. c .before .before .before .before .paired .ensures z (a .sheet .now)) in
+    let d = differing-pushed (tree-at (a .sheet .now) (a .work .now) (a .left)) (tree-at (a .sheet .now) (a .work .now) (a .right)) (pairs-at (a .sheet .now) (a .work .now) (a .rest)) (c .before .before .before .before .paired .result) (c .before .before .before .before .before .before .before .before .child-of .ensures .1 (a .sheet .now)) (c .before .before .before .before .before .before .child-of2 .ensures .1 (a .sheet .now)) (held (c .before .before .before .before .before .before .before .before .before .before .before .before .before .before .same-head .ensures) (c .before .before .before .before .before .before .before .before .before .before .before .before .before .if1 .left)) (p .1 .1 .1 .1) (common-both _ _ (c .before .before .before .before .paired .result) (c .before .before .before .before .paired .ensures (a .sheet .now))) in
     children-pushed (a .sheet .now) (a .work .now) (a .left) (a .right) (c .before .before .before .before .before .before .before .before .child-of .result) (c .before .before .before .before .before .before .child-of2 .result) (c .before .before .before .before .before .before .before .before .child-of .ensures .1 (a .sheet .now)) (c .before .before .before .before .before .before .child-of2 .ensures .1 (a .sheet .now)) (a .rest) (p .1 .1 .0 .0) (held (c .before .before .before .before .before .before .before .before .before .before .before .before .before .before .same-head .ensures) (c .before .before .before .before .before .before .before .before .before .before .before .before .before .if1 .left)) (decompose-children _ _ _ (c .before .before .before .before .before .before .before .before .before .before .before .before .before .before .same-head .ensures) (not-false _ (c .before .before .before .before .before .before .before .before .before .before .before .before .before .if1 .left)) e) (c .before .before .push-children .ensures .0) (c .before .before .push-children .ensures .1) d
 
 pub decompose-spec : {M : Type 1} → statement M
