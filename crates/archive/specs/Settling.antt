@@ -37,6 +37,6 @@ pub record Settles (o : Option Text) (out v : Text) (r : Settled) : Type 0 where
 
 -- one of three texts, by what is claimed
 abbrev pub claim-text : Claim → Text → Text → Text → Text
-claim-text claims.Yes yes no none = yes
-claim-text claims.No yes no none = no
-claim-text claims.Nothing yes no none = none
+claim-text claims.Yes a b c = a
+claim-text claims.No a b c = b
+claim-text claims.Nothing a b c = c

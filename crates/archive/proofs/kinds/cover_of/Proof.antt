@@ -3,92 +3,74 @@ use Rattle.archive.proofs.Covers.{cover-unread, cover-asks, cover-settl
 use borrow.Author.Needs.{needs}
 use Rattle.archive.proofs.kinds.cover_of.Statement.{statement}
 use Rattle.archive.proofs.kinds.cover_of.Tie as tie
+use Rattle.archive.proofs.kinds.cover_of.Reads as reads
+use Rattle.archive.proofs.kinds.cover_of.Lts as lts
+use Rattle.archive.proofs.answers.give_claim.Reads as give-claim-reads
+use Rattle.archive.proofs.pairs.read_pairs.Reads as read-pairs-reads
+use Rattle.cover.proofs.covered.covered.Reads as covered-reads
 
+-- src/kinds.rt:178:9
 read-pairs-requires : tie.Need-read-pairs-requires
 read-pairs-requires c κs = ((c .before .before .before .before .pre .0 .short, omega (arith, c .before .before .before .before .pre .1)), c .before .before .before .before .pre .0 .inside)
 
+-- src/kinds.rt:179:24
 enum-known-read : tie.Need-enum-known-read
 enum-known-read c = search needs
 
+-- src/kinds.rt:180:9
 enum-told : tie.Need-enum-told
 enum-told c = search needs
 
+-- src/kinds.rt:180:9
 same-length : tie.Need-same-length
 same-length c = search needs
 
+-- src/kinds.rt:180:9
 returns : tie.Need-returns
 returns c =
+    let a = c .before .before .before .before .before .before .before .before .before .args in
     let k = c .before .before .before .before .before .before .before .before .before .pre .0 in
-    cover-unread (c .before .before .before .before .before .before .before .before .before .args .sheet .now) (c .before .before .before .before .before .before .before .before .before .args .pairs .at) k (c .before .before .before .before .before .before .before .before .before .args .output .now) (rw (c .enum-told .given .1) at (c .before .before .before .before .read-pairs .ensures (k .entries) (k .rest) (k .lines)) .0)
+    cover-unread (a .sheet .now) (a .pairs .at) k (a .output .now) (rw (c .enum-told .given .1) at (c .before .before .before .before .read-pairs .ensures (k .entries) (k .rest) (k .lines)) .0)
 
+-- src/kinds.rt:182:9
 covered-requires : tie.Need-covered-requires
 covered-requires c κs =
+    let a = c .before .before .before .before .before .before .before .before .before .before .before .args in
     let k = c .before .before .before .before .before .before .before .before .before .before .before .pre .0 in
     let r = rw (c .before .before .read .given .1) at (c .before .before .before .before .before .before .read-pairs .ensures (k .entries) (k .rest) (k .lines)) in
-    (r .arena, (r .inside, cover-asks (c .before .before .before .before .before .before .before .before .before .before .before .args .sheet .now) (c .before .before .before .before .before .before .before .before .before .before .before .args .pairs .at) k r (c .before .before .before .before .before .before .before .before .before .before .before .pre .1)))
+    (r .arena, (r .inside, cover-asks (a .sheet .now) (a .pairs .at) k r (c .before .before .before .before .before .before .before .before .before .before .before .pre .1)))
 
-enum-told-2 : tie.Need-enum-told-2
-enum-told-2 c = search needs
+-- src/kinds.rt:186:9
+slice-aggregate-give-claim : tie.Need-slice-aggregate-give-claim
+slice-aggregate-give-claim c = search needs
 
-slice-aggregate-give : tie.Need-slice-aggregate-give
-slice-aggregate-give c = search needs
+-- src/kinds.rt:187:9
+slice-aggregate-give-claim-2 : tie.Need-slice-aggregate-give-claim-2
+slice-aggregate-give-claim-2 c = search needs
 
-give-requires : tie.Need-give-requires
-give-requires c κs = search needs
+-- src/kinds.rt:188:9
+slice-aggregate-give-claim-3 : tie.Need-slice-aggregate-give-claim-3
+slice-aggregate-give-claim-3 c = search needs
 
-enum-told-3 : tie.Need-enum-told-3
-enum-told-3 c = search needs
+-- src/kinds.rt:183:5
+give-claim-requires : tie.Need-give-claim-requires
+give-claim-requires c κs = search needs
 
-slice-aggregate-give-2 : tie.Need-slice-aggregate-give-2
-slice-aggregate-give-2 c = search needs
-
-give-requires-2 : tie.Need-give-requires-2
-give-requires-2 c κs = search needs
-
-enum-told-4 : tie.Need-enum-told-4
-enum-told-4 c = search needs
-
-slice-aggregate-give-3 : tie.Need-slice-aggregate-give-3
-slice-aggregate-give-3 c = search needs
-
-give-requires-3 : tie.Need-give-requires-3
-give-requires-3 c κs = search needs
-
+-- src/kinds.rt:173:1
 same-length-2 : tie.Need-same-length-2
 same-length-2 c = search needs
 
+-- src/kinds.rt:173:1
 same-length-3 : tie.Need-same-length-3
 same-length-3 c = search needs
 
+-- src/kinds.rt:173:1
 returns-2 : tie.Need-returns-2
 returns-2 c =
+    let a = c .before .before .before .before .before .before .before .before .before .before .before .before .before .before .before .before .before .before .before .before .before .args in
     let k = c .before .before .before .before .before .before .before .before .before .before .before .before .before .before .before .before .before .before .before .before .before .pre .0 in
     let r = rw (c .before .before .before .before .before .before .before .before .before .before .before .before .read .given .1) at (c .before .before .before .before .before .before .before .before .before .before .before .before .before .before .before .before .read-pairs .ensures (k .entries) (k .rest) (k .lines)) in
-    cover-settled (c .before .before .before .before .before .before .before .before .before .before .before .before .before .before .before .before .before .before .before .before .before .args .sheet .now) (c .before .before .before .before .before .before .before .before .before .before .before .before .before .before .before .before .before .before .before .before .before .args .pairs .at) k r (c .before .before .before .before .before .before .before .before .before .covered .result) _ (c .before .before .before .before .before .before .before .before .before .covered .ensures .0) (c .before .before .before .before .before .enum-told2 .given .1) (c .before .before .give .ensures)
-
-same-length-4 : tie.Need-same-length-4
-same-length-4 c = search needs
-
-same-length-5 : tie.Need-same-length-5
-same-length-5 c = search needs
-
-returns-3 : tie.Need-returns-3
-returns-3 c =
-    let k = c .before .before .before .before .before .before .before .before .before .before .before .before .before .before .before .before .before .before .before .before .before .pre .0 in
-    let r = rw (c .before .before .before .before .before .before .before .before .before .before .before .before .read .given .1) at (c .before .before .before .before .before .before .before .before .before .before .before .before .before .before .before .before .read-pairs .ensures (k .entries) (k .rest) (k .lines)) in
-    cover-settled (c .before .before .before .before .before .before .before .before .before .before .before .before .before .before .before .before .before .before .before .before .before .args .sheet .now) (c .before .before .before .before .before .before .before .before .before .before .before .before .before .before .before .before .before .before .before .before .before .args .pairs .at) k r (c .before .before .before .before .before .before .before .before .before .covered .result) _ (c .before .before .before .before .before .before .before .before .before .covered .ensures .0) (c .before .before .before .before .before .enum-told3 .given .1) (c .before .before .give2 .ensures)
-
-same-length-6 : tie.Need-same-length-6
-same-length-6 c = search needs
-
-same-length-7 : tie.Need-same-length-7
-same-length-7 c = search needs
-
-returns-4 : tie.Need-returns-4
-returns-4 c =
-    let k = c .before .before .before .before .before .before .before .before .before .before .before .before .before .before .before .before .before .before .before .before .before .pre .0 in
-    let r = rw (c .before .before .before .before .before .before .before .before .before .before .before .before .read .given .1) at (c .before .before .before .before .before .before .before .before .before .before .before .before .before .before .before .before .read-pairs .ensures (k .entries) (k .rest) (k .lines)) in
-    cover-settled (c .before .before .before .before .before .before .before .before .before .before .before .before .before .before .before .before .before .before .before .before .before .args .sheet .now) (c .before .before .before .before .before .before .before .before .before .before .before .before .before .before .before .before .before .before .before .before .before .args .pairs .at) k r (c .before .before .before .before .before .before .before .before .before .covered .result) _ (c .before .before .before .before .before .before .before .before .before .covered .ensures .0) (c .before .before .before .before .before .enum-told4 .given .1) (c .before .before .give3 .ensures)
+    cover-settled (a .sheet .now) (a .pairs .at) k r (c .before .before .before .before .before .before .before .before .before .covered .result) (c .before .before .before .before .before .before .before .before .before .covered .ensures .0) (c .before .before .give-claim .ensures)
 
 pub cover-of-spec : {M : Type 1} → statement M
 cover-of-spec =
@@ -100,21 +82,10 @@ cover-of-spec =
     same-length
     returns
     covered-requires
-    enum-told-2
-    slice-aggregate-give
-    give-requires
-    enum-told-3
-    slice-aggregate-give-2
-    give-requires-2
-    enum-told-4
-    slice-aggregate-give-3
-    give-requires-3
+    slice-aggregate-give-claim
+    slice-aggregate-give-claim-2
+    slice-aggregate-give-claim-3
+    give-claim-requires
     same-length-2
     same-length-3
-    returns-2
-    same-length-4
-    same-length-5
-    returns-3
-    same-length-6
-    same-length-7
-    returns-4)
+    returns-2)
