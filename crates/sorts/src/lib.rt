@@ -1,6 +1,7 @@
 // The five sorts: which meet, which trees have them, and which trees may have an instance of them.
 use tree::cells::first_of;
 use tree::cells::kind_of;
+use tree::cells::length_of;
 use tree::cells::next_of;
 use tree::names::name_is;
 ghost use mathlib.Core.Path.{_≡_};
@@ -39,8 +40,8 @@ pub enum Symbol {
     Free,
 }
 
-// What the name of cell k stands for.
-pub fn symbol_of(sheet: &[u8], work: &[u32], free: usize, k: usize) -> Symbol
+// What the name of cell k stands for, by comparing it.
+fn symbol_named(sheet: &[u8], work: &[u32], free: usize, k: usize) -> Symbol
     requires { ⌜ Arena (now sheet) (now work) free ⌝ }
     requires { ⌜ (0 < k) × (k < free) ⌝ }
     ensures { λ r. ⌜ r ≡ coded (symbol (name-at (now (sheet .entry)) (now (work .entry)) k)) ⌝ }
@@ -61,6 +62,19 @@ pub fn symbol_of(sheet: &[u8], work: &[u32], free: usize, k: usize) -> Symbol
         return Symbol::Frame;
     }
     Symbol::Free
+}
+
+// What the name of cell k stands for. Most names are told apart by their length.
+pub fn symbol_of(sheet: &[u8], work: &[u32], free: usize, k: usize) -> Symbol
+    requires { ⌜ Arena (now sheet) (now work) free ⌝ }
+    requires { ⌜ (0 < k) × (k < free) ⌝ }
+    ensures { λ r. ⌜ r ≡ coded (symbol (name-at (now (sheet .entry)) (now (work .entry)) k)) ⌝ }
+{
+    let len = length_of(work, k);
+    match len {
+        0 | 3 | 4 | 8 | 9 => symbol_named(sheet, work, free, k),
+        _ => Symbol::Free,
+    }
 }
 
 // Whether the tree of cell i is natural.
