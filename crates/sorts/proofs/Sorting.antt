@@ -124,9 +124,9 @@ module _ (s : Text) (w : List ℕ) (k : ℕ) {r : ℕ} (e : r ≡ kind-of w k) w
       ∙ other-symbol a x q f o g
 
 -- lists
-pub naturals-none : (s : Text) (w : List ℕ) (k : ℕ) → k ≡ 0 → true ≡ naturals (trees-at s w k)
+pub naturals-last : naturals none ≡ true
 unfolding naturals
-naturals-none s w k e = sym (ap naturals (trees-none s w k e))
+naturals-last = refl
 
 pub naturals-step : (t : Tree) (ts : Trees) → naturals (more t ts) ≡ natural t && naturals ts
 unfolding naturals

@@ -90,6 +90,61 @@ pub fn symbol_of(sheet: &[u8], work: &[u32], free: usize, k: usize) -> Symbol
     symbol_named(sheet, work, free, k)
 }
 
+// Whether the leaf of cell i, of that kind, is natural.
+fn leaf_natural(sheet: &[u8], work: &[u32], free: usize, i: usize, kind: usize) -> bool
+    requires { ⌜ Arena (now sheet) (now work) free ⌝ }
+    requires { ⌜ (0 < i) × (i < free) ⌝ }
+    requires { ⌜ (kind ≡ kind-of (now work) i) × (0 < kind) ⌝ }
+    ensures { λ r. ⌜ r ≡ natural (tree-at (now (sheet .entry)) (now (work .entry)) i) ⌝ }
+{
+    if 7 <= kind {
+        return kind == 116;
+    }
+    kind == 4
+}
+
+// Whether every tree of the list from cell `list` on is natural. The summands of a list's last tree take the list's place.
+pub fn naturals(sheet: &[u8], work: &[u32], free: usize, list: usize) -> bool
+    requires { ⌜ Arena (now sheet) (now work) free ⌝ }
+    requires { ⌜ list < free ⌝ }
+    ensures { λ r. ⌜ r ≡ naturals (trees-at (now (sheet .entry)) (now (work .entry)) list) ⌝ }
+{
+    let mut i = list;
+    while i != 0 {
+        let kind = kind_of(work, i);
+        let next = next_of(work, free, i);
+        if 0 < kind {
+            if leaf_natural(sheet, work, free, i, kind) {
+                i = next;
+                continue;
+            }
+            return false;
+        }
+        let first = first_of(work, free, i);
+        let symbol = symbol_of(sheet, work, free, i);
+        match symbol {
+            Symbol::Addition => {
+                if next == 0 {
+                    i = first;
+                    continue;
+                }
+                if naturals(sheet, work, free, first) {
+                    i = next;
+                    continue;
+                }
+                return false;
+            }
+            Symbol::Unit => {
+                i = next;
+                continue;
+            }
+            Symbol::Frame => return false,
+            Symbol::Free => return false,
+        }
+    }
+    true
+}
+
 // Whether the tree of cell i is natural.
 pub fn natural(sheet: &[u8], work: &[u32], free: usize, i: usize) -> bool
     requires { ⌜ Arena (now sheet) (now work) free ⌝ }
@@ -97,35 +152,17 @@ pub fn natural(sheet: &[u8], work: &[u32], free: usize, i: usize) -> bool
     ensures { λ r. ⌜ r ≡ natural (tree-at (now (sheet .entry)) (now (work .entry)) i) ⌝ }
 {
     let kind = kind_of(work, i);
-    if 7 <= kind {
-        return kind == 116;
-    }
     if 0 < kind {
-        return kind == 4;
+        return leaf_natural(sheet, work, free, i, kind);
     }
+    let first = first_of(work, free, i);
     let symbol = symbol_of(sheet, work, free, i);
     match symbol {
-        Symbol::Addition => naturals(sheet, work, free, first_of(work, free, i)),
+        Symbol::Addition => naturals(sheet, work, free, first),
         Symbol::Unit => true,
         Symbol::Frame => false,
         Symbol::Free => false,
     }
-}
-
-// Whether every tree of the list from cell i on is natural.
-pub fn naturals(sheet: &[u8], work: &[u32], free: usize, i: usize) -> bool
-    requires { ⌜ Arena (now sheet) (now work) free ⌝ }
-    requires { ⌜ i < free ⌝ }
-    ensures { λ r. ⌜ r ≡ naturals (trees-at (now (sheet .entry)) (now (work .entry)) i) ⌝ }
-{
-    if i == 0 {
-        return true;
-    }
-    let next = next_of(work, free, i);
-    if natural(sheet, work, free, i) {
-        return naturals(sheet, work, free, next);
-    }
-    false
 }
 
 // Whether the leaf of cell i, of that kind, is a message.
