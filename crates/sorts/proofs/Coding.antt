@@ -1,18 +1,29 @@
 -- Sorts by their numbers, the kinds of variables, and symbols. Assumes nothing.
 use Prim.Native.Nat.{ℕ, zero, suc, _+_, _-_, _<_}
 use mathlib.Core.Path.{_≡_, refl, sym, ap, _∙_}
-use mathlib.Core.Bool.{Bool, true, cond}
+use mathlib.Core.Bool.{Bool, true, false, cond}
+use mathlib.Core.List.{List}
 use mathlib.Core.Option.{Option, some, none as nothing}
+use mathlib.Core.Logic.{_⊎_, inl, inr, ⊎-elim}
 use lib.Dec.{eqb, ltb}
+use lib.ListN.{length}
 use native.Mathlib.Omega.{arith}
 use borrow.Author.Tests.{lt-ltb, eqb-true}
+use denote.Enum.Declared.{tagOf}
 use Rattle.rules.specs.Sorts.{Sort, Pub, Fresh, Msg, TamNat, Node, sort-number, same-sort, has-sort, has-message-sort}
 use Rattle.rules.specs.Sorts as rules
-use Rattle.tree.specs.Cells.{kind-of-sort}
+use Rattle.rules.specs.Bytes.{Text, same}
+use Rattle.rules.specs.Text.{bytes}
+use Rattle.rules.specs.Tree.{tamtplus}
+use Rattle.text.proofs.Sameness.{same-lengths}
+use Rattle.tree.specs.Cells.{kind-of-sort, length-of, name-at}
+use Rattle.tree.specs.Arena.{Cell}
+use Rattle.tree.proofs.Naming.{name-length}
 use Rattle.tree.proofs.Bounded.{every-below, below-holds, agree, agreeing}
-use Rattle.sorts.specs.Numbers.{numbered, coded}
+use Rattle.sorts.specs.Numbers.{numbered, coded, Plain}
 use Rattle.sorts.specs.declared.Symbol.{Symbol}
 use Rattle.sorts.specs.declared.Symbol.the-variants.{Addition, Unit, Frame, Free}
+use Rattle.sorts.proofs.Symbol.{the-type}
 
 -- the number of the sort of a number
 pub number-is : (n : ℕ) → n < 5 → sort-number (numbered n) ≡ n
@@ -85,3 +96,18 @@ decoded-coded rules.free = refl
 
 pub symbol-is : {y z : Symbol} (x : rules.Symbol) → y ≡ coded x → y ≡ z → x ≡ decoded z
 symbol-is x e f = sym (decoded-coded x) ∙ ap decoded (sym e ∙ f)
+
+-- an arm of two variants
+pub unit-or-free : (y : Symbol) → (tagOf the-type y ≡ 1) ⊎ (tagOf the-type y ≡ 3) → (decoded y ≡ rules.unit) ⊎ (decoded y ≡ rules.free)
+unit-or-free Addition o = absurd (⊎-elim (λ e. omega arith) (λ e. omega arith) o)
+unit-or-free Unit o = inl refl
+unit-or-free Frame o = absurd (⊎-elim (λ e. omega arith) (λ e. omega arith) o)
+unit-or-free Free o = inr refl
+
+-- a name of another length than these stands for itself
+pub other-length : (s : Text) (w : List ℕ) (k : ℕ) → Cell s w k → {n : ℕ} → n ≡ length-of w k → (n ≡ 0 → ⊥) → (n ≡ 3 → ⊥) → (n ≡ 4 → ⊥) → (n ≡ 8 → ⊥) → (n ≡ 9 → ⊥) → Plain (name-at s w k)
+unfolding rules.symbol rules.is-frame
+other-length s w k c {n} e h0 h3 h4 h8 h9 =
+    let l : length (name-at s w k) ≡ n = name-length s w k c (omega arith) ∙ sym e in
+    let no : (t : Text) → (n ≡ length t → ⊥) → same (name-at s w k) t ≡ false = λ t f. same-lengths (name-at s w k) t (λ g. f (sym l ∙ g)) in
+    rw (no tamtplus h8, no rules.tone h9, no (bytes "list") h4, no (bytes "cons") h4, no (bytes "nil") h3)

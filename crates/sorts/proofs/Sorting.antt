@@ -56,6 +56,10 @@ module _ (s : Text) (w : List ℕ) (k : ℕ) {r : ℕ} (e : r ≡ kind-of w k) w
   unfolding message
   message-apply x q f g = sym (ap message (tree-apply s w k (omega arith)) ∙ ap₂ (λ (y : Symbol) (j : ℕ). message-at y (naturals (trees-at s w j)) (messages (trees-at s w j))) f (sym g))
 
+  -- an application of the unit or of a free symbol is a message if its children are
+  pub message-children : (x : Symbol) {j : ℕ} → r ≤ 0 → symbol (name-at s w k) ≡ x → (x ≡ unit) ⊎ (x ≡ free) → j ≡ first-of w k → messages (trees-at s w j) ≡ message (tree-at s w k)
+  message-children x q f o g = ⊎-elim (λ h. message-apply unit q (f ∙ h) g) (λ h. message-apply free q (f ∙ h) g) o
+
   pub basic-atom : (a : Sort) (c : ℕ) → 7 ≤ r → eqb r c ≡ basic a c (tree-at s w k)
   unfolding basic
   basic-atom a c p = ap (λ (n : ℕ). eqb n c) e ∙ sym (ap (basic a c) (tree-atom s w k (omega arith)))
@@ -120,17 +124,17 @@ module _ (s : Text) (w : List ℕ) (k : ℕ) {r : ℕ} (e : r ≡ kind-of w k) w
       ∙ other-symbol a x q f o g
 
 -- lists
-pub naturals-none : (s : Text) (w : List ℕ) (k : ℕ) → k ≡ 0 → true ≡ naturals (trees-at s w k)
+pub naturals-last : naturals none ≡ true
 unfolding naturals
-naturals-none s w k e = sym (ap naturals (trees-none s w k e))
+naturals-last = refl
 
 pub naturals-step : (t : Tree) (ts : Trees) → naturals (more t ts) ≡ natural t && naturals ts
 unfolding naturals
 naturals-step t ts = refl
 
-pub messages-none : (s : Text) (w : List ℕ) (k : ℕ) → k ≡ 0 → true ≡ messages (trees-at s w k)
+pub messages-last : messages none ≡ true
 unfolding messages
-messages-none s w k e = sym (ap messages (trees-none s w k e))
+messages-last = refl
 
 pub messages-step : (t : Tree) (ts : Trees) → messages (more t ts) ≡ message t && messages ts
 unfolding messages

@@ -1,7 +1,9 @@
 -- Sorts by their numbers, and symbols as the code has them. Definitions only.
 use Prim.Native.Nat.{ℕ, zero, suc}
+use mathlib.Core.Path.{_≡_}
 use Rattle.rules.specs.Sorts.{Sort, Pub, Fresh, Msg, TamNat, Node}
 use Rattle.rules.specs.Sorts as rules
+use Rattle.rules.specs.Bytes.{Text}
 use Rattle.sorts.specs.declared.Symbol.{Symbol}
 use Rattle.sorts.specs.declared.Symbol.the-variants.{Addition, Unit, Frame, Free}
 
@@ -18,3 +20,7 @@ coded rules.addition = Addition
 coded rules.unit = Unit
 coded rules.frame = Frame
 coded rules.free = Free
+
+-- a name that stands for itself
+abbrev pub Plain : Text → Type 0
+Plain n = rules.symbol n ≡ rules.free

@@ -1,14 +1,16 @@
 // The five sorts: which meet, which trees have them, and which trees may have an instance of them.
 use tree::cells::first_of;
 use tree::cells::kind_of;
+use tree::cells::length_of;
 use tree::cells::next_of;
 use tree::names::name_is;
 ghost use mathlib.Core.Path.{_≡_};
+ghost use mathlib.Core.Bool.{true};
 ghost use Prim.Native.Nat.{_<_};
 ghost use Rattle.rules.specs.Sorts.{intersects, symbol, natural, naturals, message, messages, basic, sorted, refinable, refinables};
-ghost use Rattle.tree.specs.Cells.{name-at, tree-at, trees-at};
+ghost use Rattle.tree.specs.Cells.{kind-of, name-at, tree-at, trees-at};
 ghost use Rattle.tree.specs.Arena.{Arena};
-ghost use Rattle.sorts.specs.Numbers.{numbered, coded};
+ghost use Rattle.sorts.specs.Numbers.{numbered, coded, Plain};
 
 // Which sorts meet, by their numbers: Pub, Fresh, Msg, TamNat, Node.
 const MEETS: [[bool; 5]; 5] = [
@@ -39,8 +41,8 @@ pub enum Symbol {
     Free,
 }
 
-// What the name of cell k stands for.
-pub fn symbol_of(sheet: &[u8], work: &[u32], free: usize, k: usize) -> Symbol
+// What the name of cell k stands for, by comparing it.
+fn symbol_named(sheet: &[u8], work: &[u32], free: usize, k: usize) -> Symbol
     requires { ⌜ Arena (now sheet) (now work) free ⌝ }
     requires { ⌜ (0 < k) × (k < free) ⌝ }
     ensures { λ r. ⌜ r ≡ coded (symbol (name-at (now (sheet .entry)) (now (work .entry)) k)) ⌝ }
@@ -63,6 +65,86 @@ pub fn symbol_of(sheet: &[u8], work: &[u32], free: usize, k: usize) -> Symbol
     Symbol::Free
 }
 
+// Whether the name of cell k stands for itself, as its length tells.
+fn plain(sheet: &[u8], work: &[u32], free: usize, k: usize) -> bool
+    requires { ⌜ Arena (now sheet) (now work) free ⌝ }
+    requires { ⌜ (0 < k) × (k < free) ⌝ }
+    ensures { λ r. ⌜ (r ≡ true → Plain (name-at (now (sheet .entry)) (now (work .entry)) k)) ⌝ }
+{
+    let len = length_of(work, k);
+    match len {
+        0 | 3 | 4 | 8 | 9 => false,
+        _ => true,
+    }
+}
+
+// What the name of cell k stands for. Most names are told apart by their length.
+pub fn symbol_of(sheet: &[u8], work: &[u32], free: usize, k: usize) -> Symbol
+    requires { ⌜ Arena (now sheet) (now work) free ⌝ }
+    requires { ⌜ (0 < k) × (k < free) ⌝ }
+    ensures { λ r. ⌜ r ≡ coded (symbol (name-at (now (sheet .entry)) (now (work .entry)) k)) ⌝ }
+{
+    if plain(sheet, work, free, k) {
+        return Symbol::Free;
+    }
+    symbol_named(sheet, work, free, k)
+}
+
+// Whether the leaf of cell i, of that kind, is natural.
+fn leaf_natural(sheet: &[u8], work: &[u32], free: usize, i: usize, kind: usize) -> bool
+    requires { ⌜ Arena (now sheet) (now work) free ⌝ }
+    requires { ⌜ (0 < i) × (i < free) ⌝ }
+    requires { ⌜ (kind ≡ kind-of (now work) i) × (0 < kind) ⌝ }
+    ensures { λ r. ⌜ r ≡ natural (tree-at (now (sheet .entry)) (now (work .entry)) i) ⌝ }
+{
+    if 7 <= kind {
+        return kind == 116;
+    }
+    kind == 4
+}
+
+// Whether every tree of the list from cell `list` on is natural. The summands of a list's last tree take the list's place.
+pub fn naturals(sheet: &[u8], work: &[u32], free: usize, list: usize) -> bool
+    requires { ⌜ Arena (now sheet) (now work) free ⌝ }
+    requires { ⌜ list < free ⌝ }
+    ensures { λ r. ⌜ r ≡ naturals (trees-at (now (sheet .entry)) (now (work .entry)) list) ⌝ }
+{
+    let mut i = list;
+    while i != 0 {
+        let kind = kind_of(work, i);
+        let next = next_of(work, free, i);
+        if 0 < kind {
+            if leaf_natural(sheet, work, free, i, kind) {
+                i = next;
+                continue;
+            }
+            return false;
+        }
+        let first = first_of(work, free, i);
+        let symbol = symbol_of(sheet, work, free, i);
+        match symbol {
+            Symbol::Addition => {
+                if next == 0 {
+                    i = first;
+                    continue;
+                }
+                if naturals(sheet, work, free, first) {
+                    i = next;
+                    continue;
+                }
+                return false;
+            }
+            Symbol::Unit => {
+                i = next;
+                continue;
+            }
+            Symbol::Frame => return false,
+            Symbol::Free => return false,
+        }
+    }
+    true
+}
+
 // Whether the tree of cell i is natural.
 pub fn natural(sheet: &[u8], work: &[u32], free: usize, i: usize) -> bool
     requires { ⌜ Arena (now sheet) (now work) free ⌝ }
@@ -70,35 +152,78 @@ pub fn natural(sheet: &[u8], work: &[u32], free: usize, i: usize) -> bool
     ensures { λ r. ⌜ r ≡ natural (tree-at (now (sheet .entry)) (now (work .entry)) i) ⌝ }
 {
     let kind = kind_of(work, i);
-    if 7 <= kind {
-        return kind == 116;
-    }
     if 0 < kind {
-        return kind == 4;
+        return leaf_natural(sheet, work, free, i, kind);
     }
+    let first = first_of(work, free, i);
     let symbol = symbol_of(sheet, work, free, i);
     match symbol {
-        Symbol::Addition => naturals(sheet, work, free, first_of(work, free, i)),
+        Symbol::Addition => naturals(sheet, work, free, first),
         Symbol::Unit => true,
         Symbol::Frame => false,
         Symbol::Free => false,
     }
 }
 
-// Whether every tree of the list from cell i on is natural.
-pub fn naturals(sheet: &[u8], work: &[u32], free: usize, i: usize) -> bool
+// Whether the leaf of cell i, of that kind, is a message.
+fn leaf_message(sheet: &[u8], work: &[u32], free: usize, i: usize, kind: usize) -> bool
     requires { ⌜ Arena (now sheet) (now work) free ⌝ }
-    requires { ⌜ i < free ⌝ }
-    ensures { λ r. ⌜ r ≡ naturals (trees-at (now (sheet .entry)) (now (work .entry)) i) ⌝ }
+    requires { ⌜ (0 < i) × (i < free) ⌝ }
+    requires { ⌜ (kind ≡ kind-of (now work) i) × (0 < kind) ⌝ }
+    ensures { λ r. ⌜ r ≡ message (tree-at (now (sheet .entry)) (now (work .entry)) i) ⌝ }
 {
-    if i == 0 {
-        return true;
+    if 7 <= kind {
+        return kind != 110;
     }
-    let next = next_of(work, free, i);
-    if natural(sheet, work, free, i) {
-        return naturals(sheet, work, free, next);
+    kind < 5
+}
+
+// Whether every tree of the list from cell `list` on is a message. The children of a list's last tree take the list's place.
+pub fn messages(sheet: &[u8], work: &[u32], free: usize, list: usize) -> bool
+    requires { ⌜ Arena (now sheet) (now work) free ⌝ }
+    requires { ⌜ list < free ⌝ }
+    ensures { λ r. ⌜ r ≡ messages (trees-at (now (sheet .entry)) (now (work .entry)) list) ⌝ }
+{
+    let mut i = list;
+    while i != 0 {
+        let kind = kind_of(work, i);
+        let next = next_of(work, free, i);
+        if 0 < kind {
+            if leaf_message(sheet, work, free, i, kind) {
+                i = next;
+                continue;
+            }
+            return false;
+        }
+        let first = first_of(work, free, i);
+        let symbol = if plain(sheet, work, free, i) {
+            Symbol::Free
+        } else {
+            symbol_of(sheet, work, free, i)
+        };
+        match symbol {
+            Symbol::Addition => {
+                if naturals(sheet, work, free, first) {
+                    i = next;
+                    continue;
+                }
+                return false;
+            }
+            Symbol::Frame => return false,
+            Symbol::Unit | Symbol::Free => {
+                if next == 0 {
+                    i = first;
+                    continue;
+                }
+                if messages(sheet, work, free, first) {
+                    i = next;
+                    continue;
+                }
+                return false;
+            }
+        }
     }
-    false
+    true
 }
 
 // Whether the tree of cell i is a message.
@@ -108,35 +233,16 @@ pub fn message(sheet: &[u8], work: &[u32], free: usize, i: usize) -> bool
     ensures { λ r. ⌜ r ≡ message (tree-at (now (sheet .entry)) (now (work .entry)) i) ⌝ }
 {
     let kind = kind_of(work, i);
-    if 7 <= kind {
-        return kind != 110;
-    }
     if 0 < kind {
-        return kind < 5;
+        return leaf_message(sheet, work, free, i, kind);
     }
+    let first = first_of(work, free, i);
     let symbol = symbol_of(sheet, work, free, i);
     match symbol {
-        Symbol::Addition => naturals(sheet, work, free, first_of(work, free, i)),
-        Symbol::Unit => messages(sheet, work, free, first_of(work, free, i)),
+        Symbol::Addition => naturals(sheet, work, free, first),
         Symbol::Frame => false,
-        Symbol::Free => messages(sheet, work, free, first_of(work, free, i)),
+        Symbol::Unit | Symbol::Free => messages(sheet, work, free, first),
     }
-}
-
-// Whether every tree of the list from cell i on is a message.
-pub fn messages(sheet: &[u8], work: &[u32], free: usize, i: usize) -> bool
-    requires { ⌜ Arena (now sheet) (now work) free ⌝ }
-    requires { ⌜ i < free ⌝ }
-    ensures { λ r. ⌜ r ≡ messages (trees-at (now (sheet .entry)) (now (work .entry)) i) ⌝ }
-{
-    if i == 0 {
-        return true;
-    }
-    let next = next_of(work, free, i);
-    if message(sheet, work, free, i) {
-        return messages(sheet, work, free, next);
-    }
-    false
 }
 
 // Whether the tree of cell i is a variable of the sort or an atom of the letter.

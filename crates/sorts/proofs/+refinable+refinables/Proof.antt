@@ -15,7 +15,7 @@ use Rattle.sorts.specs.Numbers.{numbered}
 use Rattle.sorts.specs.declared.Symbol.{Symbol}
 use Rattle.sorts.specs.declared.Symbol.the-variants.{Addition, Unit, Frame, Free}
 use Rattle.sorts.proofs.Symbol.{the-type}
-use Rattle.sorts.proofs.Coding.{symbol-is, decoded}
+use Rattle.sorts.proofs.Coding.{symbol-is, decoded, unit-or-free}
 use Rattle.sorts.proofs.Sorting.{refinable-variable, refinable-unknown, refinable-atom, refinable-apply, refinable-sum, refinable-leaf, refinable-list, refinables-none, refinables-step}
 use Prim.Native.Nat.{ℕ, _<_}
 use borrow.Fn.Kinds.{In}
@@ -61,13 +61,6 @@ refinable-calls t = (kind-of-reads.Asked, kind-of-reads.Learnt, sorted-reads.Ask
 
 abbrev refinables-calls : ℕ → refinables-lts.Claims
 refinables-calls t = (next-of-reads.Asked, next-of-reads.Learnt, refinable-below t, refinable.Post, refinables-below t, refinables.Post)
-
--- an arm of two variants
-unit-or-free : (y : Symbol) → (tagOf the-type y ≡ 1) ⊎ (tagOf the-type y ≡ 3) → (decoded y ≡ unit) ⊎ (decoded y ≡ free)
-unit-or-free Addition o = absurd (⊎-elim (λ e. omega arith) (λ e. omega arith) o)
-unit-or-free Unit o = inl refl
-unit-or-free Frame o = absurd (⊎-elim (λ e. omega arith) (λ e. omega arith) o)
-unit-or-free Free o = inr refl
 
 -- whether a sort is natural or a message
 is-3 : (n : ℕ) → n ≡ 3 → true ≡ (eqb n 3 || eqb n 2)
