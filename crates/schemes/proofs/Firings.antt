@@ -6,7 +6,7 @@ use mathlib.Core.List.{List, _∷_}
 use mathlib.Core.Bool.{true, false}
 use mathlib.Core.Option.{Option, some}
 use Rattle.rules.specs.Bytes.{Text}
-use Rattle.rules.specs.Tree.{Tree, variable, apply, Trees, none, more}
+use Rattle.rules.specs.Tree.{Tree, variable, Trees, none, more}
 use Rattle.rules.specs.Substitution.{Pair}
 use Rattle.rules.specs.Reduction.{Rule, fst, snd, flip, sdec, kdec, rule-named, pair, constant}
 use Rattle.rules.specs.Variants.{scheme, firings, firing-count, with-one, with-two, root-schemes}
@@ -75,30 +75,24 @@ module _ {w : List ℕ} {n : ℕ} (s : Text) (l : Links w n) (f : Text) (o : Opt
       (x .0, x .1, x .2, omega (arith, z, y, h, with-two-few 1 (trees-at s w i)))
 
 -- a firing, with the n-th and the next fresh variable as x and y
-module _ (name : ℕ → Text) (f : Text) (es : List Pair) (n c : ℕ) where
-  -- the first choice is to stay
-  pub stay-at : (ts : Trees) → c ≡ 0 → root-at name f (joined-as ts es n) c ≡ scheme (apply f ts) es n
-  unfolding root-at root-schemes
-  stay-at ts h = rw h
+module _ (name : ℕ → Text) (f : Text) (es : List Pair) (n c : ℕ) {x y : Tree} (p : x ≡ variable (name n)) (q : y ≡ variable (name (n + 1))) where
+  pub fst-at : {ts : Trees} (a : Tree) → rule-named f ≡ some fst → ts ≡ more a none → c ≡ 1 → root-at name f (joined-as ts es n) c ≡ scheme x ((a, pair x y) ∷ es) (n + 2)
+  unfolding root-at root-schemes firings
+  fst-at a e g h = rw (p, q, h, g, e)
 
-  module _ {x y : Tree} (p : x ≡ variable (name n)) (q : y ≡ variable (name (n + 1))) where
-    pub fst-at : {ts : Trees} (a : Tree) → rule-named f ≡ some fst → ts ≡ more a none → c ≡ 1 → root-at name f (joined-as ts es n) c ≡ scheme x ((a, pair x y) ∷ es) (n + 2)
-    unfolding root-at root-schemes firings
-    fst-at a e g h = rw (p, q, h, g, e)
+  pub snd-at : {ts : Trees} (a : Tree) → rule-named f ≡ some snd → ts ≡ more a none → c ≡ 1 → root-at name f (joined-as ts es n) c ≡ scheme y ((a, pair x y) ∷ es) (n + 2)
+  unfolding root-at root-schemes firings
+  snd-at a e g h = rw (p, q, h, g, e)
 
-    pub snd-at : {ts : Trees} (a : Tree) → rule-named f ≡ some snd → ts ≡ more a none → c ≡ 1 → root-at name f (joined-as ts es n) c ≡ scheme y ((a, pair x y) ∷ es) (n + 2)
-    unfolding root-at root-schemes firings
-    snd-at a e g h = rw (p, q, h, g, e)
+  pub sdec-at : {ts : Trees} (a b : Tree) → rule-named f ≡ some sdec → ts ≡ more a (more b none) → c ≡ 1
+      → root-at name f (joined-as ts es n) c ≡ scheme x ((a, cipher false x y) ∷ (b, y) ∷ es) (n + 2)
+  unfolding root-at root-schemes firings
+  sdec-at a b e g h = rw (p, q, h, g, e)
 
-    pub sdec-at : {ts : Trees} (a b : Tree) → rule-named f ≡ some sdec → ts ≡ more a (more b none) → c ≡ 1
-        → root-at name f (joined-as ts es n) c ≡ scheme x ((a, cipher false x y) ∷ (b, y) ∷ es) (n + 2)
-    unfolding root-at root-schemes firings
-    sdec-at a b e g h = rw (p, q, h, g, e)
-
-    pub kdec-at : {ts : Trees} (a b : Tree) → rule-named f ≡ some kdec → ts ≡ more a (more b none) → c ≡ 1
-        → root-at name f (joined-as ts es n) c ≡ scheme x ((a, cipher true x y) ∷ (b, y) ∷ es) (n + 2)
-    unfolding root-at root-schemes firings
-    kdec-at a b e g h = rw (p, q, h, g, e)
+  pub kdec-at : {ts : Trees} (a b : Tree) → rule-named f ≡ some kdec → ts ≡ more a (more b none) → c ≡ 1
+      → root-at name f (joined-as ts es n) c ≡ scheme x ((a, cipher true x y) ∷ (b, y) ∷ es) (n + 2)
+  unfolding root-at root-schemes firings
+  kdec-at a b e g h = rw (p, q, h, g, e)
 
 pub flip-at : (name : ℕ → Text) (f : Text) (es : List Pair) (n c : ℕ) {ts : Trees} (a : Tree) → rule-named f ≡ some flip → ts ≡ more a none → 0 < c → c < 3
     → root-at name f (joined-as ts es n) c ≡ scheme (constant (fixed-name (3 - c))) ((a, constant (fixed-name c)) ∷ es) n
