@@ -10,7 +10,8 @@ use native.Mathlib.Omega.{arith}
 use native.Mathlib.Decide.{decLt}
 use native.Mathlib.Numerals.{add-one}
 use borrow.Author.Tests.{eq-eqb, ne-eqb, lt-ltb, le-ltb, eqb-true, eqb-false}
-use Rattle.rules.specs.Tree.{tamtplus}
+use Rattle.tree.specs.Cells.{fixed-name}
+use Rattle.tree.proofs.FixedNames.{fixed-some}
 use Rattle.certificate.specs.Texts.{code-name, code-text, code-width, word-text, width-of, texts, Token, Tokens, lex, after}
 use Rattle.certificate.specs.declared.order.Order.{Order}
 use Rattle.certificate.specs.declared.order.Order.the-variants.{Less, Equal, Greater}
@@ -29,38 +30,16 @@ pub code-byte : (c : ℕ) → 512 ≤ c → (code-text c ≡ c % 256 ∷ []) × 
 unfolding code-text code-width
 code-byte c h = let e : ltb c 256 ≡ false = le-ltb c 256 (omega arith) in let f = le-ltb c 512 h in (rw (e, f), rw (e, f))
 
--- a name is the n-th of them; any other is that of sums
-pub name-other : (n : ℕ) → (n ≡ 1 → ⊥) → (n ≡ 2 → ⊥) → (n ≡ 3 → ⊥) → (n ≡ 4 → ⊥) → (n ≡ 6 → ⊥) → length (code-name n) ≡ 8
-name-other zero h1 h2 h3 h4 h6 = refl
-name-other (suc zero) h1 h2 h3 h4 h6 = absurd (h1 refl)
-name-other (suc (suc zero)) h1 h2 h3 h4 h6 = absurd (h2 refl)
-name-other (suc (suc (suc zero))) h1 h2 h3 h4 h6 = absurd (h3 refl)
-name-other (suc (suc (suc (suc zero)))) h1 h2 h3 h4 h6 = absurd (h4 refl)
-name-other (suc (suc (suc (suc (suc zero))))) h1 h2 h3 h4 h6 = refl
-name-other (suc (suc (suc (suc (suc (suc zero)))))) h1 h2 h3 h4 h6 = absurd (h6 refl)
-name-other (suc (suc (suc (suc (suc (suc (suc n))))))) h1 h2 h3 h4 h6 = refl
+-- the name of code 0 is that of sums, the others are fixed names
+pub name-fixed : (n : ℕ) → (n ≡ 0 → ⊥) → code-name n ≡ fixed-name n
+name-fixed zero h = absurd (h refl)
+name-fixed (suc n) h = refl
 
-pub name-sum : (n : ℕ) → (n ≡ 1 → ⊥) → (n ≡ 2 → ⊥) → (n ≡ 3 → ⊥) → (n ≡ 4 → ⊥) → (n ≡ 5 → ⊥) → (n ≡ 6 → ⊥) → code-name n ≡ tamtplus
-name-sum zero h1 h2 h3 h4 h5 h6 = refl
-name-sum (suc zero) h1 h2 h3 h4 h5 h6 = absurd (h1 refl)
-name-sum (suc (suc zero)) h1 h2 h3 h4 h5 h6 = absurd (h2 refl)
-name-sum (suc (suc (suc zero))) h1 h2 h3 h4 h5 h6 = absurd (h3 refl)
-name-sum (suc (suc (suc (suc zero)))) h1 h2 h3 h4 h5 h6 = absurd (h4 refl)
-name-sum (suc (suc (suc (suc (suc zero))))) h1 h2 h3 h4 h5 h6 = absurd (h5 refl)
-name-sum (suc (suc (suc (suc (suc (suc zero)))))) h1 h2 h3 h4 h5 h6 = absurd (h6 refl)
-name-sum (suc (suc (suc (suc (suc (suc (suc n))))))) h1 h2 h3 h4 h5 h6 = refl
-
-name-some : (n : ℕ) → (0 < length (code-name n)) × (length (code-name n) ≤ 10)
+name-some : (n : ℕ) → (0 < length (code-name n)) × (length (code-name n) ≤ n + 65534)
 name-some zero = (omega arith, omega arith)
-name-some (suc zero) = (omega arith, omega arith)
-name-some (suc (suc zero)) = (omega arith, omega arith)
-name-some (suc (suc (suc zero))) = (omega arith, omega arith)
-name-some (suc (suc (suc (suc zero)))) = (omega arith, omega arith)
-name-some (suc (suc (suc (suc (suc zero))))) = (omega arith, omega arith)
-name-some (suc (suc (suc (suc (suc (suc zero)))))) = (omega arith, omega arith)
-name-some (suc (suc (suc (suc (suc (suc (suc n))))))) = (omega arith, omega arith)
+name-some (suc n) = fixed-some (suc n) (omega arith)
 
-pub code-length : (c : ℕ) → (length (code-text c) ≡ code-width c) × (0 < code-width c) × (code-width c ≤ 10)
+pub code-length : (c : ℕ) → (length (code-text c) ≡ code-width c) × (0 < code-width c) × (code-width c ≤ 65789)
 unfolding code-width
 code-length c = elim (decLt c 256) [
   | yes p ↦ (let (e, f) = code-mark c p in (refl, omega arith, omega arith))
@@ -194,7 +173,7 @@ pub lex-on : {a b c d : List ℕ} {x y : ℕ} → a ≡ x ∷ c → b ≡ y ∷ 
 unfolding lex
 lex-on {x = x} {y = y} e f l m = rw (e, f, le-ltb x y m, le-ltb y x l)
 
-pub width-small : (x : ℕ) → width-of x ≤ 65536
+pub width-small : (x : ℕ) → width-of x ≤ 65789
 width-small x = elim (decLt 0 (x % 65536)) [
   | yes p ↦ omega (arith, width-place x (omega arith))
   | no p ↦ omega (arith, width-mark x (omega arith), code-length (x / 65536))

@@ -8,14 +8,15 @@ use mathlib.Core.List.{List, [], _∷_, _++_}
 use lib.Dec.{eqb, ltb}
 use lib.ListN.{length, getD, take, drop}
 use Rattle.rules.specs.Tree.{tamtplus}
-use Rattle.tree.specs.Cells.{fixed-names}
+use Rattle.tree.specs.Cells.{fixed-name}
 use Rattle.certificate.specs.declared.order.Order.{Order}
 use Rattle.certificate.specs.declared.order.Order.the-variants.{Less, Equal, Greater}
 use Rattle.certificate.specs.declared.order.Spot.{Spot}
 
 -- the name of sums, and the fixed names
 abbrev pub code-name : ℕ → List ℕ
-code-name n = getD (tamtplus ∷ fixed-names) n tamtplus
+code-name zero = tamtplus
+code-name (suc n) = fixed-name (suc n)
 
 -- the text of a code
 unfoldable pub code-text : ℕ → List ℕ

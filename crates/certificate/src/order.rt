@@ -5,6 +5,8 @@ ghost use lib.ListN.{length, getD};
 ghost use lib.Seq.{slice};
 ghost use Rattle.certificate.specs.Texts.{code-name, code-text, code-width, Token, Tokens, width-of, word-text, texts, after, lex};
 use text::places;
+use tree::fixed::fixed_byte;
+use tree::fixed::fixed_len;
 
 // How a text stands to another by their bytes.
 pub enum Order {
@@ -19,49 +21,29 @@ pub struct Spot {
     pub byte: usize,
 }
 
-// The name of sums, and the fixed names.
+// The name of sums.
 const SUM: [u8; 8] = [116, 97, 109, 116, 112, 108, 117, 115];
 
-const ROLE_A: [u8; 10] = [116, 97, 109, 88, 67, 114, 111, 108, 101, 65];
-
-const ROLE_B: [u8; 10] = [116, 97, 109, 88, 67, 114, 111, 108, 101, 66];
-
-const PAIR: [u8; 9] = [116, 97, 109, 88, 67, 112, 97, 105, 114];
-
-const SENC: [u8; 9] = [116, 97, 109, 88, 67, 115, 101, 110, 99];
-
-const KEM: [u8; 8] = [116, 97, 109, 88, 67, 107, 101, 109];
-
-const PK: [u8; 7] = [116, 97, 109, 88, 67, 112, 107];
-
-// How many bytes the name has that is n-th among them.
+// How many bytes the name of sums has, for n = 0, or the fixed name of code n.
 fn name_width(n: usize) -> usize
+    requires { ⌜ n < 65536 ⌝ }
     ensures { λ r. ⌜ r ≡ length (code-name n) ⌝ }
 {
-    match n {
-        1 => 10,
-        2 => 10,
-        3 => 9,
-        4 => 9,
-        6 => 7,
-        _ => 8,
+    if n == 0 {
+        return 8;
     }
+    fixed_len(n)
 }
 
 // A byte of that name.
 fn name_byte(n: usize, a: usize) -> u8
-    requires { ⌜ a < length (code-name n) ⌝ }
+    requires { ⌜ (n < 65536) × (a < length (code-name n)) ⌝ }
     ensures { λ r. ⌜ r ≡ getD (code-name n) a 0 ⌝ }
 {
-    match n {
-        1 => ROLE_A[a],
-        2 => ROLE_B[a],
-        3 => PAIR[a],
-        4 => SENC[a],
-        5 => KEM[a],
-        6 => PK[a],
-        _ => SUM[a],
+    if n == 0 {
+        return SUM[a];
     }
+    fixed_byte(n, a)
 }
 
 // How many bytes the text of a code has.

@@ -9,7 +9,6 @@ use native.Mathlib.Omega.{arith}
 use native.Mathlib.Numerals.{add-one}
 use Rattle.rules.specs.Bytes.{Text, same, sort}
 use Rattle.rules.specs.Tree.{Tree, Trees, size, sizes}
-use Rattle.rules.specs.Tidy.{Built, Builts}
 use Rattle.rules.specs.Memory.{variable-names, variable-names-in}
 use Rattle.text.specs.Places.{text-at, places-upto}
 use Rattle.text.specs.Sorting.{sortBy, Sorts}
@@ -20,9 +19,9 @@ use Rattle.tree.specs.Arena.{Arena}
 use Rattle.tree.proofs.Decoding.{sizes-more, trees-none}
 use Rattle.certificate.specs.Writer.{Kept}
 use Rattle.cover.specs.Ordered.{unique}
-use Rattle.cover.specs.Variables.{Variable, Variables, Named, repeats, Dropped, Ordered}
+use Rattle.cover.specs.Variables.{Spelled, SpelledAll, Variable, Variables, Named, repeats, Dropped, Ordered}
 use Rattle.cover.proofs.Ordering.{unique-skip, unique-keep, unique-sort}
-use Rattle.cover.proofs.Naming.{texts-append, variables-append, variables-sort, kept-self, named-append, named-empty, arena-kept, tree-kept, next-kept, parts-built, parts-names}
+use Rattle.cover.proofs.Naming.{texts-append, variables-append, variables-sort, kept-self, named-append, named-empty, arena-kept, tree-kept, next-kept, parts-spelled, parts-names}
 
 -- the texts of the words from i to end
 abbrev texts : Text → ℕ → ℕ → List ℕ → List Text
@@ -155,17 +154,17 @@ pub record Gathering (s : Text) (w v : List ℕ) (n list at i end : ℕ) : Type 
   pub names : List Text
   pub named : Named s w v at end nodes names
   pub inside : i < n
-  pub built : Builts (trees-at s w i)
+  pub spelled : SpelledAll (trees-at s w i)
   pub nodes-are : nodes + sizes (trees-at s w i) ≡ sizes (trees-at s w list)
   pub names-are : names ++ variable-names-in (trees-at s w i) ≡ variable-names-in (trees-at s w list)
 
-pub gathering-starts : (s : Text) (w : List ℕ) (n list at i end : ℕ) → list < n → Builts (trees-at s w list) → i ≡ list → end ≡ at → Gathering s w w n list at i end
+pub gathering-starts : (s : Text) (w : List ℕ) (n list at i end : ℕ) → list < n → SpelledAll (trees-at s w list) → i ≡ list → end ≡ at → Gathering s w w n list at i end
 gathering-starts s w n list at i end p b e f = record {
   nodes = 0;
   names = [];
   named = named-empty s w at end 0 [] f refl;
   inside = omega arith;
-  built = subst (λ (i : ℕ). Builts (trees-at s w i)) (sym e) b;
+  spelled = subst (λ (i : ℕ). SpelledAll (trees-at s w i)) (sym e) b;
   nodes-are = omega (arith, ap (λ (i : ℕ). sizes (trees-at s w i)) e);
   names-are = ap (λ (i : ℕ). variable-names-in (trees-at s w i)) e;
 }
@@ -177,8 +176,8 @@ module _ {s : Text} {w v : List ℕ} {n list at i end : ℕ} (a : Arena s w n) (
   here-tree : tree-at s w i ≡ tree-at s v i
   here-tree = tree-kept s a l (g .named .kept) i p (g .inside)
 
-  pub here-built : Built (tree-at s v i)
-  here-built = subst Built here-tree (parts-built s a i p (g .inside) (g .built) .0)
+  pub here-spelled : Spelled (tree-at s v i)
+  here-spelled = subst Spelled here-tree (parts-spelled s a i p (g .inside) (g .spelled) .0)
 
   pub here-room : end + size (tree-at s v i) ≤ at + sizes (trees-at s w list)
   here-room = omega (arith, g .named .most-is, g .nodes-are, sizes-more s (a .links) i p (g .inside), ap size here-tree)
@@ -195,14 +194,14 @@ module _ {s : Text} {w v : List ℕ} {n list at i end : ℕ} (a : Arena s w n) (
       let next : j ≡ next-of w i = e ∙ sym (next-kept s a l (all .kept) i (g .inside)) in
       let fall = a .links .next i p (g .inside) in
       let inn = g .inside in
-      let rest = parts-built s a i p (g .inside) (g .built) .1 in
+      let rest = parts-spelled s a i p (g .inside) (g .spelled) .1 in
       let nodes-next : sizes (trees-at s w j) ≡ sizes (trees-at s w (next-of w i)) = ap (λ (j : ℕ). sizes (trees-at s w j)) next in
       record {
         nodes = g .nodes + t;
         names = g .names ++ ns;
         named = all;
         inside = omega arith;
-        built = subst (λ (j : ℕ). Builts (trees-at s w j)) (sym next) rest;
+        spelled = subst (λ (j : ℕ). SpelledAll (trees-at s w j)) (sym next) rest;
         nodes-are = omega arith;
         names-are = append-assoc (g .names) ns (variable-names-in (trees-at s w j))
             ∙ ap (λ (j : ℕ). g .names ++ (ns ++ variable-names-in (trees-at s w j))) next

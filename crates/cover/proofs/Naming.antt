@@ -2,7 +2,7 @@
 use Prim.Native.Nat.{ℕ, zero, suc, _+_, _*_, _<_, _≤_}
 use mathlib.Core.Path.{_≡_, refl, sym, ap, ap₂, subst, _∙_}
 use mathlib.Core.Bool.{Bool, true, false, cond, false≢true}
-use mathlib.Core.List.{List, [], _∷_, _++_, map}
+use mathlib.Core.List.{List, [], _∷_, _++_, map, List·Memᴰ, List·Memᴰ·head, Memᴰ·append-left, Memᴰ·append-right}
 use lib.ListN.{length, getD, set, length-set}
 use lib.Seq.{slice, getD-set-other}
 use native.Mathlib.Omega.{arith}
@@ -19,10 +19,11 @@ use Rattle.text.proofs.Slices.{slice-same, slice-set, slice-join, slice-none}
 use Rattle.tree.specs.Cells.{start-of, length-of, kind-of, first-of, next-of, fixed-name, name-at, tree-at, trees-at}
 use Rattle.tree.specs.Arena.{Cell, Arena}
 use Rattle.tree.proofs.Decoding.{Agree, same-next, trees-none, trees-more, tree-variable, tree-atom, tree-apply, size-pos, size-apply, sizes-more, frame-tree, frame-trees}
+use Rattle.tree.proofs.FixedNames.{fixed-length}
 use Rattle.tree.proofs.Naming.{name-part, name-fixed}
 use Rattle.certificate.specs.Writer.{Kept}
 use Rattle.equivalence.proofs.Scratch.{arena-frame}
-use Rattle.cover.specs.Variables.{Variable, Variables, Named}
+use Rattle.cover.specs.Variables.{Spelled, SpelledAll, Variable, Variables, Named}
 
 -- ---- lists of places
 
@@ -53,26 +54,30 @@ module _ (s : Text) where
 
 -- ---- the place of a variable's cell
 
--- no fixed name is a variable
-fixed-token : (c : ℕ) → variable-token (fixed-name c) ≡ true → ⊥
+-- a fixed name that is a variable is longer than a sheet
+fixed-token : (c : ℕ) → variable-token (fixed-name c) ≡ true → length (fixed-name c) ≤ 65536 → ⊥
 unfolding variable-token
-fixed-token zero e = false≢true e
-fixed-token (suc zero) e = false≢true e
-fixed-token (suc (suc zero)) e = false≢true e
-fixed-token (suc (suc (suc zero))) e = false≢true e
-fixed-token (suc (suc (suc (suc zero)))) e = false≢true e
-fixed-token (suc (suc (suc (suc (suc zero))))) e = false≢true e
-fixed-token (suc (suc (suc (suc (suc (suc zero)))))) e = false≢true e
-fixed-token (suc (suc (suc (suc (suc (suc (suc c))))))) e = false≢true e
+fixed-token zero e l = false≢true e
+fixed-token (suc zero) e l = false≢true e
+fixed-token (suc (suc zero)) e l = false≢true e
+fixed-token (suc (suc (suc zero))) e l = false≢true e
+fixed-token (suc (suc (suc (suc zero)))) e l = false≢true e
+fixed-token (suc (suc (suc (suc (suc zero))))) e l = false≢true e
+fixed-token (suc (suc (suc (suc (suc (suc zero)))))) e l = false≢true e
+fixed-token (suc (suc (suc (suc (suc (suc (suc c))))))) e l = omega (arith, fixed-length (suc (suc (suc (suc (suc (suc (suc c))))))) (omega arith))
 
-module _ (s : Text) (w : List ℕ) (k : ℕ) (c : Cell s w k) (p : 0 < kind-of w k) (q : kind-of w k < 7) (b : Built (tree-at s w k)) where
+module _ (s : Text) (w : List ℕ) (k : ℕ) (c : Cell s w k) (p : 0 < kind-of w k) (q : kind-of w k < 7) (b : Spelled (tree-at s w k)) where
   token : variable-token (name-at s w k) ≡ true
-  token = name-token (subst Built (tree-variable s w k p q) b)
+  token = name-token (subst Built (tree-variable s w k p q) (b .built))
+
+  short-name : length (name-at s w k) ≤ 65536
+  unfolding variable-names
+  short-name = b .short (name-at s w k) (subst (λ (t : Tree). List·Memᴰ (name-at s w k) (variable-names t)) (sym (tree-variable s w k p q)) (List·Memᴰ·head refl))
 
   some-bytes : 0 < length-of w k
   some-bytes = elim (decLt 0 (length-of w k)) [
     | yes h ↦ h
-    | no h ↦ absurd (fixed-token (start-of w k) (sym (ap variable-token (name-fixed s w k (omega arith))) ∙ token))
+    | no h ↦ (let e = name-fixed s w k (omega arith) in absurd (fixed-token (start-of w k) (sym (ap variable-token e) ∙ token) (subst (λ (x : Text). length x ≤ 65536) e short-name)))
   ]
 
   pub place-text : text-at s (getD w (4 * k) 0) ≡ name-at s w k
@@ -83,15 +88,27 @@ module _ (s : Text) (w : List ℕ) (k : ℕ) (c : Cell s w k) (p : 0 < kind-of w
   unfolding start-of length-of
   place-variable = record { token = ap variable-token place-text ∙ token; inside = c .placed .inside some-bytes }
 
--- ---- what reading builds, by parts
+-- ---- what is read of a sheet, by parts
 
-pub children-built : {f : Text} {ts : Trees} → Built (apply f ts) → Builts ts
+children-built : {f : Text} {ts : Trees} → Built (apply f ts) → Builts ts
 children-built (a-leaf w) = nil
 children-built (a-list x y z b bs) = both b bs
 children-built (a-sum a b) = both a (both b nil)
 
 first-built : {t : Tree} {ts : Trees} → Builts (more t ts) → Built t × Builts ts
 first-built (both b bs) = (b, bs)
+
+children-spelled : {f : Text} {ts : Trees} → Spelled (apply f ts) → SpelledAll ts
+unfolding variable-names
+children-spelled h = record { built = children-built (h .built); short = h .short }
+
+first-spelled : {t : Tree} {ts : Trees} → SpelledAll (more t ts) → Spelled t × SpelledAll ts
+unfolding variable-names
+first-spelled {t} {ts} h =
+    let b = first-built (h .built) in (
+      record { built = b .0; short = λ x m. h .short x (Memᴰ·append-left (variable-names-in ts) m) },
+      record { built = b .1; short = λ x m. h .short x (Memᴰ·append-right (variable-names t) m) },
+    )
 
 -- ---- gathering
 
@@ -152,7 +169,7 @@ named-empty s w at r most ns e f =
     }
 
 module _ (s : Text) (w : List ℕ) (i : ℕ) where
-  pub named-variable : {n : ℕ} (at r : ℕ) → Arena s w n → 0 < i → i < n → 0 < kind-of w i → kind-of w i < 7 → Built (tree-at s w i) → at < length w → r ≡ at + 1
+  pub named-variable : {n : ℕ} (at r : ℕ) → Arena s w n → 0 < i → i < n → 0 < kind-of w i → kind-of w i < 7 → Spelled (tree-at s w i) → at < length w → r ≡ at + 1
       → Named s w (set w at (getD w (4 * i) 0)) at r (size (tree-at s w i)) (variable-names (tree-at s w i))
   unfolding Variables variable-names
   named-variable at r a x y p q b room e =
@@ -178,8 +195,8 @@ module _ (s : Text) (w : List ℕ) (i : ℕ) where
   unfolding variable-names
   named-none at r z e = named-empty s w at r (sizes (trees-at s w i)) (variable-names-in (trees-at s w i)) e (ap variable-names-in (trees-none s w i z))
 
-  pub list-built : (j : ℕ) → kind-of w i ≡ 0 → j ≡ first-of w i → Built (tree-at s w i) → Builts (trees-at s w j)
-  list-built j k e b = subst (λ (j : ℕ). Builts (trees-at s w j)) (sym e) (children-built (subst Built (tree-apply s w i k) b))
+  pub list-spelled : (j : ℕ) → kind-of w i ≡ 0 → j ≡ first-of w i → Spelled (tree-at s w i) → SpelledAll (trees-at s w j)
+  list-spelled j k e b = subst (λ (j : ℕ). SpelledAll (trees-at s w j)) (sym e) (children-spelled (subst Spelled (tree-apply s w i k) b))
 
   pub named-list : {v : List ℕ} {at end : ℕ} (j : ℕ) → kind-of w i ≡ 0 → j ≡ first-of w i → Named s w v at end (sizes (trees-at s w j)) (variable-names-in (trees-at s w j))
       → Named s w v at end (size (tree-at s w i)) (variable-names (tree-at s w i))
@@ -198,8 +215,8 @@ module _ (s : Text) (w : List ℕ) (i : ℕ) where
 
 -- the parts of a list
 module _ (s : Text) {w : List ℕ} {n : ℕ} (a : Arena s w n) (i : ℕ) (p : 0 < i) (q : i < n) where
-  pub parts-built : Builts (trees-at s w i) → Built (tree-at s w i) × Builts (trees-at s w (next-of w i))
-  parts-built b = first-built (subst Builts (trees-more s (a .links) i p q) b)
+  pub parts-spelled : SpelledAll (trees-at s w i) → Spelled (tree-at s w i) × SpelledAll (trees-at s w (next-of w i))
+  parts-spelled b = first-spelled (subst SpelledAll (trees-more s (a .links) i p q) b)
 
   pub parts-names : variable-names-in (trees-at s w i) ≡ variable-names (tree-at s w i) ++ variable-names-in (trees-at s w (next-of w i))
   unfolding variable-names
@@ -219,8 +236,8 @@ module _ (s : Text) (w v : List ℕ) (n i j at mid : ℕ) (a : Arena s w n) (p :
   pub rest-sizes : size (tree-at s w i) + sizes (trees-at s v j) ≡ sizes (trees-at s w i)
   rest-sizes = omega (arith, sizes-more s (a .links) i p q, ap sizes rest-is)
 
-  pub rest-built : Builts (trees-at s w i) → Builts (trees-at s v j)
-  rest-built b = subst Builts (sym rest-is) (parts-built s a i p q b .1)
+  pub rest-spelled : SpelledAll (trees-at s w i) → SpelledAll (trees-at s v j)
+  rest-spelled b = subst SpelledAll (sym rest-is) (parts-spelled s a i p q b .1)
 
   pub named-more : (u : List ℕ) (end : ℕ) → at + sizes (trees-at s w i) ≤ length w → Named s w v at mid (size (tree-at s w i)) (variable-names (tree-at s w i))
       → Named s v u mid end (sizes (trees-at s v j)) (variable-names-in (trees-at s v j))

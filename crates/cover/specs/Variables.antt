@@ -2,14 +2,30 @@
 use Prim.Native.Nat.{ℕ, _+_, _/_, _%_, _≤_}
 use mathlib.Core.Path.{_≡_}
 use mathlib.Core.Bool.{Bool, true, false}
-use mathlib.Core.List.{List, [], _∷_, map}
+use mathlib.Core.List.{List, [], _∷_, map, List·Memᴰ}
 use lib.ListN.{length}
 use lib.Seq.{slice}
 use Rattle.rules.specs.Bytes.{Text, same}
 use Rattle.rules.specs.Names.{variable-token}
+use Rattle.rules.specs.Tree.{Tree, Trees}
+use Rattle.rules.specs.Tidy.{Built, Builts}
+use Rattle.rules.specs.Memory.{variable-names, variable-names-in}
 use Rattle.text.specs.Places.{text-at}
 use Rattle.certificate.specs.Writer.{Kept}
 use Rattle.cover.specs.Ordered.{ordered, unique}
+
+-- no name is longer than a sheet
+abbrev pub Short : List Text → Type 0
+Short ns = (x : Text) → List·Memᴰ x ns → length x ≤ 65536
+
+-- a tree as it is read of a sheet, and a list of such trees
+pub record Spelled (t : Tree) : Type 0 where
+  pub built : Built t
+  pub short : Short (variable-names t)
+
+pub record SpelledAll (ts : Trees) : Type 0 where
+  pub built : Builts ts
+  pub short : Short (variable-names-in ts)
 
 -- a place whose text is a variable
 pub record Variable (s : Text) (x : ℕ) : Type 0 where

@@ -14,10 +14,10 @@ ghost use mathlib.Core.Path.{_≡_};
 ghost use Prim.Native.Nat.{_+_, _*_, _<_, _≤_, _^_};
 ghost use lib.ListN.{length};
 ghost use Rattle.rules.specs.Tree.{sizes};
-ghost use Rattle.rules.specs.Tidy.{Builts};
 ghost use Rattle.tree.specs.Cells.{trees-at};
 ghost use Rattle.tree.specs.Arena.{Arena};
 ghost use Rattle.unifier.specs.Stack.{Whole};
+ghost use Rattle.cover.specs.Variables.{SpelledAll};
 ghost use Rattle.cover.specs.Covered.{Names, Asks, ClaimsCovered};
 
 // The nodes of all trees of the list from cell `list` on.
@@ -38,7 +38,7 @@ fn nodes_in(sheet: &[u8], work: &[u32], free: usize, list: usize) -> usize
 // The variables of the pairs from cell stack on as a list of cells. Their places are written above as many cells as the sheet has bytes.
 fn names_of(sheet: &[u8], work: &mut [u32], free: usize, stack: usize) -> Pushed
     requires { ⌜ Arena (now sheet) (now work) free × (length (now sheet) ≤ 65536) ⌝ }
-    requires { ⌜ (stack < free) × Whole (trees-at (now sheet) (now work) stack) × Builts (trees-at (now sheet) (now work) stack) × (sizes (trees-at (now sheet) (now work) stack) ≤ length (now sheet)) ⌝ }
+    requires { ⌜ (stack < free) × Whole (trees-at (now sheet) (now work) stack) × SpelledAll (trees-at (now sheet) (now work) stack) × (sizes (trees-at (now sheet) (now work) stack) ≤ length (now sheet)) ⌝ }
     requires { ⌜ (4 * (free + length (now sheet)) + 2 * length (now sheet) ≤ length (now work)) × (free + length (now sheet) < 2 ^ 32) ⌝ }
     ensures { λ r. ⌜ Names (now (sheet .entry)) (now (work .entry)) (now (work .exit)) free stack (r .index) (r .free) ⌝ }
 {

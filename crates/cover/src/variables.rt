@@ -12,17 +12,16 @@ ghost use lib.ListN.{length, getD};
 ghost use lib.Seq.{slice};
 ghost use Rattle.rules.specs.Bytes.{same};
 ghost use Rattle.rules.specs.Tree.{size, sizes};
-ghost use Rattle.rules.specs.Tidy.{Built, Builts};
 ghost use Rattle.rules.specs.Memory.{variable-names, variable-names-in};
 ghost use Rattle.text.specs.Places.{text-at};
 ghost use Rattle.tree.specs.Cells.{tree-at, trees-at};
 ghost use Rattle.tree.specs.Arena.{Arena};
-ghost use Rattle.cover.specs.Variables.{Named, repeats, Dropped, Ordered};
+ghost use Rattle.cover.specs.Variables.{Spelled, SpelledAll, Named, repeats, Dropped, Ordered};
 
 // Writes the places of the variables of the tree of cell i from `at` on, and answers where they end.
 fn gather(sheet: &[u8], work: &mut [u32], free: usize, i: usize, at: usize) -> usize
     requires { ⌜ Arena (now sheet) (now work) free ⌝ }
-    requires { ⌜ (0 < i) × (i < free) × Built (tree-at (now sheet) (now work) i) ⌝ }
+    requires { ⌜ (0 < i) × (i < free) × Spelled (tree-at (now sheet) (now work) i) ⌝ }
     requires { ⌜ (4 * free ≤ at) × (at + size (tree-at (now sheet) (now work) i) ≤ length (now work)) ⌝ }
     ensures { λ r. ⌜ Named (now (sheet .entry)) (now (work .entry)) (now (work .exit)) at r (size (tree-at (now (sheet .entry)) (now (work .entry)) i)) (variable-names (tree-at (now (sheet .entry)) (now (work .entry)) i)) ⌝ }
 {
@@ -41,7 +40,7 @@ fn gather(sheet: &[u8], work: &mut [u32], free: usize, i: usize, at: usize) -> u
 // The same of the trees of the list from cell i on.
 fn gather_list(sheet: &[u8], work: &mut [u32], free: usize, i: usize, at: usize) -> usize
     requires { ⌜ Arena (now sheet) (now work) free ⌝ }
-    requires { ⌜ (i < free) × Builts (trees-at (now sheet) (now work) i) ⌝ }
+    requires { ⌜ (i < free) × SpelledAll (trees-at (now sheet) (now work) i) ⌝ }
     requires { ⌜ (4 * free ≤ at) × (at + sizes (trees-at (now sheet) (now work) i) ≤ length (now work)) ⌝ }
     ensures { λ r. ⌜ Named (now (sheet .entry)) (now (work .entry)) (now (work .exit)) at r (sizes (trees-at (now (sheet .entry)) (now (work .entry)) i)) (variable-names-in (trees-at (now (sheet .entry)) (now (work .entry)) i)) ⌝ }
 {
@@ -56,7 +55,7 @@ fn gather_list(sheet: &[u8], work: &mut [u32], free: usize, i: usize, at: usize)
 // The same of a list of any length.
 fn gather_all(sheet: &[u8], work: &mut [u32], free: usize, list: usize, at: usize) -> usize
     requires { ⌜ Arena (now sheet) (now work) free ⌝ }
-    requires { ⌜ (list < free) × Builts (trees-at (now sheet) (now work) list) ⌝ }
+    requires { ⌜ (list < free) × SpelledAll (trees-at (now sheet) (now work) list) ⌝ }
     requires { ⌜ (4 * free ≤ at) × (at + sizes (trees-at (now sheet) (now work) list) ≤ length (now work)) ⌝ }
     ensures { λ r. ⌜ Named (now (sheet .entry)) (now (work .entry)) (now (work .exit)) at r (sizes (trees-at (now (sheet .entry)) (now (work .entry)) list)) (variable-names-in (trees-at (now (sheet .entry)) (now (work .entry)) list)) ⌝ }
 {
@@ -103,7 +102,7 @@ fn drop_repeats(sheet: &[u8], work: &mut [u32], at: usize, end: usize) -> usize
 // many words as the trees have nodes, and as many again, are scratch.
 pub fn variables_of(sheet: &[u8], work: &mut [u32], free: usize, list: usize, at: usize) -> usize
     requires { ⌜ Arena (now sheet) (now work) free ⌝ }
-    requires { ⌜ (list < free) × Builts (trees-at (now sheet) (now work) list) ⌝ }
+    requires { ⌜ (list < free) × SpelledAll (trees-at (now sheet) (now work) list) ⌝ }
     requires { ⌜ (4 * free ≤ at) × (at + 2 * sizes (trees-at (now sheet) (now work) list) ≤ length (now work)) ⌝ }
     ensures { λ r. ⌜ Ordered (now (sheet .entry)) (now (work .entry)) (now (work .exit)) at r (sizes (trees-at (now (sheet .entry)) (now (work .entry)) list)) (variable-names-in (trees-at (now (sheet .entry)) (now (work .entry)) list)) ⌝ }
 {

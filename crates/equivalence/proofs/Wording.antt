@@ -1,5 +1,5 @@
 -- The words of a tree by its cells. Assumes nothing.
-use Prim.Native.Nat.{ℕ, zero, suc, _+_, _-_, _*_, _<_, _≤_, _/_, _%_}
+use Prim.Native.Nat.{ℕ, _+_, _-_, _*_, _<_, _≤_, _/_, _%_}
 use mathlib.Core.Path.{_≡_, refl, sym, ap, ap₂, subst, _∙_}
 use mathlib.Core.Bool.{Bool, true, false, cond, not}
 use mathlib.Core.List.{List, [], _∷_, _++_, append-assoc}
@@ -14,28 +14,17 @@ use Rattle.text.specs.Sorting.{Wrote}
 use Rattle.tree.specs.Cells.{start-of, length-of, kind-of, first-of, next-of, fixed-name, named, name-at, tree-at, trees-at}
 use Rattle.tree.specs.Arena.{Cell, Links, Arena}
 use Rattle.tree.proofs.Decoding.{Agree, Kind, application, a-variable, an-atom, kind, same-next, trees-none, trees-more, tree-variable, tree-atom, tree-apply, size-pos, size-apply, sizes-more, frame-trees}
-use Rattle.certificate.specs.Texts.{code-name, word-text, Token}
+use Rattle.certificate.specs.Texts.{word-text, Token}
 use Rattle.certificate.specs.Terms.{Term, node, Terms, none, more}
 use Rattle.certificate.specs.Items.{adds, opening, bracket, closing}
 use Rattle.certificate.specs.Spelling.{Word, Spells, as-variable, as-atom, as-apply, SpellsAll, spell-none, spell-more, term-words, list-words}
-use Rattle.certificate.proofs.WordTexts.{code-named, code-byte, text-mark, text-place}
+use Rattle.certificate.proofs.WordTexts.{name-fixed, code-named, code-byte, text-mark, text-place}
 use Rattle.certificate.proofs.Flattening.{atom-adds}
 use Rattle.certificate.proofs.ItemWords.{leaf-words, one-words, more-words, node-words}
 use Rattle.equivalence.specs.Words.{Spelled, SpelledAll}
 use Rattle.equivalence.proofs.Scratch.{wrote-agree, wrote-arena, wrote-append, wrote-one}
 
 -- ---- the word of a name
-
--- a fixed name by its code
-fixed-code : (a : ℕ) → 0 < a → a < 7 → code-name a ≡ fixed-name a
-fixed-code zero p q = absurd (omega arith)
-fixed-code (suc zero) p q = refl
-fixed-code (suc (suc zero)) p q = refl
-fixed-code (suc (suc (suc zero))) p q = refl
-fixed-code (suc (suc (suc (suc zero)))) p q = refl
-fixed-code (suc (suc (suc (suc (suc zero))))) p q = refl
-fixed-code (suc (suc (suc (suc (suc (suc zero)))))) p q = refl
-fixed-code (suc (suc (suc (suc (suc (suc (suc a))))))) p q = absurd (omega arith)
 
 -- the word of a code from 257 on
 code-word : (s : Text) (c x : ℕ) → x ≡ c * 65536 → 256 < c → Word s x
@@ -59,7 +48,7 @@ module _ (s : Text) (w : List ℕ) (k x : ℕ) (h : Cell s w k) (e : x ≡ getD 
         text-place s x z ∙ rw (e, ne-eqb (getD w (4 * k) 0 % 65536) 0 q),
       )
 
-  pub code-small : x % 65536 ≡ 0 → (0 < x / 65536) × (x / 65536 < 7)
+  pub code-small : x % 65536 ≡ 0 → (0 < x / 65536) × (x / 65536 < 31)
   unfolding start-of length-of
   code-small z = rw e (h .placed .code (ap (λ (x : ℕ). x % 65536) (sym e) ∙ z))
 
@@ -74,7 +63,7 @@ module _ (s : Text) (w : List ℕ) (k x : ℕ) (h : Cell s w k) (e : x ≡ getD 
       let b : a + 256 - 256 ≡ a = omega arith in
       let q : getD w (4 * k) 0 % 65536 ≡ 0 = ap (λ (x : ℕ). x % 65536) (sym e) ∙ z in
       let n : name-at s w k ≡ fixed-name a = (rw (eq-eqb (getD w (4 * k) 0 % 65536) 0 q)) ∙ ap (λ (x : ℕ). fixed-name (x / 65536)) (sym e) in
-      (code-word s (a + 256) y g (omega arith), text-mark s y m ∙ rw d (code-named (a + 256) (omega arith) (omega arith) .0 ∙ rw b (fixed-code a (c .0) (c .1) ∙ sym n)))
+      (code-word s (a + 256) y g (omega arith), text-mark s y m ∙ rw d (code-named (a + 256) (omega arith) (omega arith) .0 ∙ rw b (name-fixed a (omega arith) ∙ sym n)))
 
 -- a letter
 module _ (s : Text) (k x : ℕ) (e : x ≡ (512 + k) * 65536) (h : k < 256) where

@@ -7,3 +7,6 @@ pub mod Matching
 pub mod Reducing
 pub mod Completing
 pub mod Unspelled
+pub mod Naming
+pub mod Exchange
+pub mod AnyNames

@@ -4,9 +4,9 @@ use native.Mathlib.Omega.{arith}
 use mathlib.Core.Path.{_≡_, refl, sym, ap, ap₂, _∙_, subst}
 use mathlib.Core.List.{List, [], _∷_}
 use mathlib.Core.Option.{Option, some, none as nothing, Option·none-ne-some}
-use mathlib.Core.Bool.{Bool, true, false, false≢true}
+use mathlib.Core.Bool.{Bool, true, false, not, false≢true}
 use lib.ListN.{length, getD, take, drop}
-use borrow.Author.Tests.{ne-eqb}
+use borrow.Author.Tests.{not-true, ne-eqb}
 use native.Mathlib.Decide.{decLt}
 use mathlib.Core.Logic.{⊎-elim}
 use types.Run.{OneOf}
@@ -15,8 +15,11 @@ use Rattle.rules.specs.Maybe.{_>>=_, guard}
 use Rattle.rules.specs.Names.{digit, all, letter, letter-name}
 use Rattle.rules.specs.Tree.{Tree, variable, atom, apply, Trees, none, more, size}
 use Rattle.rules.specs.Reading.{single, constant-name, atom-of}
+use Rattle.laws.specs.Unspelled.{unspelled}
 use Rattle.tree.specs.Cells.{start-of, length-of, kind-of, fixed-name, named, name-at, part, first-of, next-of, made, tree-at, trees-at}
 use Rattle.tree.specs.Arena.{Links, Place, Cell, Arena, Grown, Wrote, Linked}
+use Rattle.tree.proofs.Bounded.{every-below, below-holds}
+use Rattle.tree.proofs.FixedNames.{fixed-unspelled}
 use Rattle.tree.proofs.Decoding.{Kind, application, a-variable, an-atom, kind, tree-variable, tree-atom, tree-apply, trees-none, trees-more, made-atom}
 use Rattle.reading.specs.Machine.{back}
 use Rattle.reading.specs.Closing.{Alone, Done, NoTree}
@@ -53,16 +56,20 @@ pub none-alone : (s : Text) (w : List ℕ) (k : ℕ) → k ≡ 0 → (n : Text) 
 unfolding atom-of
 none-alone s w k e n = rw (trees-none s w k e)
 
-no-digits : (a : ℕ) → 0 < a → a < 7 → all digit (fixed-name a) ≡ false
-unfolding all digit
-no-digits zero p q = absurd (omega arith)
-no-digits (suc zero) p q = refl
-no-digits (suc (suc zero)) p q = refl
-no-digits (suc (suc (suc zero))) p q = refl
-no-digits (suc (suc (suc (suc zero)))) p q = refl
-no-digits (suc (suc (suc (suc (suc zero))))) p q = refl
-no-digits (suc (suc (suc (suc (suc (suc zero)))))) p q = refl
-no-digits (suc (suc (suc (suc (suc (suc (suc a))))))) p q = absurd (omega arith)
+few-digits : (a : ℕ) → 0 < a → a < 7 → all digit (fixed-name a) ≡ false
+unfolding all digit every-below
+few-digits zero p q = absurd (omega arith)
+few-digits (suc a) p q = not-true (all digit (fixed-name (suc a))) (below-holds 6 (λ m. not (all digit (fixed-name (suc m)))) refl a (omega arith))
+
+unspelled-digits : (n : ℕ) → all digit (unspelled n) ≡ false
+unfolding all digit unspelled
+unspelled-digits n = refl
+
+no-digits : (a : ℕ) → 0 < a → all digit (fixed-name a) ≡ false
+no-digits a p = elim (decLt a 7) [
+  | yes q ↦ few-digits a p q
+  | no q ↦ ap (all digit) (fixed-unspelled a (omega arith)) ∙ unspelled-digits (a - 7)
+]
 
 module _ (s : Text) {w : List ℕ} {free : ℕ} (a : Arena s w free) (k : ℕ) (p : 0 < k) (q : k < free) where
   pub several : {r : ℕ} → r ≡ next-of w k → 0 < r → (n : Text) → atom-of n (trees-at s w k) ≡ nothing
@@ -108,7 +115,7 @@ module _ (s : Text) {w : List ℕ} {free : ℕ} (a : Arena s w free) (k : ℕ) (
         unfolding name-at named
         fixed-alone f g n =
             let l = a .cell k p q .placed .code (sym f ∙ g) in
-            atom-name n ∙ rw (sym f ∙ g, no-digits (start-of w k) (l .0) (l .1))
+            atom-name n ∙ rw (sym f ∙ g, no-digits (start-of w k) (l .0))
 
         pub alone-by : {x z : ℕ} (b : Bool) → x ≡ start-of w k → z ≡ length-of w k → (z ≡ 0 → ⊥) → b ≡ all digit (take (x + z - x) (drop x s)) → Alone s w k b
         unfolding name-at named

@@ -1,20 +1,16 @@
 -- Trees and lists at the free end, before others. Assumes nothing.
 use Prim.Native.Nat.{ℕ, _+_, _*_, _<_, _≤_}
-use mathlib.Core.Path.{_≡_, refl, sym, ap, ap₂, _∙_}
-use mathlib.Core.Bool.{not}
+use mathlib.Core.Path.{_≡_, refl, sym, ap, _∙_}
 use mathlib.Core.List.{List}
-use lib.Dec.{eqb}
-use lib.ListN.{length, getD}
+use lib.ListN.{length}
 use native.Mathlib.Omega.{arith}
-use borrow.Author.Tests.{not-true, eqb-false}
 use Rattle.rules.specs.Bytes.{Text}
 use Rattle.rules.specs.Tree.{Tree, apply, Trees, more, size, sizes}
 use Rattle.rules.specs.Reduction.{constant}
-use Rattle.tree.specs.Cells.{start-of, length-of, kind-of, nodes-of, next-of, named, name-at, fixed-name, made, trees-at}
-use Rattle.tree.specs.Arena.{Place, Arena, Grown, Wrote, Linked}
-use Rattle.tree.proofs.Bounded.{every-below, below-holds}
+use Rattle.tree.specs.Cells.{start-of, length-of, kind-of, nodes-of, next-of, name-at, fixed-name, made, trees-at}
+use Rattle.tree.specs.Arena.{Arena, Grown, Wrote, Linked}
 use Rattle.tree.proofs.Decoding.{same-first, same-next, made-apply, trees-none, frame-trees, sizes-more}
-use Rattle.tree.proofs.Pushing.{cell-frame, name-push, arena-push, linked, linked-like}
+use Rattle.tree.proofs.Pushing.{cell-frame, linked-like, linked-fixed as linked-coded}
 use Rattle.substitution.specs.Building.{Before}
 use Rattle.substitution.proofs.Placing.{before-linked}
 use Rattle.reduction.specs.Building.{Kept, NewTree}
@@ -73,21 +69,11 @@ new-later {s} {w} {v} {next = next} {t = t} a q k p r x = record {
   trees = x .trees ∙ ap (more t) (sym (frame-trees s v (a .links) (k .below) next q));
 }
 
--- a fixed name is no atom's text
-fixed-plain : (c : ℕ) → c < 7 → getD (fixed-name c) 1 0 ≡ 40 → ⊥
-unfolding every-below
-fixed-plain c h = eqb-false (getD (fixed-name c) 1 0) 40 (not-true (eqb (getD (fixed-name c) 1 0) 40) (below-holds 7 (λ m. not (eqb (getD (fixed-name m) 1 0) 40)) refl c h))
-
 -- a fixed name over the list from cell first on
 pub linked-fixed-over : (s : Text) {w v : List ℕ} {n code first next count : ℕ} → Arena s w n → 0 < code → code < 7 → first < n → next < n → 4 * n + 4 ≤ length w
     → count ≡ sizes (trees-at s w first) → Wrote w v n code 0 0 first next (1 + count) → Linked s w v n next (apply (fixed-name code) (trees-at s w first))
-unfolding named made size
-linked-fixed-over s {w} {v} {n} {code} {first} a p q f g room c x =
-    let m : name-at s v n ≡ fixed-name code = name-push x s in
-    let e : made 0 (name-at s v n) (trees-at s w first) ≡ apply (fixed-name code) (trees-at s w first) = ap (λ (y : Text). apply y (trees-at s w first)) m in
-    let here : Place s code 0 = record { inside = λ h. absurd (omega arith); code = λ h. (p, q) } in
-    let z = ap (λ (k : ℕ). 1 + k) c ∙ sym (ap size e) in
-    linked x s (a .links) g f (arena-push x s a room f g here (omega arith) (λ h. absurd (omega arith)) (λ h k. fixed-plain code q (ap (λ (y : Text). getD y 1 0) (sym m) ∙ k)) z) e
+unfolding made size
+linked-fixed-over s a p q f g room c x = linked-coded s x a p (omega arith) (omega arith) (λ h. absurd (omega arith)) room f g refl (ap (λ (k : ℕ). 1 + k) c)
 
 -- a fixed name without children
 pub linked-fixed : (s : Text) {w v : List ℕ} {n code next : ℕ} → Arena s w n → 0 < code → code < 7 → next < n → 4 * n + 4 ≤ length w

@@ -1,6 +1,7 @@
 pub mod Decoding
-pub mod Pushing
 pub mod Bounded
+pub mod FixedNames
+pub mod Pushing
 pub mod Naming
 pub mod Printing
 pub mod Comparing

@@ -1,5 +1,5 @@
 -- The names of cells: parts of the sheet and fixed names, and the heads of trees. Assumes nothing.
-use Prim.Native.Nat.{ℕ, zero, suc, _+_, _-_, _<_, _≤_}
+use Prim.Native.Nat.{ℕ, _+_, _-_, _<_, _≤_}
 use mathlib.Core.Path.{_≡_, refl, sym, ap, ap₂, _∙_}
 use mathlib.Core.Bool.{Bool, true, false, _&&_, true≢false}
 use mathlib.Core.List.{List, [], _∷_, head-eq-of-cons-eq, tail-eq-of-cons-eq, append-cancel-right}
@@ -13,8 +13,8 @@ use Rattle.rules.specs.Bytes.{Text, same}
 use Rattle.rules.specs.Tree.{atom-text, head}
 use Rattle.laws.proofs.Basics.Tests.{same-eq, same-of-eq, differ-of-ne}
 use Rattle.tree.specs.Cells.{start-of, length-of, kind-of, fixed-name, part, named, name-at, tree-at}
-use Rattle.tree.specs.Arena.{Cell}
-use Rattle.tree.proofs.Bounded.{every-below, below-holds, agree, agreeing}
+use Rattle.tree.specs.Arena.{Cell, Arena}
+use Rattle.tree.proofs.FixedNames.{codes}
 use Rattle.tree.proofs.Decoding.{Kind, application, a-variable, an-atom, kind, tree-variable, tree-atom, tree-apply}
 
 -- the name of a cell, by its place
@@ -35,6 +35,10 @@ module _ (s : Text) (w : List ℕ) (k : ℕ) where
   pub fixed-length : {a n : ℕ} → length-of w k ≡ 0 → a ≡ start-of w k → n ≡ length (fixed-name a) → n ≡ length (name-at s w k)
   fixed-length e f g = g ∙ ap (λ (x : ℕ). length (fixed-name x)) f ∙ ap length (sym (name-fixed e))
 
+  -- the code of a cell without a length
+  pub code-small : {n a l : ℕ} → Arena s w n → 0 < k → k < n → l ≡ length-of w k → l ≡ 0 → a ≡ start-of w k → (0 < a) × (a < 65536)
+  code-small {l = l} x p q e f g = let c = x .cell k p q .placed .code (sym e ∙ f) in (omega arith, omega arith)
+
   -- a part from a start to an end
   pub part-to : {a n : ℕ} → 0 < length-of w k → a ≡ start-of w k → n ≡ length-of w k → take (a + n - a) (drop a s) ≡ name-at s w k
   part-to {a} {n} p e f =
@@ -45,31 +49,6 @@ module _ (s : Text) (w : List ℕ) (k : ℕ) where
 pub length-small : (w : List ℕ) (k : ℕ) → length-of w k < 65536
 unfolding length-of
 length-small w k = omega arith
-
--- no other code has a name
-pub fixed-none : (c : ℕ) → (c ≡ 1 → ⊥) → (c ≡ 2 → ⊥) → (c ≡ 3 → ⊥) → (c ≡ 4 → ⊥) → (c ≡ 5 → ⊥) → (c ≡ 6 → ⊥) → fixed-name c ≡ []
-fixed-none zero h1 h2 h3 h4 h5 h6 = refl
-fixed-none (suc zero) h1 h2 h3 h4 h5 h6 = absurd (h1 refl)
-fixed-none (suc (suc zero)) h1 h2 h3 h4 h5 h6 = absurd (h2 refl)
-fixed-none (suc (suc (suc zero))) h1 h2 h3 h4 h5 h6 = absurd (h3 refl)
-fixed-none (suc (suc (suc (suc zero)))) h1 h2 h3 h4 h5 h6 = absurd (h4 refl)
-fixed-none (suc (suc (suc (suc (suc zero))))) h1 h2 h3 h4 h5 h6 = absurd (h5 refl)
-fixed-none (suc (suc (suc (suc (suc (suc zero)))))) h1 h2 h3 h4 h5 h6 = absurd (h6 refl)
-fixed-none (suc (suc (suc (suc (suc (suc (suc c))))))) h1 h2 h3 h4 h5 h6 = refl
-
-pub same-none : (t : Text) → eqb (length t) 0 ≡ same [] t
-unfolding same
-same-none [] = refl
-same-none (b ∷ t) = ne-eqb (length (b ∷ t)) 0 (omega arith)
-
--- two codes have one name where they are one
-pub codes : (a b : ℕ) → 0 < a → a < 7 → 0 < b → b < 7 → same (fixed-name a) (fixed-name b) ≡ eqb a b
-unfolding same every-below agree
-codes zero b p q p₁ q₁ = absurd (omega arith)
-codes (suc a) zero p q p₁ q₁ = absurd (omega arith)
-codes (suc a) (suc b) p q p₁ q₁ =
-    agreeing _ _ (below-holds 6 (λ y. agree (same (fixed-name (suc a)) (fixed-name (suc y))) (eqb (suc a) (suc y)))
-    (below-holds 6 (λ x. every-below 6 (λ y. agree (same (fixed-name (suc x)) (fixed-name (suc y))) (eqb (suc x) (suc y)))) refl a (omega arith)) b (omega arith))
 
 pub same-swap : (a b : Text) → same a b ≡ same b a
 unfolding same
@@ -145,4 +124,4 @@ module _ (s : Text) (w : List ℕ) (i j : ℕ) {a b : ℕ} where
   same-codes c d h k e f =
       let p = c .placed .code h in
       let q = d .placed .code k in
-      ap₂ eqb e f ∙ sym (ap₂ same (name-fixed s w i h) (name-fixed s w j k) ∙ codes (start-of w i) (start-of w j) (p .0) (p .1) (q .0) (q .1))
+      ap₂ eqb e f ∙ sym (ap₂ same (name-fixed s w i h) (name-fixed s w j k) ∙ codes (start-of w i) (start-of w j) (p .0) (q .0))

@@ -1,5 +1,5 @@
 -- The cell that is written at the free end. Assumes nothing.
-use Prim.Native.Nat.{ℕ, _+_, _*_, _/_, _%_, _<_, _≤_}
+use Prim.Native.Nat.{ℕ, _+_, _-_, _*_, _/_, _%_, _<_, _≤_}
 use mathlib.Core.Path.{_≡_, refl, sym, ap, ap₂, _∙_}
 use mathlib.Core.Logic.{_⊎_, inl, inr}
 use mathlib.Core.List.{List}
@@ -8,10 +8,12 @@ use lib.Seq.{getD-set-same, getD-set-other}
 use native.Mathlib.Omega.{arith}
 use native.Mathlib.Decide.{decLt}
 use Rattle.rules.specs.Bytes.{Text}
-use Rattle.rules.specs.Tree.{Tree, more, size}
-use Rattle.tree.specs.Cells.{start-of, length-of, kind-of, first-of, next-of, nodes-of, named, name-at, variable-kind, made, trees-at, tree-at}
+use Rattle.rules.specs.Tree.{Tree, variable, more, size}
+use Rattle.laws.specs.Unspelled.{unspelled}
+use Rattle.tree.specs.Cells.{start-of, length-of, kind-of, first-of, next-of, nodes-of, fixed-name, named, name-at, variable-kind, made, trees-at, tree-at}
 use Rattle.tree.specs.Arena.{Links, Place, Cell, Arena, Wrote, Linked}
 use Rattle.tree.proofs.Decoding.{Agree, same-start, same-length, same-kind, same-count, same-first, same-next, same-name, frame-tree, frame-trees, trees-more}
+use Rattle.tree.proofs.FixedNames.{fixed-unspelled, fixed-plain, unspelled-kind}
 
 -- two numbers in one word
 quotient : (a b : ℕ) → b < 65536 → (a * 65536 + b) / 65536 ≡ a
@@ -172,6 +174,28 @@ unfolding tree-at
 linked-shared s {w} {v} {n} {count} {first} {next} k a p q g room e f x =
     let h = a .links .first k p q in
     linked-like s k x a p q room (omega arith) g (rw e) (f ∙ a .cell k p q .counted)
+
+-- a cell written with the fixed name of a code
+module _ {w v : List ℕ} {n code kind first next count : ℕ} (s : Text) (x : Wrote w v n code 0 kind first next count) where
+  pub linked-fixed : {t : Tree} → Arena s w n → 0 < code → code < 31 → kind < 7 → (0 < kind → kind ≡ variable-kind (fixed-name code)) → 4 * n + 4 ≤ length w → first < n → next < n
+      → made kind (fixed-name code) (trees-at s w first) ≡ t → count ≡ size t → Linked s w v n next t
+  unfolding named
+  linked-fixed a p q k h room f g e c =
+      let m : name-at s v n ≡ fixed-name code = name-push x s in
+      let e′ = ap (λ (y : Text). made kind y (trees-at s w first)) m ∙ e in
+      let here : Place s code 0 = record { inside = λ h. absurd (omega arith); code = λ h. (p, q) } in
+      linked x s (a .links) g f
+      (arena-push x s a room f g here (omega arith) (λ z y. h z ∙ ap variable-kind (sym m)) (λ z y. fixed-plain code (ap (λ (y : Text). getD y 1 0) (sym m) ∙ y)) (c ∙ ap size (sym e′)))
+      e′
+
+-- a variable whose name no sheet spells
+pub linked-unspelled : (s : Text) {w v : List ℕ} {n next : ℕ} (i : ℕ) → Arena s w n → i < 24 → next < n → 4 * n + 4 ≤ length w
+    → Wrote w v n (i + 7) 0 3 0 next 1 → Linked s w v n next (variable (unspelled i))
+unfolding made size
+linked-unspelled s i a h g room x =
+    let d : i + 7 - 7 ≡ i = omega arith in
+    let e : fixed-name (i + 7) ≡ unspelled i = fixed-unspelled (i + 7) (omega arith) ∙ ap unspelled d in
+    linked-fixed s x a (omega arith) (omega arith) (omega arith) (λ z. unspelled-kind i ∙ ap variable-kind (sym e)) room (a .links .some) g (ap variable e) refl
 
 -- an area with no cell
 pub arena-none : (s : Text) (w : List ℕ) → 4 ≤ length w → Arena s w 1

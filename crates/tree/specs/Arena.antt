@@ -17,7 +17,7 @@ pub record Links (w : List ℕ) (n : ℕ) : Type 0 where
 -- a part of the sheet, or the code of a fixed name
 pub record Place (s : Text) (a n : ℕ) : Type 0 where
   pub inside : 0 < n → a + n ≤ length s
-  pub code : n ≡ 0 → (0 < a) × (a < 7)
+  pub code : n ≡ 0 → (0 < a) × (a < 31)
 
 -- what else a cell says: its kind is the name's, its name is no atom's text, its count is the tree's
 pub record Cell (s : Text) (w : List ℕ) (k : ℕ) : Type 0 where

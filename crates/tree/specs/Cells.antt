@@ -1,8 +1,9 @@
 -- Trees in a work area of words. Cell k has the four words from 4 * k: the place of its name; its kind and its count of nodes; its
 -- first child's cell and its next sibling's cell, 0 for none. A place is a start and a length in the sheet, or, with the length 0, the
--- code of a fixed name. The kind is 0 for an application, 1 to 6 for a variable by its sort, else the letter of an atom, whose place is
--- that of its digits. Two numbers in a word: the first times 65,536, and the second. Definitions only.
-use Prim.Native.Nat.{ℕ, zero, suc, _+_, _*_, _/_, _%_}
+-- code of a fixed name: 1 to 6 for the names that reduction and schemes make, from 7 on for those that no sheet spells. The kind is 0 for an
+-- application, 1 to 6 for a variable by its sort, else the letter of an atom, whose place is that of its digits. Two numbers in a word:
+-- the first times 65,536, and the second. Definitions only.
+use Prim.Native.Nat.{ℕ, zero, suc, _+_, _-_, _*_, _/_, _%_}
 use mathlib.Core.Bool.{cond}
 use mathlib.Core.List.{List, [], _∷_}
 use mathlib.Core.Option.{Option, some, none as nothing}
@@ -12,6 +13,7 @@ use Rattle.rules.specs.Bytes.{Text}
 use Rattle.rules.specs.Text.{bytes}
 use Rattle.rules.specs.Tree.{Tree, variable, atom, apply, Trees, none, more}
 use Rattle.rules.specs.Sorts.{Sort, sort-number, variable-sort}
+use Rattle.laws.specs.Unspelled.{unspelled}
 
 unfoldable pub start-of : List ℕ → ℕ → ℕ
 start-of w k = getD w (4 * k) 0 / 65536
@@ -35,9 +37,10 @@ next-of w k = getD w (4 * k + 3) 0
 abbrev pub fixed-names : List Text
 fixed-names = bytes "tamXCroleA" ∷ bytes "tamXCroleB" ∷ bytes "tamXCpair" ∷ bytes "tamXCsenc" ∷ bytes "tamXCkem" ∷ bytes "tamXCpk" ∷ []
 
+-- the name of a code
 abbrev pub fixed-name : ℕ → Text
 fixed-name zero = []
-fixed-name (suc c) = getD fixed-names c []
+fixed-name (suc c) = getD fixed-names c (unspelled (c - 6))
 
 abbrev pub part : Text → ℕ → ℕ → Text
 part s a n = take n (drop a s)

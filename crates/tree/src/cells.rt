@@ -2,7 +2,8 @@
 ghost use mathlib.Core.Path.{_≡_};
 ghost use Prim.Native.Nat.{_+_, _*_, _<_, _≤_, _^_};
 ghost use lib.ListN.{length};
-ghost use Rattle.rules.specs.Tree.{size, sizes};
+ghost use Rattle.rules.specs.Tree.{variable, size, sizes};
+ghost use Rattle.laws.specs.Unspelled.{unspelled};
 ghost use Rattle.tree.specs.Cells.{start-of, length-of, kind-of, nodes-of, first-of, next-of, tree-at, trees-at};
 ghost use Rattle.tree.specs.Arena.{Links, Arena, Wrote, Linked};
 
@@ -123,6 +124,16 @@ pub fn share(sheet: &[u8], work: &mut [u32], free: usize, k: usize, next: usize)
     let count = count_of(work, k);
     let first = first_of(work, free, k);
     push_like(work, free, k, first, next, count)
+}
+
+// Writes the variable with the n-th name that no sheet spells, before the list at `next`, and returns the free end after it.
+pub fn push_unspelled(sheet: &[u8], work: &mut [u32], free: usize, n: usize, next: usize) -> usize
+    requires { ⌜ Arena (now sheet) (now work) free ⌝ }
+    requires { ⌜ (n < 24) × (next < free) ⌝ }
+    requires { ⌜ (4 * free + 4 ≤ length (now work)) × (free < 2 ^ 32) ⌝ }
+    ensures { λ r. ⌜ (r ≡ free + 1) × Linked (now (sheet .entry)) (now (work .entry)) (now (work .exit)) free next (variable (unspelled n)) ⌝ }
+{
+    push_cell(work, free, n + 7, 0, 3, 0, next, 1)
 }
 
 // The number of nodes of the tree of cell i.

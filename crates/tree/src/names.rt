@@ -2,6 +2,9 @@
 use crate::cells::kind_of;
 use crate::cells::length_of;
 use crate::cells::start_of;
+use crate::fixed::fixed_is;
+use crate::fixed::fixed_len;
+use crate::fixed::print_fixed;
 use text::same;
 ghost use mathlib.Core.Path.{_≡_};
 ghost use mathlib.Core.Bool.{_&&_};
@@ -10,7 +13,7 @@ ghost use Prim.Native.Nat.{_+_, _*_, _<_, _≤_};
 ghost use lib.ListN.{length};
 ghost use Rattle.rules.specs.Bytes.{same};
 ghost use Rattle.rules.specs.Tree.{head};
-ghost use Rattle.tree.specs.Cells.{length-of, fixed-name, name-at, tree-at};
+ghost use Rattle.tree.specs.Cells.{length-of, name-at, tree-at};
 ghost use Rattle.tree.specs.Arena.{Arena};
 ghost use Rattle.tree.specs.Output.{Printed};
 
@@ -24,21 +27,6 @@ fn name_of<'a>(sheet: &'a [u8], work: &[u32], free: usize, k: usize) -> &'a [u8]
     let a = start_of(work, k);
     let e = a + length_of(work, k);
     &sheet[a..e]
-}
-
-// Whether the fixed name of a code is a text.
-fn fixed_is(code: usize, text: &[u8]) -> bool
-    ensures { λ r. ⌜ r ≡ same (fixed-name code) (now (text .entry)) ⌝ }
-{
-    match code {
-        1 => same(b"tamXCroleA", text),
-        2 => same(b"tamXCroleB", text),
-        3 => same(b"tamXCpair", text),
-        4 => same(b"tamXCsenc", text),
-        5 => same(b"tamXCkem", text),
-        6 => same(b"tamXCpk", text),
-        _ => text.len() == 0,
-    }
 }
 
 // Whether the name of cell k is a text.
@@ -98,26 +86,11 @@ pub fn same_head(sheet: &[u8], work: &[u32], free: usize, i: usize, j: usize) ->
     same_name(sheet, work, free, i, j)
 }
 
-// The length of the fixed name of a code.
-fn fixed_len(code: usize) -> usize
-    ensures { λ r. ⌜ (r ≡ length (fixed-name code)) × (r < 65536) ⌝ }
-{
-    match code {
-        1 => 10,
-        2 => 10,
-        3 => 9,
-        4 => 9,
-        5 => 8,
-        6 => 7,
-        _ => 0,
-    }
-}
-
 // The length of the name of cell k.
 pub fn name_len(sheet: &[u8], work: &[u32], free: usize, k: usize) -> usize
     requires { ⌜ Arena (now sheet) (now work) free ⌝ }
     requires { ⌜ (0 < k) × (k < free) ⌝ }
-    ensures { λ r. ⌜ (r ≡ length (name-at (now (sheet .entry)) (now (work .entry)) k)) × (r < 65536) ⌝ }
+    ensures { λ r. ⌜ (r ≡ length (name-at (now (sheet .entry)) (now (work .entry)) k)) × (r < 131072) ⌝ }
 {
     let n = length_of(work, k);
     if n == 0 {
@@ -146,22 +119,6 @@ pub fn print_text(out: &mut [u8], at: usize, text: &[u8]) -> usize
         i += 1;
     }
     at + i
-}
-
-// Writes the fixed name of a code.
-fn print_fixed(out: &mut [u8], at: usize, code: usize) -> usize
-    requires { ⌜ at + length (fixed-name code) ≤ length (now out) ⌝ }
-    ensures { λ r. ⌜ Printed (now (out .entry)) (now (out .exit)) at (fixed-name code) r ⌝ }
-{
-    match code {
-        1 => print_text(out, at, b"tamXCroleA"),
-        2 => print_text(out, at, b"tamXCroleB"),
-        3 => print_text(out, at, b"tamXCpair"),
-        4 => print_text(out, at, b"tamXCsenc"),
-        5 => print_text(out, at, b"tamXCkem"),
-        6 => print_text(out, at, b"tamXCpk"),
-        _ => at,
-    }
 }
 
 // Writes the name of cell k.

@@ -12,10 +12,10 @@ use borrow.Author.Tests.{not-true, eq-eqb, ne-eqb, eqb-false}
 use Rattle.rules.specs.Bytes.{Text}
 use Rattle.rules.specs.Tree.{variable, size}
 use Rattle.rules.specs.Sorts.{sort-named, variable-sort}
-use Rattle.tree.specs.Cells.{kind-of, start-of, length-of, named, name-at, part, fixed-name, kind-of-sort, variable-kind, made, trees-at}
+use Rattle.tree.specs.Cells.{kind-of, start-of, length-of, named, name-at, part, kind-of-sort, variable-kind, made, trees-at}
 use Rattle.tree.specs.Arena.{Place, Arena, Wrote, Linked}
-use Rattle.tree.proofs.Bounded.{every-below, below-holds}
 use Rattle.tree.proofs.Decoding.{made-variable}
+use Rattle.tree.proofs.FixedNames.{fixed-some}
 use Rattle.reading.specs.Leaves.{leaf-kind}
 use Rattle.reading.specs.Words.{Placed}
 use Rattle.reading.proofs.LeafLaws.{kind-some, leaf-sorted}
@@ -57,17 +57,11 @@ nameable-plain (a ∷ n) e = eqb-false (getD n 0 0) 40 (not-true (eqb (getD n 0 
 
 -- ---- the names of cells
 
-fixed-some : (a : ℕ) → 0 < a → a < 7 → length (fixed-name a) ≡ 0 → ⊥
-unfolding every-below
-fixed-some zero p q = absurd (omega arith)
-fixed-some (suc a) p q =
-    eqb-false (length (fixed-name (suc a))) 0 (not-true (eqb (length (fixed-name (suc a))) 0) (below-holds 6 (λ m. not (eqb (length (fixed-name (suc m))) 0)) refl a (omega arith)))
-
 name-some : (s : Text) (a n : ℕ) → Place s a n → 0 < length (named s a n)
 unfolding named
 name-some s a n p = elim (decLt 0 n) [
   | yes h ↦ rw (ne-eqb n 0 (omega arith)) (omega (arith, p .inside h, length-take-le n (drop a s) (omega (arith, p .inside h, length-drop a s))))
-  | no h ↦ rw (eq-eqb n 0 (omega arith)) (let c = p .code (omega arith) in let z = fixed-some a (c .0) (c .1) in omega arith)
+  | no h ↦ rw (eq-eqb n 0 (omega arith)) (fixed-some a (p .code (omega arith) .0) .0)
 ]
 
 pub cell-nameable : {s : Text} {w : List ℕ} {n : ℕ} → Arena s w n → (k : ℕ) → 0 < k → k < n → kind-of w k < 7 → nameable (name-at s w k) ≡ true

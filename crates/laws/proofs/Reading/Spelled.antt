@@ -14,11 +14,12 @@ use Rattle.rules.specs.Maybe.{_>>=_, guard}
 use Rattle.rules.specs.Tree.{Tree, variable, atom, apply, Trees, none, more, size, tamtplus}
 use Rattle.rules.specs.Tokens.{rest-length, tokens-after, tokens}
 use Rattle.rules.specs.Reading.{leaf, nested, close, after-token, wholly, read-term, read-list, read-text, parse}
+use Rattle.rules.specs.Memory.{variable-names, variable-names-in}
 use Rattle.laws.specs.Parts.{PartOf}
 use Rattle.laws.proofs.Basics.Options.{bound}
 use Rattle.laws.proofs.Reading.TokenKinds.{is-mark}
 use Rattle.laws.proofs.Reading.Colons.{closed-cases}
-use Rattle.laws.proofs.Variants.Targets.{All, all-map}
+use Rattle.laws.proofs.Variants.Targets.{All, all-append}
 
 -- Parts
 
@@ -93,6 +94,20 @@ module _ (P P₂ Q Q₂ : Text → Type 0) (p : (x : Text) → P x → P₂ x) (
     named-in-map : (ts : Trees) → NamedIn P Q ts → NamedIn P₂ Q₂ ts
     named-in-map none h = tt
     named-in-map (more t ts) h = (named-map t (h .0), named-in-map ts (h .1))
+
+module _ (P Q : Text → Type 0) where
+  mutual
+    unfolding variable-names
+
+    -- the variables' names in a list
+    pub names-listed : (t : Tree) → Named P Q t → All P (variable-names t)
+    names-listed (variable x) h = (h, tt)
+    names-listed (atom c d) h = tt
+    names-listed (apply f ts) h = names-in-listed ts (h .1)
+
+    names-in-listed : (ts : Trees) → NamedIn P Q ts → All P (variable-names-in ts)
+    names-in-listed none h = tt
+    names-in-listed (more t ts) h = all-append P (variable-names t) (variable-names-in ts) (names-listed t (h .0)) (names-in-listed ts (h .1))
 
 -- Reading
 
@@ -218,4 +233,3 @@ parse-spelled s t h = tokens-named (PartOf s) s t h (λ ts e. token-parts 0 s ts
 pub part-spelled : (s x : Text) (t : Tree) → PartOf s x → parse x ≡ some t → AllNames (PartOf s) t
 part-spelled s x t p h =
     named-map (PartOf x) (PartOf s) (PartOf x) (PartOf s) (λ y k. part-of-part s x y p k) (λ y k. part-of-part s x y p k) t (parse-spelled x t h)
-

@@ -42,11 +42,11 @@ module _ (P : Text → Type 0) where
       go false true k = (p, h)
       go false false k = (h .0, k)
 
-  all-left : (l m : List Text) → All P (l ++ m) → All P l
+  pub all-left : (l m : List Text) → All P (l ++ m) → All P l
   all-left [] m h = tt
   all-left (x ∷ l) m h = (h .0, all-left l m (h .1))
 
-  all-right : (l m : List Text) → All P (l ++ m) → All P m
+  pub all-right : (l m : List Text) → All P (l ++ m) → All P m
   all-right [] m h = h
   all-right (x ∷ l) m h = all-right l m (h .1)
 
@@ -87,7 +87,7 @@ module _ (r : Text → Text) where
   mutual
     unfolding variable-names substitute
 
-    rename-fixed : (t : Tree) → All (Fixed r) (variable-names t) → rename r t ≡ t
+    pub rename-fixed : (t : Tree) → All (Fixed r) (variable-names t) → rename r t ≡ t
     rename-fixed (variable x) h = ap variable (h .0)
     rename-fixed (atom c d) h = refl
     rename-fixed (apply f ts) h = ap (apply f) (renames-fixed ts h)

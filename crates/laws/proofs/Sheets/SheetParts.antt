@@ -1,7 +1,7 @@
 -- The texts of a sheet are parts of it, so the names of the trees that are read of them stand in the sheet.
-use Prim.Native.Nat.{ℕ, zero, suc}
+use Prim.Native.Nat.{ℕ, suc}
 use mathlib.Core.Path.{_≡_, refl, ap, subst}
-use mathlib.Core.List.{List, [], _∷_, _++_, map}
+use mathlib.Core.List.{List, [], _∷_, map, List·Memᴰ}
 use mathlib.Core.Option.{Option, some, none as nothing, Option·some-injective, Option·none-ne-some}
 use mathlib.Core.Bool.{Bool, true, false}
 use lib.Dec.{eqb}
@@ -20,8 +20,9 @@ use Rattle.rules.specs.Memory.{side-texts, entry-values, member-texts, sheet-te
 use Rattle.laws.specs.Parts.{PartOf}
 use Rattle.laws.proofs.Basics.Options.{bound}
 use Rattle.laws.proofs.Reading.Spelled.{part-self, part-later, later-parts, part-of-part, AllNames, part-spelled}
-use Rattle.laws.proofs.Variants.Targets.{All, all-append}
+use Rattle.laws.proofs.Variants.Targets.{All, all-append, all-at}
 use Rattle.laws.proofs.Sheets.SheetTexts.{ended, the-member}
+use Rattle.laws.proofs.Renaming.Completing.{all-left, all-right}
 
 -- Lines
 
@@ -210,6 +211,10 @@ module _ (s : Text) where
       let (kind, g, h₃) = bound (kind-in kinds (v .0)) (λ kind. read-kind kind (v .1)) sheet h₂ in
       kind-parts kind (v .1) sheet h₃ (value-part (bytes "kind=") ls v f (first-part s ls (line-parts s ls e)) .1)
 
+  -- so each name of a tree that is read of one of them is
+  pub sheet-spelled : (sheet : Sheet) → read-sheet s ≡ some sheet → (x : Text) → List·Memᴰ x (sheet-texts sheet) → (t : Tree) → parse x ≡ some t → AllNames (PartOf s) t
+  sheet-spelled sheet h x m t e = part-spelled s x t (all-at (PartOf s) (sheet-texts sheet) x m (sheet-parts sheet h)) e
+
 -- Members that are read
 
 -- the trees of a member
@@ -227,14 +232,6 @@ module _ (P : Text → Type 0) (Q : Tree → Type 0) (reads : (x : Text) (t : Tr
       subst (All (λ c. Q (c .1))) (Option·some-injective (b ∷ cs) bs h₂)
       (subst (λ (c : Binding). Q (c .1)) (Option·some-injective (e .0, t) b f₁) (reads (e .1) t (k .0) g), entries-all es cs i (k .1))
 
-  all-first : (l m : List Text) → All P (l ++ m) → All P l
-  all-first [] m h = tt
-  all-first (x ∷ l) m h = (h .0, all-first l m (h .1))
-
-  all-second : (l m : List Text) → All P (l ++ m) → All P m
-  all-second [] m h = h
-  all-second (x ∷ l) m h = all-second l m (h .1)
-
   -- what holds of each tree of such a text holds of the members' trees
   pub members-all : (ms : List Member) (vs : List Variant) → every (map read-member ms) ≡ some vs → All P (member-texts ms) → All (TreesOf Q) vs
   unfolding every read-member member-texts
@@ -246,6 +243,6 @@ module _ (P : Text → Type 0) (Q : Tree → Type 0) (reads : (x : Text) (t : Tr
       let (ws, i, h₂) = bound (every (map read-member ms)) (λ us. some (v ∷ us)) vs h₁ in
       subst (All (TreesOf Q)) (Option·some-injective (v ∷ ws) vs h₂) (
         subst (TreesOf Q) (Option·some-injective (t, bs) v e₂)
-        (reads (m .0) t (k .0) f, entries-all (m .1) bs g (all-first (entry-values (m .1)) (member-texts ms) (k .1))),
-        members-all ms ws i (all-second (entry-values (m .1)) (member-texts ms) (k .1)),
+        (reads (m .0) t (k .0) f, entries-all (m .1) bs g (all-left P (entry-values (m .1)) (member-texts ms) (k .1))),
+        members-all ms ws i (all-right P (entry-values (m .1)) (member-texts ms) (k .1)),
       )

@@ -2,7 +2,7 @@ use mathlib.Core.Path.{refl, sym, ap, _∙_}
 use mathlib.Core.Option.{some}
 use native.Mathlib.Omega.{arith}
 use lib.Seq.{length-take-le}
-use Rattle.cover.proofs.Rooms.{asked-nodes, asked-built, asked-few, asked-colons}
+use Rattle.cover.proofs.Rooms.{asked-nodes, asked-spelled, asked-few, asked-colons}
 use Rattle.cover.proofs.Solutions.{stack-below, end-few, nodes-few, limit-inside, unify-arena, unify-whole, unify-fit, unify-roomy, unsolved, all-arena, names-inside, all-room, all-matchable, claimed}
 use borrow.Author.Needs.{needs}
 use Rattle.cover.proofs.covered.covered.Statement.{statement}
@@ -19,7 +19,7 @@ use Rattle.unifier.proofs.unifying.unify.Reads as unify-reads
 names-of-requires : tie.Need-names-of-requires
 names-of-requires c κs =
     let k = c .before .before .before .pre .1 .1 in
-    ((c .before .before .before .pre .0, k .short), ((c .before .before .before .pre .1 .0, k .whole, asked-built k, omega (arith, asked-nodes k, asked-few k)), (omega (arith, k .words, k .used, k .inside), omega (arith, k .used, k .inside, k .short))))
+    ((c .before .before .before .pre .0, k .short), ((c .before .before .before .pre .1 .0, k .whole, asked-spelled k, omega (arith, asked-nodes k, asked-few k)), (omega (arith, k .words, k .used, k .inside), omega (arith, k .used, k .inside, k .short))))
 
 -- src/covered.rt:66:9
 nodes-in-requires : tie.Need-nodes-in-requires

@@ -5,7 +5,7 @@ use Prim.Native.Nat.{_+_, _*_}
 use Rattle.rules.specs.Tree.{size, sizes}
 use Rattle.tree.specs.Cells.{next-of, tree-at, trees-at}
 use Rattle.tree.proofs.Decoding.{children-fall, head-falls, size-pos, size-apply, sizes-more, sizes-is}
-use Rattle.cover.proofs.Naming.{arena-kept, named-variable, named-atom, named-none, named-list, list-built, parts-built, rest-sizes, rest-built, named-more}
+use Rattle.cover.proofs.Naming.{arena-kept, named-variable, named-atom, named-none, named-list, list-spelled, parts-spelled, rest-sizes, rest-spelled, named-more}
 use Prim.Native.Nat.{ℕ, _<_}
 use borrow.Fn.Kinds.{In}
 use borrow.Fn.PlainCycle.{Measures, is, falls, and}
@@ -63,7 +63,7 @@ gather-gather-list-requires t c κs =
     let k = sym (c .before .before .before .before .kind-of .ensures) ∙ c .before .before .before .if1 .taken in
     let f = c .before .first-of .ensures in (
       omega (arith, c .before .before .before .before .before .before .before .before .pre .0, children-fall (a .sheet .now) (a .work .now) (a .i) (c .before .first-of .result) k (f .0)),
-      (p .0, ((omega (arith, f .1, p .1 .0 .1), list-built (a .sheet .now) (a .work .now) (a .i) (c .before .first-of .result) k (f .0) (p .1 .0 .2)), (p .1 .1 .0, omega (arith, p .1 .1 .1, size-apply (a .sheet .now) (a .work .now) (a .i) k, sizes-is (a .sheet .now) (a .work .now) (f .0))))),
+      (p .0, ((omega (arith, f .1, p .1 .0 .1), list-spelled (a .sheet .now) (a .work .now) (a .i) (c .before .first-of .result) k (f .0) (p .1 .0 .2)), (p .1 .1 .0, omega (arith, p .1 .1 .1, size-apply (a .sheet .now) (a .work .now) (a .i) k, sizes-is (a .sheet .now) (a .work .now) (f .0))))),
     )
 
 -- src/variables.rt:32:9
@@ -140,7 +140,7 @@ gather-list-gather-requires t c κs =
     let s = a .sheet .now in
     let q : 0 < a .i = omega (arith, c .before .if1 .left) in
     let n = sizes-more s (p .0 .links) (a .i) q (p .1 .0 .0) in
-    (omega (arith, c .before .before .before .before .pre .0, head-falls s (p .0 .links) (a .i) q (p .1 .0 .0)), (p .0, ((q, p .1 .0 .0, parts-built s (p .0) (a .i) q (p .1 .0 .0) (p .1 .0 .1) .0), (p .1 .1 .0, omega (arith, p .1 .1 .1, n)))))
+    (omega (arith, c .before .before .before .before .pre .0, head-falls s (p .0 .links) (a .i) q (p .1 .0 .0)), (p .0, ((q, p .1 .0 .0, parts-spelled s (p .0) (a .i) q (p .1 .0 .0) (p .1 .0 .1) .0), (p .1 .1 .0, omega (arith, p .1 .1 .1, n)))))
 
 -- src/variables.rt:52:9
 gather-list-next-of-requires : (t : ℕ) → gather-list-lts.Need-next-of-requires (gather-list-calls t) (gather-list-at t) gather-list.Post
@@ -161,7 +161,7 @@ gather-list-gather-list-requires t c κs =
     let o = size-pos (tree-at s (a .work .now) (a .i)) in
     let m = g .kept .len in (
       omega (arith, c .before .before .before .before .before .before .before .before .before .before .pre .0, r, o),
-      (arena-kept s (p .0) (p .1 .1 .0) (g .kept), ((omega (arith, c .before .next-of .ensures .1, p .1 .0 .0), rest-built s (a .work .now) (c .before .before .before .before .before .gather .last .1 .0) (a .free) (a .i) (c .before .next-of .result) (a .at) (c .before .before .before .before .before .gather .result) (p .0) q (p .1 .0 .0) (p .1 .1 .0) (c .before .next-of .ensures .0) (g .kept) (p .1 .0 .1)), (omega (arith, p .1 .1 .0, g .grew), omega (arith, p .1 .1 .1, r, g .most-is, m)))),
+      (arena-kept s (p .0) (p .1 .1 .0) (g .kept), ((omega (arith, c .before .next-of .ensures .1, p .1 .0 .0), rest-spelled s (a .work .now) (c .before .before .before .before .before .gather .last .1 .0) (a .free) (a .i) (c .before .next-of .result) (a .at) (c .before .before .before .before .before .gather .result) (p .0) q (p .1 .0 .0) (p .1 .1 .0) (c .before .next-of .ensures .0) (g .kept) (p .1 .0 .1)), (omega (arith, p .1 .1 .0, g .grew), omega (arith, p .1 .1 .1, r, g .most-is, m)))),
     )
 
 -- src/variables.rt:42:1

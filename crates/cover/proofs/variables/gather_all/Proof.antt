@@ -2,7 +2,7 @@ use native.Mathlib.Omega.{arith}
 use mathlib.Core.Path.{refl}
 use Prim.Native.Nat.{_<_}
 use Rattle.cover.proofs.Naming.{arena-kept}
-use Rattle.cover.proofs.Dropping.{Gathering, gathering-starts, here-arena, here-built, here-room, gathering-goes-on, gathered-all}
+use Rattle.cover.proofs.Dropping.{Gathering, gathering-starts, here-arena, here-spelled, here-room, gathering-goes-on, gathered-all}
 use Rattle.cover.proofs.variables.gather_all.Statement.{statement}
 use Rattle.cover.proofs.variables.gather_all.Tie as tie
 use Rattle.cover.proofs.variables.gather_all.Reads as reads
@@ -25,7 +25,7 @@ gather-requires : tie.Need-gather-requires Inv-loop μ-loop
 gather-requires c κs =
     let g = c .before .before .loop .inv in
     let q : 0 < c .before .before .loop .i = omega (arith, c .before .loop-test .taken) in
-    (here-arena (c .before .before .before .before .before .pre .0) (c .before .before .before .before .before .pre .1 .1 .0) q g, ((q, g .inside, here-built (c .before .before .before .before .before .pre .0) (c .before .before .before .before .before .pre .1 .1 .0) q g), (omega (arith, g .named .grew, c .before .before .before .before .before .pre .1 .1 .0), omega (arith, here-room (c .before .before .before .before .before .pre .0) (c .before .before .before .before .before .pre .1 .1 .0) q g, g .named .kept .len, c .before .before .before .before .before .pre .1 .1 .1))))
+    (here-arena (c .before .before .before .before .before .pre .0) (c .before .before .before .before .before .pre .1 .1 .0) q g, ((q, g .inside, here-spelled (c .before .before .before .before .before .pre .0) (c .before .before .before .before .before .pre .1 .1 .0) q g), (omega (arith, g .named .grew, c .before .before .before .before .before .pre .1 .1 .0), omega (arith, here-room (c .before .before .before .before .before .pre .0) (c .before .before .before .before .before .pre .1 .1 .0) q g, g .named .kept .len, c .before .before .before .before .before .pre .1 .1 .1))))
 
 -- src/variables.rt:67:9
 next-of-requires : tie.Need-next-of-requires Inv-loop μ-loop

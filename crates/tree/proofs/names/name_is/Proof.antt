@@ -3,7 +3,7 @@ use mathlib.Core.List.{List}
 use Prim.Native.Nat.{ℕ}
 use Rattle.rules.specs.Bytes.{same}
 use Rattle.tree.specs.Cells.{fixed-name}
-use Rattle.tree.proofs.Naming.{name-fixed}
+use Rattle.tree.proofs.Naming.{code-small, name-fixed}
 use borrow.Author.Needs.{needs}
 use Rattle.tree.proofs.names.name_is.Statement.{statement}
 use Rattle.tree.proofs.names.name_is.Tie as tie
@@ -12,7 +12,7 @@ use Rattle.tree.proofs.names.name_is.Lts as lts
 use Rattle.text.proofs.same.Reads as same-reads
 use Rattle.tree.proofs.cells.length_of.Reads as length-of-reads
 use Rattle.tree.proofs.cells.start_of.Reads as start-of-reads
-use Rattle.tree.proofs.names.fixed_is.Reads as fixed-is-reads
+use Rattle.tree.proofs.fixed.fixed_is.Reads as fixed-is-reads
 use Rattle.tree.proofs.names.name_of.Reads as name-of-reads
 
 length-of-requires : tie.Need-length-of-requires
@@ -22,7 +22,9 @@ start-of-requires : tie.Need-start-of-requires
 start-of-requires c κs = search needs
 
 fixed-is-requires : tie.Need-fixed-is-requires
-fixed-is-requires c κs = search needs
+fixed-is-requires c κs =
+    let p = c .before .before .before .before .before .before .pre in
+    code-small _ _ _ (p .0) (p .1 .0) (p .1 .1) (c .before .before .length-of .ensures) (c .before .if1 .taken) (c .start-of .ensures)
 
 returns : tie.Need-returns
 returns c = c .fixed-is .ensures ∙ ap (λ (x : List ℕ). same x (c .before .before .before .before .before .before .before .args .text .now)) (ap fixed-name (c .before .start-of .ensures) ∙ sym (name-fixed _ _ _ (sym (c .before .before .before .length-of .ensures) ∙ c .before .before .if1 .taken)))

@@ -1,6 +1,6 @@
 use mathlib.Core.Path.{sym, _∙_}
 use native.Mathlib.Omega.{arith}
-use Rattle.tree.proofs.Naming.{fixed-length, name-length, length-small}
+use Rattle.tree.proofs.Naming.{code-small, fixed-length, name-length, length-small}
 use borrow.Author.Needs.{needs}
 use Rattle.tree.proofs.names.name_len.Statement.{statement}
 use Rattle.tree.proofs.names.name_len.Tie as tie
@@ -8,7 +8,7 @@ use Rattle.tree.proofs.names.name_len.Reads as reads
 use Rattle.tree.proofs.names.name_len.Lts as lts
 use Rattle.tree.proofs.cells.length_of.Reads as length-of-reads
 use Rattle.tree.proofs.cells.start_of.Reads as start-of-reads
-use Rattle.tree.proofs.names.fixed_len.Reads as fixed-len-reads
+use Rattle.tree.proofs.fixed.fixed_len.Reads as fixed-len-reads
 
 length-of-requires : tie.Need-length-of-requires
 length-of-requires c κs = search needs
@@ -17,7 +17,9 @@ start-of-requires : tie.Need-start-of-requires
 start-of-requires c κs = search needs
 
 fixed-len-requires : tie.Need-fixed-len-requires
-fixed-len-requires c κs = search needs
+fixed-len-requires c κs =
+    let p = c .before .before .before .before .before .pre in
+    code-small _ _ _ (p .0) (p .1 .0) (p .1 .1) (c .before .before .length-of .ensures) (c .before .if1 .taken) (c .start-of .ensures)
 
 returns : tie.Need-returns
 returns c = (fixed-length _ _ _ (sym (c .before .before .before .length-of .ensures) ∙ c .before .before .if1 .taken) (c .before .start-of .ensures) (c .fixed-len .ensures .0), c .fixed-len .ensures .1)

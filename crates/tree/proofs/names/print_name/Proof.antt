@@ -2,7 +2,7 @@ use native.Mathlib.Omega.{arith}
 use mathlib.Core.Path.{sym, ap, _∙_}
 use lib.ListN.{length}
 use Rattle.tree.specs.Cells.{fixed-name}
-use Rattle.tree.proofs.Naming.{name-fixed}
+use Rattle.tree.proofs.Naming.{code-small, name-fixed}
 use borrow.Author.Needs.{needs}
 use Rattle.tree.proofs.names.print_name.Statement.{statement}
 use Rattle.tree.proofs.names.print_name.Tie as tie
@@ -11,7 +11,7 @@ use Rattle.tree.proofs.names.print_name.Lts as lts
 use Rattle.tree.proofs.cells.length_of.Reads as length-of-reads
 use Rattle.tree.proofs.cells.start_of.Reads as start-of-reads
 use Rattle.tree.proofs.names.name_of.Reads as name-of-reads
-use Rattle.tree.proofs.names.print_fixed.Reads as print-fixed-reads
+use Rattle.tree.proofs.fixed.print_fixed.Reads as print-fixed-reads
 use Rattle.tree.proofs.names.print_text.Reads as print-text-reads
 
 length-of-requires : tie.Need-length-of-requires
@@ -21,7 +21,11 @@ start-of-requires : tie.Need-start-of-requires
 start-of-requires c κs = search needs
 
 print-fixed-requires : tie.Need-print-fixed-requires
-print-fixed-requires c κs = omega (arith, c .before .before .before .before .before .before .before .pre .1 .1, ap length (name-fixed (c .before .before .before .before .before .before .before .args .sheet .now) (c .before .before .before .before .before .before .before .args .work .now) (c .before .before .before .before .before .before .before .args .k) (sym (c .before .before .before .length-of .ensures) ∙ c .before .before .if1 .taken) ∙ ap fixed-name (sym (c .start-of .ensures))))
+print-fixed-requires c κs =
+    let p = c .before .before .before .before .before .before .before .pre in
+    let z = c .before .before .before .length-of .ensures in
+    let y = c .before .before .if1 .taken in
+    (code-small _ _ _ (p .0) (p .1 .0 .0) (p .1 .0 .1) z y (c .start-of .ensures), omega (arith, p .1 .1, ap length (name-fixed (c .before .before .before .before .before .before .before .args .sheet .now) (c .before .before .before .before .before .before .before .args .work .now) (c .before .before .before .before .before .before .before .args .k) (sym z ∙ y) ∙ ap fixed-name (sym (c .start-of .ensures)))))
 
 same-length : tie.Need-same-length
 same-length c = search needs
