@@ -9,3 +9,5 @@ pub mod Rooms
 pub mod Judgements
 pub mod Deciding
 pub mod Asking
+pub mod TermNaming
+pub mod Completeness

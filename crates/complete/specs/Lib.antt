@@ -4,4 +4,5 @@ pub mod Fresh
 pub mod Families
 pub mod Generalizing
 pub mod Judging
+pub mod TermNames
 pub mod Completing

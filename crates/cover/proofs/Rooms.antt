@@ -53,7 +53,7 @@ flatten-built [] h = nil
 flatten-built (p ∷ ps) h = both (h .0) (both (h .1) (flatten-built ps (h .2)))
 
 -- no name of a tree that is read of a part of a sheet is longer than the sheet
-short-read : (s x : Text) (t : Tree) → length s ≤ 65536 → PartOf s x → parse x ≡ some t → Short (variable-names t)
+pub short-read : (s x : Text) (t : Tree) → length s ≤ 65536 → PartOf s x → parse x ≡ some t → Short (variable-names t)
 short-read s x t l p e y m = omega (arith, part-length s y (all-at (PartOf s) (variable-names t) y m (names-listed (PartOf s) (PartOf s) t (part-spelled s x t p e))))
 
 short-append : (xs ys : List Text) → Short xs → Short ys → Short (xs ++ ys)
