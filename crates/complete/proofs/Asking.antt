@@ -178,8 +178,7 @@ module _ {s : Text} {w : List ℕ} {free term named at : ℕ} (k : Asks s w free
           → AllMatched s v (top + 4098 + 2 * length (variables tree [])) (variables tree []) bs value ts
       asked-members nil h = tt
       asked-members (next {v = u} st f) h =
-          let (m, g, r) = h u (List·Memᴰ·head refl) in
-          (
+          let (m, g, r) = h u (List·Memᴰ·head refl) in (
             record { own = u .0; entries = st .bindings; is = st .is },
             subst (λ (qs : List Pair). Matched s v (top + 4098 + 2 * length (variables tree [])) qs) (sym (stands-alike (variables tree []) asked-tokens bs value st)) (asked-member m g u r),
             asked-members f (λ x y. h x (List·Memᴰ·tail y)),

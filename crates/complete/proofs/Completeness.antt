@@ -172,8 +172,8 @@ module _ {s : Text} {w : List ℕ} {free term named at : ℕ} (k : Asks s w free
         judged-complete b by r j =
             let g : claim r ≡ judged-from name (tree-at s w term) (variables (tree-at s w term) []) (variants-at s x index) 0 pending = j .0 name (fresh-kept b) ∙ rw (names-are, sym term-kept) refl in
             let h =
-                g ∙ family-judges name (tree-at s w term) (variables (tree-at s w term) []) (asked-tokens k) (members-read .vs) (members-read .family) 0 pending
-                ∙ sym (by (reverse (members-read .vs)) (members-read .read)) in
+            g ∙ family-judges name (tree-at s w term) (variables (tree-at s w term) []) (asked-tokens k) (members-read .vs) (members-read .family) 0 pending
+            ∙ sym (by (reverse (members-read .vs)) (members-read .read)) in
             claims r h (below-then all-kept (j .1) (omega (arith, read .grew, t .used)))
 
     -- a member's text is unreadable

@@ -81,9 +81,9 @@ module _ (name : ℕ → Text) (xs : List Text) (ms : List Variant) (term : Tree
   solved-decides : (bs : List Binding) → unify 65536 (system-of name term i) .0 ≡ solved bs → before ≡ Pending → (r : Judged)
       → judgement r ≡ some (judge xs ms bs (scheme-at name term 0 i .value) pending) → Decides name xs ms term i before r
   solved-decides bs e b r h = verdict-by e r (λ j f. (
-    let k : pending ≡ j = Option·some-injective pending j (sym (ap judgement b) ∙ f) in
-    h ∙ ap (λ (j : Judgement). some (judge xs ms bs (scheme-at name term 0 i .value) j)) k
-  ))
+      let k : pending ≡ j = Option·some-injective pending j (sym (ap judgement b) ∙ f) in
+      h ∙ ap (λ (j : Judgement). some (judge xs ms bs (scheme-at name term 0 i .value) j)) k
+      ))
 
 -- a scheme decides the same by all names that its cells have
 by-names : {s : Text} {w v : List ℕ} {n i : ℕ} {term : Tree} {c : System} (name other : ℕ → Text) (xs : List Text) (ms : List Variant) (before r : Judged)
@@ -179,12 +179,11 @@ module _ (s : Text) (w : List ℕ) (n fresh term names members count : ℕ) (a :
     }
 
     pub going-ends : count ≡ scheme-count (tree-at s w term) → count ≤ i → (r : Claim) → Ends state r → JudgesAll s w v n fresh names members term r
-    going-ends e l r f =
-        (
-          (λ name g. f (h .so-far) (h .is)
+    going-ends e l r f = (
+      (λ name g. f (h .so-far) (h .is)
           ∙ sym (h .are name g ∙ judged-end name (tree-at s w term) (names-at s w names) (variants-at s w members) i (h .so-far) (omega arith))),
-          h .below,
-        )
+      h .below,
+    )
 
     module _ {u : List ℕ} (e : count ≡ scheme-count (tree-at s w term)) (l : i < count) (r : Judged) (y : Judges s v u n fresh names members term i state r) where
       decided : (name : ℕ → Text) → Fresh s w n fresh name

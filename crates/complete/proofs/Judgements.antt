@@ -132,8 +132,7 @@ module _ {s : Text} {w v u : List ℕ} {n index end left i stop : ℕ} (value bi
         → (g ≡ generalized (names-at s x names) (variants-at s x members) (bindings-at s x bindings) (tree-at s x index)) × Below x z end
         → (some (judge-tests true g) ≡ some (judge xs ms bs (tree-at s w value) pending)) × Below w z n
     searched r g e f y =
-        let q : g ≡ generalized xs ms bs made-tree = y .0 ∙ rw (sym instance-now, list-now names nb, list-now bindings bb, list-now members mb) refl in
-        (
+        let q : g ≡ generalized xs ms bs made-tree = y .0 ∙ rw (sym instance-now, list-now names nb, list-now bindings bb, list-now members mb) refl in (
           ap some (sym (judge-there xs ms bs (tree-at s w value) made-small ∙ ap₂ judge-tests (normal-is r e ∙ f) (sym q))),
           below-then below-free (y .1) (one .before .grew),
         )
@@ -295,7 +294,7 @@ module _ {name : ℕ → Text} {s : Text} {w v : List ℕ} {n named i : ℕ} {xs
           pub solved-matched : AllMatched s area (top + 4098 + 2 * length (names-at s area names)) (names-at s area names) (bindings-at s area b) (instantiate (bindings-at s area b) (tree-at s area (c .value))) (trees-at s area members)
           solved-matched =
               let m = all-matched-same s w area (solved-end name n term named i + 4098 + 2 * length xs) (top + 4098 + 2 * length xs) xs (bindings-at s area b) (instantiate (bindings-at s area b) (scheme-at name term 0 i .value)) ts
-                  (solved-kept .len) (omega (arith, top-few)) (k .matched (bindings-at s area b) is-solved) in
+              (solved-kept .len) (omega (arith, top-few)) (k .matched (bindings-at s area b) is-solved) in
               rw (sym names-kept, sym members-kept, value-now) m
 
           -- what the solved scheme decides

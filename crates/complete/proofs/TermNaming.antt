@@ -66,11 +66,10 @@ module _ {s : Text} {w v : List ℕ} {n : ℕ} (term f : ℕ) (q : f ≡ n + 1) 
     base-are = ap names-base (o .are ∙ ordered-are) ∙ ordered-names-base tree
 
     pub no-base : Nothing ≡ base-found (names-base (map (text-at s) (slice at end u))) → (fresh-base tree 0 ≡ nothing) × Below w u n
-    no-base e =
-        (
-          sym base-are ∙ found-none (names-base (map (text-at s) (slice at end u))) e,
-          record { len = o .kept .len ∙ h .grown .len; words = λ p r. h .grown .below p r ∙ sym (o .kept .below p (omega arith)) },
-        )
+    no-base e = (
+      sym base-are ∙ found-none (names-base (map (text-at s) (slice at end u))) e,
+      record { len = o .kept .len ∙ h .grown .len; words = λ p r. h .grown .below p r ∙ sym (o .kept .below p (omega arith)) },
+    )
 
     module _ {z : List ℕ} {i m : ℕ} (base : ℕ) (e : From base ≡ base-found (names-base (map (text-at s) (slice at end u)))) (room : at + most ≤ length v)
         (k : Lists s u z f (end - at) (map (text-at s) (slice at end u)) i m) where

@@ -39,15 +39,7 @@ fn generalizes(
     let own = first_of(work, free, member);
     let entries = next_of(work, free, own);
     let last = push_pair(sheet, work, free, own, value, 0);
-    let pairs = pair_variables(
-        sheet,
-        work,
-        last.free,
-        names,
-        entries,
-        bindings,
-        last.index,
-    );
+    let pairs = pair_variables(sheet, work, last.free, names, entries, bindings, last.index);
     let outcome = matcher(sheet, work, pairs.free, pairs.index, sheet.len());
     match outcome {
         Outcome::Failed { spent: _ } => false,

@@ -1,3 +1,7 @@
+use mathlib.Core.Path.{sym, ap, _∙_}
+use native.Mathlib.Omega.{arith}
+use Rattle.cover.proofs.Naming.{arena-kept}
+use Rattle.complete.proofs.TermNaming.{shared-arena, one-spelled, one-size, no-base, term-names}
 use borrow.Author.Needs.{needs}
 use Rattle.complete.proofs.completing.name_variables.Statement.{statement}
 use Rattle.complete.proofs.completing.name_variables.Tie as tie
@@ -10,23 +14,34 @@ use Rattle.tree.proofs.cells.share.Reads as share-reads
 
 -- src/completing.rt:41:9
 share-requires : tie.Need-share-requires
-share-requires c κs = search needs
+share-requires c κs =
+    let p = c .before .before .before .pre in
+    (p .0 .0, ((p .1 .0 .0, p .1 .0 .1, p .0 .0 .links .some), (omega (arith, p .1 .1 .0), omega (arith, p .1 .1 .1))))
 
 -- src/completing.rt:42:19
 add-at : tie.Need-add-at
-add-at c = search needs
+add-at c = omega (arith, c .before .before .share .ensures .0, c .before .before .before .before .before .before .pre .1 .1 .1, c .before .before .before .before .before .before .pre .0 .1)
 
 -- src/completing.rt:42:14
 mul-at : tie.Need-mul-at
-mul-at c = search needs
+mul-at c = omega (arith, c .before .before .share .ensures .0, c .before .before .before .before .before .before .pre .1 .1 .1, c .before .before .before .before .before .before .pre .0 .1)
 
 -- src/completing.rt:43:9
 variables-of-requires : tie.Need-variables-of-requires
-variables-of-requires c κs = ?
+variables-of-requires c κs =
+    let p = c .before .before .before .before .before .before .before .pre in
+    let q = c .before .before .before .share .ensures .0 in
+    let h = c .before .before .before .share .ensures .1 in
+    (shared-arena (c .before .before .before .before .before .before .before .args .term) (c .before .before .before .share .result) q h, ((omega arith, one-spelled (c .before .before .before .before .before .before .before .args .term) (c .before .before .before .share .result) q h (p .1 .0 .2)), (omega arith, omega (arith, one-size (c .before .before .before .before .before .before .before .args .term) (c .before .before .before .share .result) q h, p .1 .0 .3, p .1 .1 .0, h .grown .len))))
 
 -- src/completing.rt:44:9
 base-of-requires : tie.Need-base-of-requires
-base-of-requires c κs = ?
+base-of-requires c κs =
+    let p = c .before .before .before .before .before .before .before .before .before .before .before .pre in
+    let q = c .before .before .before .before .before .before .before .share .ensures .0 in
+    let h = c .before .before .before .before .before .before .before .share .ensures .1 in
+    let o = c .before .before .before .variables-of .ensures in
+    (o .grew, omega (arith, o .most-is, o .kept .len, one-size (c .before .before .before .before .before .before .before .before .before .before .before .args .term) (c .before .before .before .before .before .before .before .share .result) q h, p .1 .0 .3, p .1 .1 .0, h .grown .len))
 
 -- src/completing.rt:45:20
 enum-known-found : tie.Need-enum-known-found
@@ -42,11 +57,23 @@ same-length c = search needs
 
 -- src/completing.rt:46:9
 returns : tie.Need-returns
-returns c = ?
+returns c =
+    let p = c .before .before .before .before .before .before .before .before .before .before .before .before .before .before .pre in
+    let q = c .before .before .before .before .before .before .before .before .before .before .share .ensures .0 in
+    let h = c .before .before .before .before .before .before .before .before .before .before .share .ensures .1 in
+    let o = c .before .before .before .before .before .before .variables-of .ensures in
+    no-base (c .before .before .before .before .before .before .before .before .before .before .before .before .before .before .args .term) (c .before .before .before .before .before .before .before .before .before .before .share .result) q h (omega arith) o (sym (c .enum-told .given .1) ∙ c .before .before .base-of .ensures)
 
 -- src/completing.rt:48:9
 list-variables-requires : tie.Need-list-variables-requires
-list-variables-requires c κs = ?
+list-variables-requires c κs =
+    let p = c .before .before .before .before .before .before .before .before .before .before .before .before .before .before .before .before .pre in
+    let q = c .before .before .before .before .before .before .before .before .before .before .before .before .share .ensures .0 in
+    let h = c .before .before .before .before .before .before .before .before .before .before .before .before .share .ensures .1 in
+    let o = c .before .before .before .before .before .before .before .before .variables-of .ensures in
+    let l = o .kept .len in
+    let z = one-size (c .before .before .before .before .before .before .before .before .before .before .before .before .before .before .before .before .args .term) (c .before .before .before .before .before .before .before .before .before .before .before .before .share .result) q h in
+    ((arena-kept (c .before .before .before .before .before .before .before .before .before .before .before .before .before .before .before .before .args .sheet .now) (shared-arena (c .before .before .before .before .before .before .before .before .before .before .before .before .before .before .before .before .args .term) (c .before .before .before .before .before .before .before .before .before .before .before .before .share .result) q h) (omega arith) (o .kept), p .0 .1), ((o .grew, omega (arith, o .most-is, z, p .1 .0 .3, p .1 .1 .0, h .grown .len), o .places), (omega (arith, o .most-is, z, p .1 .0 .3), omega (arith, o .most-is, z, p .1 .0 .3, p .1 .1 .1))))
 
 -- src/completing.rt:35:1
 same-length-2 : tie.Need-same-length-2
@@ -54,7 +81,13 @@ same-length-2 c = search needs
 
 -- src/completing.rt:35:1
 returns-2 : tie.Need-returns-2
-returns-2 c = ?
+returns-2 c =
+    let p = c .before .before .before .before .before .before .before .before .before .before .before .before .before .before .before .before .before .before .before .pre in
+    let q = c .before .before .before .before .before .before .before .before .before .before .before .before .before .before .before .share .ensures .0 in
+    let h = c .before .before .before .before .before .before .before .before .before .before .before .before .before .before .before .share .ensures .1 in
+    let o = c .before .before .before .before .before .before .before .before .before .before .before .variables-of .ensures in
+    let z = one-size (c .before .before .before .before .before .before .before .before .before .before .before .before .before .before .before .before .before .before .before .args .term) (c .before .before .before .before .before .before .before .before .before .before .before .before .before .before .before .share .result) q h in
+    term-names (c .before .before .before .before .before .before .before .before .before .before .before .before .before .before .before .before .before .before .before .args .term) (c .before .before .before .before .before .before .before .before .before .before .before .before .before .before .before .share .result) q h (omega arith) o (c .before .before .before .before .before .found .given .0 .0) (sym (c .before .before .before .before .before .found .given .1) ∙ c .before .before .before .before .before .before .before .base-of .ensures) (omega (arith, z, p .1 .0 .3, p .1 .1 .0, h .grown .len)) (c .before .before .list-variables .ensures)
 
 pub name-variables-spec : {M : Type 1} → statement M
 name-variables-spec =
