@@ -12,8 +12,7 @@ use std::{
 use oracle::Outcome;
 
 use crate::{
-    deep, lent,
-    reference,
+    deep, lent, reference,
     sheet::{self, Pair, Sheet},
 };
 

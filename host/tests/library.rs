@@ -1,13 +1,7 @@
 // The linked library against the reference: the stored list, generated sheets, what a difference
 // shows, and terms that fill a sheet on a small stack.
 use host::{
-    deep,
-    generate::KINDS,
-    lent,
-    linked::Comparison,
-    notice,
-    reference::Reply,
-    sheet, store,
+    deep, generate::KINDS, lent, linked::Comparison, notice, reference::Reply, sheet, store,
 };
 
 fn none_differ(comparison: &Comparison) {
@@ -158,19 +152,27 @@ fn deep_members_do_not_exhaust_a_small_stack() {
     }
 }
 
+// With 4,000 levels the waiting pairs of the scheme that fires are over their limit, with 1,000 they are not.
 #[test]
 fn deep_schemes_do_not_exhaust_a_small_stack() {
     if notice::library_absent("deep schemes were not tried on it") {
         return;
     }
-    let under = |leaf| nested("h(", leaf, 4_000);
-    let (stays, first) = (under("tamXCfst(x0:Msg)"), under("x1:Msg"));
-    let pair = "key=x0:Msg\nvalue=tamXCpair(x1:Msg,x2:Msg)\n";
-    let both = format!("member={stays}\nmember={first}\n{pair}");
-    let one = format!("member={stays}\n");
-    for (members, said) in [(both, "yes"), (one, "no")] {
-        let sheet = format!("kind=complete\nterm={stays}\n{members}");
-        let answer = on_a_small_stack("schemes", &sheet);
-        assert_eq!(answer, format!("complete={said}\n"));
+    let complete = |term: &str, members: &str| {
+        let sheet = format!("kind=complete\nterm={term}\n{members}");
+        on_a_small_stack("schemes", &sheet)
+    };
+    let plain = nested("h(", "x0:Msg", 4_090);
+    let itself = complete(&plain, &format!("member={plain}\n"));
+    assert_eq!(itself, "complete=yes\n");
+    for (depth, both, one) in [(1_000, "yes", "no"), (4_000, "none", "none")] {
+        let under = |leaf| nested("h(", leaf, depth);
+        let (stays, first) = (under("tamXCfst(x0:Msg)"), under("x1:Msg"));
+        let alone = format!("member={stays}\n");
+        let family = format!("{alone}member={first}\nkey=x0:Msg\nvalue=tamXCpair(x1:Msg,x2:Msg)\n");
+        for (members, said) in [(family, both), (alone, one)] {
+            let answer = complete(&stays, &members);
+            assert_eq!(answer, format!("complete={said}\n"), "{depth}");
+        }
     }
 }

@@ -155,14 +155,22 @@ pub fn for_sound(rng: &mut Rng, term: &Term) -> String {
 // One above every index of the variables.
 fn fresh_index(keys: &[Rc<str>]) -> usize {
     let index = |key: &Rc<str>| key[1..].split(':').next()?.parse::<usize>().ok();
-    let above = keys.iter().filter_map(index).filter_map(|index| index.checked_add(1));
+    let above = keys
+        .iter()
+        .filter_map(index)
+        .filter_map(|index| index.checked_add(1));
     above.max().unwrap_or(0)
 }
 
 // The members with the name of a fresh variable over arguments, or with leading zeros.
 fn over_arguments(rng: &mut Rng, members: &str, keys: &[Rc<str>]) -> String {
     let index = fresh_index(keys).saturating_add(rng.below(3));
-    let other = rng.pick(&["x{}:Msg(c(0))", "x{}:Msg(x{}:Msg)", "x00{}:Msg", "x000:Msg(a)"]);
+    let other = rng.pick(&[
+        "x{}:Msg(c(0))",
+        "x{}:Msg(x{}:Msg)",
+        "x00{}:Msg",
+        "x000:Msg(a)",
+    ]);
     members.replace(
         &format!("x{index}:Msg"),
         &other.replace("{}", &index.to_string()),
