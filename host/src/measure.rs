@@ -3,6 +3,8 @@ mod families;
 mod solving;
 mod terms;
 
+pub use families::slow;
+
 use std::{
     hint::black_box,
     io::{self, Write},
@@ -20,10 +22,11 @@ use crate::{
 const RUNS: usize = 3;
 const SHORT: Duration = Duration::from_secs(2);
 
+/// A sheet to time.
 #[derive(Clone)]
-struct Sample {
-    name: &'static str,
-    sheet: String,
+pub struct Sample {
+    pub name: &'static str,
+    pub sheet: String,
 }
 
 // A leaf under so many levels, each a front and a back.
@@ -51,7 +54,14 @@ fn samples(bytes: usize, kinds: &[&str]) -> Vec<Sample> {
         "complete" => families::completes(),
         _ => unreachable!("no such kind"),
     };
-    kinds.iter().flat_map(|kind| of(kind)).collect()
+    let mut found = Vec::new();
+    for kind in kinds {
+        found.extend(of(kind));
+        let line = format!("kind={kind}\n");
+        let long = slow().into_iter().map(|(sample, _)| sample);
+        found.extend(long.filter(|sample| sample.sheet.starts_with(&line)));
+    }
+    found
 }
 
 // The least of a few times, and the last result.

@@ -78,6 +78,16 @@ fn a_difference_is_found_and_the_smallest_sheet_kept() {
 }
 
 #[test]
+fn the_library_replies_to_sheets_that_take_the_rust_long() {
+    if notice::library_absent("long sheets were not tried on it") {
+        return;
+    }
+    for (sample, answer) in measure::slow() {
+        assert_eq!(on_a_small_stack(sample.name, &sample.sheet), answer);
+    }
+}
+
+#[test]
 fn deep_terms_do_not_exhaust_a_small_stack() {
     if notice::library_absent("deep terms were not tried on it") {
         return;

@@ -26,28 +26,14 @@ fn others(count: usize, variables: usize) -> String {
     (0..count).map(member).collect()
 }
 
-/// A small sheet, and many members against many large values.
+/// A small sheet.
 pub fn covers() -> Vec<Sample> {
-    vec![
-        sample(
-            "small: one member",
-            "kind=cover\nleft=x0:Msg\nright=tamXCpair(x1:Pub,c(0))\nmember=\nkey=x0:Msg\n\
+    vec![sample(
+        "small: one member",
+        "kind=cover\nleft=x0:Msg\nright=tamXCpair(x1:Pub,c(0))\nmember=\nkey=x0:Msg\n\
              value=tamXCpair(#0:Pub,c(0))\nkey=x1:Pub\nvalue=#0:Pub\n"
-                .to_owned(),
-        ),
-        sample(
-            "200 values of 4,001 nodes, 300 members, none covers",
-            format!("kind=cover\n{}{}", bound(200), others(300, 200)),
-        ),
-        sample(
-            "200 values of 4,001 nodes, 300 members, the last covers",
-            format!(
-                "kind=cover\n{}{}member=\nkey=x7:Msg\nvalue=#0:Msg\n",
-                bound(200),
-                others(299, 200)
-            ),
-        ),
-    ]
+            .to_owned(),
+    )]
 }
 
 /// A small sheet, and a large instance.
@@ -105,6 +91,43 @@ pub fn completes() -> Vec<Sample> {
                 "kind=complete\nterm={}\n{others}member=#0:Msg\n",
                 projections(8)
             ),
+        ),
+    ]
+}
+
+/// Sheets that take the Rust over 10 seconds, with the answers that it gave when they were stored:
+/// many members against many large values, and many schemes of a large term.
+pub fn slow() -> Vec<(Sample, &'static str)> {
+    let deep = nested("h(", &projections(10), ")", 500);
+    vec![
+        (
+            sample(
+                "200 values of 4,001 nodes, 300 members, none covers",
+                format!("kind=cover\n{}{}", bound(200), others(300, 200)),
+            ),
+            "covered=no\n",
+        ),
+        (
+            sample(
+                "200 values of 4,001 nodes, 300 members, the last covers",
+                format!(
+                    "kind=cover\n{}{}member=\nkey=x7:Msg\nvalue=#0:Msg\n",
+                    bound(200),
+                    others(299, 200)
+                ),
+            ),
+            "covered=yes\n",
+        ),
+        (
+            sample("1,024 schemes under 500 h", general(&deep)),
+            "complete=yes\n",
+        ),
+        (
+            sample(
+                "1,024 schemes under 500 h, the first alone generalized",
+                format!("kind=complete\nterm={deep}\nmember={deep}\n"),
+            ),
+            "complete=no\n",
         ),
     ]
 }
