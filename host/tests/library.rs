@@ -1,7 +1,8 @@
 // The linked library against the reference: the stored list, generated sheets, what a difference
 // shows, and terms that fill a sheet on a small stack.
 use host::{
-    deep, generate::KINDS, lent, linked::Comparison, notice, reference::Reply, sheet, store,
+    deep, generate::KINDS, lent, linked::Comparison, measure, notice, reference::Reply, sheet,
+    store,
 };
 
 fn none_differ(comparison: &Comparison) {
