@@ -10,9 +10,11 @@ use native.Mathlib.Omega.{arith}
 use native.Mathlib.Decide.{decLt}
 use native.Mathlib.Numerals.{add-one}
 use borrow.Author.Tests.{eq-eqb, ne-eqb, lt-ltb, le-ltb, eqb-true, eqb-false}
+use Rattle.rules.specs.Text.{bytes}
+use Rattle.laws.specs.Unspelled.{zeros, unspelled}
 use Rattle.tree.specs.Cells.{fixed-name}
-use Rattle.tree.proofs.FixedNames.{fixed-some}
-use Rattle.certificate.specs.Texts.{code-name, code-text, code-width, word-text, width-of, texts, Token, Tokens, lex, after}
+use Rattle.tree.proofs.FixedNames.{fixed-some, fixed-unspelled}
+use Rattle.certificate.specs.Texts.{code-name, code-text, code-width, word-text, width-of, texts, Token, Tokens, lex, after, zeroed, Zeroed, Before}
 use Rattle.certificate.specs.declared.order.Order.{Order}
 use Rattle.certificate.specs.declared.order.Order.the-variants.{Less, Equal, Greater}
 use Rattle.certificate.specs.declared.order.Spot.{Spot}
@@ -184,6 +186,34 @@ unfolding lex
 lex-same [] u v = refl
 lex-same (x ∷ c) u v = rw (le-ltb x x (omega arith)) (lex-same c u v)
 
+-- names that no sheet spells
+unspelled-zeroed : (n : ℕ) → unspelled n ≡ zeroed (65536 + n)
+unfolding unspelled
+unspelled-zeroed n = refl
+
+pub word-zeroed : (x : ℕ) → x % 65536 ≡ 0 → 262 < x / 65536 → x / 65536 < 512 → Zeroed x (x / 65536 + 65273)
+word-zeroed x e h k s =
+    let c = x / 65536 in
+    let z : 65536 + (c - 256 - 7) ≡ c + 65273 = omega arith in
+    text-mark s x e ∙ code-named c (omega arith) k .0 ∙ name-fixed (c - 256) (λ q. omega arith) ∙ fixed-unspelled (c - 256) (omega arith) ∙ unspelled-zeroed (c - 256 - 7) ∙ ap zeroed z
+
+-- of two such the one with more zeros is less
+zeros-less : (m n : ℕ) → n < m → (u v : List ℕ)
+    → (lex ((zeros m ++ bytes ":Msg") ++ u) ((zeros n ++ bytes ":Msg") ++ v) ≡ Less) × (lex ((zeros n ++ bytes ":Msg") ++ v) ((zeros m ++ bytes ":Msg") ++ u) ≡ Greater)
+unfolding zeros lex
+zeros-less zero n h u v = absurd (omega arith)
+zeros-less (suc m) zero h u v = (refl, refl)
+zeros-less (suc m) (suc n) h u v = zeros-less m n (omega arith) u v
+
+zeroed-less : (m n : ℕ) → n < m → (u v : List ℕ) → (lex (zeroed m ++ u) (zeroed n ++ v) ≡ Less) × (lex (zeroed n ++ v) (zeroed m ++ u) ≡ Greater)
+unfolding lex
+zeroed-less m n h u v = zeros-less m n h u v
+
+pub zeros-before : (x y m n : ℕ) → Zeroed x m → Zeroed y n → n < m → Before x y
+zeros-before x y m n p q h s u v =
+    let z = zeroed-less m n h u v in
+    (rw (p s, q s) (z .0), rw (p s, q s) (z .1))
+
 -- a turn of the comparison, at the spots l and r
 module _ (s w : List ℕ) (from to start end : ℕ) (f : to ≤ length w) (g : end ≤ length w) (l r : Spot) (hl : At w from to l) (hr : At w start end r) where
   pub ended : to ≤ l .word → end ≤ r .word → lex (rest-at s w to l) (rest-at s w end r) ≡ Equal
@@ -215,6 +245,19 @@ module _ (s w : List ℕ) (from to start end : ℕ) (f : to ≤ length w) (g : e
         let d = drop (l .byte) (word-text s (getD w (l .word) 0)) in
         let k = ap length (rest-split s w to f (l .word) (l .byte) p t (hl .within p)) in
         omega (arith, length-append d (rest s w to (l .word + 1) 0), length-drop (l .byte) (word-text s (getD w (l .word) 0)), width-text s (getD w (l .word) 0) t, hl .within p)
+
+    -- two words of which one is less, both from their first byte on
+    whole-left : l .byte ≡ 0 → rest-at s w to l ≡ word-text s x ++ rest s w to (l .word + 1) 0
+    whole-left e = rest-split s w to f (l .word) (l .byte) p t (hl .within p) ∙ rw (e, ex)
+
+    whole-right : r .byte ≡ 0 → rest-at s w end r ≡ word-text s y ++ rest s w end (r .word + 1) 0
+    whole-right e = rest-split s w end g (r .word) (r .byte) q u (hr .within q) ∙ rw (e, ey)
+
+    pub told-less : (l .byte ≡ 0) × (r .byte ≡ 0) × Before x y → lex (rest-at s w to l) (rest-at s w end r) ≡ Less
+    told-less (a, b, h) = ap₂ lex (whole-left a) (whole-right b) ∙ h s (rest s w to (l .word + 1) 0) (rest s w end (r .word + 1) 0) .0
+
+    pub told-greater : (r .byte ≡ 0) × (l .byte ≡ 0) × Before y x → lex (rest-at s w to l) (rest-at s w end r) ≡ Greater
+    told-greater (b, a, h) = ap₂ lex (whole-left a) (whole-right b) ∙ h s (rest s w end (r .word + 1) 0) (rest s w to (l .word + 1) 0) .1
 
     module _ (a b : ℕ) (ea : a ≡ getD (word-text s x) (l .byte) 0) (eb : b ≡ getD (word-text s y) (r .byte) 0) where
       left-byte : rest-at s w to l ≡ a ∷ rest s w to (l .word) (l .byte + 1)

@@ -7,7 +7,9 @@ use mathlib.Core.Bool.{Bool, true, false, cond}
 use mathlib.Core.List.{List, [], _∷_, _++_}
 use lib.Dec.{eqb, ltb}
 use lib.ListN.{length, getD, take, drop}
+use Rattle.rules.specs.Text.{bytes}
 use Rattle.rules.specs.Tree.{tamtplus}
+use Rattle.laws.specs.Unspelled.{zeros}
 use Rattle.tree.specs.Cells.{fixed-name}
 use Rattle.certificate.specs.declared.order.Order.{Order}
 use Rattle.certificate.specs.declared.order.Order.the-variants.{Less, Equal, Greater}
@@ -58,3 +60,15 @@ lex (x ∷ a) (y ∷ b) = cond (ltb x y) Less (cond (ltb y x) Greater (lex a b))
 -- the spot after a spot, where x is the spot's word
 unfoldable pub after : ℕ → Spot → Spot
 after x p = cond (eqb (p .byte + 1) (width-of x)) (record { word = p .word + 1; byte = 0 }) (record { word = p .word; byte = p .byte + 1 })
+
+-- an x, so many zeros, a colon and Msg
+abbrev pub zeroed : ℕ → List ℕ
+zeroed n = 120 ∷ (zeros n ++ bytes ":Msg")
+
+-- the text of the word x is such a text
+abbrev pub Zeroed : ℕ → ℕ → Type 0
+Zeroed x n = (s : List ℕ) → word-text s x ≡ zeroed n
+
+-- the text of the word x is less than that of the word y, whatever follows them
+abbrev pub Before : ℕ → ℕ → Type 0
+Before x y = (s u v : List ℕ) → (lex (word-text s x ++ u) (word-text s y ++ v) ≡ Less) × (lex (word-text s y ++ v) (word-text s x ++ u) ≡ Greater)

@@ -1,9 +1,10 @@
 // Texts as runs of words, and their order by bytes.
+ghost use mathlib.Core.Bool.{true};
 ghost use mathlib.Core.Path.{_≡_};
 ghost use Prim.Native.Nat.{_+_, _<_, _≤_};
 ghost use lib.ListN.{length, getD};
 ghost use lib.Seq.{slice};
-ghost use Rattle.certificate.specs.Texts.{code-name, code-text, code-width, Token, Tokens, width-of, word-text, texts, after, lex};
+ghost use Rattle.certificate.specs.Texts.{code-name, code-text, code-width, Token, Tokens, width-of, word-text, texts, after, lex, Zeroed, Before};
 use text::places;
 use tree::fixed::fixed_byte;
 use tree::fixed::fixed_len;
@@ -115,6 +116,38 @@ pub fn after(x: usize, at: Spot) -> Spot
     }
 }
 
+// How many zeros the word x has if its name is one that no sheet spells, and 0 for any other word.
+pub fn zeros_of(x: usize) -> usize
+    ensures { λ r. ⌜ (r < 131072) × (0 < r → Zeroed x r) ⌝ }
+{
+    let code = x / 65536;
+    if x % 65536 == 0 {
+        if 262 < code {
+            if code < 512 {
+                return code + 65273;
+            }
+        }
+    }
+    0
+}
+
+// Whether the words x and y, from their bytes a and b on, are seen to be less and greater by their numbers of zeros alone.
+fn more_zeros(x: usize, y: usize, a: usize, b: usize) -> bool
+    ensures { λ r. ⌜ (r ≡ true → (a ≡ 0) × (b ≡ 0) × Before x y) ⌝ }
+{
+    if 0 < a {
+        return false;
+    }
+    if 0 < b {
+        return false;
+    }
+    let n = zeros_of(y);
+    if n == 0 {
+        return false;
+    }
+    n < zeros_of(x)
+}
+
 // How the text of the words from `from` to `to` stands to that of the words from `start` to `end`.
 pub fn compare(
     sheet: &[u8],
@@ -166,6 +199,12 @@ pub fn compare(
                 };
                 continue;
             }
+        }
+        if more_zeros(x, y, a, b) {
+            return Order::Less;
+        }
+        if more_zeros(y, x, b, a) {
+            return Order::Greater;
         }
         let p = byte_of(sheet, x, a);
         let q = byte_of(sheet, y, b);
