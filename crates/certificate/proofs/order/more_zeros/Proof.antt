@@ -29,9 +29,11 @@ returns-4 c e =
     let a = c .before .before .before .before .before .args in
     let n = c .before .before .zeros-of in
     let m = c .zeros-of2 in
-    let l = ltb-true (n .result) (m .result) e in
-    (omega (arith, c .before .before .before .before .if1 .left), omega (arith, c .before .before .before .if2 .left),
-     zeros-before (a .x) (a .y) (m .result) (n .result) (m .ensures .1 (omega (arith, l))) (n .ensures .1 (omega (arith, l, c .before .if3 .left))) l)
+    let l = ltb-true (n .result) (m .result) e in (
+      omega (arith, c .before .before .before .before .if1 .left),
+      omega (arith, c .before .before .before .if2 .left),
+      zeros-before (a .x) (a .y) (m .result) (n .result) (m .ensures .1 (omega (arith, l))) (n .ensures .1 (omega (arith, l, c .before .if3 .left))) l,
+    )
 
 pub more-zeros-spec : {M : Type 1} → statement M
 more-zeros-spec =
