@@ -1,10 +1,10 @@
 -- Texts as runs of words, byte by byte. Assumes nothing.
-use Prim.Native.Nat.{ℕ, zero, suc, _+_, _-_, _*_, _<_, _≤_, _/_, _%_}
+use Prim.Native.Nat.{ℕ, zero, suc, _+_, _-_, _<_, _≤_, _/_, _%_}
 use mathlib.Core.Path.{_≡_, refl, sym, ap, ap₂, _∙_}
 use mathlib.Core.Bool.{Bool, true, false, cond}
 use mathlib.Core.List.{List, [], _∷_, _++_}
 use lib.Dec.{eqb, ltb}
-use lib.ListN.{length, getD, take, drop, length-append, length-take, length-drop, List·getD-append}
+use lib.ListN.{length, getD, take, drop, length-append, length-drop, List·getD-append}
 use lib.Seq.{slice, slice-cons, slice-empty, drop-cons, drop-at, drop-append-le, length-take-le}
 use native.Mathlib.Omega.{arith}
 use native.Mathlib.Decide.{decLt}
@@ -12,8 +12,7 @@ use native.Mathlib.Numerals.{add-one}
 use borrow.Author.Tests.{eq-eqb, ne-eqb, lt-ltb, le-ltb, eqb-true, eqb-false}
 use Rattle.tree.specs.Cells.{fixed-name}
 use Rattle.tree.proofs.FixedNames.{fixed-some}
-use Rattle.certificate.specs.Texts.{code-name, code-text, code-width, word-text, width-of, texts, Token, Tokens, lex, after}
-use Rattle.certificate.specs.declared.order.Order.{Order}
+use Rattle.certificate.specs.Texts.{code-name, code-text, code-width, word-text, width-of, texts, Token, lex, after}
 use Rattle.certificate.specs.declared.order.Order.the-variants.{Less, Equal, Greater}
 use Rattle.certificate.specs.declared.order.Spot.{Spot}
 

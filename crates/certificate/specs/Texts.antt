@@ -1,9 +1,8 @@
 -- Texts as runs of words. A word is start * 65536 + length, a place of the sheet; with length 0 the start is a code: below 256 it
 -- is a mark, that one byte; from 256 on it is the name of sums or a fixed name; from 512 on it is one byte that is no mark.
 -- Definitions only.
-use Prim.Native.Nat.{ℕ, zero, suc, _+_, _-_, _*_, _<_, _≤_, _/_, _%_}
-use mathlib.Core.Path.{_≡_}
-use mathlib.Core.Bool.{Bool, true, false, cond}
+use Prim.Native.Nat.{ℕ, zero, suc, _+_, _-_, _<_, _≤_, _/_, _%_}
+use mathlib.Core.Bool.{cond}
 use mathlib.Core.List.{List, [], _∷_, _++_}
 use lib.Dec.{eqb, ltb}
 use lib.ListN.{length, getD, take, drop}

@@ -2,19 +2,18 @@
 use Prim.Native.Nat.{ℕ, _+_, _*_, _-_, _<_, _≤_}
 use native.Mathlib.Omega.{arith}
 use mathlib.Core.Path.{_≡_, refl, sym, ap, ap₂, _∙_}
-use mathlib.Core.List.{List, [], _∷_, map, reverse, reverseAux}
+use mathlib.Core.List.{List, [], _∷_, map, reverseAux}
 use mathlib.Core.Option.{Option, some, none as nothing}
 use lib.ListN.{length}
 use Rattle.rules.specs.Bytes.{Text}
 use Rattle.rules.specs.Text.{bytes}
 use Rattle.rules.specs.Maybe.{_>>=_, every}
-use Rattle.rules.specs.Tree.{Tree, apply, Trees, none, more, size, sizes}
+use Rattle.rules.specs.Tree.{apply, Trees, more, size, sizes}
 use Rattle.rules.specs.Sheet.{Member}
 use Rattle.rules.specs.Variants.{Variant, read-member}
 use Rattle.tree.specs.Cells.{fixed-name, tree-at, trees-at}
 use Rattle.tree.specs.Arena.{Arena, Wrote, Linked}
 use Rattle.tree.proofs.Decoding.{frame-trees, trees-none}
-use Rattle.substitution.specs.Bindings.{bindings-at}
 use Rattle.substitution.specs.Building.{Made}
 use Rattle.substitution.proofs.Growing.{grown-then}
 use Rattle.reduction.specs.Building.{Kept}
@@ -26,7 +25,7 @@ use Rattle.sheet.specs.declared.Line.the-variants.{Whole, Missing}
 use Rattle.sheet.proofs.WalkLaws.{member-end, member-next}
 use Rattle.variants.specs.Members.{texts-end, ReadMember, ReadsMember}
 use Rattle.variants.specs.declared.members.Variant.the-variants as variant
-use Rattle.complete.specs.Families.{member-tree, Stands, Family, nil, next, ReadAll, ReadMembers, ReadsMembers}
+use Rattle.complete.specs.Families.{member-tree, Family, nil, next, ReadAll, ReadMembers, ReadsMembers}
 use Rattle.complete.specs.declared.families.Members.the-variants as members
 
 -- ---- one member as a tree

@@ -1,5 +1,5 @@
 -- A member's pairs in cells, and what their match says; the loop over the members. Assumes nothing.
-use Prim.Native.Nat.{ℕ, _+_, _*_, _<_, _≤_, _^_}
+use Prim.Native.Nat.{ℕ, _+_, _*_, _<_, _≤_}
 use mathlib.Core.Path.{_≡_, refl, sym, ap, ap₂, subst, _∙_}
 use mathlib.Core.Bool.{Bool, true, false, not}
 use mathlib.Core.List.{List, [], _∷_, _++_, map}
@@ -17,7 +17,7 @@ use Rattle.rules.specs.Memory.{weight}
 use Rattle.rules.specs.Cover.{is-failed, covering}
 use Rattle.rules.specs.Variants.{Variant, generalized}
 use Rattle.laws.proofs.Solving.MatchFuel.{matcher-enough}
-use Rattle.tree.specs.Cells.{kind-of, first-of, next-of, name-at, tree-at, trees-at}
+use Rattle.tree.specs.Cells.{kind-of, first-of, next-of, tree-at, trees-at}
 use Rattle.tree.specs.Arena.{Arena}
 use Rattle.tree.proofs.Decoding.{Kind, application, a-variable, an-atom, kind, trees-none, trees-more, tree-variable, tree-atom, tree-apply, same-next, frame-tree, frame-trees}
 use Rattle.substitution.specs.Bindings.{bindings-of, bindings-at}
@@ -34,7 +34,6 @@ use Rattle.cover.specs.Listing.{backwards}
 use Rattle.cover.specs.Generals.{names-of, names-at, OfVariables, paired, flatten-before, PairsUp}
 use Rattle.cover.specs.Covering.{Matched}
 use Rattle.cover.proofs.Parts.{arena-agrees}
-use Rattle.complete.specs.Families.{member-tree}
 use Rattle.complete.specs.Generalizing.{member-of, variants-of, variants-at, member-pairs, IsMember, AllMatched}
 
 -- ---- lists of pairs

@@ -1,9 +1,9 @@
 -- What one scheme decides: its instance once it is solved, and its run in a part of the work area. Assumes nothing.
 use Prim.Native.Nat.{ℕ, _+_, _*_, _<_, _≤_, _^_}
 use mathlib.Core.Path.{_≡_, refl, sym, ap, ap₂, subst, _∙_}
-use mathlib.Core.Bool.{Bool, true, false, not, cond}
+use mathlib.Core.Bool.{Bool, true, false, cond}
 use mathlib.Core.List.{List, [], _∷_, _++_}
-use mathlib.Core.Option.{Option, some, none as nothing, Option·some-injective}
+use mathlib.Core.Option.{Option, some, none as nothing}
 use lib.Dec.{leb}
 use lib.ListN.{length, take, drop}
 use lib.Seq.{length-take-le}
@@ -14,9 +14,9 @@ use Rattle.rules.specs.Tree.{Tree, Trees, none, more, size, sizes, count}
 use Rattle.rules.specs.Substitution.{Binding, Pair, instantiate, flatten, size-pairs}
 use Rattle.rules.specs.Sums.{equivalent}
 use Rattle.rules.specs.Reduction.{normalize}
-use Rattle.rules.specs.Solving.{Verdict, solved, failed, unsupported, Answer, unify}
-use Rattle.rules.specs.Variants.{Variant, instance-of, generalized, system}
-use Rattle.rules.specs.Schemes.{scheme-at, Judgement, pending, settled, judge-tests, judge-instance, judge, judge-verdict}
+use Rattle.rules.specs.Solving.{solved, failed, unsupported, Answer, unify}
+use Rattle.rules.specs.Variants.{Variant, instance-of, generalized}
+use Rattle.rules.specs.Schemes.{scheme-at, Judgement, pending, settled, judge-tests, judge-instance, judge}
 use Rattle.rules.specs.Memory.{OverPairs, weight}
 use Rattle.laws.proofs.Basics.Tests.{true-leb, false-leb, leb-true}
 use Rattle.laws.proofs.Solving.Weights.{weight-size}
@@ -33,8 +33,8 @@ use Rattle.reduction.specs.Building.{Kept, NewTree}
 use Rattle.reduction.proofs.NormalForms.{normalizes-size}
 use Rattle.schemes.specs.Building.{Systems}
 use Rattle.schemes.specs.declared.systems.System.{System}
-use Rattle.unifier.specs.Stack.{pairs-of, pairs-at, Whole, FitPairs}
-use Rattle.unifier.specs.Area.{Room, Below}
+use Rattle.unifier.specs.Stack.{pairs-at, Whole, FitPairs}
+use Rattle.unifier.specs.Area.{Below}
 use Rattle.unifier.specs.Running.{Roomy, Answers}
 use Rattle.unifier.specs.declared.unifying.Outcome.the-variants as outcome
 use Rattle.unifier.proofs.Areas.{below-then, below-grown}
@@ -44,9 +44,7 @@ use Rattle.cover.specs.Generals.{names-of, names-at, OfVariables}
 use Rattle.cover.proofs.CoveredLaws.{names-count}
 use Rattle.cover.proofs.Parts.{part-agrees, part-arena, back-agrees, back-arena, back-below}
 use Rattle.complete.specs.Generalizing.{variants-of, variants-at, AllMatched}
-use Rattle.complete.specs.Judging.{judgement, fuel-for, run-end, system-of, solved-end, Judgeable}
-use Rattle.complete.specs.declared.judging.Judged.{Judged}
-use Rattle.complete.specs.declared.judging.Judged.the-variants as judged
+use Rattle.complete.specs.Judging.{fuel-for, system-of, solved-end, Judgeable}
 use Rattle.complete.proofs.Generals.{all-matched-same, arena-below}
 use Rattle.complete.proofs.Rooms.{fuel-few}
 

@@ -1,13 +1,13 @@
 -- The variables of a term as a list of cells, and one above their indices. Assumes nothing.
-use Prim.Native.Nat.{ℕ, _+_, _*_, _-_, _<_, _≤_}
+use Prim.Native.Nat.{ℕ, _+_, _*_, _-_, _≤_}
 use mathlib.Core.Path.{_≡_, refl, sym, ap, subst, _∙_}
-use mathlib.Core.List.{List, [], _∷_, map, append-nil}
+use mathlib.Core.List.{List, [], map, append-nil}
 use mathlib.Core.Option.{Option, some, none as nothing}
 use lib.ListN.{length}
 use lib.Seq.{slice}
 use native.Mathlib.Omega.{arith}
 use Rattle.rules.specs.Bytes.{Text}
-use Rattle.rules.specs.Tree.{Tree, Trees, none, more, size, sizes, count}
+use Rattle.rules.specs.Tree.{Tree, Trees, none, more, size, sizes}
 use Rattle.rules.specs.Tidy.{nil, both}
 use Rattle.rules.specs.Cover.{variables}
 use Rattle.rules.specs.Variants.{fresh-base}

@@ -9,7 +9,7 @@ use native.Mathlib.Omega.{arith}
 use native.Mathlib.Decide.{decLt}
 use Rattle.rules.specs.Bytes.{Text}
 use Rattle.rules.specs.Names.{variable-token}
-use Rattle.rules.specs.Tree.{Tree, variable, apply, Trees, more, size, sizes}
+use Rattle.rules.specs.Tree.{Tree, apply, Trees, more, size, sizes}
 use Rattle.rules.specs.Tidy.{Built, a-leaf, a-list, a-sum, Builts, nil, both}
 use Rattle.rules.specs.Memory.{variable-names, variable-names-in}
 use Rattle.laws.proofs.Sheets.BuiltRun.{name-token}

@@ -1,8 +1,8 @@
 -- A work area of which the first words were lent, before and after: cells below the end of the part agree. Assumes nothing.
-use Prim.Native.Nat.{ℕ, _*_, _<_, _≤_}
+use Prim.Native.Nat.{ℕ, _*_, _≤_}
 use mathlib.Core.Path.{_≡_, sym, _∙_}
 use mathlib.Core.List.{List, _++_}
-use lib.ListN.{length, getD, take, drop, length-append, length-drop, List·getD-append}
+use lib.ListN.{length, take, drop, length-append, length-drop, List·getD-append}
 use lib.Seq.{getD-take, length-take-le}
 use native.Mathlib.Omega.{arith}
 use Rattle.rules.specs.Bytes.{Text}

@@ -1,6 +1,6 @@
 -- The pairs of a sheet unified in a part of the work area, and the members matched in all of it. Assumes nothing.
 use Prim.Native.Nat.{ℕ, _+_, _*_, _-_, _<_, _≤_, _^_}
-use mathlib.Core.Path.{_≡_, refl, sym, ap, subst, _∙_}
+use mathlib.Core.Path.{_≡_, sym, ap, subst, _∙_}
 use mathlib.Core.Bool.{Bool}
 use mathlib.Core.List.{List, [], _∷_, _++_, map}
 use mathlib.Core.Option.{Option, some, none as nothing}

@@ -4,11 +4,10 @@ use mathlib.Core.Path.{_≡_, refl, sym, ap, ap₂, subst, _∙_}
 use mathlib.Core.Bool.{Bool, true, false, _||_, true≢false}
 use mathlib.Core.List.{List, _∷_}
 use mathlib.Core.Option.{Option, some, none as nothing}
-use lib.ListN.{length}
 use native.Mathlib.Omega.{arith}
 use Rattle.rules.specs.Bytes.{Text, same}
 use Rattle.rules.specs.Text.{is-one-of}
-use Rattle.rules.specs.Tree.{Tree, variable, Trees, none, more}
+use Rattle.rules.specs.Tree.{Tree, variable, Trees, more}
 use Rattle.rules.specs.Matching.{or-else, bound}
 use Rattle.rules.specs.Reading.{parse}
 use Rattle.rules.specs.Substitution.{Binding}

@@ -1,5 +1,5 @@
 -- Fingerprints, carried on through a text byte by byte and word by word. Assumes nothing.
-use Prim.Native.Nat.{ℕ, zero, suc, _+_, _*_, _<_, _≤_, _%_}
+use Prim.Native.Nat.{ℕ, _+_, _*_, _<_, _≤_, _%_}
 use mathlib.Core.Path.{_≡_, refl, sym, ap, _∙_}
 use mathlib.Core.List.{List, [], _∷_, _++_}
 use lib.ListN.{length, getD, drop, set, drop-of-length-le}

@@ -1,15 +1,15 @@
 -- Words after the cells: what is written there leaves the cells as they are, and one after another the words of two writers are one
 -- list. Assumes nothing.
 use Prim.Native.Nat.{ℕ, _+_, _*_, _<_, _≤_}
-use mathlib.Core.Path.{_≡_, refl, sym, ap, ap₂, _∙_}
+use mathlib.Core.Path.{_≡_, sym, ap, ap₂, _∙_}
 use mathlib.Core.List.{List, [], _∷_, _++_}
-use lib.ListN.{length, getD, set, length-append, length-set}
+use lib.ListN.{length, set, length-append, length-set}
 use lib.Seq.{slice, getD-set-other}
 use native.Mathlib.Omega.{arith}
 use Rattle.rules.specs.Bytes.{Text}
 use Rattle.text.specs.Sorting.{Wrote}
 use Rattle.text.proofs.Slices.{slice-same, slice-set, slice-join, slice-none}
-use Rattle.tree.specs.Arena.{Links, Cell, Arena}
+use Rattle.tree.specs.Arena.{Arena}
 use Rattle.tree.proofs.Decoding.{Agree, same-first, same-next}
 use Rattle.tree.proofs.Pushing.{cell-frame}
 

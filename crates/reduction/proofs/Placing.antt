@@ -5,7 +5,7 @@ use mathlib.Core.List.{List}
 use lib.ListN.{length}
 use native.Mathlib.Omega.{arith}
 use Rattle.rules.specs.Bytes.{Text}
-use Rattle.rules.specs.Tree.{Tree, apply, Trees, more, size, sizes}
+use Rattle.rules.specs.Tree.{Tree, apply, more, size, sizes}
 use Rattle.rules.specs.Reduction.{constant}
 use Rattle.tree.specs.Cells.{start-of, length-of, kind-of, nodes-of, next-of, name-at, fixed-name, made, trees-at}
 use Rattle.tree.specs.Arena.{Arena, Grown, Wrote, Linked}

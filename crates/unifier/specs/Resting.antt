@@ -53,5 +53,5 @@ RestIs s w v n kept d (rest.Equation i j m) = Equates s w v n kept d i j m
 RestIs s w v n kept d rest.Stuck = (d ≡ rules.stuck) × Below w v n
 
 -- what is left on both sides is settled
-abbrev pub Settles : Text → List ℕ → List ℕ → ℕ → Bool → List Tree → List Tree → Rest → Type 0
-Settles s w v n b ks os r = RestIs s w v n (length ks + length os) (rules.remainder b ks os) r
+abbrev pub RemainderIs : Text → List ℕ → List ℕ → ℕ → Bool → List Tree → List Tree → Rest → Type 0
+RemainderIs s w v n b ks os r = RestIs s w v n (length ks + length os) (rules.remainder b ks os) r

@@ -38,7 +38,7 @@ use Rattle.sheet.specs.declared.Place.{Place}
 use Rattle.sheet.specs.declared.PairLine.the-variants.{Sides, End}
 use Rattle.sheet.proofs.PairLaws.{paired, walk-starts, walk-turn}
 use Rattle.sheet.proofs.WalkLaws.{two-there}
-use Rattle.variants.specs.Members.{nameable, with-binding, entry-end, ReadEntry, ReadsEntry, texts-end, ReadEntries, ReadsEntries}
+use Rattle.variants.specs.Members.{nameable, binding-before, entry-end, ReadEntry, ReadsEntry, texts-end, ReadEntries, ReadsEntries}
 use Rattle.variants.specs.declared.members.Bindings.the-variants as bindings
 use Rattle.variants.specs.declared.members.Entries.the-variants as entries
 use Rattle.variants.proofs.Lookups.{Turned, turned-none, turned-more, turned-alike, bound-before, bindings-with, chain-with, entries-last, entries-unread}
@@ -54,20 +54,20 @@ part-size s f t x e = omega (arith, parse-size (part-of f t s) x e, length-take 
 
 -- a key that no variable can have is left out, another is put before its value
 module _ {s : Text} {w : List ℕ} {n list : ℕ} (a : Arena s w n) (p : list < n) (x : Text) where
-  pub key-out : (t : Tree) → nameable x ≡ false → Made s w w n n list (with-binding x t (trees-at s w list)) × (n ≤ n + 2)
-  unfolding with-binding
+  pub key-out : (t : Tree) → nameable x ≡ false → Made s w w n n list (binding-before x t (trees-at s w list)) × (n ≤ n + 2)
+  unfolding binding-before
   key-out t e = (rw e (made-same a p), omega arith)
 
   pub key-in : {w₁ v : List ℕ} {t : Tree} (middle end : ℕ) → nameable x ≡ true → Linked s w w₁ n list t → middle ≡ n + 1 → Linked s w₁ v middle n (variable x) → end ≡ middle + 1
-      → Made s w v n end middle (with-binding x t (trees-at s w list)) × (end ≤ n + 2)
-  unfolding with-binding
+      → Made s w v n end middle (binding-before x t (trees-at s w list)) × (end ≤ n + 2)
+  unfolding binding-before
   key-in middle end e one f two g = (rw e (made-linked end (made-linked middle (made-same a p) one f) two g), omega arith)
 
 pub entry-unread : (s : Text) {w v : List ℕ} (n : ℕ) (key value : Place) (list : ℕ) → Parses s w v n (value .from) (value .to) parsed.Unreadable → ReadsEntry s w v n key value list bindings.Unreadable
 entry-unread s n key value list h = (h .0, kept-outside (h .1))
 
 pub entry-there : {s : Text} {w w₁ v : List ℕ} {n : ℕ} (key value : Place) {list index middle i m : ℕ} → Arena s w n → list < n → Read s w w₁ n (value .from) (value .to) index middle
-    → Made s w₁ v middle m i (with-binding (text-of s key) (tree-at s w₁ index) (trees-at s w₁ list)) → m ≤ middle + 2 → ReadEntry s w v n key value list i m
+    → Made s w₁ v middle m i (binding-before (text-of s key) (tree-at s w₁ index) (trees-at s w₁ list)) → m ≤ middle + 2 → ReadEntry s w v n key value list i m
 entry-there {s} {w} {w₁} {v} {n} key value {list} {index} {middle} {i} {m} a p one d e = record {
   tree = tree-at s w₁ index;
   read = one .reads;
@@ -76,7 +76,7 @@ entry-there {s} {w} {w₁} {v} {n} key value {list} {index} {middle} {i} {m} a p
   grew = omega (arith, one .grew, d .grew);
   used = omega (arith, one .room);
   inside = d .inside;
-  trees = d .trees ∙ ap (with-binding (text-of s key) (tree-at s w₁ index)) (sym (frame-trees s w₁ (a .links) (one .outside .below) list p));
+  trees = d .trees ∙ ap (binding-before (text-of s key) (tree-at s w₁ index)) (sym (frame-trees s w₁ (a .links) (one .outside .below) list p));
 }
 
 -- ---- entries in front of others
@@ -110,8 +110,8 @@ binding-size : (x : Text) (t : Tree) (ts : Trees) → sizes (more (variable x) (
 unfolding size
 binding-size x t ts = refl
 
-with-size : (x : Text) (t : Tree) (ts : Trees) → sizes (with-binding x t ts) ≤ 1 + (size t + sizes ts)
-unfolding with-binding
+with-size : (x : Text) (t : Tree) (ts : Trees) → sizes (binding-before x t ts) ≤ 1 + (size t + sizes ts)
+unfolding binding-before
 with-size x t ts = go (nameable x)
   where
     go : (b : Bool) → sizes (cond b (more (variable x) (more t ts)) ts) ≤ 1 + (size t + sizes ts)

@@ -37,8 +37,8 @@ nameable [] = false
 nameable (a ∷ n) = not (eqb (getD n 0 0) 40)
 
 -- a binding before a list, unless no variable can have the key for its name
-unfoldable pub with-binding : Text → Tree → Trees → Trees
-with-binding x t ts = cond (nameable x) (more (variable x) (more t ts)) ts
+unfoldable pub binding-before : Text → Tree → Trees → Trees
+binding-before x t ts = cond (nameable x) (more (variable x) (more t ts)) ts
 
 -- bindings that give every variable the same value
 abbrev pub Alike : List Binding → List Binding → Type 0
@@ -57,7 +57,7 @@ pub record ReadEntry (s : Text) (w v : List ℕ) (n : ℕ) (key value : Place) (
   pub grew : n ≤ m
   pub used : m ≤ entry-end n value
   pub inside : i < m
-  pub trees : trees-at s v i ≡ with-binding (text-of s key) tree (trees-at s w list)
+  pub trees : trees-at s v i ≡ binding-before (text-of s key) tree (trees-at s w list)
 
 abbrev pub ReadsEntry : Text → List ℕ → List ℕ → ℕ → Place → Place → ℕ → Bindings → Type 0
 ReadsEntry s w v n key value list (bindings.Stack i m) = ReadEntry s w v n key value list i m
@@ -68,8 +68,8 @@ abbrev pub texts-end : Text → ℕ → ℕ → ℕ
 texts-end s n at = n + 2 * (length s - at)
 
 -- room for them, and for the reader's stack above them
-abbrev pub Room : Text → List ℕ → ℕ → ℕ → Type 0
-Room s w n at = (length s ≤ 65536) × (4 * texts-end s n at + 3 * length s < length w) × (texts-end s n at < 2 ^ 32)
+abbrev pub TextsRoom : Text → List ℕ → ℕ → ℕ → Type 0
+TextsRoom s w n at = (length s ≤ 65536) × (4 * texts-end s n at + 3 * length s < length w) × (texts-end s n at < 2 ^ 32)
 
 -- the entries from `at` on, which end at c, read as bs; the list from cell i on gives every variable the same value as bs
 pub record ReadEntries (s : Text) (w v : List ℕ) (n at i m c : ℕ) : Type 0 where

@@ -15,47 +15,37 @@ Inv-loop sheet x h width a₀ r₀ a r = Mixing sheet x h a r
 abbrev μ-loop : tie.MeasureT-loop
 μ-loop sheet x h width a₀ r₀ a r = width - a
 
--- src/fingerprints.rt:22:9
 width-of-requires : tie.Need-width-of-requires Inv-loop μ-loop
 width-of-requires c κs = search needs
 
--- src/fingerprints.rt:25:5
 loop-holds : tie.Need-loop-holds Inv-loop μ-loop
 loop-holds c =
     let a = c .before .before .args in
     mixing-starts (a .sheet .now) (a .x) (a .h) (c .before .before .pre .1)
 
--- src/fingerprints.rt:26:17
 byte-of-requires : tie.Need-byte-of-requires Inv-loop μ-loop
 byte-of-requires c κs = (c .before .before .before .before .pre .0, omega (arith, c .loop-test .taken, c .before .before .width-of .ensures))
 
--- src/fingerprints.rt:26:17
 cast-b : tie.Need-cast-b Inv-loop μ-loop
 cast-b c = search needs
 
--- src/fingerprints.rt:27:14
 mul-r : tie.Need-mul-r Inv-loop μ-loop
 mul-r c = omega (arith, c .before .before .loop .inv .small)
 
--- src/fingerprints.rt:27:14
 add-r : tie.Need-add-r Inv-loop μ-loop
 add-r c = omega (arith, c .before .before .loop .inv .small, c .byte-of .ok)
 
--- src/fingerprints.rt:28:9
 add-a : tie.Need-add-a Inv-loop μ-loop
 add-a c = omega (arith, c .before .loop-test .taken, c .before .before .before .width-of .ok)
 
--- src/fingerprints.rt:25:5
 loop-less : tie.Need-loop-less Inv-loop μ-loop
 loop-less c = omega (arith, c .before .loop-test .taken)
 
--- src/fingerprints.rt:25:5
 loop-again : tie.Need-loop-again Inv-loop μ-loop
 loop-again c =
     let a = c .before .before .before .before .before .args in
     mixing-next (a .sheet .now) (a .x) (a .h) (c .before .before .before .before .before .pre .0) (c .before .before .loop .a) (c .before .before .loop .r) (c .before .before .loop .inv) (c .byte-of .result) (c .byte-of .ensures) (omega (arith, c .before .loop-test .taken, c .before .before .before .width-of .ensures))
 
--- src/fingerprints.rt:17:1
 returns : tie.Need-returns Inv-loop μ-loop
 returns c =
     let a = c .before .before .before .before .args in
