@@ -22,12 +22,11 @@ use Rattle.laws.proofs.Sheets.SheetParts.{sheet-parts}
 use Rattle.laws.proofs.Variants.OnePass.{complete-unread, complete-unindexed, complete-over}
 use Rattle.laws.proofs.Renaming.AnyNames.{chosen-tokens, complete-chosen}
 use Rattle.tree.specs.Cells.{tree-at, trees-at}
-use Rattle.tree.specs.Arena.{Arena}
+use Rattle.tree.specs.Arena.{Arena, Below}
 use Rattle.tree.proofs.Decoding.{frame-tree, frame-trees}
+use Rattle.tree.proofs.Areas.{below-then, below-grown}
 use Rattle.sheet.specs.Members.{members-at}
 use Rattle.sheet.proofs.WordLaws.{count-bound}
-use Rattle.unifier.specs.Area.{Below}
-use Rattle.unifier.proofs.Areas.{below-then, below-grown}
 use Rattle.variants.specs.Members.{TextsRoom}
 use Rattle.variants.specs.Soundness.{claim}
 use Rattle.variants.specs.declared.soundness.Claim.{Claim}
@@ -121,7 +120,7 @@ module _ {s : Text} {w : List ℕ} {free term named at : ℕ} (k : Asks s w free
 
     module _ {u x : List ℕ} {end index stop : ℕ} (e : end ≡ top + 24) (kept : Below v u top) (read : ReadMembers s u x end at index stop) where
       members-kept : Below v x top
-      members-kept = below-then kept (record { len = read .kept .len; words = read .kept .below }) (omega arith)
+      members-kept = below-then kept (read .kept) (omega arith)
 
       all-kept : Below w x free
       all-kept = below-then (t .below) members-kept (omega (arith, t .used))
@@ -152,7 +151,7 @@ module _ {s : Text} {w : List ℕ} {free term named at : ℕ} (k : Asks s w free
         fresh-kept b = record {
           some-cell = f .some-cell;
           inside = omega (arith, f .inside, read .grew);
-          trees = λ i l. sym (frame-tree s x (b .links) (read .kept .below) (top + i) (omega (arith, f .some-cell)) (omega (arith, f .inside))) ∙ f .trees i l;
+          trees = λ i l. sym (frame-tree s x (b .links) (read .kept .words) (top + i) (omega (arith, f .some-cell)) (omega (arith, f .inside))) ∙ f .trees i l;
         }
 
         can-judge : Arena s u end → ((n : ℕ) → variable-token (name n) ≡ true) → (count : ℕ) → count ≡ scheme-count (tree-at s w term) → CanJudgeAll s x stop top named names index term count
@@ -179,7 +178,7 @@ module _ {s : Text} {w : List ℕ} {free term named at : ℕ} (k : Asks s w free
     pub unread-claims : {u x : List ℕ} {end : ℕ} → WritesFresh s v u top base end → ReadsMembers s u x end at Unreadable → ClaimsComplete s w x free term at Nothing
     unread-claims f r =
         claims-unread (r .0)
-        (below-then (below-then (t .below) (below-grown (f .grown)) (omega (arith, t .used))) (record { len = r .1 .len; words = r .1 .below }) (omega (arith, t .used, f .end)))
+        (below-then (below-then (t .below) (below-grown (f .grown)) (omega (arith, t .used))) (r .1) (omega (arith, t .used, f .end)))
 
     -- with the fresh variables of the sheet
     module _ {u x : List ℕ} {end index stop : ℕ} (f : WritesFresh s v u top base end) (read : ReadMembers s u x end at index stop) where

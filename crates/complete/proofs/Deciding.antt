@@ -17,13 +17,12 @@ use Rattle.rules.specs.Variants.{Variant, scheme-count}
 use Rattle.rules.specs.Schemes.{scheme-at, Judgement, pending, settled, answered, judge, judge-verdict, judged-from}
 use Rattle.laws.proofs.Variants.OnePass.{judged-next, judged-end}
 use Rattle.tree.specs.Cells.{tree-at, trees-at}
-use Rattle.tree.specs.Arena.{Arena}
+use Rattle.tree.specs.Arena.{Arena, Below}
 use Rattle.tree.proofs.Decoding.{frame-tree, frame-trees}
-use Rattle.unifier.specs.Area.{Below}
+use Rattle.tree.proofs.Areas.{below-same, below-then}
 use Rattle.unifier.proofs.Tops.{pairs-are}
 use Rattle.schemes.specs.Building.{Fresh, Systems}
 use Rattle.schemes.specs.declared.systems.System.{System}
-use Rattle.unifier.proofs.Areas.{below-same, below-then}
 use Rattle.variants.specs.Soundness.{claim}
 use Rattle.variants.specs.declared.soundness.Claim.{Claim}
 use Rattle.variants.specs.declared.soundness.Claim.the-variants.{Yes, No, Nothing}

@@ -24,20 +24,20 @@ use Rattle.laws.proofs.Solving.Budget.{flatten-size}
 use Rattle.laws.proofs.Solving.UnifyFuel.{unify-enough}
 use Rattle.laws.proofs.Sheets.BuiltRun.{BuiltPairs}
 use Rattle.tree.specs.Cells.{tree-at, trees-at}
-use Rattle.tree.specs.Arena.{Arena}
+use Rattle.tree.specs.Arena.{Arena, Below}
 use Rattle.tree.proofs.Decoding.{frame-tree, frame-trees}
+use Rattle.tree.proofs.Areas.{below-then, below-grown, arena-below}
+use Rattle.equivalence.proofs.Scratch.{below-kept}
 use Rattle.substitution.specs.Bindings.{bindings-of, bindings-at}
 use Rattle.substitution.specs.Building.{Placed, instance-at}
 use Rattle.certificate.specs.Writer as writer
-use Rattle.reduction.specs.Building.{Kept, NewTree}
+use Rattle.reduction.specs.Building.{NewTree}
 use Rattle.reduction.proofs.NormalForms.{normalizes-size}
 use Rattle.schemes.specs.Building.{Systems}
 use Rattle.schemes.specs.declared.systems.System.{System}
 use Rattle.unifier.specs.Stack.{pairs-at, Whole, FitPairs}
-use Rattle.unifier.specs.Area.{Below}
 use Rattle.unifier.specs.Running.{Roomy, Answers}
 use Rattle.unifier.specs.declared.unifying.Outcome.the-variants as outcome
-use Rattle.unifier.proofs.Areas.{below-then, below-grown}
 use Rattle.unifier.proofs.Tops.{pairs-are, whole-are}
 use Rattle.cover.specs.Listing.{backwards}
 use Rattle.cover.specs.Generals.{names-of, names-at, OfVariables}
@@ -45,7 +45,7 @@ use Rattle.cover.proofs.CoveredLaws.{names-count}
 use Rattle.cover.proofs.Parts.{part-agrees, part-arena, back-agrees, back-arena, back-below}
 use Rattle.complete.specs.Generalizing.{variants-of, variants-at, AllMatched}
 use Rattle.complete.specs.Judging.{fuel-for, system-of, solved-end, Judgeable}
-use Rattle.complete.proofs.Generals.{all-matched-same, arena-below}
+use Rattle.complete.proofs.Generals.{all-matched-same}
 use Rattle.complete.proofs.Rooms.{fuel-few}
 
 -- ---- the instance of a solved scheme
@@ -82,7 +82,7 @@ module _ {s : Text} {w v u : List ℕ} {n index end left i stop : ℕ} (value bi
   made-small = omega (arith, one .spent)
 
   made-now : tree-at s u index ≡ made-tree
-  made-now = sym (frame-tree s u (one .before .arena .links) (two .kept .below) index (one .before .some-cell) (one .before .inside)) ∙ one .before .tree
+  made-now = sym (frame-tree s u (one .before .arena .links) (two .kept .words) index (one .before .some-cell) (one .before .inside)) ∙ one .before .tree
 
   normal-now : tree-at s u i ≡ normalize made-tree
   normal-now = two .tree ∙ ap normalize (one .before .tree)
@@ -95,7 +95,7 @@ module _ {s : Text} {w v u : List ℕ} {n index end left i stop : ℕ} (value bi
 
   module _ {x : List ℕ} {lim : ℕ} (k : writer.Kept u x (4 * stop) lim) where
     below-end : Below v x end
-    below-end = record { len = k .len ∙ two .kept .len; words = λ p q. two .kept .below p q ∙ sym (k .below p (omega (arith, two .grew))) }
+    below-end = below-then (two .kept) (below-kept {n = stop} k (omega arith)) (two .grew)
 
     pub below-free : Below w x n
     below-free = below-then (below-grown (one .before .grown)) below-end (one .before .grew)
@@ -158,7 +158,7 @@ module _ {name : ℕ → Text} {s : Text} {w v : List ℕ} {n named i : ℕ} {xs
   stack = c .stack
 
   kept : Below w v n
-  kept = record { len = y .written .kept .len; words = y .written .kept .below }
+  kept = y .written .kept
 
   abbrev ps : List Pair
   ps = system-of name term i

@@ -19,8 +19,9 @@ use Rattle.rules.specs.Sheet.{Entry, Member}
 use Rattle.rules.specs.Cover.{is-failed, covering, covers, any-covers}
 use Rattle.laws.proofs.Solving.MatchFuel.{matcher-enough}
 use Rattle.tree.specs.Cells.{trees-at}
-use Rattle.tree.specs.Arena.{Arena}
+use Rattle.tree.specs.Arena.{Arena, Below}
 use Rattle.tree.proofs.Decoding.{frame-trees}
+use Rattle.tree.proofs.Areas.{below-same, below-then}
 use Rattle.substitution.specs.Bindings.{bindings-of, bindings-at}
 use Rattle.sheet.specs.Lines.{part-of, value-at}
 use Rattle.sheet.specs.Members.{members-at}
@@ -29,12 +30,11 @@ use Rattle.sheet.specs.declared.Line.the-variants.{Whole as a-line, Missing}
 use Rattle.sheet.proofs.LineLaws.{keyed}
 use Rattle.sheet.proofs.WalkLaws.{FirstMember, member-end, member-next, members-later}
 use Rattle.unifier.specs.Stack.{pairs-at, Whole, FitPairs}
-use Rattle.unifier.specs.Area.{Room, Below}
+use Rattle.unifier.specs.Area.{Room}
 use Rattle.unifier.specs.Running.{Answers}
 use Rattle.unifier.specs.declared.unifying.Outcome.{Outcome}
 use Rattle.unifier.specs.declared.unifying.Outcome.the-variants as outcome
 use Rattle.unifier.proofs.unifying.Outcome.{the-type}
-use Rattle.unifier.proofs.Areas.{below-same, below-then}
 use Rattle.unifier.proofs.Tops.{pairs-are}
 use Rattle.cover.specs.Generals.{names-at}
 use Rattle.cover.specs.Values.{EntriesFrom}

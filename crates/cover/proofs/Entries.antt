@@ -14,8 +14,9 @@ use Rattle.rules.specs.Substitution.{Binding, pick, lookup}
 use Rattle.rules.specs.Sheet.{Entry}
 use Rattle.rules.specs.Cover.{entry-at}
 use Rattle.tree.specs.Cells.{trees-at}
-use Rattle.tree.specs.Arena.{Arena}
+use Rattle.tree.specs.Arena.{Arena, Below}
 use Rattle.tree.proofs.Decoding.{frame-trees}
+use Rattle.tree.proofs.Areas.{below-then}
 use Rattle.sheet.specs.Pairs.{pair-at}
 use Rattle.sheet.specs.Form.{Inside}
 use Rattle.sheet.specs.declared.Cursor.{Cursor}
@@ -26,8 +27,6 @@ use Rattle.sheet.proofs.WalkLaws.{two-there, two-end}
 use Rattle.reading.specs.Parsing.{stack-end}
 use Rattle.substitution.specs.Bindings.{bindings-at}
 use Rattle.substitution.proofs.Keys.{bindings-none}
-use Rattle.unifier.specs.Area.{Below}
-use Rattle.unifier.proofs.Areas.{below-then}
 use Rattle.cover.specs.Generals.{names-of, OfVariables}
 use Rattle.cover.specs.Values.{value-in, resumed, entry-of, Valued, Unread, EntriesThen, ValuesRead, OneUnread}
 

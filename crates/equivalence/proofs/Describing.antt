@@ -18,11 +18,11 @@ use Rattle.text.proofs.Slices.{slice-same, slice-none}
 use Rattle.tree.specs.Cells.{tree-at}
 use Rattle.tree.specs.Arena.{Links, Arena}
 use Rattle.tree.proofs.Decoding.{Agree, frame-tree, size-pos}
+use Rattle.tree.proofs.Areas.{arena-frame}
 use Rattle.certificate.specs.Texts.{texts, Tokens}
 use Rattle.certificate.specs.Writer.{Kept}
 use Rattle.equivalence.specs.Fingerprints.{fingerprint, Marked}
 use Rattle.equivalence.specs.Sums.{heft, Cells, Run, Described, index}
-use Rattle.equivalence.proofs.Scratch.{arena-frame}
 
 -- ---- two runs
 

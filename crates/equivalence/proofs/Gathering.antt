@@ -17,8 +17,8 @@ use Rattle.text.proofs.Slices.{slice-same, slice-set, slice-join, slice-none}
 use Rattle.tree.specs.Cells.{kind-of, first-of, next-of, name-at, tree-at, trees-at}
 use Rattle.tree.specs.Arena.{Links, Arena}
 use Rattle.tree.proofs.Decoding.{Agree, Kind, application, a-variable, an-atom, kind, same-next, trees-none, trees-more, tree-variable, tree-atom, tree-apply, size-pos, size-apply, sizes-more, frame-tree, frame-trees}
+use Rattle.tree.proofs.Areas.{arena-frame}
 use Rattle.equivalence.specs.Sums.{remaining, heft, Cells, Gathered}
-use Rattle.equivalence.proofs.Scratch.{arena-frame}
 
 -- ---- lists of cells
 

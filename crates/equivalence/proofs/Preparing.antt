@@ -15,8 +15,8 @@ use Rattle.text.proofs.Slices.{slice-same, slice-join}
 use Rattle.tree.specs.Cells.{tree-at}
 use Rattle.tree.specs.Arena.{Links, Arena}
 use Rattle.tree.proofs.Decoding.{Agree, frame-tree}
+use Rattle.tree.proofs.Areas.{arena-frame}
 use Rattle.equivalence.specs.Sums.{remaining, heft, Cells, Gathered, Described, Lasting, test, Cancelled, Ready}
-use Rattle.equivalence.proofs.Scratch.{arena-frame}
 use Rattle.equivalence.proofs.Gathering.{heft-append, remaining-frame, heft-frame}
 use Rattle.equivalence.proofs.Describing.{run-later}
 use Rattle.equivalence.proofs.Cancelling.{zeroed-outside, zeroed-below}

@@ -16,11 +16,13 @@ use Rattle.rules.specs.Memory.{kept-summands}
 use Rattle.laws.proofs.Solving.Weights.{cancel-mass-left}
 use Rattle.laws.proofs.Sheets.BuiltMatch.{mass, summands-mass, cancel-mass}
 use Rattle.tree.specs.Cells.{kind-of, nodes-of, name-at, tree-at}
-use Rattle.tree.specs.Arena.{Arena, Grown}
+use Rattle.tree.specs.Arena.{Arena, Below}
 use Rattle.tree.proofs.Decoding.{Agree, same-kind, same-name, frame-tree}
+use Rattle.tree.proofs.Areas.{below-same, below-grown, below-then}
 use Rattle.equivalence.specs.Sums.{remaining, heavy, test, Ready, Rebuilt}
 use Rattle.equivalence.proofs.Gathering.{remaining-frame}
-use Rattle.unifier.specs.Area.{Room, Below}
+use Rattle.equivalence.proofs.Scratch.{below-kept}
+use Rattle.unifier.specs.Area.{Room}
 use Rattle.unifier.specs.Stack.{Fit}
 use Rattle.unifier.specs.Resting.{Several, LeftIs, Summable, RestIs, RemainderIs}
 use Rattle.unifier.specs.declared.rest.Left.{Left}
@@ -30,22 +32,16 @@ use Rattle.unifier.specs.declared.rest.Rest.the-variants as rest
 
 -- ---- areas
 
-below-same : (w : List ℕ) (n : ℕ) → Below w w n
-below-same w n = record { len = refl; words = λ p q. refl }
-
-below-grown : {w v : List ℕ} {n m : ℕ} → Grown w v n m → Below w v n
-below-grown g = record { len = g .len; words = g .below }
-
 module _ (s w v u : List ℕ) (n : ℕ) (g : Below w v n) where
-  below-then : Below v u n → Below w u n
-  below-then h = record { len = h .len ∙ g .len; words = λ p q. g .words p q ∙ h .words p q }
+  later : Below v u n → Below w u n
+  later h = below-then g h (omega arith)
 
   rest-later : (kept : ℕ) (d : rules.Rest) (x : Rest) → RestIs s v u n kept d x → RestIs s w u n kept d x
-  rest-later kept d rest.Emptied h = (h .0, below-then (h .1))
-  rest-later kept d rest.Mismatch h = (h .0, below-then (h .1))
+  rest-later kept d rest.Emptied h = (h .0, later (h .1))
+  rest-later kept d rest.Mismatch h = (h .0, later (h .1))
   rest-later kept d (rest.Equation i j m) h =
-      record { is = h .is; arena = h .arena; below = below-then (h .below); grew = h .grew; left-inside = h .left-inside; right-inside = h .right-inside; used = h .used }
-  rest-later kept d rest.Stuck h = (h .0, below-then (h .1))
+      record { is = h .is; arena = h .arena; below = later (h .below); grew = h .grew; left-inside = h .left-inside; right-inside = h .right-inside; used = h .used }
+  rest-later kept d rest.Stuck h = (h .0, later (h .1))
 
 -- ---- the cells of the right side, against what is left of the left
 
@@ -185,7 +181,7 @@ module _ {s w : List ℕ} {n at : ℕ} {l r : Tree} (o : Arena s w n) (m : Room 
     agree p q = sym (h .kept .below p (omega arith))
 
     below : Below w v n
-    below = record { len = h .kept .len; words = agree }
+    below = below-kept (h .kept) (omega arith)
 
     pub inside : (at ≤ mid) × (mid ≤ end) × (mid ≤ length v) × (end ≤ length v)
     inside =

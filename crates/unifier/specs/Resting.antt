@@ -9,9 +9,8 @@ use Rattle.rules.specs.Bytes.{Text}
 use Rattle.rules.specs.Tree.{Tree}
 use Rattle.rules.specs.Solving as rules
 use Rattle.tree.specs.Cells.{tree-at}
-use Rattle.tree.specs.Arena.{Arena}
+use Rattle.tree.specs.Arena.{Arena, Below}
 use Rattle.equivalence.specs.Sums.{remaining, heavy}
-use Rattle.unifier.specs.Area.{Below}
 use Rattle.unifier.specs.declared.rest.Left.{Left}
 use Rattle.unifier.specs.declared.rest.Left.the-variants as left
 use Rattle.unifier.specs.declared.rest.Rest.{Rest}

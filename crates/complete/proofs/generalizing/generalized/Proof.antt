@@ -1,14 +1,14 @@
 use mathlib.Core.Path.{sym, _∙_}
-use Rattle.unifier.proofs.Areas.{below-then}
 use Prim.Native.Nat.{_<_}
 use native.Mathlib.Omega.{arith}
-use Rattle.complete.proofs.Generals.{Searching, arena-below, searching-starts, searching-ends, here-member, here-variables, here-matched, searching-found, searching-turn}
+use Rattle.complete.proofs.Generals.{Searching, searching-starts, searching-ends, here-member, here-variables, here-matched, searching-found, searching-turn}
 use Rattle.complete.proofs.generalizing.generalized.Statement.{statement}
 use Rattle.complete.proofs.generalizing.generalized.Tie as tie
 use Rattle.complete.proofs.generalizing.generalized.Reads as reads
 use Rattle.complete.proofs.generalizing.generalized.Lts as lts
 use Rattle.complete.proofs.generalizing.generalizes.Reads as generalizes-reads
 use Rattle.tree.proofs.cells.next_of.Reads as next-of-reads
+use Rattle.tree.proofs.Areas.{below-then, arena-below}
 
 abbrev Inv-loop : tie.InvT-loop
 Inv-loop sheet work₀ free members names bindings value k₀ work k = Searching sheet work₀ work free names bindings value members k

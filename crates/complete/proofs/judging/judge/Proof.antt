@@ -2,7 +2,7 @@ use borrow.Author.Needs.{needs}
 use Prim.Native.Nat.{_<_, _-_}
 use native.Mathlib.Omega.{arith}
 use mathlib.Core.Path.{_∙_}
-use Rattle.complete.proofs.Generals.{arena-below}
+use Rattle.tree.proofs.Areas.{arena-below}
 use Rattle.complete.proofs.Deciding.{Going, going-starts, going-ends, here-variables, here-term, here-judgeable, going-kept, going-unsupported, going-turn}
 use Rattle.complete.proofs.judging.judge.Statement.{statement}
 use Rattle.complete.proofs.judging.judge.Tie as tie

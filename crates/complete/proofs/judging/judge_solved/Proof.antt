@@ -4,8 +4,8 @@ use mathlib.Core.Bool.{true, false}
 use native.Mathlib.Omega.{arith}
 use borrow.Author.Tests.{not-true, not-false}
 use Rattle.tree.specs.Cells.{tree-at}
+use Rattle.tree.proofs.Areas.{below-grown}
 use Rattle.substitution.specs.Bindings.{bindings-at}
-use Rattle.unifier.proofs.Areas.{below-grown}
 use Rattle.variants.proofs.Claiming.{built-small}
 use Rattle.cover.specs.Generals.{names-at}
 use Rattle.complete.specs.Generalizing.{variants-at}
