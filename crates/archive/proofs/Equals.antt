@@ -1,10 +1,8 @@
 -- The answer to a sheet of kind `equal`, by what the comparison of its texts says.
 use mathlib.Core.Path.{_≡_, refl, sym, ap, ap₂, subst, _∙_}
-use mathlib.Core.List.{List}
 use mathlib.Core.Bool.{Bool, true, false, cond}
 use mathlib.Core.Option.{Option, some, none}
 use Prim.Native.Nat.{ℕ, _-_}
-use native.Mathlib.Omega.{arith}
 use lib.ListN.{take, drop}
 use lib.Seq.{slice}
 use Rattle.rules.specs.Bytes.{Text, same}

@@ -1,11 +1,9 @@
 -- What an answer that fits, one that does not, and none give.
 use mathlib.Core.Path.{_≡_, refl, sym, ap, subst, _∙_}
 use mathlib.Core.Option.{Option, some, none}
-use mathlib.Core.Bool.{true, false}
 use Prim.Native.Nat.{ℕ, _+_, _<_, _≤_}
-use lib.Dec.{leb}
 use mathlib.Core.List.{[], _∷_}
-use lib.ListN.{length, drop, length-append}
+use lib.ListN.{length, length-append}
 use native.Mathlib.Omega.{arith}
 use native.Mathlib.Nat.{zero-add}
 use borrow.Author.Tests.{le-leb, lt-leb}

@@ -8,7 +8,7 @@ use lib.ListN.{length}
 use Rattle.rules.specs.Bytes.{Text}
 use Rattle.rules.specs.Text.{bytes}
 use Rattle.rules.specs.Maybe.{_>>=_, every}
-use Rattle.rules.specs.Tree.{Tree, Trees, none, more, count}
+use Rattle.rules.specs.Tree.{Tree, Trees, more, count}
 use Rattle.rules.specs.Reading.{parse}
 use Rattle.rules.specs.Substitution.{Pair, flatten}
 use Rattle.rules.specs.Sheet.{Entry}

@@ -14,7 +14,7 @@ use Rattle.rules.specs.Answer.{read-pairs}
 use Rattle.rules.specs.Memory.{OverPairs, weight, sheet-pairs}
 use Rattle.sheet.proofs.WordLaws.{count-bound}
 use Rattle.laws.proofs.Solving.Weights.{weight-size}
-use Rattle.laws.proofs.Sheets.NamesRead.{Held, sheet-names, sides-held, pairs-over, pairs-sizes}
+use Rattle.laws.proofs.Sheets.NamesRead.{sheet-names, sides-held, pairs-over, pairs-sizes}
 
 module _ (s : Text) (sheet : Sheet) (reads : read-sheet s ≡ some sheet) (ps : List Pair) (pairs : read-pairs (sheet-pairs sheet) ≡ some ps) (short : length s ≤ 65536)
     (free fuel words : ℕ) (used : free ≤ 1 + 2 * length s) (fuelled : fuel ≤ 65536) (enough : 65536 * (count-of 58 s + 16) + 16 * length s ≤ words) where

@@ -12,7 +12,7 @@ use Rattle.rules.specs.Maybe.{_>>=_}
 use Rattle.rules.specs.Tree.{Trees}
 use Rattle.rules.specs.Substitution.{Pair, flatten}
 use Rattle.rules.specs.Solving.{Answer}
-use Rattle.rules.specs.Sheet.{Sheet, Entry, asks-unify, asks-match, read-sheet}
+use Rattle.rules.specs.Sheet.{Entry, read-sheet}
 use Rattle.rules.specs.Answer.{read-pairs, verdict-lines, answer-of}
 use Rattle.rules.specs.Memory.{weight, sheet-pairs}
 use Rattle.sheet.specs.Form.{sheet-of, Within}

@@ -1,5 +1,5 @@
 -- The answer to a sheet of kind `sound`, by what is claimed of its member.
-use mathlib.Core.Path.{_≡_, refl, sym, ap, _∙_}
+use mathlib.Core.Path.{_≡_, sym, ap, _∙_}
 use mathlib.Core.Bool.{Bool}
 use mathlib.Core.Option.{Option, some, none}
 use Rattle.rules.specs.Bytes.{Text}

@@ -15,8 +15,8 @@ use Rattle.rules.specs.Answer.{line, binding-lines, verdict-lines}
 use Rattle.text.specs.Printing as Decimals
 use Rattle.tree.specs.Cells.{name-at, next-of, tree-at, trees-at}
 use Rattle.tree.specs.Arena.{Links}
-use Rattle.tree.specs.Output.{written, Printed}
-use Rattle.tree.proofs.Printing.{length-written, printed-then, printed-none}
+use Rattle.tree.specs.Output.{Printed}
+use Rattle.tree.proofs.Printing.{length-written, printed-then, printed-none, printed-number}
 use Rattle.substitution.specs.Bindings.{Chain}
 use Rattle.substitution.proofs.Keys.{bindings-none}
 use Rattle.substitution.proofs.Chains.{entry}
@@ -61,11 +61,6 @@ solved-lines bs spent = refl
 
 pub printed-length : {out v t : Text} {at r : ℕ} → at + length t ≤ length out → Printed out v at t r → length v ≡ length out
 printed-length {out} {v} {t} {at} h p = ap length (p .bytes) ∙ length-written out at t h
-
--- a number that was printed
-pub printed-number : {out v t : Text} {at r : ℕ} → Decimals.Printed out v at t r → Printed out v at t r
-unfolding written Decimals.written
-printed-number p = record { bytes = p .bytes; end = p .end }
 
 pub head-printed : {out a b c d : Text} {i j k r : ℕ} (verdict : Text) (spent : ℕ) → length (head-lines verdict spent) ≤ length out
     → Printed out a 0 verdict i → Printed a b i (bytes "spent=") j → Decimals.Printed b c j (decimal spent) k → Printed c d k (10 ∷ []) r

@@ -1,10 +1,9 @@
 -- A word more set to zero.
-use mathlib.Core.Path.{_≡_, refl, sym, _∙_, ap}
+use mathlib.Core.Path.{_≡_, sym, _∙_, ap}
 use mathlib.Core.List.{List, [], _∷_, _++_, append-assoc}
-use Prim.Native.Nat.{ℕ, zero, suc, _+_, _<_, _≤_}
+use Prim.Native.Nat.{ℕ, suc, _+_, _<_}
 use native.Mathlib.Numerals.{add-one}
-use native.Mathlib.Omega.{arith}
-use lib.ListN.{length, getD, set, drop, replicate, length-append, length-replicate, length-drop, replicate-append-replicate}
+use lib.ListN.{length, getD, set, drop, replicate, length-replicate, replicate-append-replicate}
 use lib.Seq.{drop-cons, drop-at, set-at}
 use Rattle.archive.specs.Clearing.{zeroed}
 
@@ -15,9 +14,6 @@ zeroed-next w i h =
     ∙ sym (append-assoc (replicate i 0) (0 ∷ []) (drop (suc i) w))
     ∙ ap (λ (l : List ℕ). l ++ drop (suc i) w) (replicate-append-replicate i 1 0)
     ∙ ap (λ (n : ℕ). replicate (i + 1) 0 ++ drop n w) (sym (add-one i))
-
-pub zeroed-length : (w : List ℕ) (i : ℕ) → i ≤ length w → length (zeroed i w) ≡ length w
-zeroed-length w i h = simp (length-append, length-replicate, length-drop) (omega arith)
 
 -- other words before the rest make no difference
 pub zeroed-over : (n : ℕ) (v w : List ℕ) → length v ≡ n → zeroed n (v ++ drop n w) ≡ zeroed n w

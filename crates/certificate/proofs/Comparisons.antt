@@ -1,6 +1,6 @@
 -- Two texts written and sorted, one after the other: the order of their words' texts is that of their canonical texts.
 -- Assumes nothing.
-use Prim.Native.Nat.{ℕ, zero, suc, _+_, _-_, _*_, _<_, _≤_}
+use Prim.Native.Nat.{ℕ, _+_, _-_, _*_, _<_, _≤_}
 use mathlib.Core.Path.{_≡_, refl, sym, ap, ap₂, subst, _∙_}
 use mathlib.Core.Bool.{Bool, true, false, cond, _&&_}
 use mathlib.Core.List.{List, [], _∷_}
@@ -9,7 +9,7 @@ use mathlib.Core.Option.{Option, some, none}
 use denote.Enum.Declared.{tagOf}
 use types.Run.{OneOf}
 use lib.Dec.{eqb, ltb}
-use lib.ListN.{length, getD, take, drop}
+use lib.ListN.{length}
 use lib.Seq.{slice, length-slice}
 use native.Mathlib.Omega.{arith}
 use native.Mathlib.Decide.{decLt}
@@ -19,7 +19,6 @@ use Rattle.rules.specs.Reading.{canonical-text}
 use Rattle.text.proofs.Slices.{slice-same}
 use Rattle.certificate.specs.Texts.{texts, Tokens, lex}
 use Rattle.certificate.specs.Settle.{settled, Arranges}
-use Rattle.certificate.specs.Items.{written}
 use Rattle.certificate.specs.Writer as writer
 use Rattle.certificate.specs.Writer.{Kept, Done}
 use Rattle.certificate.specs.Comparing.{Settled, Outcome, ordered-as, order-of, equivalence-of}

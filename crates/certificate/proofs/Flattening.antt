@@ -1,24 +1,23 @@
 -- Terms with their sums flattened: a sum inside a sum gives its summands. Their canonical texts are those of the trees that they
 -- spell.
 -- Assumes nothing.
-use Prim.Native.Nat.{ℕ, zero, suc, _+_, _-_, _*_, _<_, _≤_, _/_, _%_}
+use Prim.Native.Nat.{ℕ}
 use mathlib.Core.Path.{_≡_, refl, sym, ap, ap₂, subst, _∙_}
 use mathlib.Core.Bool.{Bool, true, false, cond, _&&_}
-use mathlib.Core.List.{List, [], _∷_, _++_, map, append-assoc, append-nil, List·Permᴰ, List·Permᴰ·nil, List·Permᴰ·cons, List·Permᴰ·swap, List·Permᴰ·trans, Permᴰ·refl, Permᴰ·symm, Permᴰ·append-left, Permᴰ·append-right}
+use mathlib.Core.List.{List, [], _∷_, _++_, map, append-assoc, append-nil, List·Permᴰ, List·Permᴰ·cons, List·Permᴰ·trans, Permᴰ·refl, Permᴰ·symm, Permᴰ·append-left, Permᴰ·append-right}
 use lib.Dec.{eqb}
 use native.Mathlib.Omega.{arith}
 use borrow.Author.Tests.{ne-eqb}
 use Rattle.rules.specs.Bytes.{Text, same, sort}
 use Rattle.rules.specs.Text.{count-of}
 use Rattle.rules.specs.Writing.{listed, commas}
-use Rattle.rules.specs.Tree.{Tree, variable, atom, apply, Trees, atom-text, tamtplus}
+use Rattle.rules.specs.Tree.{Tree, variable, apply, Trees, atom-text, tamtplus}
 use Rattle.rules.specs.Tree as T
 use Rattle.rules.specs.Reading.{leaf}
-use Rattle.rules.specs.Sums.{Canonical, sum, other, shown, parts, flat, gather, canon, canons, canonical}
+use Rattle.rules.specs.Sums.{Canonical, other, shown, parts, flat, gather, canon, canons}
 use Rattle.laws.proofs.Basics.Order.{sort-same, sort-perm}
-use Rattle.laws.proofs.Basics.Tests.{same-eq}
-use Rattle.certificate.specs.Texts.{code-text, word-text, Token}
-use Rattle.certificate.specs.Terms.{Term, node, Terms, none, more, inner, headed, words, words-each, canon-text, canon-texts}
+use Rattle.certificate.specs.Texts.{word-text}
+use Rattle.certificate.specs.Terms.{Term, node, Terms, none, more, canon-text, canon-texts}
 use Rattle.certificate.specs.Items.{adds}
 use Rattle.certificate.specs.Spelling.{flat-by, splice-by, flatten, flattens, splice, splices, Word, Spells, as-variable, as-atom, as-apply, SpellsAll, spell-none, spell-more}
 use Rattle.certificate.proofs.ItemTokens.{Named}
@@ -32,10 +31,6 @@ module _ (s : Text) where
 
   abbrev pub texts-of : Terms → List Text
   texts-of ts = canon-texts s 16777216 ts
-
-  plus-text : word-text s 16777216 ≡ tamtplus
-  unfolding word-text code-text
-  plus-text = refl
 
   not-plus : (x : ℕ) → Word s x → eqb x 16777216 ≡ false
   not-plus x h = ne-eqb x 16777216 (h .other)

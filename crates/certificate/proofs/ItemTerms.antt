@@ -1,23 +1,23 @@
 -- Items read as terms: a term of items is the tree that reading gives, and the words that are written are those of the term with
 -- its sums flattened. Assumes nothing.
-use Prim.Native.Nat.{ℕ, zero, suc, _+_, _-_, _*_, _<_, _≤_}
-use mathlib.Core.Path.{_≡_, refl, sym, ap, ap₂, subst, _∙_}
-use mathlib.Core.Bool.{Bool, true, false, cond, not, _||_}
-use mathlib.Core.List.{List, [], _∷_, _++_, map}
+use Prim.Native.Nat.{ℕ, zero, suc, _<_}
+use mathlib.Core.Path.{_≡_, refl, sym, ap, _∙_}
+use mathlib.Core.Bool.{Bool, true, false, not, _||_}
+use mathlib.Core.List.{List, [], _∷_, map}
 use mathlib.Core.Option.{Option, some, none as nothing}
 use lib.ListN.{length}
 use native.Mathlib.Omega.{arith}
 use Rattle.rules.specs.Bytes.{Text, same}
 use Rattle.rules.specs.Text.{bytes, is-one-of}
 use Rattle.rules.specs.Maybe.{_>>=_, guard}
-use Rattle.rules.specs.Tree.{Tree, variable, atom, apply, Trees}
+use Rattle.rules.specs.Tree.{Tree, apply, Trees}
 use Rattle.rules.specs.Tree as T
-use Rattle.rules.specs.Reading.{leaf, as-written, after-token, read-term, read-list, wholly}
+use Rattle.rules.specs.Reading.{leaf, as-written, after-token, read-term, read-list}
 use Rattle.laws.proofs.Basics.Tests.{differ-of-ne, ne-of-differ}
 use Rattle.certificate.specs.Texts.{word-text}
 use Rattle.certificate.specs.Terms.{Term, node, Terms, none, more}
 use Rattle.certificate.specs.Items.{Item, begin, shut, comma, name}
-use Rattle.certificate.proofs.ItemTokens.{item-text, Named, Proper, nothing as no-items, begins, shuts, commas, names}
+use Rattle.certificate.proofs.ItemTokens.{item-text, Named, Proper, begins, shuts, commas, names}
 
 -- what reading gives: a value and the items after it
 abbrev pub Read : Type 0 → Type 0

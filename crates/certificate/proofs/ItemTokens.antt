@@ -1,11 +1,11 @@
 -- The items of a text are its tokens. Assumes nothing.
-use Prim.Native.Nat.{ℕ, zero, suc, _+_, _-_, _*_, _<_, _≤_, _/_, _%_}
+use Prim.Native.Nat.{ℕ, zero, suc, _+_, _-_, _<_, _≤_, _/_, _%_}
 use mathlib.Core.Path.{_≡_, refl, sym, ap, ap₂, subst, _∙_}
-use mathlib.Core.Bool.{Bool, true, false, cond}
-use mathlib.Core.List.{List, [], _∷_, _++_, map}
+use mathlib.Core.Bool.{false}
+use mathlib.Core.List.{List, [], _∷_, map}
 use mathlib.Core.Option.{Option, some, none}
-use lib.ListN.{length, getD, take, drop, length-take, length-drop}
-use lib.Seq.{getD-take, getD-drop, ext-getD, length-take-le, take-take}
+use lib.ListN.{length, take, drop, length-drop}
+use lib.Seq.{getD-take, getD-drop, ext-getD, length-take-le}
 use native.Mathlib.Omega.{arith}
 use Rattle.rules.specs.Bytes.{Text}
 use Rattle.rules.specs.Text.{bytes, is-one-of}
@@ -15,8 +15,8 @@ use Rattle.syntax.specs.Symbols.{symbol-at}
 use Rattle.syntax.specs.declared.Symbol.{Symbol}
 use Rattle.syntax.specs.declared.Symbol.the-variants.{Begin, Shut, Comma, Name, Stop, Bad}
 use Rattle.syntax.proofs.TokenList.{joined as joined-token}
-use Rattle.syntax.proofs.SymbolLaws.{Marks, Names, Means, means}
-use Rattle.certificate.specs.Texts.{word-text, Token}
+use Rattle.syntax.proofs.SymbolLaws.{Names, Means, means}
+use Rattle.certificate.specs.Texts.{word-text}
 use Rattle.certificate.specs.Items.{Item, begin, shut, comma, name, place, before, items-by, items, items-at}
 use Rattle.certificate.proofs.WordTexts.{text-place}
 

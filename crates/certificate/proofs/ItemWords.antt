@@ -1,7 +1,7 @@
 -- The words that are written for items are those of the flattened term that they are read as. Assumes nothing.
 use Prim.Native.Nat.{ℕ, zero, suc, _+_, _<_, _≤_}
-use mathlib.Core.Path.{_≡_, refl, sym, ap, ap₂, subst, _∙_}
-use mathlib.Core.Bool.{Bool, true, false, cond, not}
+use mathlib.Core.Path.{_≡_, refl, sym, ap, _∙_}
+use mathlib.Core.Bool.{Bool, true, false, not}
 use mathlib.Core.List.{List, [], _∷_, _++_, append-assoc, append-nil}
 use mathlib.Core.Option.{Option, some, none as nothing}
 use lib.Dec.{eqb}
@@ -10,9 +10,9 @@ use native.Mathlib.Omega.{arith}
 use Rattle.rules.specs.Bytes.{Text}
 use Rattle.rules.specs.Maybe.{_>>=_}
 use Rattle.certificate.specs.Terms.{Term, node, Terms, none, more, inner, headed, words, words-each}
-use Rattle.certificate.specs.Items.{Item, begin, shut, comma, name, Mode, wanting, naming, having, emits, adds, in-sum, opening, bracket, closing, finish, write}
-use Rattle.certificate.proofs.ItemTokens.{Proper, begins, shuts, commas, names}
-use Rattle.certificate.proofs.ItemTerms.{Read, opened, delimited, named, item-term, item-list, GoodTerm, GoodList, good-term, good-list}
+use Rattle.certificate.specs.Items.{Item, begin, shut, comma, name, wanting, naming, having, emits, adds, in-sum, opening, bracket, closing, finish, write}
+use Rattle.certificate.proofs.ItemTokens.{Proper, begins, commas, names}
+use Rattle.certificate.proofs.ItemTerms.{Read, opened, delimited, item-term, item-list, GoodTerm, good-term}
 use Rattle.certificate.specs.Spelling.{flat-by, splice-by, flatten, flattens, splice, splices, term-words, list-words}
 
 -- ---- words in front

@@ -1,6 +1,6 @@
 -- A part of a part of a list. Assumes nothing.
 use Prim.Native.Nat.{ℕ, _+_, _<_, _≤_}
-use mathlib.Core.Path.{_≡_, refl, sym, ap, ap₂, _∙_}
+use mathlib.Core.Path.{_≡_, sym, ap, _∙_}
 use mathlib.Core.List.{List}
 use lib.ListN.{length, getD, take, drop, length-drop, drop-of-length-le}
 use lib.Seq.{slice, slice-empty, length-slice, getD-take, getD-drop, ext-getD, take-nil, take-all, length-take-le, drop-drop}

@@ -1,18 +1,20 @@
 -- Texts as runs of words, byte by byte. Assumes nothing.
-use Prim.Native.Nat.{ℕ, zero, suc, _+_, _-_, _*_, _<_, _≤_, _/_, _%_}
+use Prim.Native.Nat.{ℕ, zero, suc, _+_, _-_, _<_, _≤_, _/_, _%_}
 use mathlib.Core.Path.{_≡_, refl, sym, ap, ap₂, _∙_}
-use mathlib.Core.Bool.{Bool, true, false, cond}
+use mathlib.Core.Bool.{Bool, true, false, cond, false≢true}
 use mathlib.Core.List.{List, [], _∷_, _++_}
 use lib.Dec.{eqb, ltb}
-use lib.ListN.{length, getD, take, drop, length-append, length-take, length-drop, List·getD-append}
+use lib.ListN.{length, getD, take, drop, length-append, length-drop, List·getD-append}
 use lib.Seq.{slice, slice-cons, slice-empty, drop-cons, drop-at, drop-append-le, length-take-le}
 use native.Mathlib.Omega.{arith}
 use native.Mathlib.Decide.{decLt}
 use native.Mathlib.Numerals.{add-one}
-use borrow.Author.Tests.{eq-eqb, ne-eqb, lt-ltb, le-ltb, eqb-true, eqb-false}
+use borrow.Author.Tests.{eq-eqb, ne-eqb, lt-ltb, le-ltb, eqb-true, eqb-false, ltb-true}
+use Rattle.rules.specs.Text.{bytes}
+use Rattle.laws.specs.Unspelled.{zeros, unspelled}
 use Rattle.tree.specs.Cells.{fixed-name}
-use Rattle.tree.proofs.FixedNames.{fixed-some}
-use Rattle.certificate.specs.Texts.{code-name, code-text, code-width, word-text, width-of, texts, Token, Tokens, lex, after}
+use Rattle.tree.proofs.FixedNames.{fixed-some, fixed-unspelled}
+use Rattle.certificate.specs.Texts.{code-name, code-text, code-width, word-text, width-of, texts, Token, lex, after, zeros-name, zeros-of, more-zeros}
 use Rattle.certificate.specs.declared.order.Order.{Order}
 use Rattle.certificate.specs.declared.order.Order.the-variants.{Less, Equal, Greater}
 use Rattle.certificate.specs.declared.order.Spot.{Spot}
@@ -184,6 +186,104 @@ unfolding lex
 lex-same [] u v = refl
 lex-same (x ∷ c) u v = rw (le-ltb x x (omega arith)) (lex-same c u v)
 
+-- names that no sheet spells
+unspelled-zeros : (n : ℕ) → unspelled n ≡ zeros-name (65536 + n)
+unfolding unspelled
+unspelled-zeros n = refl
+
+pub zeros-some : (x : ℕ) → x % 65536 ≡ 0 → 262 < x / 65536 → x / 65536 < 512 → zeros-of x ≡ x / 65536 + 65273
+unfolding zeros-of
+zeros-some x e h k = rw (eq-eqb (x % 65536) 0 e, lt-ltb 262 (x / 65536) h, lt-ltb (x / 65536) 512 k)
+
+pub zeros-low : (x : ℕ) → x % 65536 ≡ 0 → x / 65536 ≤ 262 → zeros-of x ≡ 0
+unfolding zeros-of
+zeros-low x e h = rw (eq-eqb (x % 65536) 0 e, le-ltb 262 (x / 65536) h)
+
+pub zeros-high : (x : ℕ) → x % 65536 ≡ 0 → 262 < x / 65536 → 512 ≤ x / 65536 → zeros-of x ≡ 0
+unfolding zeros-of
+zeros-high x e h k = rw (eq-eqb (x % 65536) 0 e, lt-ltb 262 (x / 65536) h, le-ltb (x / 65536) 512 k)
+
+pub zeros-place : (x : ℕ) → (x % 65536 ≡ 0 → ⊥) → zeros-of x ≡ 0
+unfolding zeros-of
+zeros-place x e = rw (ne-eqb (x % 65536) 0 e)
+
+pub zeros-small : (x : ℕ) → zeros-of x < 131072
+zeros-small x = elim (decLt 0 (x % 65536)) [
+  | yes p ↦ omega (arith, zeros-place x (omega arith))
+  | no p ↦ elim (decLt 262 (x / 65536)) [
+    | yes q ↦ elim (decLt (x / 65536) 512) [
+      | yes r ↦ omega (arith, zeros-some x (omega arith) q r)
+      | no r ↦ omega (arith, zeros-high x (omega arith) q (omega arith))
+    ]
+    | no q ↦ omega (arith, zeros-low x (omega arith) (omega arith))
+  ]
+]
+
+spelled-zeros : (s : List ℕ) (x : ℕ) → x % 65536 ≡ 0 → 262 < x / 65536 → x / 65536 < 512 → word-text s x ≡ zeros-name (zeros-of x)
+spelled-zeros s x e h k =
+    let c = x / 65536 in
+    let z : 65536 + (c - 256 - 7) ≡ zeros-of x = omega (arith, zeros-some x e h k) in
+    text-mark s x e ∙ code-named c (omega arith) k .0 ∙ name-fixed (c - 256) (λ q. omega arith) ∙ fixed-unspelled (c - 256) (omega arith) ∙ unspelled-zeros (c - 256 - 7) ∙ ap zeros-name z
+
+pub text-zeros : (s : List ℕ) (x : ℕ) → 0 < zeros-of x → word-text s x ≡ zeros-name (zeros-of x)
+text-zeros s x h = elim (decLt 0 (x % 65536)) [
+  | yes p ↦ absurd (omega (arith, zeros-place x (omega arith)))
+  | no p ↦ elim (decLt 262 (x / 65536)) [
+    | yes q ↦ elim (decLt (x / 65536) 512) [
+      | yes r ↦ spelled-zeros s x (omega arith) q r
+      | no r ↦ absurd (omega (arith, zeros-high x (omega arith) q (omega arith)))
+    ]
+    | no q ↦ absurd (omega (arith, zeros-low x (omega arith) (omega arith)))
+  ]
+]
+
+-- of two such the one with more zeros is less
+zeros-less : (m n : ℕ) → n < m → (u v : List ℕ)
+    → (lex ((zeros m ++ bytes ":Msg") ++ u) ((zeros n ++ bytes ":Msg") ++ v) ≡ Less) × (lex ((zeros n ++ bytes ":Msg") ++ v) ((zeros m ++ bytes ":Msg") ++ u) ≡ Greater)
+unfolding zeros lex
+zeros-less zero n h u v = absurd (omega arith)
+zeros-less (suc m) zero h u v = (refl, refl)
+zeros-less (suc m) (suc n) h u v = zeros-less m n (omega arith) u v
+
+zeros-named : (m n : ℕ) → n < m → (u v : List ℕ) → (lex (zeros-name m ++ u) (zeros-name n ++ v) ≡ Less) × (lex (zeros-name n ++ v) (zeros-name m ++ u) ≡ Greater)
+unfolding lex
+zeros-named m n h u v = zeros-less m n h u v
+
+pub inner-zeros : (x y a b : ℕ) → 0 < a + b → more-zeros x y a b ≡ false
+unfolding more-zeros
+inner-zeros x y a b h = rw (ne-eqb (a + b) 0 (λ e. omega arith))
+
+pub no-zeros : (x y a b : ℕ) → a + b ≡ 0 → zeros-of y ≡ 0 → more-zeros x y a b ≡ false
+unfolding more-zeros
+no-zeros x y a b e z = rw (eq-eqb (a + b) 0 e, eq-eqb (zeros-of y) 0 z)
+
+pub both-zeros : (x y a b : ℕ) → a + b ≡ 0 → (zeros-of y ≡ 0 → ⊥) → more-zeros x y a b ≡ ltb (zeros-of y) (zeros-of x)
+unfolding more-zeros
+both-zeros x y a b e z = rw (eq-eqb (a + b) 0 e, ne-eqb (zeros-of y) 0 z)
+
+-- the text of the word x is less than that of the word y, whatever follows them, and both are whole
+pub record Before (x y a b : ℕ) : Type 0 where
+  pub whole : a + b ≡ 0
+  pub less : (s u v : List ℕ) → lex (word-text s x ++ u) (word-text s y ++ v) ≡ Less
+  pub greater : (s u v : List ℕ) → lex (word-text s y ++ v) (word-text s x ++ u) ≡ Greater
+
+pub zeros-before : (x y a b : ℕ) → more-zeros x y a b ≡ true → Before x y a b
+zeros-before x y a b h = elim (decLt 0 (a + b)) [
+  | yes p ↦ absurd (false≢true (sym (inner-zeros x y a b p) ∙ h))
+  | no p ↦ elim (decLt 0 (zeros-of y)) [
+    | no q ↦ absurd (false≢true (sym (no-zeros x y a b (omega arith) (omega arith)) ∙ h))
+    | yes q ↦ (
+        let l = ltb-true (zeros-of y) (zeros-of x) (sym (both-zeros x y a b (omega arith) (λ e. omega arith)) ∙ h) in
+        let z = zeros-named (zeros-of x) (zeros-of y) l in
+        record {
+          whole = omega arith;
+          less = λ s u v. rw (text-zeros s x (omega arith), text-zeros s y q) (z u v .0);
+          greater = λ s u v. rw (text-zeros s x (omega arith), text-zeros s y q) (z u v .1);
+        }
+        )
+  ]
+]
+
 -- a turn of the comparison, at the spots l and r
 module _ (s w : List ℕ) (from to start end : ℕ) (f : to ≤ length w) (g : end ≤ length w) (l r : Spot) (hl : At w from to l) (hr : At w start end r) where
   pub ended : to ≤ l .word → end ≤ r .word → lex (rest-at s w to l) (rest-at s w end r) ≡ Equal
@@ -215,6 +315,23 @@ module _ (s w : List ℕ) (from to start end : ℕ) (f : to ≤ length w) (g : e
         let d = drop (l .byte) (word-text s (getD w (l .word) 0)) in
         let k = ap length (rest-split s w to f (l .word) (l .byte) p t (hl .within p)) in
         omega (arith, length-append d (rest s w to (l .word + 1) 0), length-drop (l .byte) (word-text s (getD w (l .word) 0)), width-text s (getD w (l .word) 0) t, hl .within p)
+
+    -- two words of which one is less, both from their first byte on
+    whole-left : l .byte ≡ 0 → rest-at s w to l ≡ word-text s x ++ rest s w to (l .word + 1) 0
+    whole-left e = rest-split s w to f (l .word) (l .byte) p t (hl .within p) ∙ rw (e, ex)
+
+    whole-right : r .byte ≡ 0 → rest-at s w end r ≡ word-text s y ++ rest s w end (r .word + 1) 0
+    whole-right e = rest-split s w end g (r .word) (r .byte) q u (hr .within q) ∙ rw (e, ey)
+
+    pub told-less : more-zeros x y (l .byte) (r .byte) ≡ true → lex (rest-at s w to l) (rest-at s w end r) ≡ Less
+    told-less m =
+        let h = zeros-before x y (l .byte) (r .byte) m in
+        ap₂ lex (whole-left (omega (arith, h .whole))) (whole-right (omega (arith, h .whole))) ∙ h .less s (rest s w to (l .word + 1) 0) (rest s w end (r .word + 1) 0)
+
+    pub told-greater : more-zeros y x (r .byte) (l .byte) ≡ true → lex (rest-at s w to l) (rest-at s w end r) ≡ Greater
+    told-greater m =
+        let h = zeros-before y x (r .byte) (l .byte) m in
+        ap₂ lex (whole-left (omega (arith, h .whole))) (whole-right (omega (arith, h .whole))) ∙ h .greater s (rest s w end (r .word + 1) 0) (rest s w to (l .word + 1) 0)
 
     module _ (a b : ℕ) (ea : a ≡ getD (word-text s x) (l .byte) 0) (eb : b ≡ getD (word-text s y) (r .byte) 0) where
       left-byte : rest-at s w to l ≡ a ∷ rest s w to (l .word) (l .byte + 1)

@@ -1,5 +1,5 @@
 -- The state of the writer of words, and what each turn makes of it. Assumes nothing.
-use Prim.Native.Nat.{ℕ, zero, suc, _+_, _-_, _<_, _≤_, _/_, _%_}
+use Prim.Native.Nat.{ℕ, _+_, _-_, _<_, _≤_}
 use mathlib.Core.Path.{_≡_, refl, sym, ap, ap₂, subst, _∙_}
 use mathlib.Core.Bool.{Bool, true, false, cond}
 use mathlib.Core.List.{List, [], _∷_, _++_, append-nil}
@@ -7,8 +7,8 @@ use mathlib.Core.Option.{Option, some, none}
 use denote.Enum.Declared.{tagOf}
 use types.Run.{OneOf}
 use lib.Dec.{eqb}
-use lib.ListN.{length, getD, take, drop, set, length-set}
-use lib.Seq.{slice, length-slice, getD-set-other, length-take-le}
+use lib.ListN.{length, getD, take, set}
+use lib.Seq.{slice, length-slice, length-take-le}
 use native.Mathlib.Omega.{arith}
 use native.Mathlib.Numerals.{add-one}
 use native.Mathlib.Decide.{decLt}
@@ -17,12 +17,11 @@ use Rattle.syntax.specs.Symbols.{symbol-at}
 use Rattle.syntax.specs.declared.Symbol.{Symbol}
 use Rattle.syntax.specs.declared.Symbol.the-variants.{Begin, Shut, Comma, Name, Stop, Bad}
 use Rattle.syntax.proofs.Symbol.{the-type}
-use Rattle.syntax.proofs.SymbolLaws.{Marks, Names, Means, means-is}
-use Rattle.text.specs.Sorting.{Wrote}
+use Rattle.syntax.proofs.SymbolLaws.{Marks, means-is}
 use Rattle.text.proofs.Slices.{slice-same, slice-join, slice-none}
 use Rattle.certificate.specs.Texts.{Token, Tokens}
-use Rattle.certificate.specs.Items.{Item, begin, shut, comma, name, place, before, items-by, items-at, Mode, wanting, naming, having, emits, adds, in-sum, opening, bracket, closing, write, writes, brackets, written}
-use Rattle.certificate.specs.Writer.{Opened, Closed, Kept, Done, Outcome, finished}
+use Rattle.certificate.specs.Items.{Item, begin, shut, comma, name, place, items-by, items-at, Mode, wanting, naming, having, emits, adds, in-sum, opening, bracket, closing, write, writes, brackets, written}
+use Rattle.certificate.specs.Writer.{Opened, Closed, Kept, Outcome, finished}
 use Rattle.certificate.specs.declared.writer.Written.{Written}
 use Rattle.certificate.proofs.NameWords.{code-token}
 use Rattle.certificate.proofs.Settling.{Each, none as no-words, more as more-words, each-at, slice-at}

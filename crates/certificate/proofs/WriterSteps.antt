@@ -1,9 +1,8 @@
 -- The steps of the writer of words: one or two words written, a bracket looked up, a name tested. Assumes nothing.
-use Prim.Native.Nat.{ℕ, zero, suc, _+_, _-_, _*_, _<_, _≤_, _/_, _%_}
+use Prim.Native.Nat.{ℕ, zero, suc, _+_, _-_, _<_, _≤_}
 use mathlib.Core.Path.{_≡_, refl, sym, ap, ap₂, subst, _∙_}
-use mathlib.Core.Bool.{Bool, true, false, cond, not}
+use mathlib.Core.Bool.{Bool, true, false}
 use mathlib.Core.List.{List, [], _∷_, _++_}
-use lib.Dec.{eqb}
 use lib.ListN.{length, getD, take, drop, set, length-set}
 use lib.Seq.{slice, getD-set-same, getD-set-other}
 use native.Mathlib.Omega.{arith}
@@ -12,9 +11,8 @@ use Rattle.rules.specs.Bytes.{Text, same}
 use Rattle.rules.specs.Tree.{tamtplus}
 use Rattle.text.specs.Sorting.{Wrote}
 use Rattle.text.proofs.Slices.{slice-none, slice-set, slice-same}
-use Rattle.certificate.specs.Texts.{word-text}
 use Rattle.certificate.specs.Items.{place, adds, in-sum, opening, bracket, closing, brackets}
-use Rattle.certificate.specs.Writer.{Opened, Closed}
+use Rattle.certificate.specs.Writer.{Opened}
 use Rattle.certificate.proofs.ItemTokens.{place-text}
 
 -- ---- words written

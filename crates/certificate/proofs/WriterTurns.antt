@@ -1,24 +1,17 @@
 -- The turns of the writer of words, by the symbol that is read. Assumes nothing.
-use Prim.Native.Nat.{ℕ, zero, suc, _+_, _-_, _<_, _≤_, _/_, _%_}
-use mathlib.Core.Path.{_≡_, refl, sym, ap, ap₂, subst, _∙_}
-use mathlib.Core.Bool.{Bool, true, false}
-use mathlib.Core.List.{List, [], _∷_, _++_, append-assoc, append-nil}
+use Prim.Native.Nat.{ℕ}
+use mathlib.Core.Path.{_≡_, refl}
+use mathlib.Core.List.{List, [], _∷_}
 use mathlib.Core.Logic.{⊎-elim}
 use mathlib.Core.Option.{Option, some, none}
 use denote.Enum.Declared.{tagOf}
 use types.Run.{OneOf}
-use lib.ListN.{length, getD, take, drop, set, length-set}
-use lib.Seq.{slice, getD-set-same, getD-set-other, length-take-le}
 use native.Mathlib.Omega.{arith}
-use native.Mathlib.Numerals.{add-one}
 use Rattle.rules.specs.Bytes.{Text}
-use Rattle.rules.specs.Maybe.{_>>=_}
-use Rattle.syntax.specs.Symbols.{symbol-at}
 use Rattle.syntax.specs.declared.Symbol.{Symbol}
 use Rattle.syntax.specs.declared.Symbol.the-variants.{Begin, Shut, Comma, Name, Stop, Bad}
 use Rattle.syntax.proofs.Symbol.{the-type}
-use Rattle.syntax.proofs.SymbolLaws.{Marks, Names, Means, means-is}
-use Rattle.certificate.specs.Items.{Item, begin, shut, comma, name, place, before, items-by, items-at, Mode, wanting, naming, having, emits, adds, in-sum, opening, bracket, closing, write, writes, brackets, written}
+use Rattle.certificate.specs.Items.{Item, begin, shut, comma, name, place, before, items-by, Mode, wanting, naming, having, emits, adds, in-sum, opening, bracket, closing, write, writes}
 use Rattle.certificate.specs.Writer.{finished}
 use Rattle.certificate.specs.declared.writer.Written.the-variants.{Unreadable}
 

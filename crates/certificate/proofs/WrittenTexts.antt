@@ -1,22 +1,20 @@
 -- What is written for a text, once its sums are sorted, has the canonical text of the tree that is read. Assumes nothing.
-use Prim.Native.Nat.{ℕ, zero, suc, _+_, _<_, _≤_, _%_}
-use mathlib.Core.Path.{_≡_, refl, sym, ap, ap₂, subst, _∙_}
-use mathlib.Core.Bool.{Bool, true, false}
-use mathlib.Core.List.{List, [], _∷_, _++_, map, append-nil}
+use Prim.Native.Nat.{ℕ, suc, _<_, _≤_}
+use mathlib.Core.Path.{_≡_, refl, sym, ap, subst, _∙_}
+use mathlib.Core.List.{List, [], _∷_, map, append-nil}
 use mathlib.Core.Option.{Option, some, none as nothing}
 use lib.ListN.{length, take, drop}
 use native.Mathlib.Omega.{arith}
 use Rattle.rules.specs.Bytes.{Text}
 use Rattle.rules.specs.Maybe.{_>>=_}
 use Rattle.rules.specs.Tree.{Tree}
-use Rattle.rules.specs.Tokens.{tokens}
 use Rattle.rules.specs.Reading.{as-written, read-term, read-text, wholly, canonical-text}
 use Rattle.rules.specs.Sums.{canonical}
 use Rattle.certificate.specs.Texts.{texts}
 use Rattle.certificate.specs.Settle.{settled}
-use Rattle.certificate.specs.Terms.{Term, node, Terms, none, more, words}
-use Rattle.certificate.specs.Items.{Item, begin, shut, comma, name, wanting, having, write, writes, items-at, adds, written}
-use Rattle.certificate.proofs.ItemTokens.{item-text, Named, Proper, tokens-items, items-proper}
+use Rattle.certificate.specs.Terms.{Term, words}
+use Rattle.certificate.specs.Items.{Item, begin, shut, comma, name, wanting, write, writes, items-at, written}
+use Rattle.certificate.proofs.ItemTokens.{item-text, Proper, tokens-items, items-proper}
 use Rattle.certificate.proofs.ItemTerms.{Read, item-term, tree-of, term-read, good-term, GoodTerm, NamedTerm}
 use Rattle.certificate.specs.Spelling.{flatten}
 use Rattle.certificate.proofs.Flattening.{named-spells}

@@ -1,9 +1,9 @@
 -- Terms whose names are words, their words, and their canonical words: the summands of each sum sorted by their texts. Definitions only.
-use Prim.Native.Nat.{ℕ, zero, suc, _+_}
-use mathlib.Core.Bool.{Bool, true, false, cond}
+use Prim.Native.Nat.{ℕ}
+use mathlib.Core.Bool.{cond}
 use mathlib.Core.List.{List, [], _∷_, _++_}
 use lib.Dec.{eqb}
-use Rattle.rules.specs.Bytes.{upto, insert, sort}
+use Rattle.rules.specs.Bytes.{upto, sort}
 use Rattle.rules.specs.Writing.{listed}
 use Rattle.certificate.specs.Texts.{word-text, texts}
 

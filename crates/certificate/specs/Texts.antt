@@ -1,13 +1,14 @@
 -- Texts as runs of words. A word is start * 65536 + length, a place of the sheet; with length 0 the start is a code: below 256 it
 -- is a mark, that one byte; from 256 on it is the name of sums or a fixed name; from 512 on it is one byte that is no mark.
 -- Definitions only.
-use Prim.Native.Nat.{ℕ, zero, suc, _+_, _-_, _*_, _<_, _≤_, _/_, _%_}
-use mathlib.Core.Path.{_≡_}
-use mathlib.Core.Bool.{Bool, true, false, cond}
+use Prim.Native.Nat.{ℕ, zero, suc, _+_, _-_, _<_, _≤_, _/_, _%_}
+use mathlib.Core.Bool.{Bool, false, cond}
 use mathlib.Core.List.{List, [], _∷_, _++_}
 use lib.Dec.{eqb, ltb}
 use lib.ListN.{length, getD, take, drop}
+use Rattle.rules.specs.Text.{bytes}
 use Rattle.rules.specs.Tree.{tamtplus}
+use Rattle.laws.specs.Unspelled.{zeros}
 use Rattle.tree.specs.Cells.{fixed-name}
 use Rattle.certificate.specs.declared.order.Order.{Order}
 use Rattle.certificate.specs.declared.order.Order.the-variants.{Less, Equal, Greater}
@@ -58,3 +59,16 @@ lex (x ∷ a) (y ∷ b) = cond (ltb x y) Less (cond (ltb y x) Greater (lex a b))
 -- the spot after a spot, where x is the spot's word
 unfoldable pub after : ℕ → Spot → Spot
 after x p = cond (eqb (p .byte + 1) (width-of x)) (record { word = p .word + 1; byte = 0 }) (record { word = p .word; byte = p .byte + 1 })
+
+-- the name of an x, so many zeros, a colon and Msg
+abbrev pub zeros-name : ℕ → List ℕ
+zeros-name n = 120 ∷ (zeros n ++ bytes ":Msg")
+
+-- how many zeros the word x has if its name is one that no sheet spells, and 0 for any other word
+unfoldable pub zeros-of : ℕ → ℕ
+zeros-of x = cond (eqb (x % 65536) 0) (cond (ltb 262 (x / 65536)) (cond (ltb (x / 65536) 512) (x / 65536 + 65273) 0) 0) 0
+
+-- the words x and y, from their bytes a and b on, are two such whole words, and x has more zeros
+unfoldable pub more-zeros : ℕ → ℕ → ℕ → ℕ → Bool
+unfolding zeros-of
+more-zeros x y a b = cond (eqb (a + b) 0) (cond (eqb (zeros-of y) 0) false (ltb (zeros-of y) (zeros-of x))) false

@@ -3,7 +3,7 @@ ghost use mathlib.Core.Path.{_≡_};
 ghost use Prim.Native.Nat.{_+_, _<_, _≤_};
 ghost use lib.ListN.{length, getD};
 ghost use lib.Seq.{slice};
-ghost use Rattle.certificate.specs.Texts.{code-name, code-text, code-width, Token, Tokens, width-of, word-text, texts, after, lex};
+ghost use Rattle.certificate.specs.Texts.{code-name, code-text, code-width, Token, Tokens, width-of, word-text, texts, after, lex, zeros-of, more-zeros};
 use text::places;
 use tree::fixed::fixed_byte;
 use tree::fixed::fixed_len;
@@ -115,6 +115,38 @@ pub fn after(x: usize, at: Spot) -> Spot
     }
 }
 
+// How many zeros the word x has if its name is one that no sheet spells, and 0 for any other word.
+pub fn zeros_of(x: usize) -> usize
+    ensures { λ r. ⌜ r ≡ zeros-of x ⌝ }
+{
+    let code = x / 65536;
+    if x % 65536 == 0 {
+        if 262 < code {
+            if code < 512 {
+                return code + 65273;
+            }
+        }
+    }
+    0
+}
+
+// Whether the words x and y, from their bytes a and b on, are two such whole words, and x has more zeros: then x is less.
+fn more_zeros(x: usize, y: usize, a: usize, b: usize) -> bool
+    ensures { λ r. ⌜ r ≡ more-zeros x y a b ⌝ }
+{
+    if 0 < a {
+        return false;
+    }
+    if 0 < b {
+        return false;
+    }
+    let n = zeros_of(y);
+    if n == 0 {
+        return false;
+    }
+    n < zeros_of(x)
+}
+
 // How the text of the words from `from` to `to` stands to that of the words from `start` to `end`.
 pub fn compare(
     sheet: &[u8],
@@ -166,6 +198,12 @@ pub fn compare(
                 };
                 continue;
             }
+        }
+        if more_zeros(x, y, a, b) {
+            return Order::Less;
+        }
+        if more_zeros(y, x, b, a) {
+            return Order::Greater;
         }
         let p = byte_of(sheet, x, a);
         let q = byte_of(sheet, y, b);

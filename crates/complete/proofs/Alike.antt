@@ -5,26 +5,25 @@ use mathlib.Core.Path.{_≡_, refl, sym, ap, ap₂, _∙_}
 use mathlib.Core.Bool.{Bool, true, false, not, false≢true}
 use mathlib.Core.List.{List, [], _∷_, _++_, map, reverse}
 use mathlib.Core.Option.{Option, some, none as nothing}
-use lib.Dec.{eqb}
 use lib.ListN.{getD, drop}
 use borrow.Author.Tests.{ne-eqb}
 use Rattle.rules.specs.Bytes.{Text}
 use Rattle.rules.specs.Names.{variable-token}
 use Rattle.rules.specs.Maybe.{_>>=_}
-use Rattle.rules.specs.Tree.{Tree, apply, Trees, none, more}
+use Rattle.rules.specs.Tree.{Tree, Trees}
 use Rattle.rules.specs.Substitution.{Binding, Pair, lookup}
 use Rattle.rules.specs.Sums.{equivalent}
 use Rattle.rules.specs.Reduction.{normalize}
 use Rattle.rules.specs.Solving.{Verdict, solved, failed, unsupported, unify}
 use Rattle.rules.specs.Cover.{covering}
 use Rattle.rules.specs.Variants.{Variant, instance-of, Scheme, schemes-from, system, generalized}
-use Rattle.rules.specs.Schemes.{Judgement, pending, settled, answered, judge-tests, judge-instance, judge, judge-verdict, judged, judged-from}
+use Rattle.rules.specs.Schemes.{Judgement, pending, settled, judge-tests, judge-instance, judge, judge-verdict, judged, judged-from}
 use Rattle.laws.proofs.Variants.Targets.{All}
 use Rattle.laws.proofs.Variants.VariableOrder.{Token}
 use Rattle.substitution.specs.Bindings.{bindings-of}
 use Rattle.variants.specs.Members.{nameable, Alike}
 use Rattle.cover.proofs.Listings.{second-byte}
-use Rattle.complete.specs.Families.{member-tree, Stands, Family, nil, next}
+use Rattle.complete.specs.Families.{Stands, Family, nil, next}
 use Rattle.complete.specs.Generalizing.{member-of, variants-of, member-pairs}
 use Rattle.complete.proofs.AnyOrder.{generalized-reverse}
 

@@ -1,5 +1,5 @@
 -- The words of a sheet of kind `complete` are enough for each of its schemes. Assumes nothing.
-use Prim.Native.Nat.{ℕ, _+_, _*_, _<_, _≤_, _^_}
+use Prim.Native.Nat.{ℕ, _+_, _*_, _<_, _≤_}
 use mathlib.Core.Path.{_≡_, refl, sym, ap, subst, _∙_}
 use mathlib.Core.Bool.{true}
 use mathlib.Core.List.{List, [], _∷_, map, reverse, reverseAux, List·Memᴰ, List·Memᴰ·head, List·Memᴰ·tail, List·Memᴰ·not-nil}
@@ -9,7 +9,7 @@ use native.Mathlib.Omega.{arith}
 use Rattle.rules.specs.Bytes.{Text}
 use Rattle.rules.specs.Text.{bytes, count-of}
 use Rattle.rules.specs.Maybe.{every}
-use Rattle.rules.specs.Tree.{Tree, Trees, none, more, size}
+use Rattle.rules.specs.Tree.{Tree, Trees, size}
 use Rattle.rules.specs.Substitution.{Binding, Pair, instantiate, size-pairs}
 use Rattle.rules.specs.Solving.{solved, unify}
 use Rattle.rules.specs.Sheet.{Sheet, Member, asks-complete}
@@ -17,7 +17,7 @@ use Rattle.rules.specs.Cover.{variables}
 use Rattle.rules.specs.Names.{variable-token}
 use Rattle.rules.specs.Variants.{Variant, read-member, schemes-from, scheme-count}
 use Rattle.rules.specs.Schemes.{scheme-at}
-use Rattle.rules.specs.Memory.{OverPairs, variable-names, entry-keys, entry-values, member-texts, member-keys, sheet-texts, sheet-keys, weight, sites}
+use Rattle.rules.specs.Memory.{OverPairs, variable-names, entry-keys, entry-values, sheet-texts, sheet-keys, weight, sites}
 use Rattle.laws.proofs.Basics.Options.{bound}
 use Rattle.laws.proofs.Reading.Measures.{total}
 use Rattle.laws.proofs.Reading.Colons.{parse-colons, parse-size, parse-brackets}
@@ -39,8 +39,8 @@ use Rattle.sheet.proofs.WordLaws.{count-bound}
 use Rattle.unifier.specs.Stack.{FitPairs}
 use Rattle.unifier.specs.Area.{Room}
 use Rattle.cover.specs.Covering.{Matched}
-use Rattle.complete.specs.Families.{Stands, Family, nil, next}
-use Rattle.complete.specs.Generalizing.{member-of, member-pairs, IsMember, AllMatched}
+use Rattle.complete.specs.Families.{Family, nil, next}
+use Rattle.complete.specs.Generalizing.{member-pairs, AllMatched}
 use Rattle.complete.specs.Judging.{fuel-for, system-of, solved-end, Judgeable}
 use Rattle.complete.specs.Completing.{Asks}
 use Rattle.complete.proofs.Alike.{stands-alike}

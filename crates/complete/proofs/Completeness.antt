@@ -1,17 +1,16 @@
 -- The term's variables, the fresh ones and the members in cells, and what judging the schemes over them says. Assumes nothing.
-use Prim.Native.Nat.{ℕ, _+_, _*_, _-_, _<_, _≤_, _^_}
+use Prim.Native.Nat.{ℕ, _+_, _*_, _<_, _≤_, _^_}
 use mathlib.Core.Path.{_≡_, refl, sym, ap, subst, _∙_}
 use mathlib.Core.Bool.{Bool, true, false, cond}
-use mathlib.Core.List.{List, [], _∷_, map, reverse}
+use mathlib.Core.List.{List, [], map, reverse}
 use mathlib.Core.Option.{Option, some, none as nothing, Option·some-injective}
 use lib.Dec.{leb}
 use lib.ListN.{length}
 use native.Mathlib.Omega.{arith}
 use Rattle.rules.specs.Bytes.{Text}
-use Rattle.rules.specs.Text.{count-of}
 use Rattle.rules.specs.Names.{variable-token}
 use Rattle.rules.specs.Maybe.{every}
-use Rattle.rules.specs.Tree.{Tree, Trees, size}
+use Rattle.rules.specs.Tree.{Trees, size}
 use Rattle.rules.specs.Sheet.{Member, asks-complete}
 use Rattle.rules.specs.Cover.{variables}
 use Rattle.rules.specs.Variants.{Variant, read-member, fresh-base, fresh-from, scheme-count, complete}
@@ -23,13 +22,12 @@ use Rattle.laws.proofs.Sheets.SheetParts.{sheet-parts}
 use Rattle.laws.proofs.Variants.OnePass.{complete-unread, complete-unindexed, complete-over}
 use Rattle.laws.proofs.Renaming.AnyNames.{chosen-tokens, complete-chosen}
 use Rattle.tree.specs.Cells.{tree-at, trees-at}
-use Rattle.tree.specs.Arena.{Arena}
+use Rattle.tree.specs.Arena.{Arena, Below}
 use Rattle.tree.proofs.Decoding.{frame-tree, frame-trees}
+use Rattle.tree.proofs.Areas.{below-then, below-grown}
 use Rattle.sheet.specs.Members.{members-at}
 use Rattle.sheet.proofs.WordLaws.{count-bound}
-use Rattle.unifier.specs.Area.{Below}
-use Rattle.unifier.proofs.Areas.{below-then, below-grown}
-use Rattle.variants.specs.Members.{Room}
+use Rattle.variants.specs.Members.{TextsRoom}
 use Rattle.variants.specs.Soundness.{claim}
 use Rattle.variants.specs.declared.soundness.Claim.{Claim}
 use Rattle.variants.specs.declared.soundness.Claim.the-variants.{Nothing}
@@ -45,12 +43,12 @@ use Rattle.complete.specs.declared.families.Members.the-variants.{Unread
 use Rattle.complete.specs.Searching.{spells}
 use Rattle.complete.specs.Fresh.{chosen-in, WritesFresh}
 use Rattle.complete.specs.Generalizing.{variants-at}
-use Rattle.complete.specs.Judging.{Judgeable, CanJudgeAll, JudgesAll}
+use Rattle.complete.specs.Judging.{CanJudgeAll, JudgesAll}
 use Rattle.complete.specs.TermNames.{TermNames}
 use Rattle.complete.specs.Completing.{Asks, ClaimsComplete}
 use Rattle.complete.proofs.Finding.{part-is-spelled}
 use Rattle.complete.proofs.Alike.{family-judges}
-use Rattle.complete.proofs.Asking.{asked-small, asked-names, asked-tokens, asked-bytes, asked-colons, asked-judgeable}
+use Rattle.complete.proofs.Asking.{asked-names, asked-tokens, asked-bytes, asked-colons, asked-judgeable}
 
 -- the count of schemes
 counted-some : (n c : ℕ) → Schemes c ≡ counted n → (c ≡ n) × (c ≤ 4096)
@@ -114,7 +112,7 @@ module _ {s : Text} {w : List ℕ} {free term named at : ℕ} (k : Asks s w free
     count-now c e = let r = counted-some (scheme-count (tree-at s v term)) c e in (r .0 ∙ sym (ap scheme-count term-now), r .1)
 
     -- the words for the fresh variables and the members
-    pub members-room : (u : List ℕ) (end : ℕ) → end ≡ top + 24 → length u ≡ length v → Room s u end at
+    pub members-room : (u : List ℕ) (end : ℕ) → end ≡ top + 24 → length u ≡ length v → TextsRoom s u end at
     members-room u end e l =
         let x = asked-names k in
         let c = asked-colons k in
@@ -122,7 +120,7 @@ module _ {s : Text} {w : List ℕ} {free term named at : ℕ} (k : Asks s w free
 
     module _ {u x : List ℕ} {end index stop : ℕ} (e : end ≡ top + 24) (kept : Below v u top) (read : ReadMembers s u x end at index stop) where
       members-kept : Below v x top
-      members-kept = below-then kept (record { len = read .kept .len; words = read .kept .below }) (omega arith)
+      members-kept = below-then kept (read .kept) (omega arith)
 
       all-kept : Below w x free
       all-kept = below-then (t .below) members-kept (omega (arith, t .used))
@@ -153,7 +151,7 @@ module _ {s : Text} {w : List ℕ} {free term named at : ℕ} (k : Asks s w free
         fresh-kept b = record {
           some-cell = f .some-cell;
           inside = omega (arith, f .inside, read .grew);
-          trees = λ i l. sym (frame-tree s x (b .links) (read .kept .below) (top + i) (omega (arith, f .some-cell)) (omega (arith, f .inside))) ∙ f .trees i l;
+          trees = λ i l. sym (frame-tree s x (b .links) (read .kept .words) (top + i) (omega (arith, f .some-cell)) (omega (arith, f .inside))) ∙ f .trees i l;
         }
 
         can-judge : Arena s u end → ((n : ℕ) → variable-token (name n) ≡ true) → (count : ℕ) → count ≡ scheme-count (tree-at s w term) → CanJudgeAll s x stop top named names index term count
@@ -180,7 +178,7 @@ module _ {s : Text} {w : List ℕ} {free term named at : ℕ} (k : Asks s w free
     pub unread-claims : {u x : List ℕ} {end : ℕ} → WritesFresh s v u top base end → ReadsMembers s u x end at Unreadable → ClaimsComplete s w x free term at Nothing
     unread-claims f r =
         claims-unread (r .0)
-        (below-then (below-then (t .below) (below-grown (f .grown)) (omega (arith, t .used))) (record { len = r .1 .len; words = r .1 .below }) (omega (arith, t .used, f .end)))
+        (below-then (below-then (t .below) (below-grown (f .grown)) (omega (arith, t .used))) (r .1) (omega (arith, t .used, f .end)))
 
     -- with the fresh variables of the sheet
     module _ {u x : List ℕ} {end index stop : ℕ} (f : WritesFresh s v u top base end) (read : ReadMembers s u x end at index stop) where

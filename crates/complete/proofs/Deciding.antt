@@ -1,7 +1,7 @@
 -- The schemes one after the other: what each makes of what was decided before it. Assumes nothing.
-use Prim.Native.Nat.{ℕ, _+_, _*_, _<_, _≤_}
+use Prim.Native.Nat.{ℕ, _+_, _<_, _≤_}
 use mathlib.Core.Path.{_≡_, refl, sym, ap, ap₂, subst, _∙_}
-use mathlib.Core.Bool.{Bool, true, false}
+use mathlib.Core.Bool.{Bool, false}
 use mathlib.Core.List.{List, [], _∷_}
 use mathlib.Core.Option.{Option, some, none as nothing, Option·some-injective, Option·none-ne-some}
 use lib.ListN.{length}
@@ -17,13 +17,12 @@ use Rattle.rules.specs.Variants.{Variant, scheme-count}
 use Rattle.rules.specs.Schemes.{scheme-at, Judgement, pending, settled, answered, judge, judge-verdict, judged-from}
 use Rattle.laws.proofs.Variants.OnePass.{judged-next, judged-end}
 use Rattle.tree.specs.Cells.{tree-at, trees-at}
-use Rattle.tree.specs.Arena.{Arena}
+use Rattle.tree.specs.Arena.{Arena, Below}
 use Rattle.tree.proofs.Decoding.{frame-tree, frame-trees}
-use Rattle.unifier.specs.Area.{Below}
+use Rattle.tree.proofs.Areas.{below-same, below-then}
 use Rattle.unifier.proofs.Tops.{pairs-are}
 use Rattle.schemes.specs.Building.{Fresh, Systems}
 use Rattle.schemes.specs.declared.systems.System.{System}
-use Rattle.unifier.proofs.Areas.{below-same, below-then}
 use Rattle.variants.specs.Soundness.{claim}
 use Rattle.variants.specs.declared.soundness.Claim.{Claim}
 use Rattle.variants.specs.declared.soundness.Claim.the-variants.{Yes, No, Nothing}

@@ -2,7 +2,6 @@
 use Prim.Native.Nat.{ℕ, zero, suc, _+_, _<_, _≤_}
 use mathlib.Core.Path.{_≡_, refl, sym, ap, ap₂, _∙_}
 use mathlib.Core.Bool.{Bool, true, false, _&&_, _||_, false≢true}
-use mathlib.Core.Logic.{_⊎_, inl, inr}
 use mathlib.Core.List.{[], _∷_}
 use lib.Dec.{eqb}
 use lib.ListN.{length, getD, take, drop, drop-of-length-le, length-drop}
@@ -11,8 +10,7 @@ use native.Mathlib.Omega.{arith}
 use borrow.Author.Tests.{eq-eqb, ne-eqb, eqb-true}
 use Rattle.rules.specs.Bytes.{Text}
 use Rattle.laws.specs.Parts.{PartOf}
-use Rattle.laws.proofs.Basics.Tests.{and-left, and-right, and-both, or-left, or-right, or-cases}
-use Rattle.laws.proofs.Reading.Spelled.{part-later}
+use Rattle.laws.proofs.Basics.Tests.{and-left, and-right, and-both, or-left, or-right}
 use Rattle.text.specs.Prefix.{begins-with}
 use Rattle.text.proofs.Loops.{drop-next}
 use Rattle.sheet.specs.Lines.{part-of}
@@ -87,15 +85,3 @@ every-part (b ∷ s) (suc a) n =
 
 pub part-is-spelled : (s x : Text) → PartOf s x → spells s x ≡ true
 part-is-spelled s x (a, n, e) = ap (spells s) (sym e) ∙ every-part s a n
-
-pub spelled-is-part : (s x : Text) → spells s x ≡ true → PartOf s x
-unfolding spells
-spelled-is-part [] x e = (0, length x, begins-part x [] e .1)
-spelled-is-part (b ∷ s) x e = go (or-cases (begins-with x (b ∷ s)) (spells s x) e) (λ h. spelled-is-part s x h)
-  where
-    go : (begins-with x (b ∷ s) ≡ true) ⊎ (spells s x ≡ true) → (spells s x ≡ true → PartOf s x) → PartOf (b ∷ s) x
-    go (inl h) r = (0, length x, begins-part x (b ∷ s) h .1)
-    go (inr h) r = part-later b s x (r h)
-
-pub unspelled-no-part : (s x : Text) → spells s x ≡ false → PartOf s x → ⊥
-unspelled-no-part s x e h = false≢true (sym e ∙ part-is-spelled s x h)

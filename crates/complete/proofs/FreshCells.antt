@@ -23,7 +23,7 @@ use Rattle.tree.specs.Cells.{tree-at}
 use Rattle.tree.specs.Arena.{Arena, Grown, Linked}
 use Rattle.tree.specs.Output.{written, Printed}
 use Rattle.tree.proofs.Decoding.{frame-tree}
-use Rattle.tree.proofs.Printing.{printed-then}
+use Rattle.tree.proofs.Printing.{printed-then, printed-number}
 use Rattle.substitution.proofs.Growing.{grown-same, grown-then}
 use Rattle.sheet.specs.Lines.{part-of}
 use Rattle.cover.specs.Variables.{Variable}
@@ -49,10 +49,6 @@ width-within n h = width-bounded 19 n (omega arith)
 pub fresh-length : (n : ℕ) → length (fresh-name n) ≡ 5 + length (decimal n)
 unfolding fresh-name
 fresh-length n = simp length-append (omega arith)
-
-printed-number : {out v t : Text} {at r : ℕ} → decimals.Printed out v at t r → Printed out v at t r
-unfolding decimals.written written
-printed-number x = record { bytes = x .bytes; end = x .end }
 
 pub fresh-printed : {out a b c : Text} {i j r : ℕ} (n : ℕ) → n < 2 ^ 64 → 25 ≤ length out
     → Printed out a 0 (bytes "x") i → decimals.Printed a b i (decimal n) j → Printed b c j (bytes ":Msg") r → Printed out c 0 (fresh-name n) r

@@ -2,23 +2,22 @@
 use Prim.Native.Nat.{ℕ, _+_, _*_, _-_, _<_, _≤_}
 use native.Mathlib.Omega.{arith}
 use mathlib.Core.Path.{_≡_, refl, sym, ap, ap₂, _∙_}
-use mathlib.Core.List.{List, [], _∷_, map, reverse, reverseAux}
+use mathlib.Core.List.{List, [], _∷_, map, reverseAux}
 use mathlib.Core.Option.{Option, some, none as nothing}
 use lib.ListN.{length}
 use Rattle.rules.specs.Bytes.{Text}
 use Rattle.rules.specs.Text.{bytes}
 use Rattle.rules.specs.Maybe.{_>>=_, every}
-use Rattle.rules.specs.Tree.{Tree, apply, Trees, none, more, size, sizes}
+use Rattle.rules.specs.Tree.{apply, Trees, more, size, sizes}
 use Rattle.rules.specs.Sheet.{Member}
 use Rattle.rules.specs.Variants.{Variant, read-member}
 use Rattle.tree.specs.Cells.{fixed-name, tree-at, trees-at}
-use Rattle.tree.specs.Arena.{Arena, Wrote, Linked}
+use Rattle.tree.specs.Arena.{Arena, Wrote, Linked, Below}
 use Rattle.tree.proofs.Decoding.{frame-trees, trees-none}
-use Rattle.substitution.specs.Bindings.{bindings-at}
+use Rattle.tree.proofs.Areas.{below-same, below-grown, below-then}
 use Rattle.substitution.specs.Building.{Made}
 use Rattle.substitution.proofs.Growing.{grown-then}
-use Rattle.reduction.specs.Building.{Kept}
-use Rattle.reduction.proofs.Placing.{kept-same, kept-grown, kept-then, linked-fixed-over}
+use Rattle.reduction.proofs.Placing.{linked-fixed-over}
 use Rattle.sheet.specs.Lines.{value-at}
 use Rattle.sheet.specs.Members.{members-at}
 use Rattle.sheet.specs.declared.Cursor.{Cursor}
@@ -26,7 +25,7 @@ use Rattle.sheet.specs.declared.Line.the-variants.{Whole, Missing}
 use Rattle.sheet.proofs.WalkLaws.{member-end, member-next}
 use Rattle.variants.specs.Members.{texts-end, ReadMember, ReadsMember}
 use Rattle.variants.specs.declared.members.Variant.the-variants as variant
-use Rattle.complete.specs.Families.{member-tree, Stands, Family, nil, next, ReadAll, ReadMembers, ReadsMembers}
+use Rattle.complete.specs.Families.{member-tree, Family, nil, next, ReadAll, ReadMembers, ReadsMembers}
 use Rattle.complete.specs.declared.families.Members.the-variants as members
 
 -- ---- one member as a tree
@@ -81,7 +80,7 @@ pub record Seen (s : Text) (v : List ℕ) (c list : ℕ) (ms : List Member) : Ty
 pub record Gathering (s : Text) (w : List ℕ) (n at : ℕ) (v : List ℕ) (c list m : ℕ) : Type 0 where
   pub seen : (ms : List Member) → members-at s at ≡ some ms → Seen s v c list ms
   pub arena : Arena s v m
-  pub kept : Kept w v n
+  pub kept : Below w v n
   pub grew : n ≤ m
   pub used : texts-end s m c ≤ texts-end s n at
   pub light : sizes (trees-at s v list) + (length s - c) ≤ length s - at
@@ -99,7 +98,7 @@ pub gathering-starts : (s : Text) (w : List ℕ) (n at : ℕ) → Arena s w n �
 gathering-starts s w n at a = record {
   seen = λ ms h. record { rest = ms; vs = []; later = h; read = self (read-all ms); family = rw (trees-none s w 0 refl) nil };
   arena = a;
-  kept = kept-same w n;
+  kept = below-same w n;
   grew = omega arith;
   used = omega arith;
   light = omega (arith, no-sizes s w);
@@ -127,7 +126,7 @@ module _ {s : Text} {w : List ℕ} {n at : ℕ} {v : List ℕ} {c list m : ℕ} 
 
   module _ (f t : ℕ) (d : Cursor) (e : Whole f t d ≡ value-at s (bytes "member=") c) where
     pub gathering-unread : {u : List ℕ} → ReadsMember s v u m c variant.Unreadable → ReadsMembers s w u n at members.Unreadable
-    gathering-unread {u} x = (all, kept-then (h .kept) (x .1) (h .grew))
+    gathering-unread {u} x = (all, below-then (h .kept) (x .1) (h .grew))
       where
         all : (ms : List Member) → members-at s at ≡ some ms → read-all ms ≡ nothing
         all ms k =
@@ -139,7 +138,7 @@ module _ {s : Text} {w : List ℕ} {n at : ℕ} {v : List ℕ} {c list m : ℕ} 
     module _ {u₁ u : List ℕ} {value bindings middle k index end : ℕ} (x : ReadMember s v u₁ m c value bindings middle k)
         (y : Made s u₁ u middle end index (more (member-tree (tree-at s u₁ value) (trees-at s u₁ bindings)) (trees-at s u₁ list))) (g : end ≡ middle + 2) where
       now-trees : trees-at s u index ≡ more (member-tree (tree-at s u₁ value) (trees-at s u₁ bindings)) (trees-at s v list)
-      now-trees = y .trees ∙ ap (more (member-tree (tree-at s u₁ value) (trees-at s u₁ bindings))) (sym (frame-trees s u₁ (h .arena .links) (x .kept .below) list (h .inside)))
+      now-trees = y .trees ∙ ap (more (member-tree (tree-at s u₁ value) (trees-at s u₁ bindings))) (sym (frame-trees s u₁ (h .arena .links) (x .kept .words) list (h .inside)))
 
       more-sizes : sizes (trees-at s u index) ≡ 1 + (size (tree-at s u₁ value) + sizes (trees-at s u₁ bindings)) + sizes (trees-at s v list)
       unfolding size
@@ -165,7 +164,7 @@ module _ {s : Text} {w : List ℕ} {n at : ℕ} {v : List ℕ} {c list m : ℕ} 
       gathering-turn = record {
         seen = more-seen;
         arena = y .arena;
-        kept = kept-then (kept-then (h .kept) (x .kept) (h .grew)) (kept-grown (y .grown)) (omega (arith, h .grew, x .grew));
+        kept = below-then (below-then (h .kept) (x .kept) (h .grew)) (below-grown (y .grown)) (omega (arith, h .grew, x .grew));
         grew = omega (arith, h .grew, x .grew);
         used = omega (arith, h .used, x .used, x .onward, x .within);
         light = omega (arith, more-sizes, h .light, x .light, x .onward, x .within);

@@ -1,5 +1,5 @@
 -- A member's pairs in cells, and what their match says; the loop over the members. Assumes nothing.
-use Prim.Native.Nat.{ℕ, _+_, _*_, _<_, _≤_, _^_}
+use Prim.Native.Nat.{ℕ, _+_, _*_, _<_, _≤_}
 use mathlib.Core.Path.{_≡_, refl, sym, ap, ap₂, subst, _∙_}
 use mathlib.Core.Bool.{Bool, true, false, not}
 use mathlib.Core.List.{List, [], _∷_, _++_, map}
@@ -17,24 +17,22 @@ use Rattle.rules.specs.Memory.{weight}
 use Rattle.rules.specs.Cover.{is-failed, covering}
 use Rattle.rules.specs.Variants.{Variant, generalized}
 use Rattle.laws.proofs.Solving.MatchFuel.{matcher-enough}
-use Rattle.tree.specs.Cells.{kind-of, first-of, next-of, name-at, tree-at, trees-at}
-use Rattle.tree.specs.Arena.{Arena}
+use Rattle.tree.specs.Cells.{kind-of, first-of, next-of, tree-at, trees-at}
+use Rattle.tree.specs.Arena.{Arena, Below}
 use Rattle.tree.proofs.Decoding.{Kind, application, a-variable, an-atom, kind, trees-none, trees-more, tree-variable, tree-atom, tree-apply, same-next, frame-tree, frame-trees}
+use Rattle.tree.proofs.Areas.{below-same, below-then, below-grown}
 use Rattle.substitution.specs.Bindings.{bindings-of, bindings-at}
 use Rattle.substitution.specs.Building.{Made}
 use Rattle.unifier.specs.Stack.{pairs-at, Whole, FitPairs}
-use Rattle.unifier.specs.Area.{Room, Below}
+use Rattle.unifier.specs.Area.{Room}
 use Rattle.unifier.specs.Running.{Answers}
 use Rattle.unifier.specs.declared.unifying.Outcome.{Outcome}
 use Rattle.unifier.specs.declared.unifying.Outcome.the-variants as outcome
 use Rattle.unifier.proofs.unifying.Outcome.{the-type}
-use Rattle.unifier.proofs.Areas.{below-same, below-then, below-grown}
 use Rattle.unifier.proofs.Tops.{pairs-are, whole-are}
 use Rattle.cover.specs.Listing.{backwards}
 use Rattle.cover.specs.Generals.{names-of, names-at, OfVariables, paired, flatten-before, PairsUp}
 use Rattle.cover.specs.Covering.{Matched}
-use Rattle.cover.proofs.Parts.{arena-agrees}
-use Rattle.complete.specs.Families.{member-tree}
 use Rattle.complete.specs.Generalizing.{member-of, variants-of, variants-at, member-pairs, IsMember, AllMatched}
 
 -- ---- lists of pairs
@@ -189,9 +187,6 @@ pub all-matched-same : (s : Text) (w v : List ℕ) (n m : ℕ) (xs : List Text) 
     → AllMatched s w n xs bs value ts → AllMatched s v m xs bs value ts
 all-matched-same s w v n m xs bs value none e l h = tt
 all-matched-same s w v n m xs bs value (more t ts) e l h = (h .0, matched-same e l (h .1), all-matched-same s w v n m xs bs value ts e l (h .2))
-
-pub arena-below : {s : Text} {w v : List ℕ} {n : ℕ} → Arena s w n → Below w v n → Arena s v n
-arena-below {s} a b = arena-agrees s a (omega (arith, a .links .room, b .len)) (b .words)
 
 -- the members before cell k do not generalize
 pub record Searching (s : Text) (w v : List ℕ) (n names bindings value members k : ℕ) : Type 0 where

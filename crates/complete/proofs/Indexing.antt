@@ -1,5 +1,5 @@
 -- The indices of variables and the base above them: one name, the names at places, and the names of a tree in byte order. Assumes nothing.
-use Prim.Native.Nat.{ℕ, suc, _+_, _-_, _<_, _≤_, _^_, max}
+use Prim.Native.Nat.{ℕ, suc, _+_, _-_, _<_, _≤_, max}
 use mathlib.Core.Path.{_≡_, refl, sym, ap, _∙_}
 use mathlib.Core.Bool.{Bool, true, false, cond, _&&_}
 use mathlib.Core.List.{List, [], _∷_, _++_, map}
@@ -220,25 +220,3 @@ mutual
 -- the base of a tree, by its names in byte order
 pub ordered-names-base : (t : tree.Tree) → names-base (ordered (variable-names t)) ≡ fresh-base t 0
 ordered-names-base t = ordered-base (variable-names t) 0 ∙ tree-base t 0
-
--- what the code's answer says of it
-module _ (t : tree.Tree) (ns : List Text) (are : ns ≡ ordered (variable-names t)) where
-  its-base : names-base ns ≡ fresh-base t 0
-  its-base = ap names-base are ∙ ordered-names-base t
-
-  pub base-known : (b : ℕ) → From b ≡ base-found (names-base ns) → (fresh-base t 0 ≡ some b) × (b ≤ 2 ^ 63)
-  base-known b e = go (names-base ns) refl e
-    where
-      go : (o : Option ℕ) → names-base ns ≡ o → From b ≡ base-found o → (fresh-base t 0 ≡ some b) × (b ≤ 2 ^ 63)
-      go none f e = let z : _≡_ {A = ℕ} 0 1 = cc in absurd (omega arith)
-      go (some c) f e =
-          let z : c ≡ b = cc in
-          let g : names-base ns ≡ some b = f ∙ ap some z in
-          (sym its-base ∙ g, omega (arith, base-bounded 0 ns b g (omega arith)))
-
-  pub base-missing : Nothing ≡ base-found (names-base ns) → fresh-base t 0 ≡ none
-  base-missing e = go (names-base ns) refl e
-    where
-      go : (o : Option ℕ) → names-base ns ≡ o → Nothing ≡ base-found o → fresh-base t 0 ≡ none
-      go none f e = sym its-base ∙ f
-      go (some c) f e = let z : _≡_ {A = ℕ} 0 1 = cc in absurd (omega arith)

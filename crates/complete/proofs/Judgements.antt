@@ -1,9 +1,9 @@
 -- What one scheme decides: its instance once it is solved, and its run in a part of the work area. Assumes nothing.
 use Prim.Native.Nat.{ℕ, _+_, _*_, _<_, _≤_, _^_}
 use mathlib.Core.Path.{_≡_, refl, sym, ap, ap₂, subst, _∙_}
-use mathlib.Core.Bool.{Bool, true, false, not, cond}
+use mathlib.Core.Bool.{Bool, true, false, cond}
 use mathlib.Core.List.{List, [], _∷_, _++_}
-use mathlib.Core.Option.{Option, some, none as nothing, Option·some-injective}
+use mathlib.Core.Option.{Option, some, none as nothing}
 use lib.Dec.{leb}
 use lib.ListN.{length, take, drop}
 use lib.Seq.{length-take-le}
@@ -14,9 +14,9 @@ use Rattle.rules.specs.Tree.{Tree, Trees, none, more, size, sizes, count}
 use Rattle.rules.specs.Substitution.{Binding, Pair, instantiate, flatten, size-pairs}
 use Rattle.rules.specs.Sums.{equivalent}
 use Rattle.rules.specs.Reduction.{normalize}
-use Rattle.rules.specs.Solving.{Verdict, solved, failed, unsupported, Answer, unify}
-use Rattle.rules.specs.Variants.{Variant, instance-of, generalized, system}
-use Rattle.rules.specs.Schemes.{scheme-at, Judgement, pending, settled, judge-tests, judge-instance, judge, judge-verdict}
+use Rattle.rules.specs.Solving.{solved, failed, unsupported, Answer, unify}
+use Rattle.rules.specs.Variants.{Variant, instance-of, generalized}
+use Rattle.rules.specs.Schemes.{scheme-at, Judgement, pending, settled, judge-tests, judge-instance, judge}
 use Rattle.rules.specs.Memory.{OverPairs, weight}
 use Rattle.laws.proofs.Basics.Tests.{true-leb, false-leb, leb-true}
 use Rattle.laws.proofs.Solving.Weights.{weight-size}
@@ -24,30 +24,28 @@ use Rattle.laws.proofs.Solving.Budget.{flatten-size}
 use Rattle.laws.proofs.Solving.UnifyFuel.{unify-enough}
 use Rattle.laws.proofs.Sheets.BuiltRun.{BuiltPairs}
 use Rattle.tree.specs.Cells.{tree-at, trees-at}
-use Rattle.tree.specs.Arena.{Arena}
+use Rattle.tree.specs.Arena.{Arena, Below}
 use Rattle.tree.proofs.Decoding.{frame-tree, frame-trees}
+use Rattle.tree.proofs.Areas.{below-then, below-grown, arena-below}
+use Rattle.equivalence.proofs.Scratch.{below-kept}
 use Rattle.substitution.specs.Bindings.{bindings-of, bindings-at}
 use Rattle.substitution.specs.Building.{Placed, instance-at}
 use Rattle.certificate.specs.Writer as writer
-use Rattle.reduction.specs.Building.{Kept, NewTree}
+use Rattle.reduction.specs.Building.{NewTree}
 use Rattle.reduction.proofs.NormalForms.{normalizes-size}
 use Rattle.schemes.specs.Building.{Systems}
 use Rattle.schemes.specs.declared.systems.System.{System}
-use Rattle.unifier.specs.Stack.{pairs-of, pairs-at, Whole, FitPairs}
-use Rattle.unifier.specs.Area.{Room, Below}
+use Rattle.unifier.specs.Stack.{pairs-at, Whole, FitPairs}
 use Rattle.unifier.specs.Running.{Roomy, Answers}
 use Rattle.unifier.specs.declared.unifying.Outcome.the-variants as outcome
-use Rattle.unifier.proofs.Areas.{below-then, below-grown}
 use Rattle.unifier.proofs.Tops.{pairs-are, whole-are}
 use Rattle.cover.specs.Listing.{backwards}
 use Rattle.cover.specs.Generals.{names-of, names-at, OfVariables}
 use Rattle.cover.proofs.CoveredLaws.{names-count}
 use Rattle.cover.proofs.Parts.{part-agrees, part-arena, back-agrees, back-arena, back-below}
 use Rattle.complete.specs.Generalizing.{variants-of, variants-at, AllMatched}
-use Rattle.complete.specs.Judging.{judgement, fuel-for, run-end, system-of, solved-end, Judgeable}
-use Rattle.complete.specs.declared.judging.Judged.{Judged}
-use Rattle.complete.specs.declared.judging.Judged.the-variants as judged
-use Rattle.complete.proofs.Generals.{all-matched-same, arena-below}
+use Rattle.complete.specs.Judging.{fuel-for, system-of, solved-end, Judgeable}
+use Rattle.complete.proofs.Generals.{all-matched-same}
 use Rattle.complete.proofs.Rooms.{fuel-few}
 
 -- ---- the instance of a solved scheme
@@ -84,7 +82,7 @@ module _ {s : Text} {w v u : List ℕ} {n index end left i stop : ℕ} (value bi
   made-small = omega (arith, one .spent)
 
   made-now : tree-at s u index ≡ made-tree
-  made-now = sym (frame-tree s u (one .before .arena .links) (two .kept .below) index (one .before .some-cell) (one .before .inside)) ∙ one .before .tree
+  made-now = sym (frame-tree s u (one .before .arena .links) (two .kept .words) index (one .before .some-cell) (one .before .inside)) ∙ one .before .tree
 
   normal-now : tree-at s u i ≡ normalize made-tree
   normal-now = two .tree ∙ ap normalize (one .before .tree)
@@ -97,7 +95,7 @@ module _ {s : Text} {w v u : List ℕ} {n index end left i stop : ℕ} (value bi
 
   module _ {x : List ℕ} {lim : ℕ} (k : writer.Kept u x (4 * stop) lim) where
     below-end : Below v x end
-    below-end = record { len = k .len ∙ two .kept .len; words = λ p q. two .kept .below p q ∙ sym (k .below p (omega (arith, two .grew))) }
+    below-end = below-then (two .kept) (below-kept {n = stop} k (omega arith)) (two .grew)
 
     pub below-free : Below w x n
     below-free = below-then (below-grown (one .before .grown)) below-end (one .before .grew)
@@ -160,7 +158,7 @@ module _ {name : ℕ → Text} {s : Text} {w v : List ℕ} {n named i : ℕ} {xs
   stack = c .stack
 
   kept : Below w v n
-  kept = record { len = y .written .kept .len; words = y .written .kept .below }
+  kept = y .written .kept
 
   abbrev ps : List Pair
   ps = system-of name term i

@@ -1,23 +1,23 @@
 -- The variables of a term as a list of cells, and one above their indices. Assumes nothing.
-use Prim.Native.Nat.{ℕ, _+_, _*_, _-_, _<_, _≤_}
+use Prim.Native.Nat.{ℕ, _+_, _*_, _-_, _≤_}
 use mathlib.Core.Path.{_≡_, refl, sym, ap, subst, _∙_}
-use mathlib.Core.List.{List, [], _∷_, map, append-nil}
+use mathlib.Core.List.{List, [], map, append-nil}
 use mathlib.Core.Option.{Option, some, none as nothing}
 use lib.ListN.{length}
 use lib.Seq.{slice}
 use native.Mathlib.Omega.{arith}
 use Rattle.rules.specs.Bytes.{Text}
-use Rattle.rules.specs.Tree.{Tree, Trees, none, more, size, sizes, count}
+use Rattle.rules.specs.Tree.{Tree, Trees, none, more, size, sizes}
 use Rattle.rules.specs.Tidy.{nil, both}
 use Rattle.rules.specs.Cover.{variables}
 use Rattle.rules.specs.Variants.{fresh-base}
 use Rattle.rules.specs.Memory.{variable-names, variable-names-in}
 use Rattle.text.specs.Places.{text-at}
 use Rattle.tree.specs.Cells.{tree-at, trees-at}
-use Rattle.tree.specs.Arena.{Arena, Linked}
+use Rattle.tree.specs.Arena.{Arena, Linked, Below}
 use Rattle.tree.proofs.Decoding.{trees-none}
-use Rattle.unifier.specs.Area.{Below}
-use Rattle.unifier.proofs.Areas.{below-then, below-grown}
+use Rattle.tree.proofs.Areas.{below-then, below-grown}
+use Rattle.equivalence.proofs.Scratch.{below-kept}
 use Rattle.cover.specs.Ordered.{ordered}
 use Rattle.cover.specs.Variables.{Short, Spelled, SpelledAll, Ordered}
 use Rattle.cover.specs.Listing.{Lists}
@@ -68,7 +68,7 @@ module _ {s : Text} {w v : List ℕ} {n : ℕ} (term f : ℕ) (q : f ≡ n + 1) 
     pub no-base : Nothing ≡ base-found (names-base (map (text-at s) (slice at end u))) → (fresh-base tree 0 ≡ nothing) × Below w u n
     no-base e = (
       sym base-are ∙ found-none (names-base (map (text-at s) (slice at end u))) e,
-      record { len = o .kept .len ∙ h .grown .len; words = λ p r. h .grown .below p r ∙ sym (o .kept .below p (omega arith)) },
+      below-then (below-grown (h .grown)) (below-kept {n = n} (o .kept) (omega arith)) (omega arith),
     )
 
     module _ {z : List ℕ} {i m : ℕ} (base : ℕ) (e : From base ≡ base-found (names-base (map (text-at s) (slice at end u)))) (room : at + most ≤ length v)

@@ -10,8 +10,8 @@ use Rattle.rules.specs.Sheet.{Member, asks-complete, read-sheet}
 use Rattle.rules.specs.Reading.{parse}
 use Rattle.rules.specs.Variants.{complete}
 use Rattle.tree.specs.Cells.{tree-at}
+use Rattle.tree.specs.Arena.{Below}
 use Rattle.sheet.specs.Members.{members-at}
-use Rattle.unifier.specs.Area.{Below}
 use Rattle.variants.specs.Soundness.{claim}
 use Rattle.variants.specs.declared.soundness.Claim.{Claim}
 

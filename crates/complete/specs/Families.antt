@@ -10,9 +10,8 @@ use Rattle.rules.specs.Tree.{Tree, apply, Trees, none, more, sizes}
 use Rattle.rules.specs.Sheet.{Member}
 use Rattle.rules.specs.Variants.{Variant, read-member}
 use Rattle.tree.specs.Cells.{fixed-name, trees-at}
-use Rattle.tree.specs.Arena.{Arena}
+use Rattle.tree.specs.Arena.{Arena, Below}
 use Rattle.substitution.specs.Bindings.{bindings-of, Chain}
-use Rattle.reduction.specs.Building.{Kept}
 use Rattle.sheet.specs.Members.{members-at}
 use Rattle.variants.specs.Members.{Alike, texts-end}
 use Rattle.complete.specs.declared.families.Members.{Members}
@@ -44,7 +43,7 @@ pub record ReadAll (s : Text) (v : List ℕ) (i : ℕ) (ms : List Member) : Type
 pub record ReadMembers (s : Text) (w v : List ℕ) (n at i m : ℕ) : Type 0 where
   pub reads : (ms : List Member) → members-at s at ≡ some ms → ReadAll s v i ms
   pub arena : Arena s v m
-  pub kept : Kept w v n
+  pub kept : Below w v n
   pub grew : n ≤ m
   pub used : m ≤ texts-end s n at
   pub light : sizes (trees-at s v i) ≤ length s - at
@@ -52,4 +51,4 @@ pub record ReadMembers (s : Text) (w v : List ℕ) (n at i m : ℕ) : Type 0 whe
 
 abbrev pub ReadsMembers : Text → List ℕ → List ℕ → ℕ → ℕ → Members → Type 0
 ReadsMembers s w v n at (members.List i m) = ReadMembers s w v n at i m
-ReadsMembers s w v n at members.Unreadable = ((ms : List Member) → members-at s at ≡ some ms → every (map read-member ms) ≡ nothing) × Kept w v n
+ReadsMembers s w v n at members.Unreadable = ((ms : List Member) → members-at s at ≡ some ms → every (map read-member ms) ≡ nothing) × Below w v n

@@ -14,8 +14,9 @@ use Rattle.rules.specs.Variants.{Variant, system}
 use Rattle.rules.specs.Schemes.{scheme-at, Judgement, pending, settled, answered, judge-verdict, judged-from}
 use Rattle.rules.specs.Memory.{OverPairs}
 use Rattle.tree.specs.Cells.{tree-at, trees-at}
+use Rattle.tree.specs.Arena.{Below}
 use Rattle.unifier.specs.Stack.{FitPairs}
-use Rattle.unifier.specs.Area.{Room, Below}
+use Rattle.unifier.specs.Area.{Room}
 use Rattle.variants.specs.Soundness.{claim}
 use Rattle.variants.specs.declared.soundness.Claim.{Claim}
 use Rattle.schemes.specs.Building.{Fresh}

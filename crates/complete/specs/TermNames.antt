@@ -8,8 +8,7 @@ use Rattle.rules.specs.Bytes.{Text}
 use Rattle.rules.specs.Cover.{variables}
 use Rattle.rules.specs.Variants.{fresh-base}
 use Rattle.tree.specs.Cells.{tree-at, trees-at}
-use Rattle.tree.specs.Arena.{Arena}
-use Rattle.unifier.specs.Area.{Below}
+use Rattle.tree.specs.Arena.{Arena, Below}
 use Rattle.cover.specs.Generals.{names-at, OfVariables}
 use Rattle.complete.specs.declared.completing.Named.{Named}
 use Rattle.complete.specs.declared.completing.Named.the-variants.{Names, Unindexed}

@@ -15,7 +15,7 @@ ghost use Rattle.rules.specs.Tree.{more, size, sizes};
 ghost use Rattle.tree.specs.Cells.{tree-at, trees-at};
 ghost use Rattle.tree.specs.Arena.{Arena};
 ghost use Rattle.substitution.specs.Building.{Made};
-ghost use Rattle.variants.specs.Members.{Room};
+ghost use Rattle.variants.specs.Members.{TextsRoom};
 ghost use Rattle.complete.specs.Families.{member-tree, ReadsMembers};
 
 // A list of trees and the free end after it, or a member's text that cannot be read.
@@ -51,7 +51,7 @@ fn push_member(
 // Every member from a cursor on.
 pub fn read_members(sheet: &[u8], work: &mut [u32], free: usize, start: Cursor) -> Members
     requires { ⌜ Arena (now sheet) (now work) free ⌝ }
-    requires { ⌜ Room (now sheet) (now work) free (start .at) ⌝ }
+    requires { ⌜ TextsRoom (now sheet) (now work) free (start .at) ⌝ }
     ensures { λ r. ⌜ ReadsMembers (now (sheet .entry)) (now (work .entry)) (now (work .exit)) free (start .at) r ⌝ }
 {
     let mut cursor = start;

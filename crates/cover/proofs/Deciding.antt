@@ -1,26 +1,27 @@
 -- Whether a member covers, from the match of its pairs; and the loop over all members. Assumes nothing.
-use Prim.Native.Nat.{ℕ, _+_, _*_, _-_, _<_, _≤_, _^_}
+use Prim.Native.Nat.{ℕ, _+_, _*_, _-_, _<_, _≤_}
 use mathlib.Core.Path.{_≡_, refl, sym, ap, subst, _∙_}
 use mathlib.Core.Bool.{Bool, true, false, not}
-use mathlib.Core.List.{List, [], _∷_, map, List·Memᴰ, List·Memᴰ·head, List·Memᴰ·tail}
-use mathlib.Core.Option.{some, none as nothing}
+use mathlib.Core.List.{List, [], _∷_, List·Memᴰ, List·Memᴰ·head, List·Memᴰ·tail}
+use mathlib.Core.Option.{some}
 use lib.ListN.{length}
 use native.Mathlib.Omega.{arith}
 use denote.Enum.Declared.{tagOf}
 use types.Run.{OneOf, miss}
 use Rattle.rules.specs.Bytes.{Text}
 use Rattle.rules.specs.Text.{bytes}
-use Rattle.rules.specs.Tree.{Trees, count}
+use Rattle.rules.specs.Tree.{count}
 use Rattle.rules.specs.Substitution.{Binding, Pair, flatten}
 use Rattle.rules.specs.Solving.{Answer, failed}
 use Rattle.rules.specs.Matching.{matcher}
-use Rattle.rules.specs.Memory.{weight, pattern-nodes}
+use Rattle.rules.specs.Memory.{weight}
 use Rattle.rules.specs.Sheet.{Entry, Member}
 use Rattle.rules.specs.Cover.{is-failed, covering, covers, any-covers}
 use Rattle.laws.proofs.Solving.MatchFuel.{matcher-enough}
 use Rattle.tree.specs.Cells.{trees-at}
-use Rattle.tree.specs.Arena.{Arena}
+use Rattle.tree.specs.Arena.{Arena, Below}
 use Rattle.tree.proofs.Decoding.{frame-trees}
+use Rattle.tree.proofs.Areas.{below-same, below-then}
 use Rattle.substitution.specs.Bindings.{bindings-of, bindings-at}
 use Rattle.sheet.specs.Lines.{part-of, value-at}
 use Rattle.sheet.specs.Members.{members-at}
@@ -28,18 +29,17 @@ use Rattle.sheet.specs.declared.Cursor.{Cursor}
 use Rattle.sheet.specs.declared.Line.the-variants.{Whole as a-line, Missing}
 use Rattle.sheet.proofs.LineLaws.{keyed}
 use Rattle.sheet.proofs.WalkLaws.{FirstMember, member-end, member-next, members-later}
-use Rattle.unifier.specs.Stack.{pairs-of, pairs-at, Whole, FitPairs}
-use Rattle.unifier.specs.Area.{Room, Below}
+use Rattle.unifier.specs.Stack.{pairs-at, Whole, FitPairs}
+use Rattle.unifier.specs.Area.{Room}
 use Rattle.unifier.specs.Running.{Answers}
 use Rattle.unifier.specs.declared.unifying.Outcome.{Outcome}
 use Rattle.unifier.specs.declared.unifying.Outcome.the-variants as outcome
 use Rattle.unifier.proofs.unifying.Outcome.{the-type}
-use Rattle.unifier.proofs.Areas.{below-same, below-then}
 use Rattle.unifier.proofs.Tops.{pairs-are}
-use Rattle.cover.specs.Generals.{names-of, names-at}
+use Rattle.cover.specs.Generals.{names-at}
 use Rattle.cover.specs.Values.{EntriesFrom}
 use Rattle.cover.specs.Members.{MemberPairs, PairsMember}
-use Rattle.cover.specs.Covering.{Matched, PairsOf, Matchable, AllMatchable, Uncovered, CoversMember}
+use Rattle.cover.specs.Covering.{Matched, PairsOf, Matchable, CoversMember}
 use Rattle.cover.specs.declared.members.Sides.the-variants as sides
 use Rattle.cover.specs.declared.covering.Covering.the-variants as it
 use Rattle.cover.proofs.CoverLaws.{covers-read, covers-unread}

@@ -3,7 +3,7 @@ use Prim.Native.Nat.{ℕ, _+_, _*_, _-_, _<_, _≤_}
 use mathlib.Core.Path.{_≡_, refl, sym, ap, subst, _∙_}
 use mathlib.Core.Bool.{Bool, true, false}
 use mathlib.Core.List.{List, [], _∷_}
-use mathlib.Core.Option.{some, none as nothing}
+use mathlib.Core.Option.{some}
 use lib.ListN.{length, getD}
 use native.Mathlib.Omega.{arith}
 use Rattle.rules.specs.Bytes.{Text, same}
@@ -14,8 +14,9 @@ use Rattle.rules.specs.Substitution.{Binding, pick, lookup}
 use Rattle.rules.specs.Sheet.{Entry}
 use Rattle.rules.specs.Cover.{entry-at}
 use Rattle.tree.specs.Cells.{trees-at}
-use Rattle.tree.specs.Arena.{Arena}
+use Rattle.tree.specs.Arena.{Arena, Below}
 use Rattle.tree.proofs.Decoding.{frame-trees}
+use Rattle.tree.proofs.Areas.{below-then}
 use Rattle.sheet.specs.Pairs.{pair-at}
 use Rattle.sheet.specs.Form.{Inside}
 use Rattle.sheet.specs.declared.Cursor.{Cursor}
@@ -26,8 +27,6 @@ use Rattle.sheet.proofs.WalkLaws.{two-there, two-end}
 use Rattle.reading.specs.Parsing.{stack-end}
 use Rattle.substitution.specs.Bindings.{bindings-at}
 use Rattle.substitution.proofs.Keys.{bindings-none}
-use Rattle.unifier.specs.Area.{Below}
-use Rattle.unifier.proofs.Areas.{below-then}
 use Rattle.cover.specs.Generals.{names-of, OfVariables}
 use Rattle.cover.specs.Values.{value-in, resumed, entry-of, Valued, Unread, EntriesThen, ValuesRead, OneUnread}
 

@@ -7,10 +7,9 @@ use Rattle.rules.specs.Bytes.{Text}
 use Rattle.rules.specs.Tree.{count}
 use Rattle.rules.specs.Substitution.{Pair}
 use Rattle.tree.specs.Cells.{trees-at}
-use Rattle.tree.specs.Arena.{Arena}
+use Rattle.tree.specs.Arena.{Arena, Below}
 use Rattle.tree.proofs.Decoding.{frame-trees, trees-none}
 use Rattle.substitution.specs.Bindings.{bindings-of, bindings-at}
-use Rattle.unifier.specs.Area.{Below}
 use Rattle.cover.specs.Generals.{names-of, names-at, paired, flatten-before, PairsUp}
 use Rattle.cover.specs.Values.{ValuesRead, OneUnread}
 use Rattle.cover.specs.Members.{MemberPairs, PairsMember}

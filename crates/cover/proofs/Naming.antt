@@ -9,7 +9,7 @@ use native.Mathlib.Omega.{arith}
 use native.Mathlib.Decide.{decLt}
 use Rattle.rules.specs.Bytes.{Text}
 use Rattle.rules.specs.Names.{variable-token}
-use Rattle.rules.specs.Tree.{Tree, variable, apply, Trees, more, size, sizes}
+use Rattle.rules.specs.Tree.{Tree, apply, Trees, more, size, sizes}
 use Rattle.rules.specs.Tidy.{Built, a-leaf, a-list, a-sum, Builts, nil, both}
 use Rattle.rules.specs.Memory.{variable-names, variable-names-in}
 use Rattle.laws.proofs.Sheets.BuiltRun.{name-token}
@@ -21,8 +21,8 @@ use Rattle.tree.specs.Arena.{Cell, Arena}
 use Rattle.tree.proofs.Decoding.{Agree, same-next, trees-none, trees-more, tree-variable, tree-atom, tree-apply, size-pos, size-apply, sizes-more, frame-tree, frame-trees}
 use Rattle.tree.proofs.FixedNames.{fixed-length}
 use Rattle.tree.proofs.Naming.{name-part, name-fixed}
+use Rattle.tree.proofs.Areas.{arena-frame}
 use Rattle.certificate.specs.Writer.{Kept}
-use Rattle.equivalence.proofs.Scratch.{arena-frame}
 use Rattle.cover.specs.Variables.{Spelled, SpelledAll, Variable, Variables, Named}
 
 -- ---- lists of places

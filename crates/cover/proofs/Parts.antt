@@ -1,29 +1,14 @@
 -- A work area of which the first words were lent, before and after: cells below the end of the part agree. Assumes nothing.
-use Prim.Native.Nat.{ℕ, _*_, _<_, _≤_}
+use Prim.Native.Nat.{ℕ, _*_, _≤_}
 use mathlib.Core.Path.{_≡_, sym, _∙_}
 use mathlib.Core.List.{List, _++_}
-use lib.ListN.{length, getD, take, drop, length-append, length-drop, List·getD-append}
+use lib.ListN.{length, take, drop, length-append, length-drop, List·getD-append}
 use lib.Seq.{getD-take, length-take-le}
 use native.Mathlib.Omega.{arith}
 use Rattle.rules.specs.Bytes.{Text}
-use Rattle.tree.specs.Arena.{Arena}
-use Rattle.tree.proofs.Decoding.{Agree, same-first, same-next}
-use Rattle.tree.proofs.Pushing.{cell-frame}
-use Rattle.unifier.specs.Area.{Below}
-
--- an area of any length that agrees on the cells has the same cells
-pub arena-agrees : {w v : List ℕ} {n : ℕ} (s : Text) → Arena s w n → 4 * n ≤ length v → Agree w v n → Arena s v n
-arena-agrees {w} {v} s a l g =
-    let h = a .links in
-    record {
-      links = record {
-        some = h .some;
-        room = l;
-        first = λ k p q. omega (arith, h .first k p q, same-first w v g k q);
-        next = λ k p q. omega (arith, h .next k p q, same-next w v g k q);
-      };
-      cell = λ k p q. cell-frame s h g k p q (a .cell k p q);
-    }
+use Rattle.tree.specs.Arena.{Arena, Below}
+use Rattle.tree.proofs.Decoding.{Agree}
+use Rattle.tree.proofs.Areas.{arena-agrees}
 
 module _ (k : ℕ) (w : List ℕ) (h : k ≤ length w) (n : ℕ) (l : 4 * n ≤ k) where
   pub part-agrees : Agree w (take k w) n

@@ -37,7 +37,7 @@ use Rattle.laws.proofs.Variants.Targets.{All, all-at}
 use Rattle.laws.proofs.Sheets.NamesRead.{sheet-bytes, pairs-read-by, pairs-colons, pairs-sizes, pairs-over, sides-held, sheet-names}
 use Rattle.laws.proofs.Variants.Covered.{paired}
 use Rattle.laws.proofs.Variants.VariableNames.{variables-of-length}
-use Rattle.laws.proofs.Variants.CoverRoom.{texts-within, MatchRoom, cover-room}
+use Rattle.laws.proofs.Variants.CoverRoom.{texts-within, cover-room}
 use Rattle.tree.specs.Cells.{trees-at}
 use Rattle.sheet.proofs.WordLaws.{count-bound}
 use Rattle.unifier.specs.Stack.{FitPairs, pairs-at}

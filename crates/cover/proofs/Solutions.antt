@@ -1,6 +1,6 @@
 -- The pairs of a sheet unified in a part of the work area, and the members matched in all of it. Assumes nothing.
 use Prim.Native.Nat.{ℕ, _+_, _*_, _-_, _<_, _≤_, _^_}
-use mathlib.Core.Path.{_≡_, refl, sym, ap, subst, _∙_}
+use mathlib.Core.Path.{_≡_, sym, ap, subst, _∙_}
 use mathlib.Core.Bool.{Bool}
 use mathlib.Core.List.{List, [], _∷_, _++_, map}
 use mathlib.Core.Option.{Option, some, none as nothing}
@@ -20,17 +20,16 @@ use Rattle.rules.specs.Sheet.{Member}
 use Rattle.rules.specs.Cover.{variables-of, pair-at, any-covers, covered}
 use Rattle.laws.proofs.Solving.Weights.{weight-size}
 use Rattle.tree.specs.Cells.{trees-at}
-use Rattle.tree.specs.Arena.{Arena}
+use Rattle.tree.specs.Arena.{Arena, Below}
 use Rattle.tree.proofs.Decoding.{frame-trees}
+use Rattle.tree.proofs.Areas.{below-then}
 use Rattle.substitution.specs.Bindings.{bindings-of, bindings-at}
 use Rattle.sheet.specs.Members.{members-at}
 use Rattle.unifier.specs.Stack.{pairs-of, pairs-at, Whole, FitPairs}
-use Rattle.unifier.specs.Area.{Below}
 use Rattle.unifier.specs.Running.{Roomy, Answers}
 use Rattle.unifier.specs.declared.unifying.Outcome.{Outcome}
 use Rattle.unifier.specs.declared.unifying.Outcome.the-variants as outcome
 use Rattle.unifier.proofs.unifying.Outcome.{the-type}
-use Rattle.unifier.proofs.Areas.{below-then}
 use Rattle.unifier.proofs.Fitting.{pairs-fit}
 use Rattle.cover.specs.Listing.{backwards}
 use Rattle.cover.specs.Generals.{names-of, names-at, OfVariables}

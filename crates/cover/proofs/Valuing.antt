@@ -4,11 +4,10 @@ use mathlib.Core.Path.{_≡_, refl, sym, ap, ap₂, subst, _∙_}
 use mathlib.Core.Bool.{Bool, true, false, _||_, true≢false}
 use mathlib.Core.List.{List, _∷_}
 use mathlib.Core.Option.{Option, some, none as nothing}
-use lib.ListN.{length}
 use native.Mathlib.Omega.{arith}
 use Rattle.rules.specs.Bytes.{Text, same}
 use Rattle.rules.specs.Text.{is-one-of}
-use Rattle.rules.specs.Tree.{Tree, variable, Trees, none, more}
+use Rattle.rules.specs.Tree.{Tree, variable, Trees, more}
 use Rattle.rules.specs.Matching.{or-else, bound}
 use Rattle.rules.specs.Reading.{parse}
 use Rattle.rules.specs.Substitution.{Binding}
@@ -16,14 +15,13 @@ use Rattle.rules.specs.Sheet.{Entry}
 use Rattle.rules.specs.Cover.{entry-at}
 use Rattle.laws.proofs.Basics.Tests.{same-eq, same-of-eq, or-left}
 use Rattle.tree.specs.Cells.{kind-of, next-of, name-at, tree-at, trees-at}
-use Rattle.tree.specs.Arena.{Arena}
+use Rattle.tree.specs.Arena.{Arena, Below}
 use Rattle.tree.proofs.Decoding.{kind, trees-none, trees-more, frame-trees, same-name}
 use Rattle.tree.proofs.Naming.{same-swap}
 use Rattle.substitution.specs.Bindings.{bindings-of, bindings-at}
 use Rattle.substitution.specs.Building.{Made}
 use Rattle.substitution.proofs.Keys.{key-name}
 use Rattle.substitution.proofs.Chains.{bindings-pair}
-use Rattle.unifier.specs.Area.{Below}
 use Rattle.reading.specs.Parsing.{Read}
 use Rattle.sheet.specs.Form.{text-of}
 use Rattle.sheet.specs.declared.Place.{Place}

@@ -11,10 +11,9 @@ use Rattle.rules.specs.Sheet.{Entry, Member, asks-cover, read-sheet}
 use Rattle.rules.specs.Answer.{read-pairs}
 use Rattle.rules.specs.Cover.{variables-of, covered}
 use Rattle.tree.specs.Cells.{trees-at}
-use Rattle.tree.specs.Arena.{Arena}
+use Rattle.tree.specs.Arena.{Arena, Below}
 use Rattle.sheet.specs.Members.{members-at}
 use Rattle.unifier.specs.Stack.{Whole, pairs-at}
-use Rattle.unifier.specs.Area.{Below}
 use Rattle.variants.specs.Soundness.{claim}
 use Rattle.variants.specs.declared.soundness.Claim.{Claim}
 use Rattle.cover.specs.Generals.{names-at, OfVariables}

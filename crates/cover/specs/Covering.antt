@@ -15,7 +15,8 @@ use Rattle.substitution.specs.Bindings.{bindings-at}
 use Rattle.sheet.specs.Lines.{lines-at}
 use Rattle.sheet.specs.Members.{members-at}
 use Rattle.unifier.specs.Stack.{FitPairs}
-use Rattle.unifier.specs.Area.{Room, Below}
+use Rattle.tree.specs.Arena.{Below}
+use Rattle.unifier.specs.Area.{Room}
 use Rattle.cover.specs.Generals.{names-at}
 use Rattle.cover.specs.Values.{EntriesThen, EntriesFrom}
 use Rattle.cover.specs.declared.covering.Covering.{Covering}

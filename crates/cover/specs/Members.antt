@@ -12,9 +12,8 @@ use Rattle.rules.specs.Sheet.{Entry}
 use Rattle.rules.specs.Cover.{pair-at}
 use Rattle.sheet.specs.Lines.{lines-at}
 use Rattle.tree.specs.Cells.{trees-at}
-use Rattle.tree.specs.Arena.{Arena}
+use Rattle.tree.specs.Arena.{Arena, Below}
 use Rattle.substitution.specs.Bindings.{bindings-at}
-use Rattle.unifier.specs.Area.{Below}
 use Rattle.cover.specs.Generals.{names-at}
 use Rattle.cover.specs.Values.{EntriesThen, EntriesFrom}
 use Rattle.cover.specs.declared.members.Sides.{Sides}

@@ -15,13 +15,12 @@ use Rattle.rules.specs.Reading.{parse}
 use Rattle.rules.specs.Sheet.{Entry}
 use Rattle.rules.specs.Cover.{entry-at}
 use Rattle.tree.specs.Cells.{name-at}
-use Rattle.tree.specs.Arena.{Arena}
+use Rattle.tree.specs.Arena.{Arena, Below}
 use Rattle.sheet.specs.Lines.{lines-at}
 use Rattle.sheet.specs.Pairs.{entries-by}
 use Rattle.sheet.specs.Form.{text-of}
 use Rattle.sheet.specs.declared.Place.{Place}
 use Rattle.substitution.specs.Bindings.{bindings-at}
-use Rattle.unifier.specs.Area.{Below}
 use Rattle.cover.specs.declared.values.Values.{Values}
 use Rattle.cover.specs.declared.values.Values.the-variants.{Bound, Unreadable}
 use Rattle.cover.specs.declared.values.Read.{Read}

@@ -1,7 +1,7 @@
 -- Cancelling of the cells of two sums. Assumes nothing.
-use Prim.Native.Nat.{ℕ, zero, suc, _+_, _-_, _*_, _<_, _≤_}
+use Prim.Native.Nat.{ℕ, suc, _+_, _-_, _*_, _<_, _≤_}
 use mathlib.Core.Path.{_≡_, refl, sym, ap, ap₂, subst, _∙_}
-use mathlib.Core.Bool.{Bool, true, false, cond, not, _&&_, _||_}
+use mathlib.Core.Bool.{Bool, true, false, not, _&&_, _||_}
 use mathlib.Core.Logic.{_⊎_, inl, inr, ⊎-elim}
 use mathlib.Core.List.{List, [], _∷_, _++_, append-nil, append-assoc}
 use mathlib.Core.Option.{Option, some, none as nothing}
@@ -11,17 +11,17 @@ use lib.Seq.{slice, slice-cons, length-slice, getD-set-same, getD-set-other, ext
 use native.Mathlib.Omega.{arith}
 use native.Mathlib.Decide.{decLt}
 use native.Mathlib.Numerals.{add-one}
-use borrow.Author.Tests.{eq-eqb, ne-eqb, eqb-true, eqb-false}
+use borrow.Author.Tests.{eqb-true, eqb-false}
 use Rattle.rules.specs.Tree.{Tree, ground}
 use Rattle.rules.specs.Sums.{equivalent}
 use Rattle.rules.specs.Solving.{keep, remove-at, remove, cancel-at, cancel}
-use Rattle.text.proofs.Slices.{slice-same, slice-set, slice-join, slice-none}
+use Rattle.text.proofs.Slices.{slice-same, slice-join, slice-none}
 use Rattle.tree.specs.Cells.{tree-at}
-use Rattle.tree.specs.Arena.{Links, Arena}
+use Rattle.tree.specs.Arena.{Arena}
 use Rattle.tree.proofs.Decoding.{Agree}
+use Rattle.tree.proofs.Areas.{arena-frame}
 use Rattle.certificate.proofs.Settling.{slice-at}
 use Rattle.equivalence.specs.Sums.{remaining, Cells, Run, Lasting, index, test, ahead, Zeroed, TookOne, Cancelled}
-use Rattle.equivalence.proofs.Scratch.{arena-frame}
 use Rattle.equivalence.proofs.Gathering.{remaining-some, remaining-zero, remaining-append, remaining-frame}
 use Rattle.equivalence.proofs.Describing.{run-frame}
 

@@ -1,6 +1,6 @@
 -- The words of a tree, once its sums are sorted, have its canonical text. Assumes nothing.
 use Prim.Native.Nat.{ℕ, _+_, _-_, _*_, _<_, _≤_}
-use mathlib.Core.Path.{_≡_, refl, sym, ap, _∙_}
+use mathlib.Core.Path.{_≡_, sym, ap, _∙_}
 use mathlib.Core.Bool.{false}
 use mathlib.Core.List.{List}
 use lib.ListN.{length, getD}
@@ -16,9 +16,6 @@ use Rattle.certificate.proofs.NameWords.{spelled-tokens, spelled-settled}
 use Rattle.equivalence.specs.Words.{Spelled, Canon}
 
 module _ (s w v : List ℕ) (t : Tree) (base end : ℕ) (g : Spelled s w v false t base end) (small : 5 * size t < 65536) (room : base + 15 * size t ≤ length w) where
-  ws : List ℕ
-  ws = words (flatten s (g .term))
-
   written : slice base end v ≡ words (flatten s (g .term))
   written = ap (λ (e : ℕ). slice base e v) (g .end) ∙ g .wrote .words
 

@@ -2,7 +2,7 @@
 use Prim.Native.Nat.{ℕ, _+_, _*_, _<_, _≤_}
 use mathlib.Core.Path.{_≡_, refl, sym, ap, ap₂, _∙_}
 use mathlib.Core.Bool.{Bool, true, false}
-use mathlib.Core.Logic.{_⊎_, ⊎-elim}
+use mathlib.Core.Logic.{⊎-elim}
 use mathlib.Core.List.{List, [], _∷_}
 use lib.ListN.{length}
 use lib.Seq.{slice}
@@ -17,6 +17,7 @@ use Rattle.text.proofs.Slices.{slice-same}
 use Rattle.tree.specs.Cells.{tree-at}
 use Rattle.tree.specs.Arena.{Arena}
 use Rattle.tree.proofs.Decoding.{Agree, frame-tree}
+use Rattle.tree.proofs.Areas.{arena-frame}
 use Rattle.certificate.specs.Texts.{texts, Tokens, lex}
 use Rattle.certificate.specs.Writer.{Kept}
 use Rattle.certificate.specs.declared.order.Order.{Order}
@@ -24,7 +25,6 @@ use Rattle.certificate.proofs.order.Order.{the-type}
 use Rattle.certificate.specs.declared.order.Order.the-variants.{Less, Equal, Greater}
 use Rattle.certificate.proofs.Comparisons.{equal-as, same-lex}
 use Rattle.equivalence.specs.Words.{Canon}
-use Rattle.equivalence.proofs.Scratch.{arena-frame}
 
 -- ---- the order of two texts
 

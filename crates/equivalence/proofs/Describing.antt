@@ -2,7 +2,7 @@
 use Prim.Native.Nat.{ℕ, zero, suc, _+_, _-_, _*_, _<_, _≤_}
 use mathlib.Core.Path.{_≡_, refl, sym, ap, ap₂, subst, _∙_}
 use mathlib.Core.Bool.{Bool, true, false, cond, not, _&&_}
-use mathlib.Core.List.{List, [], _∷_, _++_}
+use mathlib.Core.List.{List, [], _∷_}
 use lib.Dec.{eqb}
 use lib.ListN.{length, getD, set, length-set}
 use lib.Seq.{slice, slice-cons, length-slice, getD-set-same, getD-set-other}
@@ -18,12 +18,11 @@ use Rattle.text.proofs.Slices.{slice-same, slice-none}
 use Rattle.tree.specs.Cells.{tree-at}
 use Rattle.tree.specs.Arena.{Links, Arena}
 use Rattle.tree.proofs.Decoding.{Agree, frame-tree, size-pos}
+use Rattle.tree.proofs.Areas.{arena-frame}
 use Rattle.certificate.specs.Texts.{texts, Tokens}
 use Rattle.certificate.specs.Writer.{Kept}
-use Rattle.equivalence.specs.Words.{Canon}
 use Rattle.equivalence.specs.Fingerprints.{fingerprint, Marked}
-use Rattle.equivalence.specs.Sums.{heft, Cells, Run, Described, Lasting, index}
-use Rattle.equivalence.proofs.Scratch.{arena-frame}
+use Rattle.equivalence.specs.Sums.{heft, Cells, Run, Described, index}
 
 -- ---- two runs
 

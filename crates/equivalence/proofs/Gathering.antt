@@ -1,6 +1,6 @@
 -- The summands of a sum, gathered as the numbers of their cells. Assumes nothing.
 use Prim.Native.Nat.{ℕ, zero, suc, _+_, _-_, _*_, _<_, _≤_}
-use mathlib.Core.Path.{_≡_, refl, sym, ap, ap₂, subst, _∙_}
+use mathlib.Core.Path.{_≡_, refl, sym, ap, ap₂, _∙_}
 use mathlib.Core.Bool.{Bool, true, false, cond, _&&_}
 use mathlib.Core.List.{List, [], _∷_, _++_}
 use lib.Dec.{eqb}
@@ -11,15 +11,14 @@ use native.Mathlib.Decide.{decLt}
 use borrow.Author.Tests.{eq-eqb, ne-eqb, eqb-true}
 use Rattle.laws.proofs.Basics.Tests.{and-left, and-right}
 use Rattle.rules.specs.Bytes.{same}
-use Rattle.rules.specs.Tree.{Tree, variable, atom, apply, Trees, size, sizes, tamtplus}
-use Rattle.rules.specs.Sums.{unless-sum, summands, summands-of}
+use Rattle.rules.specs.Tree.{Tree, size, sizes, tamtplus}
+use Rattle.rules.specs.Sums.{summands, summands-of}
 use Rattle.text.proofs.Slices.{slice-same, slice-set, slice-join, slice-none}
 use Rattle.tree.specs.Cells.{kind-of, first-of, next-of, name-at, tree-at, trees-at}
 use Rattle.tree.specs.Arena.{Links, Arena}
 use Rattle.tree.proofs.Decoding.{Agree, Kind, application, a-variable, an-atom, kind, same-next, trees-none, trees-more, tree-variable, tree-atom, tree-apply, size-pos, size-apply, sizes-more, frame-tree, frame-trees}
-use Rattle.certificate.specs.Writer.{Kept}
+use Rattle.tree.proofs.Areas.{arena-frame}
 use Rattle.equivalence.specs.Sums.{remaining, heft, Cells, Gathered}
-use Rattle.equivalence.proofs.Scratch.{arena-frame}
 
 -- ---- lists of cells
 

@@ -1,9 +1,9 @@
 -- Two sums, gathered, described and cancelled one after the other. Assumes nothing.
 use Prim.Native.Nat.{ℕ, _+_, _-_, _*_, _<_, _≤_}
-use mathlib.Core.Path.{_≡_, refl, sym, ap, ap₂, _∙_}
+use mathlib.Core.Path.{_≡_, sym, ap, ap₂, _∙_}
 use mathlib.Core.Bool.{Bool}
 use mathlib.Core.Logic.{inl, inr}
-use mathlib.Core.List.{List, [], _∷_, _++_}
+use mathlib.Core.List.{List}
 use lib.ListN.{length, getD, set, length-set}
 use lib.Seq.{slice, getD-set-same, getD-set-other}
 use native.Mathlib.Omega.{arith}
@@ -15,9 +15,8 @@ use Rattle.text.proofs.Slices.{slice-same, slice-join}
 use Rattle.tree.specs.Cells.{tree-at}
 use Rattle.tree.specs.Arena.{Links, Arena}
 use Rattle.tree.proofs.Decoding.{Agree, frame-tree}
-use Rattle.certificate.specs.Writer.{Kept}
+use Rattle.tree.proofs.Areas.{arena-frame}
 use Rattle.equivalence.specs.Sums.{remaining, heft, Cells, Gathered, Described, Lasting, test, Cancelled, Ready}
-use Rattle.equivalence.proofs.Scratch.{arena-frame}
 use Rattle.equivalence.proofs.Gathering.{heft-append, remaining-frame, heft-frame}
 use Rattle.equivalence.proofs.Describing.{run-later}
 use Rattle.equivalence.proofs.Cancelling.{zeroed-outside, zeroed-below}
@@ -43,9 +42,6 @@ module _ (s w v₁ v₂ : List ℕ) (n i j at mid end : ℕ) (b : Bool) (a : Are
   second-room = omega (arith, g .most-is, g .kept .len, ap size second-same)
 
   module _ (h : Gathered s v₁ v₂ n mid end (size (tree-at s v₁ j)) (summands (tree-at s v₁ j))) where
-    v₃ : List ℕ
-    v₃ = set v₂ end 0
-
     sizes-bound : end ≤ at + (size (tree-at s w i) + size (tree-at s w j))
     sizes-bound = omega (arith, g .most-is, h .most-is, ap size second-same)
 

@@ -1,19 +1,18 @@
 -- The right-nested sum of cells that are not taken out. Assumes nothing.
-use Prim.Native.Nat.{ℕ, zero, suc, _+_, _-_, _*_, _<_, _≤_}
-use mathlib.Core.Path.{_≡_, refl, sym, ap, ap₂, subst, _∙_}
+use Prim.Native.Nat.{ℕ, suc, _+_, _-_, _*_, _<_, _≤_}
+use mathlib.Core.Path.{_≡_, sym, ap, ap₂, subst, _∙_}
 use mathlib.Core.Bool.{Bool, true, false, cond}
 use mathlib.Core.List.{List, [], _∷_, _++_}
 use lib.Dec.{eqb}
 use lib.ListN.{length, getD}
 use lib.Seq.{slice, slice-cons, length-slice}
 use native.Mathlib.Omega.{arith}
-use native.Mathlib.Numerals.{add-one}
-use Rattle.rules.specs.Tree.{Tree, apply, Trees, none, more, size, tamtplus, plus}
+use Rattle.rules.specs.Tree.{Tree, apply, none, more, size, tamtplus, plus}
 use Rattle.rules.specs.Sums.{rebuild}
 use Rattle.text.proofs.Slices.{slice-join, slice-none}
 use Rattle.tree.specs.Cells.{start-of, length-of, kind-of, nodes-of, next-of, name-at, made, tree-at, trees-at}
-use Rattle.tree.specs.Arena.{Links, Arena, Grown, Wrote, Linked}
-use Rattle.tree.proofs.Decoding.{Agree, made-apply, same-kind, same-name, same-next, trees-none, trees-more, frame-tree}
+use Rattle.tree.specs.Arena.{Arena, Wrote, Linked}
+use Rattle.tree.proofs.Decoding.{Agree, made-apply, same-kind, same-name, trees-none, trees-more, frame-tree}
 use Rattle.tree.proofs.Pushing.{linked-like}
 use Rattle.substitution.proofs.Growing.{grown-same, grown-then}
 use Rattle.equivalence.specs.Sums.{remaining, heavy, Added, Rebuilt}

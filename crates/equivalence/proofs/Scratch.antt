@@ -1,31 +1,22 @@
 -- Words after the cells: what is written there leaves the cells as they are, and one after another the words of two writers are one
 -- list. Assumes nothing.
 use Prim.Native.Nat.{ℕ, _+_, _*_, _<_, _≤_}
-use mathlib.Core.Path.{_≡_, refl, sym, ap, ap₂, _∙_}
+use mathlib.Core.Path.{_≡_, sym, ap, ap₂, _∙_}
 use mathlib.Core.List.{List, [], _∷_, _++_}
-use lib.ListN.{length, getD, set, length-append, length-set}
+use lib.ListN.{length, set, length-append, length-set}
 use lib.Seq.{slice, getD-set-other}
 use native.Mathlib.Omega.{arith}
 use Rattle.rules.specs.Bytes.{Text}
 use Rattle.text.specs.Sorting.{Wrote}
 use Rattle.text.proofs.Slices.{slice-same, slice-set, slice-join, slice-none}
-use Rattle.tree.specs.Arena.{Links, Cell, Arena}
-use Rattle.tree.proofs.Decoding.{Agree, same-first, same-next}
-use Rattle.tree.proofs.Pushing.{cell-frame}
+use Rattle.tree.specs.Arena.{Arena, Below}
+use Rattle.tree.proofs.Decoding.{Agree}
+use Rattle.tree.proofs.Areas.{arena-frame}
+use Rattle.certificate.specs.Writer.{Kept}
 
--- an area that agrees on the cells has the same cells
-pub arena-frame : {w v : List ℕ} {n : ℕ} (s : Text) → Arena s w n → length v ≡ length w → Agree w v n → Arena s v n
-arena-frame {w} {v} s a e g =
-    let l = a .links in
-    record {
-      links = record {
-        some = l .some;
-        room = (let r = l .room in omega arith);
-        first = λ k p q. (let f = l .first k p q in let h = same-first w v g k q in omega arith);
-        next = λ k p q. (let f = l .next k p q in let h = same-next w v g k q in omega arith);
-      };
-      cell = λ k p q. cell-frame s l g k p q (a .cell k p q);
-    }
+-- scratch from the free end on leaves the cells
+pub below-kept : {w v : List ℕ} {n at lim : ℕ} → Kept w v at lim → 4 * n ≤ at → Below w v n
+below-kept k h = record { len = k .len; words = λ p q. sym (k .below p (omega arith)) }
 
 module _ {w v : List ℕ} {to : ℕ} {l : List ℕ} (g : Wrote w v to l) where
   pub wrote-agree : (n : ℕ) → 4 * n ≤ to → Agree w v n

@@ -4,18 +4,18 @@ use mathlib.Core.Path.{_≡_, refl, sym, ap, ap₂, subst, _∙_}
 use mathlib.Core.Bool.{Bool, true, false, cond, not}
 use mathlib.Core.List.{List, [], _∷_, _++_, append-assoc}
 use lib.Dec.{eqb}
-use lib.ListN.{length, getD, set, take, drop, length-append, length-set}
+use lib.ListN.{length, getD, set, length-append, length-set}
 use native.Mathlib.Omega.{arith}
 use borrow.Author.Tests.{eq-eqb, ne-eqb}
 use Rattle.rules.specs.Bytes.{Text, same}
-use Rattle.rules.specs.Tree.{Tree, variable, atom, apply, Trees, size, sizes, tamtplus}
+use Rattle.rules.specs.Tree.{apply, size, sizes, tamtplus}
 use Rattle.rules.specs.Tree as T
 use Rattle.text.specs.Sorting.{Wrote}
 use Rattle.tree.specs.Cells.{start-of, length-of, kind-of, first-of, next-of, fixed-name, named, name-at, tree-at, trees-at}
-use Rattle.tree.specs.Arena.{Cell, Links, Arena}
-use Rattle.tree.proofs.Decoding.{Agree, Kind, application, a-variable, an-atom, kind, same-next, trees-none, trees-more, tree-variable, tree-atom, tree-apply, size-pos, size-apply, sizes-more, frame-trees}
-use Rattle.certificate.specs.Texts.{word-text, Token}
-use Rattle.certificate.specs.Terms.{Term, node, Terms, none, more}
+use Rattle.tree.specs.Arena.{Cell, Arena}
+use Rattle.tree.proofs.Decoding.{Kind, application, a-variable, an-atom, kind, same-next, trees-none, trees-more, tree-variable, tree-atom, tree-apply, size-pos, size-apply, sizes-more, frame-trees}
+use Rattle.certificate.specs.Texts.{word-text}
+use Rattle.certificate.specs.Terms.{node, none, more}
 use Rattle.certificate.specs.Items.{adds, opening, bracket, closing}
 use Rattle.certificate.specs.Spelling.{Word, Spells, as-variable, as-atom, as-apply, SpellsAll, spell-none, spell-more, term-words, list-words}
 use Rattle.certificate.proofs.WordTexts.{name-fixed, code-named, code-byte, text-mark, text-place}

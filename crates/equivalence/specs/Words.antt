@@ -1,11 +1,10 @@
 -- What the writers of a tree's words do to the work area. Definitions only.
-use Prim.Native.Nat.{ℕ, _+_, _*_, _<_, _≤_}
+use Prim.Native.Nat.{ℕ, _+_, _*_, _≤_}
 use mathlib.Core.Path.{_≡_}
 use mathlib.Core.Bool.{Bool}
 use mathlib.Core.List.{List}
 use lib.ListN.{length}
 use lib.Seq.{slice}
-use Rattle.rules.specs.Bytes.{Text}
 use Rattle.rules.specs.Tree.{Tree, Trees, size, sizes}
 use Rattle.rules.specs.Sums.{canonical}
 use Rattle.text.specs.Sorting.{Wrote}

@@ -2,6 +2,7 @@
 use crate::words::tree_words;
 use certificate::order::byte_of;
 use certificate::order::width_of;
+use certificate::order::zeros_of;
 use text::places::wide;
 ghost use mathlib.Core.Path.{_≡_};
 ghost use Prim.Native.Nat.{_+_, _*_, _<_, _≤_};
@@ -10,21 +11,50 @@ ghost use lib.Seq.{slice};
 ghost use Rattle.rules.specs.Tree.{size};
 ghost use Rattle.tree.specs.Cells.{tree-at};
 ghost use Rattle.tree.specs.Arena.{Arena};
-ghost use Rattle.certificate.specs.Texts.{word-text, texts, Token, Tokens};
-ghost use Rattle.equivalence.specs.Fingerprints.{mixed, fingerprint, Marked};
+ghost use Rattle.certificate.specs.Texts.{word-text, texts, Token, Tokens, zeros-name};
+ghost use Rattle.equivalence.specs.Fingerprints.{mixed-byte, mixed, fingerprint, Marked};
 
-// The fingerprint h, carried on through the text of the word x.
+// The fingerprint h, carried on through the byte b.
+fn mix_byte(h: usize, b: u8) -> usize
+    requires { ⌜ h < 4294967296 ⌝ }
+    ensures { λ r. ⌜ (r < 4294967296) × (r ≡ mixed-byte h b) ⌝ }
+{
+    if b == 48 {
+        return (h + 2654435769) % 4294967296;
+    }
+    let wide = b as usize;
+    (h * 16777619 + wide) % 4294967296
+}
+
+// The same through an x, n zeros, a colon and Msg.
+fn mix_zeros(n: usize, h: usize) -> usize
+    requires { ⌜ (n < 131072) × (h < 4294967296) ⌝ }
+    ensures { λ r. ⌜ (r < 4294967296) × (r ≡ mixed h (zeros-name n)) ⌝ }
+{
+    let first = mix_byte(h, 120);
+    let zeros = (first + n * 2654435769) % 4294967296;
+    let colon = mix_byte(zeros, 58);
+    let m = mix_byte(colon, 77);
+    let s = mix_byte(m, 115);
+    mix_byte(s, 103)
+}
+
+// The same through the text of the word x.
 fn mix(sheet: &[u8], x: usize, h: usize) -> usize
     requires { ⌜ Token (now sheet) x ⌝ }
     requires { ⌜ h < 4294967296 ⌝ }
     ensures { λ r. ⌜ (r < 4294967296) × (r ≡ mixed h (word-text (now (sheet .entry)) x)) ⌝ }
 {
+    let zeros = zeros_of(x);
+    if 0 < zeros {
+        return mix_zeros(zeros, h);
+    }
     let width = width_of(x);
     let mut a = 0;
     let mut r = h;
     while a < width {
-        let b = byte_of(sheet, x, a) as usize;
-        r = (r * 16777619 + b) % 4294967296;
+        let b = byte_of(sheet, x, a);
+        r = mix_byte(r, b);
         a += 1;
     }
     r

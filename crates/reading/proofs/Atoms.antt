@@ -13,11 +13,11 @@ use types.Run.{OneOf}
 use Rattle.rules.specs.Bytes.{Text}
 use Rattle.rules.specs.Maybe.{_>>=_, guard}
 use Rattle.rules.specs.Names.{digit, all, letter, letter-name}
-use Rattle.rules.specs.Tree.{Tree, variable, atom, apply, Trees, none, more, size}
+use Rattle.rules.specs.Tree.{Tree, atom, apply, Trees, none, more, size}
 use Rattle.rules.specs.Reading.{single, constant-name, atom-of}
 use Rattle.laws.specs.Unspelled.{unspelled}
-use Rattle.tree.specs.Cells.{start-of, length-of, kind-of, fixed-name, named, name-at, part, first-of, next-of, made, tree-at, trees-at}
-use Rattle.tree.specs.Arena.{Links, Place, Cell, Arena, Grown, Wrote, Linked}
+use Rattle.tree.specs.Cells.{start-of, length-of, kind-of, fixed-name, named, name-at, first-of, next-of, made, tree-at, trees-at}
+use Rattle.tree.specs.Arena.{Place, Arena, Wrote, Linked}
 use Rattle.tree.proofs.Bounded.{every-below, below-holds}
 use Rattle.tree.proofs.FixedNames.{fixed-unspelled}
 use Rattle.tree.proofs.Decoding.{Kind, application, a-variable, an-atom, kind, tree-variable, tree-atom, tree-apply, trees-none, trees-more, made-atom}

@@ -1,8 +1,8 @@
 -- The machine reads what the grammar reads: from a state that wants a term it goes on with the term that the grammar reads. Assumes
 -- nothing.
-use Prim.Native.Nat.{ℕ, zero, suc, _+_, _≤_, _<_}
+use Prim.Native.Nat.{ℕ, zero, suc, _≤_, _<_}
 use native.Mathlib.Omega.{arith}
-use mathlib.Core.Path.{_≡_, refl, sym, ap, _∙_}
+use mathlib.Core.Path.{_≡_, refl, _∙_}
 use mathlib.Core.List.{List, [], _∷_}
 use mathlib.Core.Option.{Option, some, none as nothing}
 use mathlib.Core.Bool.{Bool, true, false, cond, not}
@@ -13,7 +13,7 @@ use Rattle.rules.specs.Maybe.{_>>=_, guard}
 use Rattle.rules.specs.Tree.{Tree, Trees, none, more}
 use Rattle.rules.specs.Tokens.{tokens}
 use Rattle.rules.specs.Reading.{leaf, close, after-token, wholly, read-term, read-list, read-text}
-use Rattle.reading.specs.Machine.{Stack, bottom, level, add, back, State, wants, named, has, given, ended, machine, reading}
+use Rattle.reading.specs.Machine.{Stack, bottom, level, add, back, wants, named, has, given, machine, reading}
 
 abbrev Term : Type 0
 Term = Tree × List Text

@@ -1,8 +1,8 @@
 -- The kinds of leaves, and the names of atoms. Assumes nothing.
-use Prim.Native.Nat.{ℕ, zero, suc, _+_, _-_, _<_, _≤_}
+use Prim.Native.Nat.{ℕ, _+_, _-_, _<_, _≤_}
 use native.Mathlib.Omega.{arith}
 use mathlib.Core.Path.{_≡_, refl, sym, ap, _∙_}
-use mathlib.Core.List.{List, [], _∷_}
+use mathlib.Core.List.{[], _∷_}
 use mathlib.Core.Option.{Option, some, none as nothing}
 use mathlib.Core.Logic.{⊎-elim, inl, inr}
 use types.Run.{OneOf}
@@ -14,7 +14,7 @@ use borrow.Author.Tests.{eq-eqb, ne-eqb}
 use Rattle.rules.specs.Bytes.{Text}
 use Rattle.rules.specs.Text.{count-of}
 use Rattle.rules.specs.Names.{letter, letter-name}
-use Rattle.rules.specs.Tree.{Tree, variable, apply, none, size}
+use Rattle.rules.specs.Tree.{variable, apply, none, size}
 use Rattle.rules.specs.Sorts.{Sort, Pub, Fresh, Msg, TamNat, Node, sort-named, variable-sort}
 use Rattle.rules.specs.Reading.{leaf}
 use Rattle.text.proofs.Loops.{drop-next}

@@ -1,16 +1,14 @@
 -- New cells: with a name's place, and after other new cells; and an application of trees in their order. Assumes nothing.
-use Prim.Native.Nat.{ℕ, zero, suc, _+_, _*_, _<_, _≤_}
+use Prim.Native.Nat.{ℕ, _+_, _*_, _<_, _≤_}
 use native.Mathlib.Omega.{arith}
-use mathlib.Core.Path.{_≡_, refl, sym, ap, ap₂, _∙_, subst}
+use mathlib.Core.Path.{_≡_, refl, sym, ap, _∙_, subst}
 use mathlib.Core.List.{List}
-use mathlib.Core.Option.{Option, some, none as nothing, Option·some-injective}
-use mathlib.Core.Bool.{Bool, true, false, cond}
-use lib.Dec.{eqb}
+use mathlib.Core.Option.{Option, some, Option·some-injective}
 use lib.ListN.{length, getD}
 use borrow.Author.Tests.{ne-eqb}
 use Rattle.rules.specs.Bytes.{Text}
-use Rattle.rules.specs.Tree.{Tree, Trees, apply, none, more, size, sizes, count}
-use Rattle.tree.specs.Cells.{named, name-at, part, variable-kind, made, next-of, tree-at, trees-at}
+use Rattle.rules.specs.Tree.{Tree, Trees, apply, none, more, size, sizes}
+use Rattle.tree.specs.Cells.{named, part, variable-kind, made, trees-at}
 use Rattle.tree.specs.Arena.{Links, Place, Arena, Grown, Wrote, Linked}
 use Rattle.tree.proofs.Decoding.{frame-trees, made-apply}
 use Rattle.tree.proofs.Pushing.{name-push, arena-push, linked}
@@ -20,7 +18,7 @@ use Rattle.reading.specs.declared.closing.Ordered.{Ordered}
 use Rattle.reading.specs.declared.closing.Closed.{Closed}
 use Rattle.reading.specs.Closing.{InOrder, Orders, Done, NoTree, Closes}
 use Rattle.reading.proofs.Turns.{back-sizes}
-use Rattle.reading.proofs.Ordering.{grown-on, grown-more}
+use Rattle.reading.proofs.Ordering.{grown-on}
 
 pub named-part : {s : Text} {a n : ℕ} → Placed s a n → named s a n ≡ part s a n
 unfolding named

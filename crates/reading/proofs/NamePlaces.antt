@@ -1,22 +1,21 @@
 -- A name among the symbols of a text is a place in the sheet, and its second byte is no bracket. Assumes nothing.
-use Prim.Native.Nat.{ℕ, zero, suc, _+_, _*_, _-_, _<_, _≤_}
+use Prim.Native.Nat.{ℕ, suc, _+_, _-_, _<_, _≤_}
 use native.Mathlib.Omega.{arith}
-use mathlib.Core.Path.{_≡_, refl, sym, ap, _∙_, subst}
-use mathlib.Core.List.{List, [], _∷_}
-use mathlib.Core.Option.{Option, some, none as nothing}
+use mathlib.Core.Path.{_≡_, sym, ap, _∙_, subst}
+use mathlib.Core.List.{[], _∷_}
+use mathlib.Core.Option.{some}
 use mathlib.Core.Bool.{Bool, true, false, cond, _&&_, _||_, false≢true}
 use lib.Dec.{eqb}
 use lib.ListN.{length, getD, take, drop}
-use lib.Seq.{take-take, take-add, drop-at, length-take-le, drop-drop}
+use lib.Seq.{take-take, take-add, drop-at, length-take-le}
 use Rattle.rules.specs.Bytes.{Text}
-use Rattle.rules.specs.Text.{bytes, is-one-of}
-use Rattle.rules.specs.Names.{digit, alphabetic, alphanumeric, all, identifier, number, word, indexed, variable-token}
-use Rattle.rules.specs.Tokens.{rest-length}
+use Rattle.rules.specs.Text.{bytes}
+use Rattle.rules.specs.Names.{digit, alphabetic, alphanumeric, all, identifier, number, word, variable-token}
 use Rattle.laws.proofs.Reading.TokenKinds.{is-mark, is-token, rest-kind}
 use Rattle.text.proofs.Loops.{drop-next}
 use Rattle.tree.specs.Cells.{part}
 use Rattle.syntax.specs.Next.{next-at}
-use Rattle.syntax.specs.Symbols.{symbol-by, symbol-of, symbol-at}
+use Rattle.syntax.specs.Symbols.{symbol-of, symbol-at}
 use Rattle.syntax.specs.declared.Next.{Next}
 use Rattle.syntax.specs.declared.Next.the-variants.{Token, End, Unsupported}
 use Rattle.syntax.specs.declared.Symbol.{Symbol}

@@ -1,16 +1,13 @@
 -- The trees of a chain put in their order: the loop's invariant and its turns. Assumes nothing.
-use Prim.Native.Nat.{ℕ, zero, suc, _+_, _*_, _<_, _≤_}
+use Prim.Native.Nat.{ℕ, suc, _+_, _<_, _≤_}
 use native.Mathlib.Omega.{arith}
 use mathlib.Core.Path.{_≡_, refl, sym, ap, ap₂, _∙_}
-use mathlib.Core.Logic.{_⊎_, inl, inr}
 use mathlib.Core.List.{List}
-use native.Mathlib.Decide.{decLt}
-use lib.ListN.{length, getD}
 use Rattle.rules.specs.Bytes.{Text}
 use Rattle.rules.specs.Tree.{Tree, Trees, none, more, size, sizes, count}
 use Rattle.tree.specs.Cells.{nodes-of, next-of, tree-at, trees-at}
 use Rattle.tree.specs.Arena.{Links, Arena, Grown, Linked}
-use Rattle.tree.proofs.Decoding.{Agree, frame-tree, frame-trees, trees-none, trees-more, same-next}
+use Rattle.tree.proofs.Decoding.{frame-tree, trees-none, trees-more, same-next}
 use Rattle.reading.specs.Machine.{back}
 use Rattle.reading.specs.Closing.{InOrder}
 use Rattle.reading.proofs.Turns.{back-sizes}

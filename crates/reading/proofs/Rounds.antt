@@ -1,25 +1,26 @@
 -- The two nested rounds of the term reader: their invariants and turns. Assumes nothing.
 use Prim.Native.Nat.{ℕ, zero, suc, _+_, _*_, _-_, _<_, _≤_}
 use native.Mathlib.Omega.{arith}
-use mathlib.Core.Path.{_≡_, refl, sym, ap, ap₂, _∙_, subst}
+use mathlib.Core.Path.{_≡_, refl, sym, ap, _∙_, subst}
 use mathlib.Core.List.{List, [], _∷_}
-use mathlib.Core.Option.{Option, some, none as nothing}
+use mathlib.Core.Option.{some, none as nothing}
 use denote.Enum.Declared.{tagOf}
 use types.Run.{OneOf}
 use lib.ListN.{length, getD, take, drop, set, length-set}
 use lib.Seq.{getD-set-same, getD-set-other}
 use Rattle.rules.specs.Bytes.{Text}
-use Rattle.rules.specs.Tree.{Tree, Trees, none, more, size, count}
-use Rattle.rules.specs.Reading.{leaf, single, close, read-text, parse}
+use Rattle.rules.specs.Tree.{Tree, Trees, none, more, size}
+use Rattle.rules.specs.Reading.{leaf, single, parse}
 use Rattle.syntax.specs.Symbols.{symbol-at}
 use Rattle.syntax.specs.declared.Symbol.{Symbol}
-use Rattle.syntax.specs.declared.Symbol.the-variants.{Begin, Shut, Comma, Name, Stop, Bad}
+use Rattle.syntax.specs.declared.Symbol.the-variants.{Begin, Shut, Comma, Name, Stop}
 use Rattle.syntax.proofs.Symbol.{the-type}
 use Rattle.tree.specs.Cells.{part, next-of, tree-at, trees-at}
 use Rattle.tree.specs.Arena.{Links, Arena}
 use Rattle.tree.proofs.Decoding.{trees-none, trees-more}
-use Rattle.reading.specs.Machine.{Stack, bottom, level, add, back, State, wants, named, has, reading, Bare, HasOne, weight}
-use Rattle.reading.specs.Words.{stack-at, Placed, Held, Outside, Added, Opened}
+use Rattle.tree.proofs.Areas.{arena-frame}
+use Rattle.reading.specs.Machine.{Stack, bottom, level, add, wants, named, has, reading, Bare, HasOne, weight}
+use Rattle.reading.specs.Words.{stack-at, Held, Outside, Added, Opened}
 use Rattle.reading.specs.declared.closing.Closed.{Closed}
 use Rattle.reading.specs.Closing.{most, NoTree, closed-level, Popped, Pops}
 use Rattle.reading.specs.declared.Parsed.{Parsed}
@@ -28,7 +29,7 @@ use Rattle.reading.specs.Parsing.{ended-at, limit-of, stack-end, Read, P
 use Rattle.reading.proofs.Grammar.{reads}
 use Rattle.reading.proofs.Turns.{limited, name-turn, open-turn, comma-turn, shut-turn, comma-bare, shut-bare, stop-turn, not-name, no-delimiter, leaf-turn, shut-out, small-enough, parse-limited}
 use Rattle.reading.proofs.LeafLaws.{leaf-size}
-use Rattle.reading.proofs.Stacks.{arena-frame, stack-top}
+use Rattle.reading.proofs.Stacks.{stack-top}
 use Rattle.reading.proofs.NamePlaces.{drop-take, NameAt, mark-past}
 
 -- On stacks
@@ -335,7 +336,7 @@ pops-is s w v n limit d h e = subst (Pops s w v n limit d) e h
 module _ {s : Text} {w : List ℕ} {free : ℕ} (from to : ℕ) (a : Arena s w free) (room : stack-end free from to ≤ length w) where
   pub bottom-arena : Arena s (set w (4 * limit-of free from to) 0) free
   bottom-arena =
-      arena-frame a (length-set w (4 * limit-of free from to) 0) (λ p q. sym (getD-set-other w (4 * limit-of free from to) p 0 0 (omega arith)))
+      arena-frame s a (length-set w (4 * limit-of free from to) 0) (λ p q. sym (getD-set-other w (4 * limit-of free from to) p 0 0 (omega arith)))
 
   pub bottom-word : getD (set w (4 * limit-of free from to) 0) (4 * limit-of free from to) 0 ≡ 0
   bottom-word = getD-set-same w (4 * limit-of free from to) 0 0 (omega arith)

@@ -1,15 +1,15 @@
 -- What a closed list is, by its name. Assumes nothing.
-use Prim.Native.Nat.{ℕ, zero, suc, _+_, _*_, _-_, _<_, _≤_}
+use Prim.Native.Nat.{ℕ, _+_, _-_, _≤_}
 use native.Mathlib.Omega.{arith}
-use mathlib.Core.Path.{_≡_, refl, sym, ap, ap₂, _∙_, subst}
-use mathlib.Core.List.{List, [], _∷_}
-use mathlib.Core.Option.{Option, some, none as nothing}
+use mathlib.Core.Path.{_≡_, refl, sym, ap, ap₂, _∙_}
+use mathlib.Core.List.{[], _∷_}
+use mathlib.Core.Option.{some}
 use mathlib.Core.Bool.{Bool, true, false}
-use lib.ListN.{length, getD, take, drop}
+use lib.ListN.{getD, take, drop}
 use lib.Seq.{getD-take, getD-drop}
 use Rattle.rules.specs.Bytes.{Text, same}
 use Rattle.rules.specs.Names.{letter-name}
-use Rattle.rules.specs.Tree.{Tree, Trees, apply, tamtplus}
+use Rattle.rules.specs.Tree.{Trees, apply, tamtplus}
 use Rattle.rules.specs.Reading.{close, atom-of, sum-of}
 use Rattle.laws.proofs.Basics.Tests.{same-eq}
 use Rattle.tree.specs.Cells.{part}

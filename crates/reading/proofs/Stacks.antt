@@ -1,20 +1,20 @@
 -- The stack in words: words that stay, a tree put on the top, a level opened. Assumes nothing.
-use Prim.Native.Nat.{ℕ, zero, suc, _+_, _*_, _-_, _<_, _≤_}
+use Prim.Native.Nat.{ℕ, zero, suc, _+_, _*_, _<_, _≤_}
 use native.Mathlib.Omega.{arith}
 use native.Mathlib.Numerals.{add-one}
 use native.Mathlib.Decide.{decLt, ℕ-discrete}
 use mathlib.Core.Path.{_≡_, refl, sym, ap, ap₂, _∙_, subst}
-use mathlib.Core.List.{List, [], _∷_}
-use mathlib.Core.Option.{Option, some, none as nothing}
+use mathlib.Core.List.{List}
+use mathlib.Core.Option.{some}
 use lib.ListN.{length, getD, set, length-set}
 use lib.Seq.{getD-set-same, getD-set-other}
 use Rattle.rules.specs.Bytes.{Text}
 use Rattle.rules.specs.Tree.{Tree, Trees, none, more, size}
 use Rattle.rules.specs.Reading.{leaf, close}
 use Rattle.tree.specs.Cells.{named, part, variable-kind, made, trees-at}
-use Rattle.tree.specs.Arena.{Links, Cell, Arena, Grown, Wrote, Linked}
-use Rattle.tree.proofs.Decoding.{Agree, frame-trees, trees-none, same-first, same-next}
-use Rattle.tree.proofs.Pushing.{cell-frame}
+use Rattle.tree.specs.Arena.{Links, Arena, Grown, Wrote, Linked}
+use Rattle.tree.proofs.Decoding.{Agree, frame-trees, trees-none}
+use Rattle.tree.proofs.Areas.{arena-frame}
 use Rattle.reading.specs.Machine.{Stack, bottom, level, add, back}
 use Rattle.reading.specs.Leaves.{leaf-kind}
 use Rattle.reading.specs.Words.{stack-at, Placed, Held, Outside, Made, Added, Opened}
@@ -22,18 +22,6 @@ use Rattle.reading.specs.Closing.{most, Done, NoTree, closed-level, Popp
 use Rattle.reading.proofs.LeafLaws.{leaf-made, leaf-sorted, leaf-size}
 use Rattle.reading.proofs.Ordering.{grown-same}
 use Rattle.reading.proofs.Making.{named-part, place-of, linked-at, made-on}
-
--- the cells below n are in v as in w
-pub arena-frame : {s : Text} {w v : List ℕ} {n : ℕ} → Arena s w n → length v ≡ length w → Agree w v n → Arena s v n
-arena-frame {s} {w} {v} {n} a e g = record {
-  links = record {
-    some = a .links .some;
-    room = omega (arith, a .links .room);
-    first = λ k p q. omega (arith, same-first w v g k q, a .links .first k p q);
-    next = λ k p q. omega (arith, same-next w v g k q, a .links .next k p q);
-  };
-  cell = λ k p q. cell-frame s (a .links) g k p q (a .cell k p q);
-}
 
 level-path : {a b : Text} {ts us : Trees} {k l : Stack} → a ≡ b → ts ≡ us → k ≡ l → level a ts k ≡ level b us l
 level-path p q r = cc
@@ -103,7 +91,7 @@ module _ {s : Text} {w v : List ℕ} {n m limit d : ℕ} {t : Tree} (k : ℕ) (h
   pub added : Added s w (top-set v limit d k) n m limit d t
   added = record {
     held = record {
-      arena = arena-frame (x .arena) (length-set v (4 * limit + 3 * d) k) cells;
+      arena = arena-frame s (x .arena) (length-set v (4 * limit + 3 * d) k) cells;
       below = b;
       room = omega (arith, h .room, x .grown .len, length-set v (4 * limit + 3 * d) k);
       trees = added-trees;
@@ -201,7 +189,7 @@ module _ {s : Text} {w : List ℕ} {n limit d a l : ℕ} (h : Held s w n limit d
   pub opened : Opened s w opening n limit d (part s a l)
   opened = record {
     held = record {
-      arena = arena-frame (h .arena) opening-length opened-cells;
+      arena = arena-frame s (h .arena) opening-length opened-cells;
       below = h .below;
       room = omega (arith, opening-length);
       trees = opened-trees;

@@ -1,11 +1,11 @@
 -- A sum of trees that stand last first: the loop's invariant and its turns. Assumes nothing.
-use Prim.Native.Nat.{ℕ, zero, suc, _+_, _*_, _<_, _≤_}
+use Prim.Native.Nat.{ℕ, _+_, _*_, _<_, _≤_}
 use native.Mathlib.Omega.{arith}
 use mathlib.Core.Path.{_≡_, refl, sym, ap, ap₂, _∙_, subst}
 use mathlib.Core.Logic.{_⊎_, inl, inr, ⊎-elim}
 use mathlib.Core.List.{List}
-use mathlib.Core.Option.{Option, some, none as nothing, Option·some-injective, Option·none-ne-some}
-use lib.ListN.{length, getD}
+use mathlib.Core.Option.{Option, some, Option·some-injective, Option·none-ne-some}
+use lib.ListN.{length}
 use Rattle.rules.specs.Bytes.{Text}
 use Rattle.rules.specs.Tree.{Tree, Trees, apply, none, more, size, sizes, count, tamtplus, plus}
 use Rattle.rules.specs.Reading.{nested, sum-of}
@@ -13,9 +13,9 @@ use Rattle.tree.specs.Cells.{part, nodes-of, next-of, tree-at, trees-at}
 use Rattle.tree.specs.Arena.{Links, Arena, Grown, Wrote, Linked}
 use Rattle.tree.proofs.Decoding.{frame-tree, frame-trees, trees-none, trees-more, same-next}
 use Rattle.reading.specs.Machine.{back}
-use Rattle.reading.specs.Words.{Placed, Made}
+use Rattle.reading.specs.Words.{Placed}
 use Rattle.reading.specs.Closing.{summed, Done, NoTree}
-use Rattle.reading.proofs.Ordering.{grown-same, grown-on, grown-more, count-more}
+use Rattle.reading.proofs.Ordering.{grown-same, grown-on, count-more}
 use Rattle.reading.proofs.Making.{linked-apply, made-on}
 
 -- On trees

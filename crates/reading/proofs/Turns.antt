@@ -1,8 +1,8 @@
 -- The turns of the term reader: what a symbol makes of the machine's state, the trees of a state that stay, and what refuses. Assumes
 -- nothing.
-use Prim.Native.Nat.{ℕ, zero, suc, _+_, _*_, _-_, _≤_, _<_}
+use Prim.Native.Nat.{ℕ, _+_, _-_, _≤_, _<_}
 use native.Mathlib.Omega.{arith}
-use mathlib.Core.Path.{_≡_, refl, sym, ap, _∙_, subst}
+use mathlib.Core.Path.{_≡_, refl, sym, ap, _∙_}
 use mathlib.Core.Logic.{⊎-elim}
 use mathlib.Core.List.{List, [], _∷_}
 use mathlib.Core.Option.{Option, some, none as nothing, Option·some-injective, Option·none-ne-some}
@@ -10,11 +10,11 @@ use mathlib.Core.Bool.{Bool, true, false, cond, not}
 use denote.Enum.Declared.{tagOf}
 use types.Run.{OneOf}
 use lib.Dec.{leb}
-use lib.ListN.{length, getD, take, drop}
+use lib.ListN.{take, drop}
 use Rattle.rules.specs.Bytes.{Text, same}
 use Rattle.rules.specs.Text.{bytes, is-one-of}
 use Rattle.rules.specs.Maybe.{_>>=_, guard}
-use Rattle.rules.specs.Names.{digit, all, letter-name}
+use Rattle.rules.specs.Names.{letter-name}
 use Rattle.rules.specs.Tree.{Tree, variable, atom, apply, Trees, none, more, size, sizes, tamtplus}
 use Rattle.rules.specs.Tokens.{tokens}
 use Rattle.rules.specs.Reading.{leaf, close, single, constant-name, atom-of, nested, sum-of, read-text, parse}
@@ -26,7 +26,7 @@ use Rattle.syntax.specs.declared.Symbol.{Symbol}
 use Rattle.syntax.specs.declared.Symbol.the-variants.{Begin, Shut, Comma, Name, Stop, Bad}
 use Rattle.syntax.proofs.Symbol.{the-type}
 use Rattle.syntax.proofs.TokenList.{joined}
-use Rattle.syntax.proofs.SymbolLaws.{Means, Marks, Names, means-is}
+use Rattle.syntax.proofs.SymbolLaws.{means-is}
 use Rattle.reading.specs.Machine.{Stack, bottom, level, add, back, State, wants, named, has, given, step, ended, finish, machine, reading, total}
 
 -- One token

@@ -10,13 +10,14 @@ use Rattle.rules.specs.Tree.{Tree, variable, atom, apply, Trees, none, more, si
 use Rattle.rules.specs.Reduction.{Rule, fst, snd, flip, sdec, kdec, constant, rule-named, fire, root, normalize, normalizes}
 use Rattle.laws.proofs.Reduction.Shapes.{Shape, fst-shape, snd-shape, a-shape, b-shape, sdec-shape, kdec-shape, Rooted, fired, stays, rooted}
 use Rattle.tree.specs.Cells.{kind-of, first-of, next-of, name-at, fixed-name, tree-at, trees-at}
-use Rattle.tree.specs.Arena.{Links, Arena}
+use Rattle.tree.specs.Arena.{Links, Arena, Below}
 use Rattle.tree.proofs.Decoding.{Agree, Kind, application, a-variable, an-atom, kind, same-name, tree-variable, tree-atom, tree-apply, trees-none, trees-more, frame-tree, frame-trees, size-leaf, size-apply, sizes-more}
-use Rattle.reduction.specs.Building.{Kept, NewTree, NewTrees}
+use Rattle.tree.proofs.Areas.{below-same, below-then}
+use Rattle.reduction.specs.Building.{NewTree, NewTrees}
 use Rattle.reduction.specs.Held.{coded, held, fixed}
 use Rattle.reduction.specs.declared.naming.RuleName.{RuleName}
 use Rattle.reduction.specs.declared.naming.RuleName.the-variants.{Fst, Snd, Flip, Sdec, Kdec, None}
-use Rattle.reduction.proofs.Placing.{kept-same, kept-then, new-later}
+use Rattle.reduction.proofs.Placing.{new-later}
 
 -- rules as the code has them
 abbrev pub decoded : RuleName → Option Rule
@@ -59,11 +60,11 @@ held-frame s v l e zero q = refl
 held-frame s v l e (suc k) q = ap some (frame-tree s v l e (suc k) (omega arith) q)
 
 -- what a node becomes, read in the area before its keys were compared
-pub becomes-later : {s : Text} {w v u : List ℕ} {n next j m : ℕ} (k i first : ℕ) → Arena s w n → Kept w v n → k < n → i < n → first < n → next < n
+pub becomes-later : {s : Text} {w v u : List ℕ} {n next j m : ℕ} (k i first : ℕ) → Arena s w n → Below w v n → k < n → i < n → first < n → next < n
     → NewTree s v u n 1 next (otherwise (held s v k) (apply (name-at s v i) (trees-at s v first))) j m
     → NewTree s w u n 1 next (otherwise (held s w k) (apply (name-at s w i) (trees-at s w first))) j m
 becomes-later {s} {w} {v} k i first a h p q r l x =
-    rw (held-frame s v (a .links) (h .below) k p, same-name w v (h .below) i q s, frame-trees s v (a .links) (h .below) first r)
+    rw (held-frame s v (a .links) (h .words) k p, same-name w v (h .words) i q s, frame-trees s v (a .links) (h .words) first r)
     (new-later a l h (omega arith) (omega arith) x)
 
 -- normal forms have no more nodes
@@ -135,7 +136,7 @@ pub new-root : {s : Text} {w v u : List ℕ} {n next j m i e : ℕ} (k first : �
     → NewTrees s w v n (sizes (trees-at s w first)) (normalizes (trees-at s w first)) j m → NewTree s v u m 1 next (root (name-at s v k) (trees-at s v j)) i e
     → NewTree s w u n (size (tree-at s w k)) next (normalize (tree-at s w k)) i e
 new-root {s} {w} {v} {j = j} k first a p q l z f d x =
-    let h = ap₂ root (same-name w v (d .kept .below) k q s) (sym (d .trees)) in
+    let h = ap₂ root (same-name w v (d .kept .words) k q s) (sym (d .trees)) in
     let g = normal-apply s w k z f ∙ h in
     rw g (new-later a l (d .kept) (d .grew) (omega (arith, d .used, size-apply s w k z, ap (λ (i : ℕ). sizes (trees-at s w i)) f)) x)
 
@@ -143,7 +144,7 @@ new-root {s} {w} {v} {j = j} k first a p q l z f d x =
 pub new-none : {s : Text} {w : List ℕ} {n : ℕ} (b k : ℕ) → Arena s w n → k ≡ 0 → NewTrees s w w n b (normalizes (trees-at s w k)) 0 n
 new-none {s} {w} {n} b k a e = record {
   arena = a;
-  kept = kept-same w n;
+  kept = below-same w n;
   grew = omega arith;
   used = omega arith;
   inside = a .links .some;
@@ -155,10 +156,10 @@ pub new-more : {s : Text} {w v u : List ℕ} {n j m i e : ℕ} (k next : ℕ) �
     → NewTrees s w v n (sizes (trees-at s w next)) (normalizes (trees-at s w next)) j m → NewTree s v u m (size (tree-at s v k)) j (normalize (tree-at s v k)) i e
     → NewTrees s w u n (sizes (trees-at s w k)) (normalizes (trees-at s w k)) i e
 new-more {s} {w} {v} k next a p q f d x =
-    let t = frame-tree s v (a .links) (d .kept .below) k p q in
+    let t = frame-tree s v (a .links) (d .kept .words) k p q in
     record {
       arena = x .arena;
-      kept = kept-then (d .kept) (x .kept) (d .grew);
+      kept = below-then (d .kept) (x .kept) (d .grew);
       grew = omega (arith, d .grew, x .grew);
       used = omega (arith, d .used, x .used, ap size t, sizes-more s (a .links) k p q, ap (λ (i : ℕ). sizes (trees-at s w i)) f);
       inside = x .inside;

@@ -5,46 +5,22 @@ use mathlib.Core.List.{List}
 use lib.ListN.{length}
 use native.Mathlib.Omega.{arith}
 use Rattle.rules.specs.Bytes.{Text}
-use Rattle.rules.specs.Tree.{Tree, apply, Trees, more, size, sizes}
+use Rattle.rules.specs.Tree.{Tree, apply, more, size, sizes}
 use Rattle.rules.specs.Reduction.{constant}
 use Rattle.tree.specs.Cells.{start-of, length-of, kind-of, nodes-of, next-of, name-at, fixed-name, made, trees-at}
-use Rattle.tree.specs.Arena.{Arena, Grown, Wrote, Linked}
-use Rattle.tree.proofs.Decoding.{same-first, same-next, made-apply, trees-none, frame-trees, sizes-more}
-use Rattle.tree.proofs.Pushing.{cell-frame, linked-like, linked-fixed as linked-coded}
+use Rattle.tree.specs.Arena.{Arena, Wrote, Linked, Below}
+use Rattle.tree.proofs.Decoding.{made-apply, trees-none, frame-trees, sizes-more}
+use Rattle.tree.proofs.Pushing.{linked-like, linked-fixed as linked-coded}
+use Rattle.tree.proofs.Areas.{below-grown, below-then}
 use Rattle.substitution.specs.Building.{Before}
 use Rattle.substitution.proofs.Placing.{before-linked}
-use Rattle.reduction.specs.Building.{Kept, NewTree}
-
-pub kept-same : (w : List ℕ) (n : ℕ) → Kept w w n
-kept-same w n = record { len = refl; below = λ p h. refl }
-
--- a growth keeps the cells below it
-pub kept-grown : {w v : List ℕ} {n m : ℕ} → Grown w v n m → Kept w v n
-kept-grown g = record { len = g .len; below = g .below }
-
-pub kept-then : {w v u : List ℕ} {n m : ℕ} → Kept w v n → Kept v u m → n ≤ m → Kept w u n
-kept-then g h p = record {
-  len = h .len ∙ g .len;
-  below = λ k l. g .below k l ∙ h .below k (omega arith);
-}
-
--- an area that keeps the cells holds the same trees
-pub arena-kept : {s : Text} {w v : List ℕ} {n : ℕ} → Arena s w n → Kept w v n → Arena s v n
-arena-kept {s} {w} {v} {n} a k = record {
-  links = record {
-    some = a .links .some;
-    room = omega (arith, a .links .room, k .len);
-    first = λ j p q. omega (arith, same-first w v (k .below) j q, a .links .first j p q);
-    next = λ j p q. omega (arith, same-next w v (k .below) j q, a .links .next j p q);
-  };
-  cell = λ j p q. cell-frame s (a .links) (k .below) j p q (a .cell j p q);
-}
+use Rattle.reduction.specs.Building.{NewTree}
 
 -- one new cell at most
 pub new-kept : {s : Text} {w v : List ℕ} {n next i m : ℕ} {t : Tree} → Before s w v n next t i m → m ≤ n + 1 → NewTree s w v n 1 next t i m
 new-kept x h = record {
   arena = x .arena;
-  kept = kept-grown (x .grown);
+  kept = below-grown (x .grown);
   grew = x .grew;
   used = h;
   some-cell = x .some-cell;
@@ -57,16 +33,16 @@ pub new-linked : {s : Text} {w v : List ℕ} {n next : ℕ} {t : Tree} (e : ℕ)
 new-linked e p x f = new-kept (before-linked e p x f) (omega arith)
 
 -- after other cells were written
-pub new-later : {s : Text} {w v u : List ℕ} {n m b d next i e : ℕ} {t : Tree} → Arena s w n → next < n → Kept w v n → n ≤ m → m + b ≤ n + d → NewTree s v u m b next t i e → NewTree s w u n d next t i e
+pub new-later : {s : Text} {w v u : List ℕ} {n m b d next i e : ℕ} {t : Tree} → Arena s w n → next < n → Below w v n → n ≤ m → m + b ≤ n + d → NewTree s v u m b next t i e → NewTree s w u n d next t i e
 new-later {s} {w} {v} {next = next} {t = t} a q k p r x = record {
   arena = x .arena;
-  kept = kept-then k (x .kept) p;
+  kept = below-then k (x .kept) p;
   grew = omega (arith, x .grew);
   used = omega (arith, x .used);
   some-cell = x .some-cell;
   inside = x .inside;
   tree = x .tree;
-  trees = x .trees ∙ ap (more t) (sym (frame-trees s v (a .links) (k .below) next q));
+  trees = x .trees ∙ ap (more t) (sym (frame-trees s v (a .links) (k .words) next q));
 }
 
 -- a fixed name over the list from cell first on

@@ -10,8 +10,8 @@ ghost use lib.ListN.{length};
 ghost use Rattle.rules.specs.Tree.{size, sizes};
 ghost use Rattle.rules.specs.Reduction.{fire, opens};
 ghost use Rattle.tree.specs.Cells.{tree-at, trees-at};
-ghost use Rattle.tree.specs.Arena.{Arena};
-ghost use Rattle.reduction.specs.Building.{Kept, key-room};
+ghost use Rattle.tree.specs.Arena.{Arena, Below};
+ghost use Rattle.reduction.specs.Building.{key-room};
 ghost use Rattle.reduction.specs.Held.{held, opener};
 
 // Whether payload and key are messages and the keys equivalent. The words above the free end are scratch.
@@ -28,7 +28,7 @@ pub fn opens(
     requires { ⌜ (0 < key) × (key < free) × (0 < other) × (other < free) ⌝ }
     requires { ⌜ size (tree-at (now sheet) (now work) key) + size (tree-at (now sheet) (now work) other) ≤ 4096 ⌝ }
     requires { ⌜ 4 * free + key-room ≤ length (now work) ⌝ }
-    ensures { λ r. ⌜ (r ≡ opens (tree-at (now (sheet .entry)) (now (work .entry)) payload) (tree-at (now (sheet .entry)) (now (work .entry)) key) (tree-at (now (sheet .entry)) (now (work .entry)) other)) × Kept (now (work .entry)) (now (work .exit)) free ⌝ }
+    ensures { λ r. ⌜ (r ≡ opens (tree-at (now (sheet .entry)) (now (work .entry)) payload) (tree-at (now (sheet .entry)) (now (work .entry)) key) (tree-at (now (sheet .entry)) (now (work .entry)) other)) × Below (now (work .entry)) (now (work .exit)) free ⌝ }
 {
     if !message(sheet, work, free, payload) {
         return false;
@@ -45,7 +45,7 @@ pub fn decrypted(sheet: &[u8], work: &mut [u32], free: usize, i: usize, boxed: b
     requires { ⌜ Arena (now sheet) (now work) free ⌝ }
     requires { ⌜ (i < free) × (sizes (trees-at (now sheet) (now work) i) ≤ 4096) ⌝ }
     requires { ⌜ 4 * free + key-room ≤ length (now work) ⌝ }
-    ensures { λ r. ⌜ (r < free) × (fire (opener boxed) (trees-at (now (sheet .entry)) (now (work .entry)) i) ≡ held (now (sheet .entry)) (now (work .entry)) r) × Kept (now (work .entry)) (now (work .exit)) free ⌝ }
+    ensures { λ r. ⌜ (r < free) × (fire (opener boxed) (trees-at (now (sheet .entry)) (now (work .entry)) i) ≡ held (now (sheet .entry)) (now (work .entry)) r) × Below (now (work .entry)) (now (work .exit)) free ⌝ }
 {
     let other = two_arguments(sheet, work, free, i);
     if other == 0 {

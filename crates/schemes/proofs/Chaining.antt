@@ -8,9 +8,9 @@ use Rattle.rules.specs.Tree.{Tree, Trees, more, count}
 use Rattle.tree.specs.Cells.{next-of, tree-at, trees-at}
 use Rattle.tree.specs.Arena.{Links, Arena, Linked}
 use Rattle.tree.proofs.Decoding.{trees-none, trees-more, frame-tree, frame-trees}
+use Rattle.tree.proofs.Areas.{below-grown}
 use Rattle.substitution.specs.Building.{Before}
 use Rattle.reduction.specs.Building.{NewTree}
-use Rattle.reduction.proofs.Placing.{kept-grown}
 use Rattle.schemes.specs.Choices.{appended}
 use Rattle.schemes.specs.Building.{Written, Keeps, Appends, Follows}
 use Rattle.schemes.specs.declared.choosing.Chosen.{Chosen}
@@ -42,7 +42,7 @@ module _ {s : Text} {w : List ℕ} {n : ℕ} (a b : ℕ) (o : Arena s w n) where
       → Appends s w u n a b m e
   unfolding appended
   appends-more {v} {u} {i} {m} j e p q r f x y g =
-      let t = frame-tree s v (o .links) (x .written .kept .below) a p q in
+      let t = frame-tree s v (o .links) (x .written .kept .words) a p q in
       let c = count-cells s (o .links) a j p q f in
       record {
         written = written-then (count (trees-at s w a)) (x .written) (cell-written e g y) (omega (arith, x .written .used, c));
@@ -72,7 +72,7 @@ pub follows : {s : Text} {w v u : List ℕ} {k m c e : ℕ} {rest : Chosen} (val
     → Before s w v (rest .free) (rest .values) (tree-at s w value) k m → m ≤ rest .free + 1 → Appends s v u m equations (rest .equations) c e
     → Follows s w u value equations rest (record { values = k; equations = c; next = rest .next; index = rest .index; ways = rest .ways; free = e })
 follows {s} {w} {v} {u} {k} {m} {c} {e} {rest} value equations a q r x h y =
-    let wx : Written s w v (rest .free) m 1 = record { arena = x .arena; kept = kept-grown (x .grown); grew = x .grew; used = h } in
+    let wx : Written s w v (rest .free) m 1 = record { arena = x .arena; kept = below-grown (x .grown); grew = x .grew; used = h } in
     let f = frame-trees s v (a .links) (x .grown .below) equations q in
     let g = frame-trees s v (a .links) (x .grown .below) (rest .equations) r in
     record {

@@ -15,8 +15,8 @@ use Rattle.laws.proofs.Variants.Sites.{sites-few}
 use Rattle.tree.specs.Cells.{tree-at, trees-at}
 use Rattle.tree.specs.Arena.{Links, Arena, Linked}
 use Rattle.tree.proofs.Decoding.{trees-none, trees-more, frame-tree}
+use Rattle.tree.proofs.Areas.{below-grown}
 use Rattle.substitution.specs.Building.{Made}
-use Rattle.reduction.proofs.Placing.{kept-grown}
 use Rattle.schemes.specs.Choices.{appended, Shared}
 use Rattle.schemes.specs.Building.{Fresh, Named, Written, Holds, Lists, Ready, Chooses, Appends, Systems}
 use Rattle.schemes.specs.declared.choosing.Chosen.{Chosen}
@@ -155,11 +155,11 @@ module _ {s : Text} {w v : List ℕ} {n fresh : ℕ} (term c i m : ℕ) (a : Are
       last-list : Lists s x₂ e₂ k₂ (flatten ((t₀, t₀) ∷ (the-scheme .value, the-scheme .value) ∷ []))
       unfolding flatten
       last-list =
-          let g = sym (frame-tree s x₁ (a .links) (written₁ .kept .below) term p q) in
+          let g = sym (frame-tree s x₁ (a .links) (written₁ .kept .words) term p q) in
           pair-lists term term k₁ d₂ g g (pair-lists (r .values) (r .values) 0 {ts = none} d₁ (value-is .tree) (value-is .tree) (trees-none s u 0 refl) .trees)
 
       equations-later : Lists s x₂ e₂ (r .equations) (flatten (the-scheme .equations))
-      equations-later = lists-later (written₁ .arena) (kept-grown (d₂ .grown)) (d₂ .grew) (lists-later (chosen .written .arena) (kept-grown (d₁ .grown)) (d₁ .grew) equations-are)
+      equations-later = lists-later (written₁ .arena) (below-grown (d₂ .grown)) (d₂ .grew) (lists-later (chosen .written .arena) (below-grown (d₁ .grown)) (d₁ .grew) equations-are)
 
       value-later : Holds s x₂ e₂ (r .values) (the-scheme .value)
       value-later = pair-holds written₁ d₂ f₂ (pair-holds term-written d₁ f₁ value-is)

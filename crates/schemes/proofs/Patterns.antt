@@ -12,9 +12,9 @@ use Rattle.rules.specs.Variants.{Scheme, scheme}
 use Rattle.tree.specs.Cells.{fixed-name, tree-at, trees-at}
 use Rattle.tree.specs.Arena.{Arena, Linked}
 use Rattle.tree.proofs.Decoding.{trees-none, frame-tree, frame-trees}
+use Rattle.tree.proofs.Areas.{below-grown, below-then}
 use Rattle.substitution.specs.Building.{Made}
 use Rattle.reduction.specs.Building.{NewTree}
-use Rattle.reduction.proofs.Placing.{kept-grown}
 use Rattle.schemes.specs.Building.{Written, Holds, Lists, Opens, Fires}
 use Rattle.schemes.specs.declared.firing.Fired.{Fired}
 use Rattle.schemes.proofs.Writing.{written-then, holds-later}
@@ -22,7 +22,7 @@ use Rattle.schemes.proofs.Writing.{written-then, holds-later}
 -- a cell written
 module _ {s : Text} {w v : List ℕ} {n next : ℕ} {t : Tree} (m : ℕ) (e : m ≡ n + 1) (x : Linked s w v n next t) where
   pub cell-written : Written s w v n m 1
-  cell-written = record { arena = subst (Arena s v) (sym e) (x .arena); kept = kept-grown (x .grown); grew = omega arith; used = omega arith }
+  cell-written = record { arena = subst (Arena s v) (sym e) (x .arena); kept = below-grown (x .grown); grew = omega arith; used = omega arith }
 
   pub cell-holds : 0 < n → Holds s v m n t
   cell-holds p = record { some-cell = p; inside = omega arith; tree = x .tree }
@@ -95,13 +95,13 @@ module _ {s : Text} {w v u : List ℕ} {n m b e k : ℕ} {ts : Trees} (x : Writt
   pub pair-written : (c : ℕ) → b + 2 ≤ c → Written s w u n e c
   pair-written c h = record {
     arena = d .arena;
-    kept = record { len = d .grown .len ∙ x .kept .len; below = λ q l. x .kept .below q l ∙ d .grown .below q (omega (arith, x .grew)) };
+    kept = below-then (x .kept) (below-grown (d .grown)) (x .grew);
     grew = omega (arith, x .grew);
     used = omega (arith, x .used);
   }
 
   pub pair-holds : {i : ℕ} {t : Tree} → Holds s v m i t → Holds s u e i t
-  pair-holds h = holds-later (x .arena) (kept-grown (d .grown)) (d .grew) h
+  pair-holds h = holds-later (x .arena) (below-grown (d .grown)) (d .grew) h
 
 pub pair-lists : {s : Text} {v u : List ℕ} {m e k : ℕ} (i j l : ℕ) {x y : Tree} {ts : Trees} → Made s v u m e k (more (tree-at s v i) (more (tree-at s v j) (trees-at s v l)))
     → tree-at s v i ≡ x → tree-at s v j ≡ y → trees-at s v l ≡ ts → Lists s u e k (more x (more y ts))
@@ -110,10 +110,10 @@ pair-lists i j l d f g h = record { inside = d .inside; trees = d .trees ∙ (rw
 -- a tree and a list of before
 module _ {s : Text} {w v : List ℕ} {n m b : ℕ} (a : Arena s w n) (x : Written s w v n m b) where
   pub old-tree : (i : ℕ) → 0 < i → i < n → tree-at s v i ≡ tree-at s w i
-  old-tree i p q = sym (frame-tree s v (a .links) (x .kept .below) i p q)
+  old-tree i p q = sym (frame-tree s v (a .links) (x .kept .words) i p q)
 
   pub old-trees : (i : ℕ) {ts : Trees} → i < n → trees-at s w i ≡ ts → trees-at s v i ≡ ts
-  old-trees i q e = sym (frame-trees s v (a .links) (x .kept .below) i q) ∙ e
+  old-trees i q e = sym (frame-trees s v (a .links) (x .kept .words) i q) ∙ e
 
 -- a tree that was made
 module _ {s : Text} {w v : List ℕ} {n b next i m : ℕ} {t : Tree} (x : NewTree s w v n b next t i m) where

@@ -59,7 +59,7 @@ module _ {s : Text} {w : List ℕ} {fresh : ℕ} {below : Chosen} {i : ℕ} (d :
       let g : root-of name here (joined-as (children here) es (below .next)) (below .index / (below .ways / ways-of here)) ≡ scheme here es (below .next) =
       ap (root-of name here (joined-as (children here) es (below .next))) (sym choice-is ∙ z) ∙ root-stay name here es (below .next) in
       let o = x .written in
-      let list : Lists s v m (below .equations) (flatten es) = record { inside = omega (arith, d .equations, o .grew); trees = sym (frame-trees s v (d .arena .links) (o .kept .below) (below .equations) (d .equations)) ∙ h } in
+      let list : Lists s v m (below .equations) (flatten es) = record { inside = omega (arith, d .equations, o .grew); trees = sym (frame-trees s v (d .arena .links) (o .kept .words) (below .equations) (d .equations)) ∙ h } in
       record {
         written = record { arena = o .arena; kept = o .kept; grew = o .grew; used = omega (arith, o .used) };
         value = subst (λ (y : Scheme). Holds s v m j (y .value)) (sym g) (x .value);

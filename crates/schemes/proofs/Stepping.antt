@@ -92,7 +92,7 @@ module _ {s : Text} {w : List ℕ} {n fresh next index ways : ℕ} (i first : �
     kept-count = joined-count name (children t₀) next child-index
 
     same-tree : tree-at s v i ≡ t₀
-    same-tree = sym (frame-tree s v (d .arena .links) (chosen .written .kept .below) i p (d .inside))
+    same-tree = sym (frame-tree s v (d .arena .links) (chosen .written .kept .words) i p (d .inside))
 
     -- the tree with its new children
     abbrev new-tree : Tree
@@ -206,7 +206,7 @@ module _ {s : Text} {w u : List ℕ} {n fresh next index ways : ℕ} (i : ℕ) (
 
   later-is : {later : ℕ} → later ≡ next-of u i → trees-at s u later ≡ later-trees
   later-is e =
-      let k = h .written .kept .below in
+      let k = h .written .kept .words in
       let g = d .arena .links .next i p (d .inside) in
       ap (trees-at s u) (e ∙ sym (same-next w u k i (d .inside))) ∙ sym (frame-trees s u (d .arena .links) k (next-of w i) (omega (arith, g, d .inside)))
 

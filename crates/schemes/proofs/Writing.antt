@@ -7,45 +7,44 @@ use lib.ListN.{length}
 use Rattle.rules.specs.Bytes.{Text}
 use Rattle.rules.specs.Tree.{Tree, Trees, none, more, count, size}
 use Rattle.rules.specs.Substitution.{Pair, flatten}
-use Rattle.tree.specs.Arena.{Arena}
+use Rattle.tree.specs.Arena.{Arena, Below}
 use Rattle.tree.proofs.Decoding.{frame-tree, frame-trees}
-use Rattle.reduction.specs.Building.{Kept}
-use Rattle.reduction.proofs.Placing.{kept-same, kept-then}
+use Rattle.tree.proofs.Areas.{below-same, below-then}
 use Rattle.schemes.specs.Choices.{appended, Shared}
 use Rattle.schemes.specs.Building.{Fresh, Named, Single, Written, Holds, Lists}
 
 pub written-same : {s : Text} {w : List ℕ} {n : ℕ} (b : ℕ) → Arena s w n → Written s w w n n b
-written-same {s} {w} {n} b a = record { arena = a; kept = kept-same w n; grew = omega arith; used = omega arith }
+written-same {s} {w} {n} b a = record { arena = a; kept = below-same w n; grew = omega arith; used = omega arith }
 
 pub written-then : {s : Text} {w v u : List ℕ} {n m e b c : ℕ} (d : ℕ) → Written s w v n m b → Written s v u m e c → e ≤ n + d → Written s w u n e d
 written-then d x y h = record {
   arena = y .arena;
-  kept = kept-then (x .kept) (y .kept) (x .grew);
+  kept = below-then (x .kept) (y .kept) (x .grew);
   grew = omega (arith, x .grew, y .grew);
   used = h;
 }
 
-module _ {s : Text} {v u : List ℕ} {m e : ℕ} (a : Arena s v m) (k : Kept v u m) (g : m ≤ e) where
+module _ {s : Text} {v u : List ℕ} {m e : ℕ} (a : Arena s v m) (k : Below v u m) (g : m ≤ e) where
   pub holds-later : {i : ℕ} {t : Tree} → Holds s v m i t → Holds s u e i t
   holds-later {i} h = record {
     some-cell = h .some-cell;
     inside = omega (arith, h .inside);
-    tree = sym (frame-tree s u (a .links) (k .below) i (h .some-cell) (h .inside)) ∙ h .tree;
+    tree = sym (frame-tree s u (a .links) (k .words) i (h .some-cell) (h .inside)) ∙ h .tree;
   }
 
   pub lists-later : {i : ℕ} {ts : Trees} → Lists s v m i ts → Lists s u e i ts
   lists-later {i} h = record {
     inside = omega (arith, h .inside);
-    trees = sym (frame-trees s u (a .links) (k .below) i (h .inside)) ∙ h .trees;
+    trees = sym (frame-trees s u (a .links) (k .words) i (h .inside)) ∙ h .trees;
   }
 
 -- the fresh variables stay
-module _ {s : Text} {v u : List ℕ} {m e fresh : ℕ} (a : Arena s v m) (k : Kept v u m) (g : m ≤ e) where
+module _ {s : Text} {v u : List ℕ} {m e fresh : ℕ} (a : Arena s v m) (k : Below v u m) (g : m ≤ e) where
   pub fresh-later : {name : ℕ → Text} → Fresh s v m fresh name → Fresh s u e fresh name
   fresh-later f = record {
     some-cell = f .some-cell;
     inside = omega (arith, f .inside);
-    trees = λ i h. sym (frame-tree s u (a .links) (k .below) (fresh + i) (omega (arith, f .some-cell)) (omega (arith, f .inside))) ∙ f .trees i h;
+    trees = λ i h. sym (frame-tree s u (a .links) (k .words) (fresh + i) (omega (arith, f .some-cell)) (omega (arith, f .inside))) ∙ f .trees i h;
   }
 
   pub named-later : Named s v m fresh → Named s u e fresh

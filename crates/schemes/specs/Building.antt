@@ -11,8 +11,7 @@ use Rattle.rules.specs.Variants.{Scheme, Joined, scheme-counts, system}
 use Rattle.rules.specs.Schemes.{joined-at, scheme-at}
 use Rattle.rules.specs.Memory.{site, sites-in}
 use Rattle.tree.specs.Cells.{tree-at, trees-at}
-use Rattle.tree.specs.Arena.{Arena}
-use Rattle.reduction.specs.Building.{Kept}
+use Rattle.tree.specs.Arena.{Arena, Below}
 use Rattle.schemes.specs.Choices.{over, appended, ways-of, root-of, Shared}
 use Rattle.schemes.specs.declared.firing.Pattern.{Pattern}
 use Rattle.schemes.specs.declared.firing.Fired.{Fired}
@@ -33,7 +32,7 @@ pub record Named (s : Text) (w : List ℕ) (n fresh : ℕ) : Type 0 where
 -- from w, with the free end n, to v, with the free end m, by at most b cells
 pub record Written (s : Text) (w v : List ℕ) (n m b : ℕ) : Type 0 where
   pub arena : Arena s v m
-  pub kept : Kept w v n
+  pub kept : Below w v n
   pub grew : n ≤ m
   pub used : m ≤ n + b
 

@@ -1,5 +1,5 @@
 -- The line reader at a position of a sheet, and the lines of the sheet from there on. Assumes nothing.
-use mathlib.Core.Path.{_≡_, refl, ap, ap₂, sym, subst, _∙_}
+use mathlib.Core.Path.{_≡_, refl, ap, ap₂, sym, _∙_}
 use mathlib.Core.List.{List, [], _∷_}
 use mathlib.Core.Option.{Option, some, none, Option·map}
 use mathlib.Core.Bool.{Bool, true, false, cond}
@@ -62,17 +62,6 @@ pub up-to-bound : (b : ℕ) (s : List ℕ) (k : ℕ) → up-to b s ≡ some k �
 unfolding up-to
 up-to-bound b [] k e = let z : _≡_ {A = ℕ} 0 1 = cc in omega arith
 up-to-bound b (a ∷ s) k e = up-to-turn s (eqb a b) (up-to b s) (up-to-bound b s) k e
-
-line-bounds-of : (s : List ℕ) (at f t : ℕ) (n : Cursor) (o : Option ℕ) → up-to 10 (drop at s) ≡ o → Whole f t n ≡ line-of at at o → (f ≤ t) × (t < length s)
-line-bounds-of s at f t n none u e = let z : _≡_ {A = ℕ} 0 1 = cc in omega arith
-line-bounds-of s at f t n (some k) u e =
-    let z : f ≡ at = cc in
-    let y : t ≡ at + k = cc in
-    omega (arith, up-to-bound 10 (drop at s) k u, length-drop at s)
-
-pub line-bounds : (s : List ℕ) (at f t : ℕ) (n : Cursor) → Whole f t n ≡ line-at s at → (f ≤ t) × (t < length s)
-unfolding line-at
-line-bounds s at f t n e = line-bounds-of s at f t n (up-to 10 (drop at s)) refl e
 
 -- the line reader and the list of all lines
 add-line : Text → Option (List Text) → Option (List Text)
@@ -293,29 +282,3 @@ not-empty (b ∷ s) h e = go (eqb b 10) (lines s) e
 pub lines-more : (s : Text) (at : ℕ) → at < length s → lines-at s at ≡ some [] → ⊥
 unfolding lines-at
 lines-more s at h = not-empty (drop at s) (omega (arith, length-drop at s))
-
--- ---- the laws from the list of lines
-
-pub line-there : (s : Text) (at : ℕ) (l : Text) (ls : List Text) → lines-at s at ≡ some (l ∷ ls)
-    → (f : ℕ) × (t : ℕ) × (n : Cursor) × (line-at s at ≡ Whole f t n) × (part-of f t s ≡ l) × (lines-at s (n .at) ≡ some ls)
-line-there s at l ls e = go (line-at s at) refl
-  where
-    go : (x : Line) → x ≡ line-at s at → (f : ℕ) × (t : ℕ) × (n : Cursor) × (line-at s at ≡ Whole f t n) × (part-of f t s ≡ l) × (lines-at s (n .at) ≡ some ls)
-    go Missing q = absurd (subst Empty e (no-line s at q))
-    go (Whole f t n) q = there (lines-at s (n .at)) refl (sym (line-first s at f t n q .first) ∙ e)
-      where
-        there : (o : Option (List Text)) → lines-at s (n .at) ≡ o → (o >>= λ ks. some (part-of f t s ∷ ks)) ≡ some (l ∷ ls)
-            → (f : ℕ) × (t : ℕ) × (n : Cursor) × (line-at s at ≡ Whole f t n) × (part-of f t s ≡ l) × (lines-at s (n .at) ≡ some ls)
-        there none h p = let z : _≡_ {A = ℕ} 0 1 = cc in absurd (omega arith)
-        there (some ks) h p = (f, t, n, sym q, (let z : part-of f t s ≡ l = cc in z), (let z : lines-at s (n .at) ≡ some ls = cc in z))
-
-pub line-end-of : (s : Text) (at : ℕ) → lines-at s at ≡ some [] → line-at s at ≡ Missing
-line-end-of s at e = go (line-at s at) refl
-  where
-    go : (x : Line) → x ≡ line-at s at → x ≡ Missing
-    go Missing q = refl
-    go (Whole f t n) q = absurd (there (lines-at s (n .at)) (sym (line-first s at f t n q .first) ∙ e))
-      where
-        there : (o : Option (List Text)) → (o >>= λ ks. some (part-of f t s ∷ ks)) ≡ some [] → ⊥
-        there none p = let z : _≡_ {A = ℕ} 0 1 = cc in omega arith
-        there (some ks) p = let z : _≡_ {A = ℕ} 0 1 = cc in omega arith

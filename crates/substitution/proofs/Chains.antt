@@ -9,7 +9,7 @@ use Rattle.rules.specs.Tree.{Tree, variable, Trees, none, more}
 use Rattle.rules.specs.Substitution.{Binding}
 use Rattle.tree.specs.Cells.{kind-of, name-at, next-of, tree-at, trees-at}
 use Rattle.tree.specs.Arena.{Links}
-use Rattle.tree.proofs.Decoding.{kind, tree-variable, trees-none, trees-more}
+use Rattle.tree.proofs.Decoding.{kind, trees-none, trees-more}
 use Rattle.substitution.specs.Bindings.{key-of, bindings-of, bindings-at, flatten-bindings, Chain}
 use Rattle.substitution.specs.Building.{Made}
 use Rattle.substitution.proofs.Keys.{key-name, bindings-more}
@@ -54,7 +54,6 @@ chain-tail t u ts c = tail-more (tail-more c)
 
 -- the binding with the key's cell k and the value's cell v, before those from cell j on
 pub record Entry (s : Text) (w : List ℕ) (k v j : ℕ) : Type 0 where
-  pub some-value : 0 < v
   pub read : bindings-at s w k ≡ (name-at s w k, tree-at s w v) ∷ bindings-at s w j
   pub key : tree-at s w k ≡ variable (name-at s w k)
   pub chain : Chain (trees-at s w j)
@@ -74,7 +73,6 @@ module _ {w : List ℕ} {n : ℕ} (s : Text) (l : Links w n) (k v : ℕ) (p : 0 
       trees-more s l k p q ∙ ap (more (tree-at s w k)) (ap (trees-at s w) (sym e) ∙ trees-more s l v value-some r ∙ ap (λ (i : ℕ). more (tree-at s w v) (trees-at s w i)) (sym f)) in
       let g = rw d at c in
       record {
-        some-value = value-some;
         read = bindings-more s l k v p q e value-some r ∙ ap (λ (i : ℕ). (name-at s w k, tree-at s w v) ∷ bindings-at s w i) (sym f);
         key = chain-key (tree-at s w k) (tree-at s w v) (trees-at s w j) g ∙ ap variable (key-name s w k (kind (kind-of w k)));
         chain = chain-tail (tree-at s w k) (tree-at s w v) (trees-at s w j) g;
@@ -85,8 +83,3 @@ module _ {s : Text} {w v : List ℕ} {n m b : ℕ} (key value list : ℕ) (d : M
   pub bindings-pair : bindings-at s v b ≡ (name-at s w key, tree-at s w value) ∷ bindings-at s w list
   unfolding bindings-of
   bindings-pair = ap bindings-of (d .trees) ∙ ap (λ (x : Text). (x, tree-at s w value) ∷ bindings-at s w list) (key-name s w key (kind (kind-of w key)))
-
-  pub chain-pair : 0 < kind-of w key → kind-of w key < 7 → Chain (trees-at s w list) → Chain (trees-at s v b)
-  chain-pair p q c =
-      let e : trees-at s v b ≡ more (variable (name-at s w key)) (more (tree-at s w value) (trees-at s w list)) = d .trees ∙ ap (λ (t : Tree). more t (more (tree-at s w value) (trees-at s w list))) (tree-variable s w key p q) in
-      rw e (chain-more (name-at s w key) (tree-at s w value) (trees-at s w list) c)

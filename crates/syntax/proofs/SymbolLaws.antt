@@ -1,14 +1,12 @@
 -- The next symbol at a position, and the tokens from there on. Assumes nothing.
 use mathlib.Core.Path.{_≡_, refl, ap, sym, _∙_, subst}
-use mathlib.Core.List.{List, [], _∷_}
-use mathlib.Core.Option.{Option, some, none}
-use mathlib.Core.Bool.{Bool, true, false, cond, _||_, _&&_}
-use Prim.Native.Nat.{ℕ, zero, suc, _+_, _-_, _<_, _≤_}
+use mathlib.Core.List.{[], _∷_}
+use mathlib.Core.Option.{some, none}
+use mathlib.Core.Bool.{false}
+use Prim.Native.Nat.{ℕ, suc, _+_, _-_, _<_, _≤_}
 use native.Mathlib.Omega.{arith}
 use native.Mathlib.Decide.{ℕ-discrete}
 use lib.ListN.{length, getD, take, drop}
-use lib.Dec.{eqb}
-use lib.Seq.{drop-cons}
 use borrow.Author.Tests.{eq-eqb, ne-eqb}
 use Rattle.rules.specs.Bytes.{Text, same}
 use Rattle.rules.specs.Text.{bytes, is-one-of}
@@ -21,7 +19,7 @@ use Rattle.syntax.specs.declared.Next.{Next}
 use Rattle.syntax.specs.declared.Next.the-variants.{Token, End, Unsupported}
 use Rattle.syntax.specs.declared.Symbol.{Symbol}
 use Rattle.syntax.specs.declared.Symbol.the-variants.{Begin, Shut, Comma, Name, Stop, Bad}
-use Rattle.syntax.proofs.TokenList.{joined, Placed, placed, next-end, next-unsupported, next-token}
+use Rattle.syntax.proofs.TokenList.{joined, placed, next-end, next-unsupported, next-token}
 
 -- a mark that ends at `to`
 pub record Marks (s : Text) (at to : ℕ) (m : Text) : Type 0 where

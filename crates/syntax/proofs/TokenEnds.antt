@@ -6,15 +6,14 @@ use mathlib.Core.Bool.{Bool, true, false, cond, _&&_}
 use Prim.Native.Nat.{ℕ, suc, _+_, _<_, _≤_}
 use native.Mathlib.Omega.{arith}
 use native.Mathlib.Decide.{decLt}
-use lib.ListN.{length, getD, drop, drop-of-length-le, length-drop, List·getD-eq-default}
+use lib.ListN.{length, getD, drop, List·getD-eq-default}
 use lib.Dec.{eqb, ltb}
 use lib.Seq.{getD-drop, drop-drop}
-use borrow.Author.Tests.{lt-ltb, le-ltb, eq-eqb}
+use borrow.Author.Tests.{lt-ltb, le-ltb}
 use Rattle.rules.specs.Maybe.{_>>=_, guard}
 use Rattle.rules.specs.Names.{digit, alphabetic, alphanumeric}
 use Rattle.rules.specs.Tokens.{run-length, sigil, mark, sort-length, variable-rest, plain-rest, rest-length}
 use Rattle.syntax.specs.Next.{end-of}
-use Rattle.syntax.specs.declared.Ends.{Ends}
 use Rattle.syntax.specs.declared.Ends.the-variants.{At, Nothing}
 
 -- a byte that is a colon stands in the text, and so does one that is a letter

@@ -5,8 +5,6 @@ use mathlib.Core.Option.{Option, some, none}
 use mathlib.Core.Bool.{Bool, true, false, cond, _&&_}
 use Prim.Native.Nat.{ℕ, zero, suc, _+_, _-_, _<_, _≤_}
 use native.Mathlib.Omega.{arith}
-use native.Mathlib.Numerals.{add-one}
-use native.Mathlib.Nat.{add-sub-cancel-left}
 use lib.ListN.{length, getD, take, drop, drop-of-length-le, length-drop}
 use lib.Dec.{eqb, ltb}
 use lib.Seq.{drop-drop}
@@ -16,9 +14,8 @@ use Rattle.rules.specs.Maybe.{_>>=_, guard}
 use Rattle.rules.specs.Names.{digit, alphabetic, alphanumeric}
 use Rattle.rules.specs.Tokens.{run-length, sigil, mark, sort-length, variable-rest, plain-rest, rest-length, tokens-after, tokens}
 use Rattle.text.proofs.Loops.{drop-next}
-use Rattle.syntax.specs.Next.{is-of, end-of, token-from, start-at, token-at, next-at}
+use Rattle.syntax.specs.Next.{is-of, end-of, token-from, start-at, next-at}
 use Rattle.syntax.specs.declared.Class.the-variants.{Blank}
-use Rattle.syntax.specs.declared.Next.{Next}
 use Rattle.syntax.specs.declared.Next.the-variants.{Token, End, Unsupported}
 use Rattle.syntax.proofs.Runs.{run-le}
 

@@ -1,6 +1,6 @@
 -- The test whether two texts are one, at a position of both. Assumes nothing.
 use Prim.Native.Nat.{ℕ, suc, _+_, _<_, _≤_}
-use mathlib.Core.Path.{_≡_, refl, ap, ap₂, _∙_}
+use mathlib.Core.Path.{_≡_, refl, ap, _∙_}
 use mathlib.Core.Bool.{Bool, true, false, _&&_}
 use mathlib.Core.List.{List, [], _∷_}
 use lib.Dec.{eqb}
@@ -8,7 +8,7 @@ use lib.ListN.{length, getD, drop}
 use lib.Seq.{drop-cons, drop-length}
 use native.Mathlib.Omega.{arith}
 use native.Mathlib.Numerals.{add-one}
-use borrow.Author.Tests.{eq-eqb, ne-eqb, eqb-true}
+use borrow.Author.Tests.{eq-eqb, ne-eqb}
 use Rattle.rules.specs.Bytes.{same}
 
 and-false : (b : Bool) → b && false ≡ false
@@ -36,15 +36,3 @@ same-end a b i p q l =
     let e : i ≡ length a = omega arith in
     let f : length a ≡ length b = q in
     rw (e, drop-length) (rw (f, drop-length))
-
--- the names of which the test says yes are the same
-pub same-is : (a b : List ℕ) → same a b ≡ true → a ≡ b
-unfolding same
-same-is [] [] e = refl
-same-is [] (y ∷ b) e = absurd (let z : _≡_ {A = ℕ} 0 1 = cc in omega arith)
-same-is (x ∷ a) [] e = absurd (let z : _≡_ {A = ℕ} 0 1 = cc in omega arith)
-same-is (x ∷ a) (y ∷ b) e = go (eqb x y) refl e (same-is a b)
-  where
-    go : (t : Bool) → eqb x y ≡ t → t && same a b ≡ true → (same a b ≡ true → a ≡ b) → x ∷ a ≡ y ∷ b
-    go true h e r = ap₂ (λ (u : ℕ) (v : List ℕ). u ∷ v) (eqb-true x y h) (r e)
-    go false h e r = absurd (let z : _≡_ {A = ℕ} 0 1 = cc in omega arith)

@@ -2,6 +2,7 @@ pub mod Decoding
 pub mod Bounded
 pub mod FixedNames
 pub mod Pushing
+pub mod Areas
 pub mod Naming
 pub mod Printing
 pub mod Comparing

@@ -8,6 +8,7 @@ use native.Mathlib.Nat.{add-zero}
 use native.Mathlib.Numerals.{add-one}
 use native.Mathlib.Omega.{arith}
 use Rattle.rules.specs.Bytes.{Text}
+use Rattle.text.specs.Printing as decimals
 use Rattle.tree.specs.Output.{written, Printed}
 
 pub written-none : (out : List ℕ) (at : ℕ) → written out at [] ≡ out
@@ -61,9 +62,10 @@ written-more out text at i h l =
     ∙ written-then out at a (x ∷ []) (omega arith)
     ∙ ap (written out at) (sym (ap (λ (n : ℕ). take n text) (add-one i) ∙ take-suc text i 0 l))
 
--- the text of a number that is known
-pub printed-at : {out v : Text} {at r n k : ℕ} (f : ℕ → Text) → n ≡ k → Printed out v at (f k) r → Printed out v at (f n) r
-printed-at f e x = rw e x
+-- a number that was printed
+pub printed-number : {out v t : Text} {at r : ℕ} → decimals.Printed out v at t r → Printed out v at t r
+unfolding written decimals.written
+printed-number p = record { bytes = p .bytes; end = p .end }
 
 pub printed-none : (out : Text) (at : ℕ) {t : Text} → t ≡ [] → Printed out out at t at
 printed-none out at e = rw e record { bytes = sym (written-none out at); end = omega arith }

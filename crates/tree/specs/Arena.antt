@@ -32,6 +32,11 @@ pub record Arena (s : Text) (w : List ℕ) (n : ℕ) : Type 0 where
   pub links : Links w n
   pub cell : (k : ℕ) → 0 < k → k < n → Cell s w k
 
+-- the words below cell n are kept; those from it on are free
+pub record Below (w v : List ℕ) (n : ℕ) : Type 0 where
+  pub len : length v ≡ length w
+  pub words : (p : ℕ) → p < 4 * n → getD w p 0 ≡ getD v p 0
+
 -- w with new words in the cells n to m - 1 alone
 pub record Grown (w v : List ℕ) (n m : ℕ) : Type 0 where
   pub len : length v ≡ length w

@@ -10,17 +10,17 @@ use Rattle.rules.specs.Solving.{solved, failed, unsupported, Answer}
 use Rattle.rules.specs.Matching.{Move, onward, clash, beyond, move, moved, matching, matcher}
 use Rattle.rules.specs.Memory.{load, weight}
 use Rattle.tree.specs.Cells.{next-of, tree-at, trees-at}
-use Rattle.tree.specs.Arena.{Arena}
+use Rattle.tree.specs.Arena.{Arena, Below}
 use Rattle.tree.proofs.Decoding.{trees-none}
+use Rattle.tree.proofs.Areas.{below-same, below-then}
 use Rattle.substitution.specs.Bindings.{bindings-of, bindings-at, flatten-bindings, Chain}
 use Rattle.substitution.proofs.Chains.{bindings-flatten, chain-flatten}
 use Rattle.unifier.specs.Stack.{pairs-at, Whole, Fit, FitPairs, FitBindings}
-use Rattle.unifier.specs.Area.{Room, Below}
+use Rattle.unifier.specs.Area.{Room}
 use Rattle.unifier.specs.Running.{Bound}
 use Rattle.unifier.specs.Matching.{Moves}
 use Rattle.unifier.specs.declared.matching.Moved.{Moved}
 use Rattle.unifier.specs.declared.matching.Moved.the-variants as taken
-use Rattle.unifier.proofs.Areas.{below-same, below-then}
 use Rattle.unifier.proofs.Fitting.{FitMove, move-fit}
 use Rattle.unifier.proofs.Tops.{stack-empty, Top, right-some, top, top-pairs, top-weight, top-fit, top-whole}
 

@@ -13,16 +13,13 @@ use Rattle.tree.specs.Arena.{Links, Arena}
 use Rattle.tree.proofs.Decoding.{Kind, application, a-variable, an-atom, kind, tree-variable, tree-atom, tree-apply, trees-none, trees-more}
 use Rattle.substitution.specs.Building.{Made}
 use Rattle.substitution.proofs.Growing.{grown-then, made-same, made-tree}
-use Rattle.unifier.specs.Stack.{pairs-of, Whole, pushes}
+use Rattle.unifier.specs.Stack.{pairs-of, pushes}
 
 -- pairs read back
 pub pairs-flatten : (ps : List Pair) → pairs-of (flatten ps) ≡ ps
 unfolding pairs-of flatten
 pairs-flatten [] = refl
 pairs-flatten (p ∷ ps) = ap (λ (qs : List Pair). (p .0, p .1) ∷ qs) (pairs-flatten ps)
-
-pub whole-flatten : (ps : List Pair) → Whole (flatten ps)
-whole-flatten ps = ap flatten (pairs-flatten ps)
 
 pub flatten-pushes : (ts us : Trees) (ps : List Pair) → flatten (push-children ts us ps) ≡ pushes ts us (flatten ps)
 unfolding push-children pushes flatten

@@ -10,10 +10,10 @@ use Rattle.rules.specs.Solving.{unsupported, Answer, composed, finish, run, uni
 use Rattle.substitution.specs.Bindings.{bindings-at}
 use Rattle.substitution.specs.Composing.{Joined, Composes}
 use Rattle.substitution.specs.declared.solving.Composition.the-variants as composition
-use Rattle.unifier.specs.Area.{Below}
+use Rattle.tree.specs.Arena.{Below}
+use Rattle.tree.proofs.Areas.{below-then, below-grown}
 use Rattle.unifier.specs.Running.{Ran, Answers}
 use Rattle.unifier.specs.declared.unifying.Outcome.the-variants as outcome
-use Rattle.unifier.proofs.Areas.{below-then, below-grown}
 
 pub finished : (k : ℕ) (ps : List Pair) (a : Answer) → run k ps ≡ a → unify k ps ≡ (finish (a .0), a .1)
 unfolding unify

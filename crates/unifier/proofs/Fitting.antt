@@ -1,24 +1,24 @@
 -- What steps of unify and moves of match leave is fit where what was there was: built as by reading, and of at most 4,096 nodes.
-use mathlib.Core.Path.{_≡_, refl, sym, subst}
+use mathlib.Core.Path.{_≡_, sym, subst}
 use mathlib.Core.Bool.{Bool, true, false}
 use mathlib.Core.List.{List, [], _∷_}
 use mathlib.Core.Option.{Option, some, none as nothing, Option·none-ne-some, Option·some-injective}
-use Prim.Native.Nat.{ℕ, suc, _+_, _≤_}
+use Prim.Native.Nat.{ℕ, suc, _≤_}
 use lib.Dec.{leb}
 use native.Mathlib.Omega.{arith}
 use Rattle.rules.specs.Bytes.{Text, same}
 use Rattle.rules.specs.Tree.{Tree, variable, atom, apply, Trees, none, more, head, children, size, sizes, same-tree, occurs, tamtplus}
 use Rattle.rules.specs.Substitution.{Binding, Pair, instantiate-pairs, size-pairs}
-use Rattle.rules.specs.Sums.{summands, rebuild, equivalent}
+use Rattle.rules.specs.Sums.{summands, equivalent}
 use Rattle.rules.specs.Sorts.{Sort, variable-sort, sorted, refinable, sort-refuted}
 use Rattle.rules.specs.Solving.{Step, goes-on, bind, fails, unknown, Rest, emptied, mismatch, stuck, equation, cancel, remainder, cancel-sums, fits, bind-into, unless-refinable, swap-at, swap-for, swap-key, sort-check, occurs-check, eliminate-at, eliminate, push-children, if-refuted, sum-step, decompose-at, decompose, against, differ, step-at, step}
 use Rattle.rules.specs.Matching.{Move, onward, clash, beyond, bound, or-else, agree, bind-new, sort-new, match-key, match-rest, ground-eq, match-at, match-roots, move}
-use Rattle.rules.specs.Tidy.{Built, Builts, nil, both, a-sum}
+use Rattle.rules.specs.Tidy.{Built, Builts, both, a-sum}
 use Rattle.rules.specs.Reading.{parse}
 use Rattle.rules.specs.Sheet.{Entry}
 use Rattle.rules.specs.Answer.{read-pairs}
 use Rattle.laws.proofs.Equality.Building.{built-children}
-use Rattle.laws.proofs.Solving.Keeping.{AllIn, Sides, Kept, Bound, KeptStep, step-keep}
+use Rattle.laws.proofs.Solving.Keeping.{AllIn, Sides, Kept, KeptStep, step-keep}
 use Rattle.laws.proofs.Solving.Weights.{cancel-mass-left}
 use Rattle.laws.proofs.Sheets.BuiltRun.{BuiltBindings, BuiltRest, sums-built, name-token, instance-built}
 use Rattle.laws.proofs.Sheets.BuiltMatch.{mass, summands-mass, rebuild-mass, cancel-mass}

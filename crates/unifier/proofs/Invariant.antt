@@ -12,19 +12,19 @@ use Rattle.rules.specs.Memory.{OverPairs, load, weight, without}
 use Rattle.laws.proofs.Solving.Names.{StepOver, step-over}
 use Rattle.laws.proofs.Solving.Weights.{weight-size}
 use Rattle.tree.specs.Cells.{next-of, tree-at, trees-at}
-use Rattle.tree.specs.Arena.{Arena}
+use Rattle.tree.specs.Arena.{Arena, Below}
 use Rattle.tree.proofs.Decoding.{trees-none, frame-trees}
+use Rattle.tree.proofs.Areas.{below-same, below-then, below-grown}
 use Rattle.substitution.specs.Bindings.{bindings-of, bindings-at, flatten-bindings, Chain}
 use Rattle.substitution.specs.Building.{Made}
 use Rattle.substitution.proofs.Chains.{bindings-flatten, chain-flatten}
 use Rattle.unifier.specs.Stack.{pairs-at, Whole, FitPairs}
-use Rattle.unifier.specs.Area.{Room, Below}
+use Rattle.unifier.specs.Area.{Room}
 use Rattle.unifier.specs.Differing.{Differing}
 use Rattle.unifier.specs.Stepping.{Steps}
 use Rattle.unifier.specs.Running.{Roomy, Ran}
 use Rattle.unifier.specs.declared.elimination.Taken.{Taken}
 use Rattle.unifier.specs.declared.elimination.Taken.the-variants as taken
-use Rattle.unifier.proofs.Areas.{below-same, below-then, below-grown}
 use Rattle.unifier.proofs.Differing.{differing-none}
 use Rattle.unifier.proofs.Fitting.{FitStep, step-fit}
 use Rattle.unifier.proofs.Tops.{stack-empty, Top, right-some, top, top-pairs, top-weight, top-fit}

@@ -18,7 +18,7 @@ use Rattle.sorts.specs.Numbers.{numbered}
 use Rattle.sorts.proofs.Coding.{kind-known, kind-unknown}
 use Rattle.substitution.specs.Composing.{Put}
 use Rattle.unifier.specs.Stepping.{Binds}
-use Rattle.unifier.proofs.Areas.{waits-made}
+use Rattle.unifier.proofs.Waiting.{waits-made}
 
 -- the binding is put into the waiting pairs
 pub binds-put : {s : Text} {w v : List ℕ} {n st m : ℕ} {ps : List Pair} (key value : ℕ) → Arena s w n → 0 < key → key < n → 0 < value → value < n → 0 < kind-of w key → kind-of w key < 7

@@ -1,4 +1,4 @@
-pub mod Areas
+pub mod Waiting
 pub mod Differing
 pub mod Children
 pub mod Keys
@@ -9,7 +9,6 @@ pub mod Invariant
 pub mod Finishing
 pub mod Leaving
 pub mod Resting
-pub mod Waiting
 pub mod Sums
 pub mod Steps
 pub mod Moving

@@ -14,27 +14,21 @@ use Rattle.rules.specs.Solving.{Rest, goes-on, cancel-sums, push-children}
 use Rattle.rules.specs.Matching.{Move, onward, clash, bound, agree, bind-new, match-key, match-rest, ground-eq, match-at, match-roots, move}
 use Rattle.rules.specs.Memory.{load, weight, pushed, kept-summands}
 use Rattle.tree.specs.Cells.{kind-of, name-at, tree-at, trees-at}
-use Rattle.tree.specs.Arena.{Cell, Arena}
+use Rattle.tree.specs.Arena.{Cell, Arena, Below}
 use Rattle.tree.proofs.Decoding.{Kind, application, a-variable, an-atom, kind, tree-variable, tree-atom, tree-apply, frame-trees}
+use Rattle.tree.proofs.Areas.{below-grown}
 use Rattle.sorts.specs.Numbers.{numbered}
 use Rattle.sorts.proofs.Coding.{kind-known, kind-unknown}
 use Rattle.substitution.specs.Bindings.{bindings-at, flatten-bindings, Chain}
 use Rattle.substitution.specs.Building.{Made}
-use Rattle.certificate.specs.Writer.{Kept}
 use Rattle.unifier.specs.Stack.{pairs-at, Whole, pushes, Fit}
-use Rattle.unifier.specs.Area.{Below}
 use Rattle.unifier.specs.Resting.{Equates}
 use Rattle.unifier.specs.Stepping.{Waits, GoesOn}
 use Rattle.unifier.specs.Matching.{Onwards}
-use Rattle.unifier.proofs.Areas.{below-grown}
 use Rattle.unifier.proofs.Differing.{differing-none}
 use Rattle.unifier.proofs.Waiting.{stack-below, waits-below}
 use Rattle.unifier.proofs.Sums.{pair-waits, pair-used}
 use Rattle.unifier.proofs.Steps.{children-pushed}
-
--- scratch from the free end on leaves the cells
-pub below-kept : {w v : List ℕ} {n at lim : ℕ} → Kept w v at lim → 4 * n ≤ at → Below w v n
-below-kept k h = record { len = k .len; words = λ p q. sym (k .below p (omega arith)) }
 
 -- the pairs and the bindings that stand below the free end n
 module _ {s : Text} {w : List ℕ} {n : ℕ} (a : Arena s w n) (rest made : ℕ) (q : rest < n) (q₁ : made < n) (whole : Whole (trees-at s w rest)) (chain : Chain (trees-at s w made)) where

@@ -3,7 +3,6 @@ use Prim.Native.Nat.{ℕ, _+_, _-_, _*_, _<_, _≤_, _^_}
 use mathlib.Core.Path.{_≡_, refl, sym, ap, ap₂, subst, _∙_}
 use mathlib.Core.Bool.{Bool, true, false}
 use mathlib.Core.List.{List, [], _∷_}
-use mathlib.Core.Option.{Option, some, none as nothing}
 use lib.ListN.{length, getD}
 use lib.Seq.{slice}
 use native.Mathlib.Omega.{arith}
@@ -17,13 +16,15 @@ use Rattle.rules.specs.Memory.{kept-summands}
 use Rattle.laws.proofs.Solving.Weights.{cancel-mass-left}
 use Rattle.laws.proofs.Sheets.BuiltMatch.{mass, summands-mass, cancel-mass}
 use Rattle.tree.specs.Cells.{kind-of, nodes-of, name-at, tree-at}
-use Rattle.tree.specs.Arena.{Arena, Grown}
+use Rattle.tree.specs.Arena.{Arena, Below}
 use Rattle.tree.proofs.Decoding.{Agree, same-kind, same-name, frame-tree}
+use Rattle.tree.proofs.Areas.{below-same, below-grown, below-then}
 use Rattle.equivalence.specs.Sums.{remaining, heavy, test, Ready, Rebuilt}
 use Rattle.equivalence.proofs.Gathering.{remaining-frame}
-use Rattle.unifier.specs.Area.{Room, Below}
+use Rattle.equivalence.proofs.Scratch.{below-kept}
+use Rattle.unifier.specs.Area.{Room}
 use Rattle.unifier.specs.Stack.{Fit}
-use Rattle.unifier.specs.Resting.{Several, LeftIs, Summable, RestIs, Settles}
+use Rattle.unifier.specs.Resting.{Several, LeftIs, Summable, RestIs, RemainderIs}
 use Rattle.unifier.specs.declared.rest.Left.{Left}
 use Rattle.unifier.specs.declared.rest.Left.the-variants as left
 use Rattle.unifier.specs.declared.rest.Rest.{Rest}
@@ -31,22 +32,16 @@ use Rattle.unifier.specs.declared.rest.Rest.the-variants as rest
 
 -- ---- areas
 
-below-same : (w : List ℕ) (n : ℕ) → Below w w n
-below-same w n = record { len = refl; words = λ p q. refl }
-
-below-grown : {w v : List ℕ} {n m : ℕ} → Grown w v n m → Below w v n
-below-grown g = record { len = g .len; words = g .below }
-
 module _ (s w v u : List ℕ) (n : ℕ) (g : Below w v n) where
-  below-then : Below v u n → Below w u n
-  below-then h = record { len = h .len ∙ g .len; words = λ p q. g .words p q ∙ h .words p q }
+  later : Below v u n → Below w u n
+  later h = below-then g h (omega arith)
 
   rest-later : (kept : ℕ) (d : rules.Rest) (x : Rest) → RestIs s v u n kept d x → RestIs s w u n kept d x
-  rest-later kept d rest.Emptied h = (h .0, below-then (h .1))
-  rest-later kept d rest.Mismatch h = (h .0, below-then (h .1))
+  rest-later kept d rest.Emptied h = (h .0, later (h .1))
+  rest-later kept d rest.Mismatch h = (h .0, later (h .1))
   rest-later kept d (rest.Equation i j m) h =
-      record { is = h .is; arena = h .arena; below = below-then (h .below); grew = h .grew; left-inside = h .left-inside; right-inside = h .right-inside; used = h .used }
-  rest-later kept d rest.Stuck h = (h .0, below-then (h .1))
+      record { is = h .is; arena = h .arena; below = later (h .below); grew = h .grew; left-inside = h .left-inside; right-inside = h .right-inside; used = h .used }
+  rest-later kept d rest.Stuck h = (h .0, later (h .1))
 
 -- ---- the cells of the right side, against what is left of the left
 
@@ -73,20 +68,20 @@ module _ (s w : List ℕ) (n a e : ℕ) where
   one-inside z h cells = let f = some-one z h in let (p, x, y, g) = f .2 in let q = cells p x y in (f .1, omega arith)
 
   module _ (b : Bool) where
-    pub none-none : {r : Left} → r ≡ left.Nothing → LeftIs s w a e r → Settles s w w n b [] (remaining s w (slice a e w)) rest.Emptied
+    pub none-none : {r : Left} → r ≡ left.Nothing → LeftIs s w a e r → RemainderIs s w w n b [] (remaining s w (slice a e w)) rest.Emptied
     none-none z h = (ap (λ (us : List Tree). remainder b [] us) (subst (LeftIs s w a e) z h), below-same w n)
 
-    pub none-one : {r : Left} {j : ℕ} → r ≡ left.One j → LeftIs s w a e r → Settles s w w n b [] (remaining s w (slice a e w)) rest.Mismatch
+    pub none-one : {r : Left} {j : ℕ} → r ≡ left.One j → LeftIs s w a e r → RemainderIs s w w n b [] (remaining s w (slice a e w)) rest.Mismatch
     none-one z h = (ap (λ (us : List Tree). remainder b [] us) (some-one z h .0), below-same w n)
 
-    pub none-several : {r : Left} → r ≡ left.Several → LeftIs s w a e r → Settles s w w n b [] (remaining s w (slice a e w)) rest.Mismatch
+    pub none-several : {r : Left} → r ≡ left.Several → LeftIs s w a e r → RemainderIs s w w n b [] (remaining s w (slice a e w)) rest.Mismatch
     none-several z h = let (t, u, us, f) = subst (LeftIs s w a e) z h in (ap (λ (us : List Tree). remainder b [] us) f, below-same w n)
 
-    pub one-none : (t : Tree) {r : Left} → r ≡ left.Nothing → LeftIs s w a e r → Settles s w w n b (t ∷ []) (remaining s w (slice a e w)) rest.Mismatch
+    pub one-none : (t : Tree) {r : Left} → r ≡ left.Nothing → LeftIs s w a e r → RemainderIs s w w n b (t ∷ []) (remaining s w (slice a e w)) rest.Mismatch
     one-none t z h = (ap (λ (us : List Tree). remainder b (t ∷ []) us) (subst (LeftIs s w a e) z h), below-same w n)
 
     pub one-one : (i : ℕ) {r : Left} {j : ℕ} → Arena s w n → 0 < i → i < n → Summable s w n a e → r ≡ left.One j → LeftIs s w a e r
-        → Settles s w w n b (tree-at s w i ∷ []) (remaining s w (slice a e w)) (rest.Equation i j n)
+        → RemainderIs s w w n b (tree-at s w i ∷ []) (remaining s w (slice a e w)) (rest.Equation i j n)
     unfolding rebuild
     one-one i o p q m z h =
         let f = some-one z h .0 in
@@ -102,7 +97,7 @@ module _ (s w : List ℕ) (n a e : ℕ) where
         }
 
     pub one-several : (v : List ℕ) (i j m : ℕ) {r : Left} → Arena s w n → 0 < i → i < n → r ≡ left.Several → LeftIs s w a e r → Rebuilt s w v n m j (remaining s w (slice a e w))
-        → Settles s w v n b (tree-at s w i ∷ []) (remaining s w (slice a e w)) (rest.Equation i j m)
+        → RemainderIs s w v n b (tree-at s w i ∷ []) (remaining s w (slice a e w)) (rest.Equation i j m)
     one-several v i j m o p q z h g =
         let y = subst (LeftIs s w a e) z h in
         let k = rebuilt-some y g in
@@ -120,22 +115,22 @@ module _ (s w : List ℕ) (n a e : ℕ) where
         }
 
     module _ (ts : List Tree) (many : Several ts) where
-      pub several-none : {r : Left} → r ≡ left.Nothing → LeftIs s w a e r → Settles s w w n b ts (remaining s w (slice a e w)) rest.Mismatch
+      pub several-none : {r : Left} → r ≡ left.Nothing → LeftIs s w a e r → RemainderIs s w w n b ts (remaining s w (slice a e w)) rest.Mismatch
       several-none z h = let (t, u, us, f) = many in (ap₂ (λ (x y : List Tree). remainder b x y) f (subst (LeftIs s w a e) z h), below-same w n)
 
-      pub several-one : {r : Left} {j : ℕ} → b ≡ false → r ≡ left.One j → LeftIs s w a e r → Settles s w w n b ts (remaining s w (slice a e w)) rest.Stuck
+      pub several-one : {r : Left} {j : ℕ} → b ≡ false → r ≡ left.One j → LeftIs s w a e r → RemainderIs s w w n b ts (remaining s w (slice a e w)) rest.Stuck
       several-one c z h =
           let (t, u, us, f) = many in
           (ap (λ (d : Bool). remainder d ts (remaining s w (slice a e w))) c ∙ ap₂ (λ (x y : List Tree). remainder false x y) f (some-one z h .0), below-same w n)
 
-      pub several-several : {r : Left} → r ≡ left.Several → LeftIs s w a e r → Settles s w w n b ts (remaining s w (slice a e w)) rest.Stuck
+      pub several-several : {r : Left} → r ≡ left.Several → LeftIs s w a e r → RemainderIs s w w n b ts (remaining s w (slice a e w)) rest.Stuck
       several-several z h =
           let (t, u, us, f) = many in
           let (x, y, ys, g) = subst (LeftIs s w a e) z h in
           (ap₂ (λ (x y : List Tree). remainder b x y) f g ∙ stuck-both b t u us x y ys, below-same w n)
 
       pub several-paired : (v : List ℕ) (i m : ℕ) {r : Left} {j : ℕ} → Arena s w n → Summable s w n a e → b ≡ true → r ≡ left.One j → LeftIs s w a e r → Rebuilt s w v n m i ts
-          → Settles s w v n b ts (remaining s w (slice a e w)) (rest.Equation i j m)
+          → RemainderIs s w v n b ts (remaining s w (slice a e w)) (rest.Equation i j m)
       several-paired v i m {j = j} o cells c z h g =
           let k = rebuilt-some many g in
           let (t, us, f, x, l) = g .full k in
@@ -186,7 +181,7 @@ module _ {s w : List ℕ} {n at : ℕ} {l r : Tree} (o : Arena s w n) (m : Room 
     agree p q = sym (h .kept .below p (omega arith))
 
     below : Below w v n
-    below = record { len = h .kept .len; words = agree }
+    below = below-kept (h .kept) (omega arith)
 
     pub inside : (at ≤ mid) × (mid ≤ end) × (mid ≤ length v) × (end ≤ length v)
     inside =
@@ -238,7 +233,7 @@ module _ {s w : List ℕ} {n at : ℕ} {l r : Tree} (o : Arena s w n) (m : Room 
     pub sum-kept : (k : ℕ) → 0 < k → k < n → kind-of w k ≡ 0 → name-at s w k ≡ tamtplus → (0 < k) × (k < n) × (kind-of v k ≡ 0) × (name-at s v k ≡ tamtplus)
     sum-kept k p q e f = (p, q, sym (same-kind w v agree k q) ∙ e, sym (same-name w v agree k q s) ∙ f)
 
-    settled : (ts : List Tree) → remaining s v (slice at mid v) ≡ ts → (u : List ℕ) (x : Rest) → Settles s v u n b ts (remaining s v (slice mid end v)) x
+    settled : (ts : List Tree) → remaining s v (slice at mid v) ≡ ts → (u : List ℕ) (x : Rest) → RemainderIs s v u n b ts (remaining s v (slice mid end v)) x
         → RestIs s w u n (kept-summands (test b) l r) (cancel-sums b (test b) l r) x
     unfolding kept-summands cancel-sums
     settled ts e u x q =
@@ -248,14 +243,14 @@ module _ {s w : List ℕ} {n at : ℕ} {l r : Tree} (o : Arena s w n) (m : Room 
         (subst (λ (c : List Tree × List Tree). RestIs s v u n (length (c .0) + length (c .1)) (remainder b (c .0) (c .1)) x) (sym z) q)
 
     pub none-settled : {k : Left} → k ≡ left.Nothing → ((t : Text) → LeftIs t v at mid k) → (x : Rest)
-        → ((t : Text) (i : ℕ) (c : Bool) → Settles t v v i c [] (remaining t v (slice mid end v)) x) → RestIs s w v n (kept-summands (test b) l r) (cancel-sums b (test b) l r) x
+        → ((t : Text) (i : ℕ) (c : Bool) → RemainderIs t v v i c [] (remaining t v (slice mid end v)) x) → RestIs s w v n (kept-summands (test b) l r) (cancel-sums b (test b) l r) x
     none-settled e f x q = settled [] (subst (LeftIs s v at mid) e (f s)) v x (q s n b)
 
     pub one-settled : {k : Left} {i : ℕ} → k ≡ left.One i → ((t : Text) → LeftIs t v at mid k) → (u : List ℕ) (x : Rest)
-        → ((c : Bool) → Settles s v u n c (tree-at s v i ∷ []) (remaining s v (slice mid end v)) x) → RestIs s w u n (kept-summands (test b) l r) (cancel-sums b (test b) l r) x
+        → ((c : Bool) → RemainderIs s v u n c (tree-at s v i ∷ []) (remaining s v (slice mid end v)) x) → RestIs s w u n (kept-summands (test b) l r) (cancel-sums b (test b) l r) x
     one-settled {i = i} e f u x q = settled (tree-at s v i ∷ []) (some-one s v n at mid e (f s) .0) u x (q b)
 
-    pub several-settled : (u : List ℕ) (x : Rest) → Settles s v u n b (remaining s v (slice at mid v)) (remaining s v (slice mid end v)) x
+    pub several-settled : (u : List ℕ) (x : Rest) → RemainderIs s v u n b (remaining s v (slice at mid v)) (remaining s v (slice mid end v)) x
         → RestIs s w u n (kept-summands (test b) l r) (cancel-sums b (test b) l r) x
     several-settled u x q = settled (remaining s v (slice at mid v)) refl u x q
 

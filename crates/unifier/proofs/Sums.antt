@@ -19,11 +19,12 @@ use Rattle.rules.specs.Memory.{load, weight, kept-summands}
 use Rattle.laws.proofs.Basics.Tests.{and-right, and-split, and-both, eqb-true, same-eq, same-of-eq}
 use Rattle.laws.proofs.Solving.Weights.{sum-weight}
 use Rattle.tree.specs.Cells.{kind-of, name-at, tree-at, trees-at}
-use Rattle.tree.specs.Arena.{Arena}
+use Rattle.tree.specs.Arena.{Arena, Below}
 use Rattle.tree.proofs.Decoding.{Kind, application, a-variable as of-variable, an-atom as of-atom, kind, tree-variable, tree-atom, tree-apply}
+use Rattle.tree.proofs.Areas.{below-then, below-grown}
 use Rattle.substitution.specs.Building.{Made}
 use borrow.Author.Tests.{eq-eqb}
-use Rattle.unifier.specs.Area.{Room, Below}
+use Rattle.unifier.specs.Area.{Room}
 use Rattle.unifier.specs.Stack.{Whole, pairs-at, Fit}
 use Rattle.unifier.specs.Resting.{Equates, RestIs}
 use Rattle.unifier.specs.Stepping.{Waits, Steps}
@@ -31,7 +32,6 @@ use Rattle.unifier.specs.declared.rest.Rest.{Rest}
 use Rattle.unifier.specs.declared.rest.Rest.the-variants as rest
 use Rattle.unifier.specs.declared.elimination.Taken.{Taken}
 use Rattle.unifier.specs.declared.elimination.Taken.the-variants as taken
-use Rattle.unifier.proofs.Areas.{below-then, below-grown}
 use Rattle.unifier.proofs.Differing.{differing-none}
 use Rattle.unifier.proofs.Waiting.{tree-below, stack-below, waits-below}
 

@@ -7,8 +7,8 @@ use Rattle.rules.specs.Substitution.{Binding, Pair}
 use Rattle.rules.specs.Matching.{Move, onward, clash, beyond}
 use Rattle.rules.specs.Memory.{weight}
 use Rattle.tree.specs.Cells.{trees-at}
+use Rattle.tree.specs.Arena.{Below}
 use Rattle.substitution.specs.Bindings.{flatten-bindings}
-use Rattle.unifier.specs.Area.{Below}
 use Rattle.unifier.specs.Stepping.{Waits}
 use Rattle.unifier.specs.declared.matching.Moved.{Moved}
 use Rattle.unifier.specs.declared.matching.Moved.the-variants as moved

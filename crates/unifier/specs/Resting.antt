@@ -9,9 +9,8 @@ use Rattle.rules.specs.Bytes.{Text}
 use Rattle.rules.specs.Tree.{Tree}
 use Rattle.rules.specs.Solving as rules
 use Rattle.tree.specs.Cells.{tree-at}
-use Rattle.tree.specs.Arena.{Arena}
+use Rattle.tree.specs.Arena.{Arena, Below}
 use Rattle.equivalence.specs.Sums.{remaining, heavy}
-use Rattle.unifier.specs.Area.{Below}
 use Rattle.unifier.specs.declared.rest.Left.{Left}
 use Rattle.unifier.specs.declared.rest.Left.the-variants as left
 use Rattle.unifier.specs.declared.rest.Rest.{Rest}
@@ -53,5 +52,5 @@ RestIs s w v n kept d (rest.Equation i j m) = Equates s w v n kept d i j m
 RestIs s w v n kept d rest.Stuck = (d ≡ rules.stuck) × Below w v n
 
 -- what is left on both sides is settled
-abbrev pub Settles : Text → List ℕ → List ℕ → ℕ → Bool → List Tree → List Tree → Rest → Type 0
-Settles s w v n b ks os r = RestIs s w v n (length ks + length os) (rules.remainder b ks os) r
+abbrev pub RemainderIs : Text → List ℕ → List ℕ → ℕ → Bool → List Tree → List Tree → Rest → Type 0
+RemainderIs s w v n b ks os r = RestIs s w v n (length ks + length os) (rules.remainder b ks os) r

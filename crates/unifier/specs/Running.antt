@@ -4,13 +4,13 @@ use mathlib.Core.Path.{_≡_}
 use mathlib.Core.List.{List, reverse}
 use lib.ListN.{length}
 use Rattle.rules.specs.Bytes.{Text}
-use Rattle.rules.specs.Substitution.{Binding, Pair}
-use Rattle.rules.specs.Solving.{Verdict, solved, failed, unsupported, Answer}
+use Rattle.rules.specs.Substitution.{Pair}
+use Rattle.rules.specs.Solving.{solved, failed, unsupported, Answer}
 use Rattle.rules.specs.Memory.{OverPairs, weight}
 use Rattle.tree.specs.Cells.{trees-at}
-use Rattle.tree.specs.Arena.{Arena}
+use Rattle.tree.specs.Arena.{Arena, Below}
 use Rattle.substitution.specs.Bindings.{bindings-at, Chain}
-use Rattle.unifier.specs.Area.{Room, Below}
+use Rattle.unifier.specs.Area.{Room}
 use Rattle.unifier.specs.declared.unifying.Outcome.{Outcome}
 use Rattle.unifier.specs.declared.unifying.Outcome.the-variants as outcome
 

@@ -8,8 +8,7 @@ use Rattle.rules.specs.Substitution.{Pair, flatten, size-pairs}
 use Rattle.rules.specs.Solving.{Step, goes-on, bind, fails, unknown}
 use Rattle.rules.specs.Memory.{weight}
 use Rattle.tree.specs.Cells.{tree-at, trees-at}
-use Rattle.tree.specs.Arena.{Arena}
-use Rattle.unifier.specs.Area.{Below}
+use Rattle.tree.specs.Arena.{Arena, Below}
 use Rattle.unifier.specs.Differing.{Differing}
 use Rattle.unifier.specs.declared.elimination.Taken.{Taken}
 use Rattle.unifier.specs.declared.elimination.Taken.the-variants as taken

@@ -21,7 +21,7 @@ ghost use Rattle.tree.specs.Arena.{Arena};
 ghost use Rattle.equivalence.specs.Sums.{test, remaining};
 ghost use Rattle.unifier.specs.Stack.{Fit};
 ghost use Rattle.unifier.specs.Area.{Room};
-ghost use Rattle.unifier.specs.Resting.{Several, LeftIs, Summable, RestIs, Settles};
+ghost use Rattle.unifier.specs.Resting.{Several, LeftIs, Summable, RestIs, RemainderIs};
 
 // How many of the cells are not taken out: none, one, which it is, or more.
 pub enum Left {
@@ -69,7 +69,7 @@ pub enum Rest {
 // Nothing is left of the left sum; the cells from `at` to `end` are those of the right.
 fn rest_of_none(work: &[u32], at: usize, end: usize) -> Rest
     requires { ⌜ (at ≤ end) × (end ≤ length (now work)) ⌝ }
-    ensures { λ r. ⌜ ((s : Text) (n : ℕ) (b : Bool) → Settles s (now (work .entry)) (now (work .entry)) n b [] (remaining s (now (work .entry)) (slice at end (now (work .entry)))) r) ⌝ }
+    ensures { λ r. ⌜ ((s : Text) (n : ℕ) (b : Bool) → RemainderIs s (now (work .entry)) (now (work .entry)) n b [] (remaining s (now (work .entry)) (slice at end (now (work .entry)))) r) ⌝ }
 {
     let others = left_of(work, at, end);
     match others {
@@ -93,7 +93,7 @@ fn rest_of_one(
     requires { ⌜ (0 < one) × (one < free) ⌝ }
     requires { ⌜ (0 < like) × (like < free) × (kind-of (now work) like ≡ 0) × (name-at (now sheet) (now work) like ≡ tamtplus) ⌝ }
     requires { ⌜ Summable (now sheet) (now work) free at end ⌝ }
-    ensures { λ r. ⌜ ((b : Bool) → Settles (now (sheet .entry)) (now (work .entry)) (now (work .exit)) free b (tree-at (now (sheet .entry)) (now (work .entry)) one ∷ []) (remaining (now (sheet .entry)) (now (work .entry)) (slice at end (now (work .entry)))) r) ⌝ }
+    ensures { λ r. ⌜ ((b : Bool) → RemainderIs (now (sheet .entry)) (now (work .entry)) (now (work .exit)) free b (tree-at (now (sheet .entry)) (now (work .entry)) one ∷ []) (remaining (now (sheet .entry)) (now (work .entry)) (slice at end (now (work .entry)))) r) ⌝ }
 {
     let others = left_of(work, at, end);
     match others {
@@ -132,7 +132,7 @@ fn rest_of_several(
     requires { ⌜ (0 < like) × (like < free) × (kind-of (now work) like ≡ 0) × (name-at (now sheet) (now work) like ≡ tamtplus) ⌝ }
     requires { ⌜ Summable (now sheet) (now work) free at mid × Summable (now sheet) (now work) free mid end ⌝ }
     requires { ⌜ Several (remaining (now sheet) (now work) (slice at mid (now work))) ⌝ }
-    ensures { λ r. ⌜ Settles (now (sheet .entry)) (now (work .entry)) (now (work .exit)) free every (remaining (now (sheet .entry)) (now (work .entry)) (slice at mid (now (work .entry)))) (remaining (now (sheet .entry)) (now (work .entry)) (slice mid end (now (work .entry)))) r ⌝ }
+    ensures { λ r. ⌜ RemainderIs (now (sheet .entry)) (now (work .entry)) (now (work .exit)) free every (remaining (now (sheet .entry)) (now (work .entry)) (slice at mid (now (work .entry)))) (remaining (now (sheet .entry)) (now (work .entry)) (slice mid end (now (work .entry)))) r ⌝ }
 {
     let others = left_of(work, mid, end);
     match others {

@@ -16,14 +16,15 @@ use Rattle.rules.specs.Sheet.{Member}
 use Rattle.rules.specs.Variants.{Variant, read-member, instance-of, sound}
 use Rattle.laws.proofs.Basics.Tests.{true-leb, false-leb}
 use Rattle.tree.specs.Cells.{kind-of, name-at, first-of, next-of, made, forest, trees-at, tree-at}
-use Rattle.tree.specs.Arena.{Arena}
+use Rattle.tree.specs.Arena.{Arena, Below}
 use Rattle.tree.proofs.Decoding.{frame-tree, Kind, application, a-variable, an-atom, kind, made-apply, made-variable, made-atom}
+use Rattle.tree.proofs.Areas.{below-grown, below-then}
+use Rattle.equivalence.proofs.Scratch.{below-kept}
 use Rattle.substitution.specs.Bindings.{bindings-at}
 use Rattle.substitution.specs.Building.{Placed, instance-at}
 use Rattle.certificate.specs.Writer as words
-use Rattle.reduction.specs.Building.{Kept, NewTree}
+use Rattle.reduction.specs.Building.{NewTree}
 use Rattle.reduction.proofs.NormalForms.{normalizes-size}
-use Rattle.reduction.proofs.Placing.{kept-grown, kept-then}
 use Rattle.sheet.specs.Members.{members-at}
 use Rattle.variants.specs.Members.{nameable, Alike, ReadMember, ReadsMember}
 use Rattle.variants.specs.Soundness.{claim, reduces-to, ClaimsInstance, ClaimsSound}
@@ -93,7 +94,7 @@ module _ {s : Text} {w v u : List ℕ} {n index end left i stop : ℕ} (term lis
     (one : Placed s w v n 4096 0 (instance-at s w list term) index end left) (two : NewTree s v u end (size (tree-at s v index)) 0 (normalize (tree-at s v index)) i stop) where
   same-value : tree-at s u value ≡ tree-at s w value
   same-value =
-      sym (frame-tree s v (a .links) (one .before .grown .below) value p q ∙ frame-tree s u (one .before .arena .links) (two .kept .below) value p (omega (arith, one .before .grew)))
+      sym (frame-tree s v (a .links) (one .before .grown .below) value p q ∙ frame-tree s u (one .before .arena .links) (two .kept .words) value p (omega (arith, one .before .grew)))
 
   pub reduced-sizes : size (tree-at s w value) ≤ 4096 → (size (tree-at s u i) ≤ 4096) × (size (tree-at s u value) ≤ 4096) × (n ≤ stop) × (stop ≤ n + 8192)
   reduced-sizes h =
@@ -104,8 +105,8 @@ module _ {s : Text} {w v u : List ℕ} {n index end left i stop : ℕ} (term lis
       instance-there (bindings-at s w list) (tree-at s w term) (tree-at s w value) (built-small one .1)
       ∙ ap some (sym (e ∙ ap₂ equivalent (two .tree ∙ ap normalize (one .before .tree)) same-value))
 
-  pub reduced-kept : {x : List ℕ} {lim : ℕ} → words.Kept u x (4 * stop) lim → Kept w x n
-  reduced-kept k = kept-then (kept-then (kept-grown (one .before .grown)) (two .kept) (one .before .grew)) (record { len = k .len; below = λ j h. sym (k .below j h) }) (omega (arith, one .before .grew, two .grew))
+  pub reduced-kept : {x : List ℕ} {lim : ℕ} → words.Kept u x (4 * stop) lim → Below w x n
+  reduced-kept k = below-then (below-then (below-grown (one .before .grown)) (two .kept) (one .before .grew)) (below-kept {n = stop} k (omega arith)) (omega (arith, one .before .grew, two .grew))
 
 -- ---- a member
 
@@ -125,10 +126,10 @@ sound-read {s} {w} a k p q m t bs cs e h =
 
 pub sound-claims : {s : Text} {w v u : List ℕ} {n at value list end c : ℕ} (term : ℕ) (r : Claim) → Arena s w n → 0 < term → term < n → ReadMember s w v n at value list end c
     → ClaimsInstance s v u end term list value r → ClaimsSound s w u n term at r
-sound-claims {s} {w} {v} {u} {n} {at} {value} {list} {end} term r a p q x y = (go, kept-then (x .kept) (y .1) (x .grew))
+sound-claims {s} {w} {v} {u} {n} {at} {value} {list} {end} term r a p q x y = (go, below-then (x .kept) (y .1) (x .grew))
   where
     go : (m : Member) → members-at s at ≡ some (m ∷ []) → claim r ≡ sound (tree-at s w term) m
     go m h =
         let z = x .reads m [] h in
         y .0 ∙ sound-read (x .arena) term p (omega (arith, x .grew)) m (tree-at s v value) (bindings-at s v list) (z .bs) (z .read) (z .alike)
-        ∙ ap (λ (t : Tree). sound t m) (sym (frame-tree s v (a .links) (x .kept .below) term p q))
+        ∙ ap (λ (t : Tree). sound t m) (sym (frame-tree s v (a .links) (x .kept .words) term p q))

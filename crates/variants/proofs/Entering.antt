@@ -17,8 +17,9 @@ use Rattle.rules.specs.Variants.{read-entry}
 use Rattle.laws.proofs.Basics.Options.{bound}
 use Rattle.laws.proofs.Reading.Colons.{parse-size}
 use Rattle.tree.specs.Cells.{tree-at, trees-at}
-use Rattle.tree.specs.Arena.{Arena, Linked}
+use Rattle.tree.specs.Arena.{Arena, Linked, Below}
 use Rattle.tree.proofs.Decoding.{frame-trees, trees-none}
+use Rattle.tree.proofs.Areas.{below-same, below-then, below-grown}
 use Rattle.reading.specs.Words.{Outside}
 use Rattle.reading.specs.Parsing.{Read, Parses}
 use Rattle.reading.specs.declared.Parsed.the-variants as parsed
@@ -27,8 +28,6 @@ use Rattle.substitution.specs.Building.{Made}
 use Rattle.substitution.proofs.Growing.{made-same, made-linked}
 use Rattle.substitution.proofs.Keys.{bindings-none}
 use Rattle.substitution.proofs.Chains.{chain-none}
-use Rattle.reduction.specs.Building.{Kept}
-use Rattle.reduction.proofs.Placing.{kept-same, kept-then}
 use Rattle.sheet.specs.Lines.{part-of, lines-at}
 use Rattle.sheet.specs.Pairs.{pair-at, entries-by, before}
 use Rattle.sheet.specs.Members.{Walks}
@@ -38,13 +37,13 @@ use Rattle.sheet.specs.declared.Place.{Place}
 use Rattle.sheet.specs.declared.PairLine.the-variants.{Sides, End}
 use Rattle.sheet.proofs.PairLaws.{paired, walk-starts, walk-turn}
 use Rattle.sheet.proofs.WalkLaws.{two-there}
-use Rattle.variants.specs.Members.{nameable, with-binding, entry-end, ReadEntry, ReadsEntry, texts-end, ReadEntries, ReadsEntries}
+use Rattle.variants.specs.Members.{nameable, binding-before, entry-end, ReadEntry, ReadsEntry, texts-end, ReadEntries, ReadsEntries}
 use Rattle.variants.specs.declared.members.Bindings.the-variants as bindings
 use Rattle.variants.specs.declared.members.Entries.the-variants as entries
 use Rattle.variants.proofs.Lookups.{Turned, turned-none, turned-more, turned-alike, bound-before, bindings-with, chain-with, entries-last, entries-unread}
 
-pub kept-outside : {w v : List ℕ} {n e : ℕ} → Outside w v (4 * n) e → Kept w v n
-kept-outside o = record { len = o .len; below = o .below }
+pub below-outside : {w v : List ℕ} {n e : ℕ} → Outside w v (4 * n) e → Below w v n
+below-outside o = record { len = o .len; words = o .below }
 
 -- a tree has at most as many nodes as its text has bytes
 pub part-size : (s : Text) (f t : ℕ) (x : Tree) → parse (part-of f t s) ≡ some x → size x ≤ t - f
@@ -54,29 +53,29 @@ part-size s f t x e = omega (arith, parse-size (part-of f t s) x e, length-take 
 
 -- a key that no variable can have is left out, another is put before its value
 module _ {s : Text} {w : List ℕ} {n list : ℕ} (a : Arena s w n) (p : list < n) (x : Text) where
-  pub key-out : (t : Tree) → nameable x ≡ false → Made s w w n n list (with-binding x t (trees-at s w list)) × (n ≤ n + 2)
-  unfolding with-binding
+  pub key-out : (t : Tree) → nameable x ≡ false → Made s w w n n list (binding-before x t (trees-at s w list)) × (n ≤ n + 2)
+  unfolding binding-before
   key-out t e = (rw e (made-same a p), omega arith)
 
   pub key-in : {w₁ v : List ℕ} {t : Tree} (middle end : ℕ) → nameable x ≡ true → Linked s w w₁ n list t → middle ≡ n + 1 → Linked s w₁ v middle n (variable x) → end ≡ middle + 1
-      → Made s w v n end middle (with-binding x t (trees-at s w list)) × (end ≤ n + 2)
-  unfolding with-binding
+      → Made s w v n end middle (binding-before x t (trees-at s w list)) × (end ≤ n + 2)
+  unfolding binding-before
   key-in middle end e one f two g = (rw e (made-linked end (made-linked middle (made-same a p) one f) two g), omega arith)
 
 pub entry-unread : (s : Text) {w v : List ℕ} (n : ℕ) (key value : Place) (list : ℕ) → Parses s w v n (value .from) (value .to) parsed.Unreadable → ReadsEntry s w v n key value list bindings.Unreadable
-entry-unread s n key value list h = (h .0, kept-outside (h .1))
+entry-unread s n key value list h = (h .0, below-outside (h .1))
 
 pub entry-there : {s : Text} {w w₁ v : List ℕ} {n : ℕ} (key value : Place) {list index middle i m : ℕ} → Arena s w n → list < n → Read s w w₁ n (value .from) (value .to) index middle
-    → Made s w₁ v middle m i (with-binding (text-of s key) (tree-at s w₁ index) (trees-at s w₁ list)) → m ≤ middle + 2 → ReadEntry s w v n key value list i m
+    → Made s w₁ v middle m i (binding-before (text-of s key) (tree-at s w₁ index) (trees-at s w₁ list)) → m ≤ middle + 2 → ReadEntry s w v n key value list i m
 entry-there {s} {w} {w₁} {v} {n} key value {list} {index} {middle} {i} {m} a p one d e = record {
   tree = tree-at s w₁ index;
   read = one .reads;
   arena = d .arena;
-  kept = record { len = d .grown .len ∙ one .outside .len; below = λ k l. one .outside .below k l ∙ d .grown .below k (omega (arith, one .grew)) };
+  kept = below-then (below-outside (one .outside)) (below-grown (d .grown)) (one .grew);
   grew = omega (arith, one .grew, d .grew);
   used = omega (arith, one .room);
   inside = d .inside;
-  trees = d .trees ∙ ap (with-binding (text-of s key) (tree-at s w₁ index)) (sym (frame-trees s w₁ (a .links) (one .outside .below) list p));
+  trees = d .trees ∙ ap (binding-before (text-of s key) (tree-at s w₁ index)) (sym (frame-trees s w₁ (a .links) (one .outside .below) list p));
 }
 
 -- ---- entries in front of others
@@ -95,7 +94,7 @@ pub record Entering (s : Text) (w : List ℕ) (n at : ℕ) (v : List ℕ) (c lis
   pub turned : Turned (walk .es) (bindings-at s v list) ds
   pub chain : Chain (trees-at s v list)
   pub arena : Arena s v m
-  pub kept : Kept w v n
+  pub kept : Below w v n
   pub grew : n ≤ m
   pub used : m ≤ n + 2 * (c - at)
   pub light : sizes (trees-at s v list) ≤ c - at
@@ -110,8 +109,8 @@ binding-size : (x : Text) (t : Tree) (ts : Trees) → sizes (more (variable x) (
 unfolding size
 binding-size x t ts = refl
 
-with-size : (x : Text) (t : Tree) (ts : Trees) → sizes (with-binding x t ts) ≤ 1 + (size t + sizes ts)
-unfolding with-binding
+with-size : (x : Text) (t : Tree) (ts : Trees) → sizes (binding-before x t ts) ≤ 1 + (size t + sizes ts)
+unfolding binding-before
 with-size x t ts = go (nameable x)
   where
     go : (b : Bool) → sizes (cond b (more (variable x) (more t ts)) ts) ≤ 1 + (size t + sizes ts)
@@ -127,7 +126,7 @@ entering-starts s w n at a p = record {
   turned = rw (bindings-none s w 0 refl) turned-none;
   chain = rw (trees-none s w 0 refl) chain-none;
   arena = a;
-  kept = kept-same w n;
+  kept = below-same w n;
   grew = omega arith;
   used = omega arith;
   light = no-trees s w at;
@@ -176,7 +175,7 @@ module _ {s : Text} {w : List ℕ} {n at : ℕ} {v : List ℕ} {c list m : ℕ} 
     entering-room = let x = located s c l r k e in omega (arith, h .used, h .walk .low, x .next, x .within)
 
     pub entering-unread : (u : List ℕ) → ReadsEntry s v u m l r list bindings.Unreadable → ReadsEntries s w u n at entries.Unreadable
-    entering-unread u x = (go, kept-then (h .kept) (x .1) (h .grew))
+    entering-unread u x = (go, below-then (h .kept) (x .1) (h .grew))
       where
         go : (es : List Entry) (rest : List Text) → (lines-at s at >>= entries-by (bytes "key=") (bytes "value=")) ≡ some (es, rest) → every (map read-entry es) ≡ nothing
         go es rest f =
@@ -197,7 +196,7 @@ module _ {s : Text} {w : List ℕ} {n at : ℕ} {v : List ℕ} {c list m : ℕ} 
           turned = rw bs (turned-more (text-of s l) (text-of s r) (x .tree) (h .turned));
           chain = rw (x .trees) (chain-with (text-of s l) (x .tree) (trees-at s v list) (h .chain));
           arena = x .arena;
-          kept = kept-then (h .kept) (x .kept) (h .grew);
+          kept = below-then (h .kept) (x .kept) (h .grew);
           grew = omega (arith, h .grew, x .grew);
           used = omega (arith, h .used, x .used, y .next, h .walk .low);
           light =

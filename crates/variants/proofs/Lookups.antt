@@ -19,7 +19,7 @@ use Rattle.substitution.specs.Bindings.{bindings-of, Chain}
 use Rattle.substitution.proofs.Chains.{chain-more}
 use Rattle.sheet.specs.Members.{keys-of, distinct}
 use Rattle.sheet.proofs.Distinct.{distinct-keys-are}
-use Rattle.variants.specs.Members.{nameable, with-binding, Alike}
+use Rattle.variants.specs.Members.{nameable, binding-before, Alike}
 
 -- ---- keys
 
@@ -108,16 +108,16 @@ turned-alike {es} {bs} {ds} h d x e =
 
 -- ---- a binding before a list of trees
 
-pub bindings-with : (x : Text) (t : Tree) (ts : Trees) → bindings-of (with-binding x t ts) ≡ bound-before x t (bindings-of ts)
-unfolding bindings-of with-binding
+pub bindings-with : (x : Text) (t : Tree) (ts : Trees) → bindings-of (binding-before x t ts) ≡ bound-before x t (bindings-of ts)
+unfolding bindings-of binding-before
 bindings-with x t ts = go (nameable x)
   where
     go : (b : Bool) → bindings-of (cond b (more (variable x) (more t ts)) ts) ≡ cond b ((x, t) ∷ bindings-of ts) (bindings-of ts)
     go true = unfold bindings-of in refl
     go false = refl
 
-pub chain-with : (x : Text) (t : Tree) (ts : Trees) → Chain ts → Chain (with-binding x t ts)
-unfolding with-binding
+pub chain-with : (x : Text) (t : Tree) (ts : Trees) → Chain ts → Chain (binding-before x t ts)
+unfolding binding-before
 chain-with x t ts c = go (nameable x)
   where
     go : (b : Bool) → Chain (cond b (more (variable x) (more t ts)) ts)

@@ -17,9 +17,9 @@ use Rattle.laws.proofs.Basics.Options.{bound}
 use Rattle.laws.proofs.Reading.Builds.{reads-within}
 use Rattle.tree.specs.Cells.{tree-at}
 use Rattle.tree.proofs.Decoding.{frame-tree}
+use Rattle.tree.proofs.Areas.{below-same, below-then}
 use Rattle.reading.specs.Parsing.{Read, Parses}
 use Rattle.reading.specs.declared.Parsed.the-variants as parsed
-use Rattle.reduction.proofs.Placing.{kept-same, kept-then}
 use Rattle.sheet.specs.Lines.{part-of, lines-at, value-at}
 use Rattle.sheet.specs.Pairs.{entries-by, before}
 use Rattle.sheet.specs.Members.{members-at}
@@ -30,7 +30,7 @@ use Rattle.sheet.proofs.WalkLaws.{two-end, member-end, member-next, members-lat
 use Rattle.variants.specs.Members.{ReadEntries, ReadsEntries, ReadAs, ReadMember, ReadsMember}
 use Rattle.variants.specs.declared.members.Entries.the-variants as entries
 use Rattle.variants.specs.declared.members.Variant.the-variants as variant
-use Rattle.variants.proofs.Entering.{kept-outside, part-size, parts-before}
+use Rattle.variants.proofs.Entering.{below-outside, part-size, parts-before}
 
 -- ---- the definition by what its texts read as
 
@@ -52,7 +52,7 @@ first-of e = (cc, cc)
 -- ---- at a position
 
 pub no-member : (s : Text) (w : List ℕ) (n at : ℕ) → Missing ≡ value-at s (bytes "member=") at → ReadsMember s w w n at variant.Unreadable
-no-member s w n at e = (go, kept-same w n)
+no-member s w n at e = (go, below-same w n)
   where
     go : (m : Member) (ms : List Member) → members-at s at ≡ some (m ∷ ms) → read-member m ≡ nothing
     go m ms h =
@@ -69,7 +69,7 @@ module _ (s : Text) (at f t : ℕ) (c : Cursor) (e : Whole f t c ≡ value-at s 
       omega (arith, h .begins, h .ends, h .after)
 
   pub text-unread : {w v : List ℕ} (n : ℕ) → Parses s w v n f t parsed.Unreadable → ReadsMember s w v n at variant.Unreadable
-  text-unread n x = (go, kept-outside (x .1))
+  text-unread n x = (go, below-outside (x .1))
     where
       go : (m : Member) (ms : List Member) → members-at s at ≡ some (m ∷ ms) → read-member m ≡ nothing
       go m ms h =
@@ -78,7 +78,7 @@ module _ (s : Text) (at f t : ℕ) (c : Cursor) (e : Whole f t c ≡ value-at s 
 
   module _ {w w₁ : List ℕ} {n index middle : ℕ} (one : Read s w w₁ n f t index middle) where
     pub entries-unread : {v : List ℕ} → ReadsEntries s w₁ v middle (c .at) entries.Unreadable → ReadsMember s w v n at variant.Unreadable
-    entries-unread x = (go, kept-then (kept-outside (one .outside)) (x .1) (one .grew))
+    entries-unread x = (go, below-then (below-outside (one .outside)) (x .1) (one .grew))
       where
         go : (m : Member) (ms : List Member) → members-at s at ≡ some (m ∷ ms) → read-member m ≡ nothing
         go m ms h =
@@ -87,7 +87,7 @@ module _ (s : Text) (at f t : ℕ) (c : Cursor) (e : Whole f t c ≡ value-at s 
 
     module _ {v : List ℕ} {i end d : ℕ} (x : ReadEntries s w₁ v middle (c .at) i end d) where
       same-tree : tree-at s w₁ index ≡ tree-at s v index
-      same-tree = frame-tree s v (one .arena .links) (x .kept .below) index (one .placed .0) (one .placed .1)
+      same-tree = frame-tree s v (one .arena .links) (x .kept .words) index (one .placed .0) (one .placed .1)
 
       member-reads : (m : Member) (ms : List Member) → members-at s at ≡ some (m ∷ ms) → ReadAs s v index i d m ms
       member-reads m ms h =
@@ -112,7 +112,7 @@ module _ (s : Text) (at f t : ℕ) (c : Cursor) (e : Whole f t c ≡ value-at s 
         small = reads-within (part-of f t s) (tree-at s v index) (one .reads ∙ ap some same-tree);
         chain = x .chain;
         arena = x .arena;
-        kept = kept-then (kept-outside (one .outside)) (x .kept) (one .grew);
+        kept = below-then (below-outside (one .outside)) (x .kept) (one .grew);
         grew = omega (arith, one .grew, x .grew);
         used = omega (arith, one .room, x .used, x .walk .low, member-placed);
         light = omega (arith, part-size s f t (tree-at s v index) (one .reads ∙ ap some same-tree), x .light, x .walk .low, member-placed);

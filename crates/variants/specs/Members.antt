@@ -15,9 +15,8 @@ use Rattle.rules.specs.Substitution.{Binding, lookup}
 use Rattle.rules.specs.Sheet.{Entry, Member, distinct-keys}
 use Rattle.rules.specs.Variants.{read-entry, read-member}
 use Rattle.tree.specs.Cells.{tree-at, trees-at}
-use Rattle.tree.specs.Arena.{Arena}
+use Rattle.tree.specs.Arena.{Arena, Below}
 use Rattle.substitution.specs.Bindings.{bindings-at, Chain}
-use Rattle.reduction.specs.Building.{Kept}
 use Rattle.sheet.specs.Lines.{lines-at}
 use Rattle.sheet.specs.Pairs.{pair-at, entries-by}
 use Rattle.sheet.specs.Members.{members-at, Walks}
@@ -37,8 +36,8 @@ nameable [] = false
 nameable (a ∷ n) = not (eqb (getD n 0 0) 40)
 
 -- a binding before a list, unless no variable can have the key for its name
-unfoldable pub with-binding : Text → Tree → Trees → Trees
-with-binding x t ts = cond (nameable x) (more (variable x) (more t ts)) ts
+unfoldable pub binding-before : Text → Tree → Trees → Trees
+binding-before x t ts = cond (nameable x) (more (variable x) (more t ts)) ts
 
 -- bindings that give every variable the same value
 abbrev pub Alike : List Binding → List Binding → Type 0
@@ -53,23 +52,23 @@ pub record ReadEntry (s : Text) (w v : List ℕ) (n : ℕ) (key value : Place) (
   pub tree : Tree
   pub read : parse (text-of s value) ≡ some tree
   pub arena : Arena s v m
-  pub kept : Kept w v n
+  pub kept : Below w v n
   pub grew : n ≤ m
   pub used : m ≤ entry-end n value
   pub inside : i < m
-  pub trees : trees-at s v i ≡ with-binding (text-of s key) tree (trees-at s w list)
+  pub trees : trees-at s v i ≡ binding-before (text-of s key) tree (trees-at s w list)
 
 abbrev pub ReadsEntry : Text → List ℕ → List ℕ → ℕ → Place → Place → ℕ → Bindings → Type 0
 ReadsEntry s w v n key value list (bindings.Stack i m) = ReadEntry s w v n key value list i m
-ReadsEntry s w v n key value list bindings.Unreadable = (parse (text-of s value) ≡ nothing) × Kept w v n
+ReadsEntry s w v n key value list bindings.Unreadable = (parse (text-of s value) ≡ nothing) × Below w v n
 
 -- the cells of all texts from a position on end at most here
 abbrev pub texts-end : Text → ℕ → ℕ → ℕ
 texts-end s n at = n + 2 * (length s - at)
 
 -- room for them, and for the reader's stack above them
-abbrev pub Room : Text → List ℕ → ℕ → ℕ → Type 0
-Room s w n at = (length s ≤ 65536) × (4 * texts-end s n at + 3 * length s < length w) × (texts-end s n at < 2 ^ 32)
+abbrev pub TextsRoom : Text → List ℕ → ℕ → ℕ → Type 0
+TextsRoom s w n at = (length s ≤ 65536) × (4 * texts-end s n at + 3 * length s < length w) × (texts-end s n at < 2 ^ 32)
 
 -- the entries from `at` on, which end at c, read as bs; the list from cell i on gives every variable the same value as bs
 pub record ReadEntries (s : Text) (w v : List ℕ) (n at i m c : ℕ) : Type 0 where
@@ -80,7 +79,7 @@ pub record ReadEntries (s : Text) (w v : List ℕ) (n at i m c : ℕ) : Type 0 w
   pub alike : distinct-keys (walk .es) [] ≡ true → Alike (bindings-at s v i) bs
   pub chain : Chain (trees-at s v i)
   pub arena : Arena s v m
-  pub kept : Kept w v n
+  pub kept : Below w v n
   pub grew : n ≤ m
   pub used : m ≤ n + 2 * (c - at)
   pub light : sizes (trees-at s v i) ≤ c - at
@@ -89,7 +88,7 @@ pub record ReadEntries (s : Text) (w v : List ℕ) (n at i m c : ℕ) : Type 0 w
 abbrev pub ReadsEntries : Text → List ℕ → List ℕ → ℕ → ℕ → Entries → Type 0
 ReadsEntries s w v n at (entries.Stack i m c) = ReadEntries s w v n at i m (c .at)
 ReadsEntries s w v n at entries.Unreadable =
-    ((es : List Entry) (rest : List Text) → (lines-at s at >>= entries-by (bytes "key=") (bytes "value=")) ≡ some (es, rest) → every (map read-entry es) ≡ nothing) × Kept w v n
+    ((es : List Entry) (rest : List Text) → (lines-at s at >>= entries-by (bytes "key=") (bytes "value=")) ≡ some (es, rest) → every (map read-entry es) ≡ nothing) × Below w v n
 
 -- the member m reads as the tree of cell k and the bindings bs; the list from cell i on gives every variable the same value as bs; the
 -- members ms follow at c
@@ -105,7 +104,7 @@ pub record ReadMember (s : Text) (w v : List ℕ) (n at k i end c : ℕ) : Type 
   pub small : size (tree-at s v k) ≤ 4096
   pub chain : Chain (trees-at s v i)
   pub arena : Arena s v end
-  pub kept : Kept w v n
+  pub kept : Below w v n
   pub grew : n ≤ end
   pub used : end + 2 ≤ n + 2 * (c - at)
   pub light : size (tree-at s v k) + sizes (trees-at s v i) + 2 ≤ c - at
@@ -116,4 +115,4 @@ pub record ReadMember (s : Text) (w v : List ℕ) (n at k i end c : ℕ) : Type 
 
 abbrev pub ReadsMember : Text → List ℕ → List ℕ → ℕ → ℕ → Variant → Type 0
 ReadsMember s w v n at (variant.Read k i end c) = ReadMember s w v n at k i end (c .at)
-ReadsMember s w v n at variant.Unreadable = ((m : Member) (ms : List Member) → members-at s at ≡ some (m ∷ ms) → read-member m ≡ nothing) × Kept w v n
+ReadsMember s w v n at variant.Unreadable = ((m : Member) (ms : List Member) → members-at s at ≡ some (m ∷ ms) → read-member m ≡ nothing) × Below w v n

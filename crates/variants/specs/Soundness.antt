@@ -13,8 +13,8 @@ use Rattle.rules.specs.Substitution.{Binding}
 use Rattle.rules.specs.Sheet.{Member}
 use Rattle.rules.specs.Variants.{instance-of, sound}
 use Rattle.tree.specs.Cells.{tree-at}
+use Rattle.tree.specs.Arena.{Below}
 use Rattle.substitution.specs.Bindings.{bindings-at}
-use Rattle.reduction.specs.Building.{Kept}
 use Rattle.sheet.specs.Members.{members-at}
 use Rattle.variants.specs.declared.soundness.Claim.{Claim}
 use Rattle.variants.specs.declared.soundness.Claim.the-variants.{Yes, No, Nothing}
@@ -30,7 +30,7 @@ unfolding instance-of normalize equivalent
 reduces-to bs term t = instance-of bs term >>= λ i. some (equivalent (normalize i) t)
 
 abbrev pub ClaimsInstance : Text → List ℕ → List ℕ → ℕ → ℕ → ℕ → ℕ → Claim → Type 0
-ClaimsInstance s w v n term list value r = (claim r ≡ reduces-to (bindings-at s w list) (tree-at s w term) (tree-at s w value)) × Kept w v n
+ClaimsInstance s w v n term list value r = (claim r ≡ reduces-to (bindings-at s w list) (tree-at s w term) (tree-at s w value)) × Below w v n
 
 abbrev pub ClaimsSound : Text → List ℕ → List ℕ → ℕ → ℕ → ℕ → Claim → Type 0
-ClaimsSound s w v n term at r = ((m : Member) → members-at s at ≡ some (m ∷ []) → claim r ≡ sound (tree-at s w term) m) × Kept w v n
+ClaimsSound s w v n term at r = ((m : Member) → members-at s at ≡ some (m ∷ []) → claim r ≡ sound (tree-at s w term) m) × Below w v n

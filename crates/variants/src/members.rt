@@ -21,7 +21,7 @@ ghost use Rattle.sheet.specs.Form.{text-of, Inside};
 ghost use Rattle.tree.specs.Cells.{variable-kind, tree-at, trees-at};
 ghost use Rattle.tree.specs.Arena.{Arena, Linked};
 ghost use Rattle.substitution.specs.Building.{Made};
-ghost use Rattle.variants.specs.Members.{nameable, with-binding, entry-end, ReadsEntry, Room, ReadsEntries, ReadsMember};
+ghost use Rattle.variants.specs.Members.{nameable, binding-before, entry-end, ReadsEntry, TextsRoom, ReadsEntries, ReadsMember};
 
 // A list of bindings and the free end after it, or a value that cannot be read.
 pub enum Bindings {
@@ -99,7 +99,7 @@ fn push_entry(
     requires { ⌜ Arena (now sheet) (now work) free ⌝ }
     requires { ⌜ Inside (now sheet) key × (0 < value) × (value < free) × (list < free) ⌝ }
     requires { ⌜ (length (now sheet) ≤ 65536) × (4 * (free + 2) ≤ length (now work)) × (free + 2 < 2 ^ 32) ⌝ }
-    ensures { λ r. ⌜ Made (now (sheet .entry)) (now (work .entry)) (now (work .exit)) free (r .free) (r .index) (with-binding (text-of (now (sheet .entry)) key) (tree-at (now (sheet .entry)) (now (work .entry)) value) (trees-at (now (sheet .entry)) (now (work .entry)) list)) × (r .free ≤ free + 2) ⌝ }
+    ensures { λ r. ⌜ Made (now (sheet .entry)) (now (work .entry)) (now (work .exit)) free (r .free) (r .index) (binding-before (text-of (now (sheet .entry)) key) (tree-at (now (sheet .entry)) (now (work .entry)) value) (trees-at (now (sheet .entry)) (now (work .entry)) list)) × (r .free ≤ free + 2) ⌝ }
 {
     let from = key.from;
     let to = key.to;
@@ -153,7 +153,7 @@ fn read_entry(
 // The entries of a member from a cursor on, the last first.
 fn read_entries(sheet: &[u8], work: &mut [u32], free: usize, start: Cursor) -> Entries
     requires { ⌜ Arena (now sheet) (now work) free ⌝ }
-    requires { ⌜ (start .at ≤ length (now sheet)) × Room (now sheet) (now work) free (start .at) ⌝ }
+    requires { ⌜ (start .at ≤ length (now sheet)) × TextsRoom (now sheet) (now work) free (start .at) ⌝ }
     ensures { λ r. ⌜ ReadsEntries (now (sheet .entry)) (now (work .entry)) (now (work .exit)) free (start .at) r ⌝ }
 {
     let mut cursor = start;
@@ -181,7 +181,7 @@ fn read_entries(sheet: &[u8], work: &mut [u32], free: usize, start: Cursor) -> E
 // The member whose line is at the cursor.
 pub fn read_member(sheet: &[u8], work: &mut [u32], free: usize, start: Cursor) -> Variant
     requires { ⌜ Arena (now sheet) (now work) free ⌝ }
-    requires { ⌜ Room (now sheet) (now work) free (start .at) ⌝ }
+    requires { ⌜ TextsRoom (now sheet) (now work) free (start .at) ⌝ }
     ensures { λ r. ⌜ ReadsMember (now (sheet .entry)) (now (work .entry)) (now (work .exit)) free (start .at) r ⌝ }
 {
     let line = next_member(sheet, start);

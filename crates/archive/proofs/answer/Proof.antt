@@ -12,44 +12,35 @@ use Rattle.archive.proofs.admission.admit.Reads as admit-reads
 use Rattle.archive.proofs.reply_of.Reads as reply-of-reads
 use Rattle.archive.proofs.settle_and_clear.Reads as settle-and-clear-reads
 
--- src/lib.rt:61:9
 admit-requires : tie.Need-admit-requires
 admit-requires c κs = search needs
 
--- src/lib.rt:63:27
 enum-known-admitted : tie.Need-enum-known-admitted
 enum-known-admitted c = search needs
 
--- src/lib.rt:64:27
 enum-known-admitted-2 : tie.Need-enum-known-admitted-2
 enum-known-admitted-2 c = search needs
 
--- src/lib.rt:65:22
 settle-and-clear-requires : tie.Need-settle-and-clear-requires
 settle-and-clear-requires c κs =
     let a = c .before .before .before .before .before .before .before .before .before .args in
     let h = subst (Admits (a .sheet .now) (length (a .work .now))) (c .before .before .before .admitted2 .given .1) (c .before .before .before .before .before .admit .ensures) in
     (h .decoded, (enough-words (a .sheet .now) (a .work .now) (a .output .now) (c .before .before .before .admitted2 .given .0 .0) (c .before .before .before .admitted2 .given .0 .1 .0) h, h .enough))
 
--- src/lib.rt:65:13
 reply-of-requires : tie.Need-reply-of-requires
 reply-of-requires c κs = search needs
 
--- src/lib.rt:58:1
 returns : tie.Need-returns
 returns c =
     let a = c .before .before .before .before .before .before .before .args in
     refused-answers (a .sheet .now) (a .work .now) (a .output .now) (c .before .admitted .given .0 .0) (subst (Admits (a .sheet .now) (length (a .work .now))) (c .before .admitted .given .1) (c .before .before .before .admit .ensures))
 
--- src/lib.rt:58:1
 same-length : tie.Need-same-length
 same-length c = search needs
 
--- src/lib.rt:58:1
 same-length-2 : tie.Need-same-length-2
 same-length-2 c = search needs
 
--- src/lib.rt:58:1
 returns-2 : tie.Need-returns-2
 returns-2 c =
     let a = c .before .before .before .before .before .before .before .before .before .before .before .before .before .before .before .args in

@@ -13,41 +13,34 @@ use Rattle.equivalence.proofs.words.same_text.Reads as same-text-reads
 use Rattle.equivalence.proofs.words.tree_words.Reads as tree-words-reads
 use Rattle.tree.proofs.equality.same_tree.Reads as same-tree-reads
 
--- src/lib.rt:34:9
 returns : tie.Need-returns
 returns c =
     let a = c .before .before .before .args in
     (equivalent-one (ap (λ (k : ℕ). tree-at (a .sheet .now) (a .work .now) k) (c .if1 .taken)), kept-none _ _ _)
 
--- src/lib.rt:36:8
 same-tree-requires : tie.Need-same-tree-requires
 same-tree-requires c κs = search needs
 
--- src/lib.rt:37:9
 same-length : tie.Need-same-length
 same-length c = search needs
 
--- src/lib.rt:37:9
 returns-2 : tie.Need-returns-2
 returns-2 c =
     let a = c .before .before .before .before .before .before .args in
     (equivalent-same (tree-at (a .sheet .now) (a .work .now) (a .i)) (tree-at (a .sheet .now) (a .work .now) (a .j)) (sym (c .if2 .taken) ∙ c .before .same-tree .ensures), kept-none _ _ _)
 
--- src/lib.rt:39:9
 tree-words-requires : tie.Need-tree-words-requires
 tree-words-requires c κs =
     let a = c .before .before .before .before .before .before .before .args in
     let q = c .before .before .before .before .before .before .before .pre .1 .0 in
     (c .before .before .before .before .before .before .before .pre .0, ((q .0, q .1, q .4), (c .before .before .before .before .before .before .before .pre .1 .1 .0 .0, omega (arith, c .before .before .before .before .before .before .before .pre .1 .1 .1))))
 
--- src/lib.rt:40:9
 tree-words-requires-2 : tie.Need-tree-words-requires-2
 tree-words-requires-2 c κs =
     let a = c .before .before .before .before .before .before .before .before .before .before .before .args in
     let q = c .before .before .before .before .before .before .before .before .before .before .before .pre .1 .0 in
     (canon-arena (c .before .before .before .tree-words .ensures) (a .free) (q .4) (c .before .before .before .before .before .before .before .before .before .before .before .pre .0), ((q .2, q .3, omega (arith, q .4, c .before .before .before .tree-words .ensures .low)), (omega (arith, c .before .before .before .before .before .before .before .before .before .before .before .pre .1 .1 .0 .1, ap size (second-kept (a .sheet .now) (a .work .now) (c .before .before .before .tree-words .last .1 .0) (a .free) (a .i) (a .j) (a .at) (c .before .before .before .tree-words .result) (c .before .before .before .before .before .before .before .before .before .before .before .pre .0) (q .2) (q .3) (q .4) (c .before .before .before .before .before .before .before .before .before .before .before .pre .1 .1 .1) (c .before .before .before .tree-words .ensures))), second-room (a .sheet .now) (a .work .now) (c .before .before .before .tree-words .last .1 .0) (a .free) (a .i) (a .j) (a .at) (c .before .before .before .tree-words .result) (c .before .before .before .before .before .before .before .before .before .before .before .pre .0) (q .2) (q .3) (q .4) (c .before .before .before .before .before .before .before .before .before .before .before .pre .1 .1 .1) (c .before .before .before .tree-words .ensures))))
 
--- src/lib.rt:41:5
 same-text-requires : tie.Need-same-text-requires
 same-text-requires c κs =
     let a = c .before .before .before .before .before .before .before .before .before .before .before .before .before .before .before .args in
@@ -55,11 +48,9 @@ same-text-requires c κs =
     let r = compare-room (a .sheet .now) (a .work .now) (c .before .before .before .before .before .before .before .tree-words .last .1 .0) (a .free) (a .i) (a .j) (a .at) (c .before .before .before .before .before .before .before .tree-words .result) (c .before .before .before .before .before .before .before .before .before .before .before .before .before .before .before .pre .0) (q .2) (q .3) (q .4) (c .before .before .before .before .before .before .before .before .before .before .before .before .before .before .before .pre .1 .1 .1) (c .before .before .before .before .before .before .before .tree-words .ensures) (c .before .before .before .tree-words2 .last .1 .0) (c .before .before .before .tree-words2 .result) (c .before .before .before .tree-words2 .ensures) in
     (r .0, (r .1, (left-tokens (a .sheet .now) (a .work .now) (c .before .before .before .before .before .before .before .tree-words .last .1 .0) (a .free) (a .i) (a .j) (a .at) (c .before .before .before .before .before .before .before .tree-words .result) (c .before .before .before .before .before .before .before .before .before .before .before .before .before .before .before .pre .0) (q .2) (q .3) (q .4) (c .before .before .before .before .before .before .before .before .before .before .before .before .before .before .before .pre .1 .1 .1) (c .before .before .before .before .before .before .before .tree-words .ensures) (c .before .before .before .tree-words2 .last .1 .0) (c .before .before .before .tree-words2 .result) (c .before .before .before .tree-words2 .ensures), c .before .before .before .tree-words2 .ensures .tokens)))
 
--- src/lib.rt:18:1
 same-length-2 : tie.Need-same-length-2
 same-length-2 c = search needs
 
--- src/lib.rt:18:1
 returns-3 : tie.Need-returns-3
 returns-3 c =
     let a = c .before .before .before .before .before .before .before .before .before .before .before .before .before .before .before .before .args in

@@ -30,7 +30,7 @@ use Rattle.laws.proofs.Variants.OnePass.{one-pass, complete-judged}
 use Rattle.laws.proofs.Renaming.Renamed.{rename-scheme}
 use Rattle.laws.proofs.Renaming.Matching.{FixesNames, FixNames, Pattern}
 use Rattle.laws.proofs.Renaming.Completing.{Fixed, rename-fixed, BuiltScheme, PatternVariant, judged-alike}
-use Rattle.laws.proofs.Renaming.Unspelled.{unspelled-token, Spelled, part-short}
+use Rattle.laws.proofs.Renaming.Unspelled.{unspelled-token, Spellable, part-short}
 use Rattle.laws.proofs.Renaming.Naming.{schemes-renamed}
 use Rattle.laws.proofs.Renaming.Exchange.{exchange, exchange-chosen, exchanging, spelled-stays, below-stays}
 
@@ -81,7 +81,7 @@ module _ (base : ℕ) (spelled : ℕ → Bool) where
 
   -- the name is none that no sheet spells, and a fresh one only where that is spelled
   abbrev pub Stays : Text → Type 0
-  Stays x = Spelled x × ((n : ℕ) → x ≡ fresh-from base n → spelled n ≡ true)
+  Stays x = Spellable x × ((n : ℕ) → x ≡ fresh-from base n → spelled n ≡ true)
 
   mutual
     heads-fixed : (t : Tree) → AllHeads Stays t → FixesNames (exchange base spelled) t

@@ -23,10 +23,10 @@ use Rattle.laws.proofs.Solving.Keeping.{Sides}
 use Rattle.laws.proofs.Sheets.BuiltRun.{BuiltPairs, BuiltBindings, Writable, name-token, lookup-built, instance-built, unify-writable}
 use Rattle.laws.proofs.Reduction.Reaching.{built-normal}
 use Rattle.laws.proofs.Variants.Targets.{All, all-append, pairs-append}
-use Rattle.laws.proofs.Renaming.Renamed.{Renaming, rename, renames, rename-pair, rename-pairs, rename-bindings, rename-verdict, rename-answer, rename-variant, rename-scheme, mapped, size-renamed, equivalent-renamed}
+use Rattle.laws.proofs.Renaming.Renamed.{Renaming, rename, renames, rename-pair, rename-pairs, rename-bindings, rename-verdict, rename-variant, rename-scheme, mapped, equivalent-renamed}
 use Rattle.laws.proofs.Renaming.Instances.{lookup-renamed, instance-renamed, instance-size}
 use Rattle.laws.proofs.Renaming.Unifying.{unify-renamed}
-use Rattle.laws.proofs.Renaming.Matching.{Pattern, rename-subject, rename-subjects, covering-renamed}
+use Rattle.laws.proofs.Renaming.Matching.{Pattern, rename-subjects, covering-renamed}
 use Rattle.laws.proofs.Renaming.Reducing.{normalize-renamed}
 
 -- Names of a tree

@@ -22,7 +22,7 @@ use Rattle.laws.proofs.Reading.TokenKinds.{no-colon}
 use Rattle.laws.proofs.Reading.Builds.{number-all}
 use Rattle.laws.proofs.Variants.Targets.{fresh-tokens}
 use Rattle.laws.proofs.Renaming.Renamed.{Renaming}
-use Rattle.laws.proofs.Renaming.Unspelled.{unspelled-begins, unspelled-token, unspelled-sort, unspelled-unindexed, unspelled-length, Spelled}
+use Rattle.laws.proofs.Renaming.Unspelled.{unspelled-begins, unspelled-token, unspelled-sort, unspelled-unindexed, unspelled-length, Spellable}
 
 -- The names x<i>:Msg
 
@@ -60,7 +60,7 @@ no-zeros-named : (i : ℕ) (s : Text) → fresh-name i ≡ 120 ∷ 48 ∷ 48 ∷
 unfolding fresh-name
 no-zeros-named i s e = no-zeros (decimal i) s (decimal-proper i) (tail-eq-of-cons-eq e)
 
-pub fresh-spelled : (i : ℕ) → Spelled (fresh-name i)
+pub fresh-spelled : (i : ℕ) → Spellable (fresh-name i)
 fresh-spelled i n e = no-zeros-named i (zeros (65534 + n) ++ bytes ":Msg") (e ∙ unspelled-begins n)
 
 -- Which name it is
@@ -198,7 +198,7 @@ module _ (base : ℕ) (spelled : ℕ → Bool) where
   -- Names that stay
 
   -- a name that some sheet may spell, and no fresh one that is not spelled
-  pub spelled-stays : (x : Text) → Spelled x → ((n : ℕ) → x ≡ fresh-from base n → spelled n ≡ true) → exchange x ≡ x
+  pub spelled-stays : (x : Text) → Spellable x → ((n : ℕ) → x ≡ fresh-from base n → spelled n ≡ true) → exchange x ≡ x
   spelled-stays x h k = go (exchanged x)
     where
       go : Exchanged x → exchange x ≡ x

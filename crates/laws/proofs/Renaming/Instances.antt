@@ -1,15 +1,15 @@
 -- Renaming goes through bindings: lookup, the instances of trees and pairs, the composition of bindings.
-use mathlib.Core.Path.{_≡_, refl, sym, _∙_, ap, ap₂}
+use mathlib.Core.Path.{_≡_, refl, _∙_, ap, ap₂}
 use mathlib.Core.Bool.{Bool, true, false}
 use mathlib.Core.List.{List, [], _∷_}
 use mathlib.Core.Option.{Option, some, none as nothing}
-use Prim.Native.Nat.{ℕ, _+_}
+use Prim.Native.Nat.{ℕ}
 use lib.Dec.{leb}
 use Rattle.rules.specs.Bytes.{Text, same}
 use Rattle.rules.specs.Tree.{Tree, variable, atom, apply, Trees, none, more, size}
-use Rattle.rules.specs.Substitution.{Substitution, substitute, substitutes, Binding, Pair, pick, lookup, instantiate, instantiate-pairs, size-pairs}
+use Rattle.rules.specs.Substitution.{substitute, substitutes, Binding, Pair, pick, lookup, instantiate, instantiate-pairs, size-pairs}
 use Rattle.rules.specs.Solving.{extended, compose-over, compose}
-use Rattle.laws.proofs.Renaming.Renamed.{Renaming, rename, renames, rename-pairs, rename-binding, rename-bindings, mapped, same-renamed, size-renamed}
+use Rattle.laws.proofs.Renaming.Renamed.{Renaming, rename, renames, rename-pairs, rename-bindings, mapped, same-renamed, size-renamed}
 
 module _ {r : Text → Text} (h : Renaming r) where
   pub lookup-renamed : (bs : List Binding) (x : Text) → lookup (rename-bindings r bs) (r x) ≡ rename r (lookup bs x)

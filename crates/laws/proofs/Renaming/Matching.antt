@@ -1,6 +1,6 @@
 -- Renaming goes through match, where only the subjects are renamed: the values of the bindings are renamed, with as many pairs taken.
 -- A pattern may have the name of a variable over arguments; the renaming then keeps that name.
-use mathlib.Core.Path.{_≡_, refl, sym, _∙_, ap, ap₂}
+use mathlib.Core.Path.{_≡_, refl, sym, _∙_, ap}
 use mathlib.Core.Bool.{Bool, true, false, not, _&&_, _||_, true≢false, false≢true}
 use mathlib.Core.List.{List, [], _∷_, map}
 use mathlib.Core.Option.{Option, some, none as nothing}
@@ -16,7 +16,7 @@ use Rattle.rules.specs.Solving.{Rest, emptied, mismatch, stuck, equation, cance
 use Rattle.rules.specs.Matching.{or-else, bound, Move, onward, clash, beyond, agree, bind-new, sort-new, match-key, match-rest, ground-eq, match-at, match-roots, move, moved, matching, matcher}
 use Rattle.rules.specs.Cover.{is-failed, covering}
 use Rattle.rules.specs.Tidy.{Built, a-sum, Builts}
-use Rattle.laws.proofs.Basics.Tests.{same-eq, differ-of-ne}
+use Rattle.laws.proofs.Basics.Tests.{differ-of-ne}
 use Rattle.laws.proofs.Equality.Building.{built-children}
 use Rattle.laws.proofs.Equality.Summands.{summands-built}
 use Rattle.laws.proofs.Solving.Substituting.{substitute-ground}

@@ -1,13 +1,13 @@
 -- Renaming the variables of trees, pairs, bindings, answers and schemes, by a function that is its own inverse and keeps sorts: twice
 -- is nothing, and the tests of names, sizes and sorts answer as before.
 use mathlib.Core.Path.{_≡_, refl, sym, _∙_, ap, ap₂}
-use mathlib.Core.Bool.{Bool, true, false, not, _&&_, _||_}
-use mathlib.Core.List.{List, [], _∷_, map}
+use mathlib.Core.Bool.{Bool, true, false, _&&_, _||_}
+use mathlib.Core.List.{List, map}
 use mathlib.Core.Option.{Option, some, none as nothing}
 use Prim.Native.Nat.{ℕ, _+_}
 use Rattle.rules.specs.Bytes.{Text, same}
 use Rattle.rules.specs.Names.{variable-token}
-use Rattle.rules.specs.Tree.{Tree, variable, atom, apply, Trees, none, more, head, children, size, sizes, same-tree, occurs, occurs-in, ground, grounds}
+use Rattle.rules.specs.Tree.{Tree, variable, atom, apply, Trees, none, more, children, size, sizes, same-tree, occurs, occurs-in}
 use Rattle.rules.specs.Substitution.{Substitution, substitute, substitutes, Binding, Pair}
 use Rattle.rules.specs.Sorts.{Sort, Pub, Fresh, Msg, TamNat, Node, symbol, Symbol, addition, unit, frame, free, variable-sort, has-sort, has-message-sort, natural-at, natural, naturals, message-at, message, messages, basic, sorted, may-meet, refinable-at, refinable, refinables, sort-refuted}
 use Rattle.rules.specs.Equality.{AC}
@@ -19,7 +19,7 @@ use Rattle.laws.proofs.Basics.Tests.{same-eq, same-of-eq, tree-eq}
 use Rattle.laws.proofs.Equality.Canonical.{equivalent-complete, equivalent-sound}
 use Rattle.laws.proofs.Solving.Substituting.{substitute-twice, substitute-nothing, AC-substitute}
 use Rattle.laws.proofs.Solving.Rules.{same-tree-self}
-use Rattle.laws.proofs.Sheets.BuiltRun.{substitute-built, BuiltPairs}
+use Rattle.laws.proofs.Sheets.BuiltRun.{substitute-built}
 
 -- the name is its own name's name, and has its sort and form
 pub record Renaming (r : Text → Text) : Type 0 where
@@ -110,10 +110,6 @@ module _ {r : Text → Text} (h : Renaming r) where
   unfolding substitute
   renames-built Builts.nil = Builts.nil
   renames-built (Builts.both b bs) = Builts.both (rename-built b) (renames-built bs)
-
-  pub pairs-renamed-built : (ps : List Pair) → BuiltPairs ps → BuiltPairs (rename-pairs r ps)
-  pairs-renamed-built [] b = tt
-  pairs-renamed-built (p ∷ ps) b = (rename-built (b .0), rename-built (b .1), pairs-renamed-built ps (b .2))
 
   -- the test of AC equality
   pub equivalent-renamed : (t u : Tree) → Built t → Built u → equivalent (rename r t) (rename r u) ≡ equivalent t u

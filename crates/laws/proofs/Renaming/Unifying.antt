@@ -1,7 +1,7 @@
 -- Renaming goes through unify: the renamed pairs have the renamed answer, with as many pairs taken.
-use mathlib.Core.Path.{_≡_, refl, sym, _∙_, ap, ap₂}
+use mathlib.Core.Path.{_≡_, refl, _∙_, ap, ap₂}
 use mathlib.Core.Bool.{Bool, true, false}
-use mathlib.Core.List.{List, [], _∷_, map}
+use mathlib.Core.List.{List, [], _∷_}
 use mathlib.Core.Option.{Option, some, none as nothing}
 use Prim.Native.Nat.{ℕ, zero, suc, _+_}
 use lib.Dec.{leb}
@@ -12,7 +12,7 @@ use Rattle.rules.specs.Sums.{equivalent}
 use Rattle.rules.specs.Sorts.{Sort, variable-sort, sorted, refinable, sort-refuted}
 use Rattle.rules.specs.Solving.{Rest, emptied, mismatch, stuck, equation, cancel-sums, Step, goes-on, bind, fails, unknown, fits, bind-into, unless-refinable, swap-at, swap-for, swap-key, sort-check, occurs-check, eliminate-at, eliminate, push-children, if-refuted, sum-step, decompose-at, decompose, against, differ, step-at, step, Verdict, solved, failed, unsupported, Answer, with-binding, after, run, compose, composed, finish, unify}
 use Rattle.rules.specs.Tidy.{Built}
-use Rattle.laws.proofs.Equality.Summands.{BuiltList, summands-built}
+use Rattle.laws.proofs.Equality.Summands.{summands-built}
 use Rattle.laws.proofs.Sheets.BuiltRun.{BuiltPairs, BuiltStep, step-built}
 use Rattle.laws.proofs.Renaming.Renamed.{Renaming, rename, renames, rename-pair, rename-pairs, rename-bindings, rename-verdict, rename-answer, mapped, tree-renamed, equivalent-renamed, occurs-renamed, sorted-renamed, refinable-renamed, refuted-renamed, children-renamed}
 use Rattle.laws.proofs.Renaming.Instances.{pairs-renamed, size-pairs-renamed, compose-renamed}

@@ -3,19 +3,17 @@ use Prim.Native.Nat.{ℕ, zero, suc, _+_, _≤_}
 use native.Mathlib.Omega.{arith}
 use mathlib.Core.Path.{_≡_, refl, _∙_, ap}
 use mathlib.Core.Bool.{true}
-use mathlib.Core.List.{[], _∷_, _++_}
+use mathlib.Core.List.{_∷_, _++_}
 use mathlib.Core.Option.{some, none as nothing}
 use lib.ListN.{length}
 use Rattle.rules.specs.Bytes.{Text}
 use Rattle.rules.specs.Text.{bytes}
 use Rattle.rules.specs.Names.{indexed, variable-token}
-use Rattle.rules.specs.Tree.{Tree}
 use Rattle.rules.specs.Sorts.{Msg, variable-sort}
-use Rattle.rules.specs.Reading.{parse}
 use Rattle.rules.specs.Variants.{index-of}
 use Rattle.laws.specs.Parts.{PartOf}
 use Rattle.laws.specs.Unspelled.{zeros, unspelled}
-use Rattle.laws.proofs.Reading.Spelled.{AllNames, named-map, part-length, part-spelled}
+use Rattle.laws.proofs.Reading.Spelled.{part-length}
 
 -- x, so many zeros, a colon and Msg
 abbrev zeros-name : ℕ → Text
@@ -86,23 +84,9 @@ name-length k = let e = zeros-length k in omega arith
 pub unspelled-length : (n : ℕ) → length (unspelled n) ≡ 65536 + n + 5
 unspelled-length n = ap length (unspelled-zeros n) ∙ name-length (65536 + n)
 
-pub unspelled-differ : (m n : ℕ) → unspelled m ≡ unspelled n → m ≡ n
-unspelled-differ m n e =
-    let k = ap length e in
-    omega (arith, unspelled-length m, unspelled-length n)
+-- a name that is none of them
+abbrev pub Spellable : Text → Type 0
+Spellable x = (n : ℕ) → x ≡ unspelled n → ⊥
 
--- No sheet spells it
-
-pub never-spelled : (s : Text) → length s ≤ 65536 → (n : ℕ) → PartOf s (unspelled n) → ⊥
-never-spelled s h n p = omega (arith, part-length s (unspelled n) p, unspelled-length n)
-
--- the name is none of them
-abbrev pub Spelled : Text → Type 0
-Spelled x = (n : ℕ) → x ≡ unspelled n → ⊥
-
-pub part-short : (s : Text) → length s ≤ 65536 → (x : Text) → PartOf s x → Spelled x
+pub part-short : (s : Text) → length s ≤ 65536 → (x : Text) → PartOf s x → Spellable x
 part-short s h x p n e = omega (arith, part-length s x p, unspelled-length n, ap length e)
-
--- a tree read of a part of a sheet has no such name
-pub names-short : (s x : Text) (t : Tree) → length s ≤ 65536 → PartOf s x → parse x ≡ some t → AllNames Spelled t
-names-short s x t h p e = named-map (PartOf s) Spelled (PartOf s) Spelled (part-short s h) (part-short s h) t (part-spelled s x t p e)

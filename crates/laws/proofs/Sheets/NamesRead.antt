@@ -4,20 +4,18 @@ use Prim.Native.Nat.{ℕ, _+_, _≤_, _<_}
 use native.Mathlib.Omega.{arith}
 use mathlib.Core.Path.{_≡_, refl, sym, _∙_, ap, subst}
 use mathlib.Core.List.{List, [], _∷_, _++_, map}
-use mathlib.Core.Option.{Option, some, none as nothing, Option·some-injective, Option·none-ne-some}
-use mathlib.Core.Bool.{Bool, true, false}
+use mathlib.Core.Option.{Option, some, none as nothing, Option·some-injective}
+use mathlib.Core.Bool.{true}
 use lib.ListN.{length, length-append}
 use Rattle.rules.specs.Bytes.{Text, same}
 use Rattle.rules.specs.Text.{bytes, is-one-of, count-of}
-use Rattle.rules.specs.Maybe.{_>>=_, every}
+use Rattle.rules.specs.Maybe.{every}
 use Rattle.rules.specs.Tree.{Tree, variable, atom, apply, Trees, none, more, size}
-use Rattle.rules.specs.Substitution.{Binding, Pair, size-pairs}
+use Rattle.rules.specs.Substitution.{Pair, size-pairs}
 use Rattle.rules.specs.Reading.{parse}
-use Rattle.rules.specs.Sheet.{Entry, Member, Sheet, asks-equal, asks-unify, asks-match, asks-reduce, asks-cover, asks-sound, asks-complete, read-sheet}
+use Rattle.rules.specs.Sheet.{Entry, Sheet, asks-equal, asks-unify, asks-match, asks-reduce, asks-cover, asks-sound, asks-complete, read-sheet}
 use Rattle.rules.specs.Answer.{read-pair, read-pairs}
-use Rattle.rules.specs.Cover.{entry-at, general}
-use Rattle.rules.specs.Variants.{Variant, read-entry, read-member}
-use Rattle.rules.specs.Memory.{variable-names, variable-names-in, variable-names-of-pairs, Over, Overs, OverPairs, OverBindings, side-texts, entry-values, member-texts, sheet-texts, sheet-keys, sheet-pairs, names-read}
+use Rattle.rules.specs.Memory.{variable-names, variable-names-in, variable-names-of-pairs, Over, Overs, OverPairs, side-texts, member-texts, sheet-texts, sheet-keys, sheet-pairs, names-read}
 use Rattle.laws.proofs.Basics.Tests.{or-left, or-right, same-self}
 use Rattle.laws.proofs.Basics.Options.{bound}
 use Rattle.laws.proofs.Reading.Measures.{total}
@@ -216,10 +214,6 @@ module _ (ns : List Text) where
   held-left [] ys h = tt
   held-left (x ∷ xs) ys h = (h .0, held-left xs ys (h .1))
 
-  pub held-right : (xs ys : List Text) → Held (xs ++ ys) → Held ys
-  held-right [] ys h = h
-  held-right (x ∷ xs) ys h = held-right xs ys (h .1)
-
   read-held : (ss : List Text) → Includes ns (names-read ss) → Held ss
   unfolding names-read
   read-held [] h = tt
@@ -247,42 +241,6 @@ module _ (ns : List Text) where
   sides-held (asks-cover es ms) h = held-left (side-texts es) (member-texts ms) h
   sides-held (asks-sound t m) h = tt
   sides-held (asks-complete t ms) h = tt
-
-  -- a member's tree at a variable
-  value-over : (x : Text) (es : List Entry) (v : Text) → Held (entry-values es) → entry-at es x ≡ some v → (t : Tree) → parse v ≡ some t → Over ns t
-  unfolding entry-at entry-values
-  value-over x [] v h e t f = absurd (Option·none-ne-some v e)
-  value-over x (n ∷ es) v h e t f = go (same (n .0) x) e (λ k. value-over x es v (h .1) k t f)
-    where
-      go : (b : Bool) → elim b [ true ↦ some (n .1) | false ↦ entry-at es x ] ≡ some v → (entry-at es x ≡ some v → Over ns t) → Over ns t
-      go true k ih = h .0 t (ap parse (Option·some-injective (n .1) v k) ∙ f)
-      go false k ih = ih k
-
-  pub general-over : (m : Member) (x : Text) (t : Tree) → Held (entry-values (m .1)) → is-one-of ns x ≡ true → general m x ≡ some t → Over ns t
-  unfolding general
-  general-over m x t h a e = go (entry-at (m .1) x) refl e
-    where
-      go : (o : Option Text) → entry-at (m .1) x ≡ o → elim o [ nothing ↦ some (variable x) | some text ↦ parse text ] ≡ some t → Over ns t
-      go nothing f g = subst (Over ns) (Option·some-injective (variable x) t g) a
-      go (some v) f g = value-over x (m .1) v h f t g
-
-  -- a member with its texts read
-  entries-over : (es : List Entry) (bs : List Binding) → Held (entry-values es) → every (map read-entry es) ≡ some bs → OverBindings ns bs
-  unfolding entry-values read-entry every
-  entries-over [] bs h e = subst (OverBindings ns) (Option·some-injective [] bs e) tt
-  entries-over (x ∷ es) bs h e =
-      let (b, f, e₁) = bound (parse (x .1) >>= λ t. some (x .0, t)) _ bs e in
-      let (t, g, f₁) = bound (parse (x .1)) (λ u. some (x .0, u)) b f in
-      let (cs, i, e₂) = bound (every (map read-entry es)) _ bs e₁ in
-      let k = ap (λ (z : Binding). z .1) (Option·some-injective (x .0, t) b f₁) in
-      subst (OverBindings ns) (Option·some-injective (b ∷ cs) bs e₂) (subst (Over ns) k (h .0 t g), entries-over es cs (h .1) i)
-
-  pub member-over : (m : Member) (v : Variant) → Held (m .0 ∷ entry-values (m .1)) → read-member m ≡ some v → Over ns (v .0) × OverBindings ns (v .1)
-  unfolding read-member
-  member-over m v h e =
-      let (t, f, e₁) = bound (parse (m .0)) _ v e in
-      let (bs, g, e₂) = bound (every (map read-entry (m .1))) _ v e₁ in
-      subst (λ (z : Variant). Over ns (z .0) × OverBindings ns (z .1)) (Option·some-injective (t, bs) v e₂) (h .0 t f, entries-over (m .1) bs (h .1) g)
 
 -- as many names as there are colons, at most, hold every variable that is read from the sheet
 pub sheet-names : (s : Text) (sheet : Sheet) → read-sheet s ≡ some sheet

@@ -1,7 +1,7 @@
 -- The texts of a sheet are parts of it, so the names of the trees that are read of them stand in the sheet.
 use Prim.Native.Nat.{ℕ, suc}
 use mathlib.Core.Path.{_≡_, refl, ap, subst}
-use mathlib.Core.List.{List, [], _∷_, map, List·Memᴰ}
+use mathlib.Core.List.{List, [], _∷_, map}
 use mathlib.Core.Option.{Option, some, none as nothing, Option·some-injective, Option·none-ne-some}
 use mathlib.Core.Bool.{Bool, true, false}
 use lib.Dec.{eqb}
@@ -19,8 +19,8 @@ use Rattle.rules.specs.Variants.{Variant, read-entry, read-member}
 use Rattle.rules.specs.Memory.{side-texts, entry-values, member-texts, sheet-texts}
 use Rattle.laws.specs.Parts.{PartOf}
 use Rattle.laws.proofs.Basics.Options.{bound}
-use Rattle.laws.proofs.Reading.Spelled.{part-self, part-later, later-parts, part-of-part, AllNames, part-spelled}
-use Rattle.laws.proofs.Variants.Targets.{All, all-append, all-at}
+use Rattle.laws.proofs.Reading.Spelled.{part-self, part-later, later-parts, part-of-part}
+use Rattle.laws.proofs.Variants.Targets.{All, all-append}
 use Rattle.laws.proofs.Sheets.SheetTexts.{ended, the-member}
 use Rattle.laws.proofs.Renaming.Completing.{all-left, all-right}
 
@@ -210,10 +210,6 @@ module _ (s : Text) where
       let (v, f, h₂) = bound (value (bytes "kind=") ls) (λ w. kind-in kinds (w .0) >>= λ kind. read-kind kind (w .1)) sheet h₁ in
       let (kind, g, h₃) = bound (kind-in kinds (v .0)) (λ kind. read-kind kind (v .1)) sheet h₂ in
       kind-parts kind (v .1) sheet h₃ (value-part (bytes "kind=") ls v f (first-part s ls (line-parts s ls e)) .1)
-
-  -- so each name of a tree that is read of one of them is
-  pub sheet-spelled : (sheet : Sheet) → read-sheet s ≡ some sheet → (x : Text) → List·Memᴰ x (sheet-texts sheet) → (t : Tree) → parse x ≡ some t → AllNames (PartOf s) t
-  sheet-spelled sheet h x m t e = part-spelled s x t (all-at (PartOf s) (sheet-texts sheet) x m (sheet-parts sheet h)) e
 
 -- Members that are read
 

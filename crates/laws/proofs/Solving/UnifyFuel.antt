@@ -9,7 +9,7 @@ use lib.ListN.{length}
 use Rattle.rules.specs.Bytes.{Text}
 use Rattle.rules.specs.Tree.{Tree, variable, Trees, none, more, size, sizes}
 use Rattle.rules.specs.Substitution.{Pair, size-pairs}
-use Rattle.rules.specs.Sums.{summands, rebuild, equivalent}
+use Rattle.rules.specs.Sums.{rebuild, equivalent}
 use Rattle.rules.specs.Solving.{equation, remainder, cancel-sums, push-children, Step, goes-on, bind, fails, unknown, step, Answer, with-binding, after, run, finish, unify}
 use Rattle.rules.specs.Inference.{Applies, of-atom, of-apply, SumsLeave, sums, Infers}
 use Rattle.rules.specs.Tidy.{Built}
@@ -18,7 +18,7 @@ use Rattle.laws.proofs.Basics.Tests.{same-of-eq}
 use Rattle.laws.proofs.Equality.Summands.{summands-built}
 use Rattle.laws.proofs.Solving.Rules.{step-infers}
 use Rattle.laws.proofs.Solving.OnlyRules.{cancels-only, applied-head}
-use Rattle.laws.proofs.Solving.Names.{BindsOver, StepOver, step-over}
+use Rattle.laws.proofs.Solving.Names.{StepOver, step-over}
 use Rattle.laws.proofs.Solving.Weights.{size-some, sum-nodes}
 use Rattle.laws.proofs.Sheets.BuiltRun.{BuiltPairs, BuiltStep, step-built}
 

@@ -1,7 +1,7 @@
 -- How large the equations are by which a scheme is solved: for each site of the term at most two, with values of the site's children on
 -- the left and at most four nodes on the right.
 use Prim.Native.Nat.{ℕ, zero, suc, _+_, _*_, _≤_, _<_}
-use native.Mathlib.Nat.{le-trans, le-of-eq, add-le-add, add-mul, mul-le-mul-left, mul-le-mul-right}
+use native.Mathlib.Nat.{le-trans, le-of-eq, add-le-add, add-mul, mul-le-mul-left}
 use native.Mathlib.Omega.{arith}
 use mathlib.Core.Path.{_≡_, refl, sym, ap, subst}
 use mathlib.Core.Bool.{true}
@@ -16,15 +16,13 @@ use Rattle.rules.specs.Reduction.{Rule, fst, snd, flip, sdec, kdec, rule-named,
 use Rattle.rules.specs.Variants.{Scheme, Joined, only, fresh, firings, before, root-schemes, join-first, schemes-from, joined, with-one, with-two, firing-count, scheme-count, system}
 use Rattle.rules.specs.Schemes.{root-count, scheme-at}
 use Rattle.rules.specs.Tidy.{Built}
-use Rattle.rules.specs.Memory.{variable-names, OverPairs, Over, site, sites, sites-in, weight}
+use Rattle.rules.specs.Memory.{site, sites, sites-in, weight}
 use Rattle.laws.proofs.Solving.Keeping.{Sides}
 use Rattle.laws.proofs.Solving.Weights.{size-some, weight-size, Upto}
 use Rattle.laws.proofs.Sheets.BuiltRun.{BuiltPairs}
-use Rattle.laws.proofs.Sheets.NamesRead.{includes-self, names-over}
 use Rattle.laws.proofs.Variants.SchemeAt.{scheme-found}
-use Rattle.laws.proofs.Variants.Sites.{one-fires, two-fires, site-alike, sites-few}
+use Rattle.laws.proofs.Variants.Sites.{one-fires, two-fires, site-alike}
 use Rattle.laws.proofs.Variants.Targets.{All, all-at, all-map, all-flat, one-all, two-all, system-built}
-use Rattle.laws.proofs.Variants.FreshNames.{site-names}
 
 -- Pairs one after the other
 
@@ -190,22 +188,11 @@ module _ (name : ℕ → Text) (term : Tree) (small : size term ≤ 4096) (n : �
       let k = plus-upto (4 * size term) (sites term * (size term + 4)) (sites term * 4100) h in
       le-trans limit (le-trans k (omega arith))
 
-  pub system-weight : weight (system term s) ≤ 4 * size term + 4100 * sites term
-  system-weight = le-trans (weight-size (system term s)) system-nodes
-
-  -- at most 4,096 schemes: twelve sites
-  pub system-limit : scheme-count term ≤ 4096 → size-pairs (system term s) ≤ 16 * size term + 48
-  system-limit few =
-      let h = mul-le-mul-right (size term + 4) (sites-few term few) in
-      let k = plus-upto (4 * size term) (sites term * (size term + 4)) (12 * (size term + 4)) h in
-      le-trans limit (le-trans k (omega arith))
-
 -- what a scheme of the term and its system take, from the fresh variable n on
 pub record SystemRoom (term : Tree) (n : ℕ) (s : Scheme) : Type 0 where
   pub value : size (s .value) ≤ size term
   pub next : s .next ≤ n + 2 * sites term
   pub few : length (s .equations) ≤ 2 * sites term
-  pub sized : size-pairs (s .equations) ≤ sites term * (size term + 4)
   pub nodes : size-pairs (system term s) ≤ 4 * size term + sites term * (size term + 4)
   pub weighs : weight (system term s) ≤ 4 * size term + sites term * (size term + 4)
   pub built : BuiltPairs (system term s)
@@ -221,18 +208,11 @@ system-room name tokens term built small n s listed =
       value = h .0;
       next = h .1;
       few = h .2 .few;
-      sized = h .2 .nodes;
       nodes = l;
       weighs = le-trans (weight-size (system term s)) l;
       built = system-built name tokens term built small n s listed;
       within = sides name term small n s listed;
     }
-
--- the term's names, with two fresh ones for each site
-pub system-names : (name : ℕ → Text) (term : Tree) (n : ℕ)
-    → (ns : List Text) × (length ns ≡ length (variable-names term) + 2 * sites term)
-    × ((s : Scheme) → List·Memᴰ s (schemes-from name term n) → OverPairs ns (system term s) × Over ns (s .value))
-system-names name term n = site-names name term (variable-names term) (names-over (variable-names term) term (includes-self (variable-names term))) n
 
 -- a scheme made by its number is one of the schemes
 found-listed : {A : Type 0} (l : List A) (i : ℕ) (a : A) → getElem? l i ≡ some a → List·Memᴰ a l

@@ -9,42 +9,33 @@ use Rattle.reading.proofs.parse.Reads as reads
 use Rattle.reading.proofs.parse.Lts as lts
 use Rattle.reading.proofs.read.Reads as read-reads
 
--- src/lib.rt:102:29
 sub-limit : tie.Need-sub-limit
 sub-limit c = search needs
 
--- src/lib.rt:102:24
 mul-limit : tie.Need-mul-limit
 mul-limit c = search needs
 
--- src/lib.rt:102:17
 add-limit : tie.Need-add-limit
 add-limit c = search needs
 
--- src/lib.rt:103:10
 mul-work : tie.Need-mul-work
 mul-work c = search needs
 
--- src/lib.rt:103:5
 mul-work-2 : tie.Need-mul-work-2
 mul-work-2 c = search needs
 
--- src/lib.rt:103:5
 slice-write-work : tie.Need-slice-write-work
 slice-write-work c = search needs
 
--- src/lib.rt:104:5
 read-requires : tie.Need-read-requires
 read-requires c κs =
     let a = c .before .before .before .args in
     let p = c .before .before .before .pre in
     (bottom-arena (a .from) (a .to) (p .0) (p .1 .1 .0), ((refl, bottom-word (a .from) (a .to) (p .0) (p .1 .1 .0)), (p .1 .0, (simp length-set (p .1 .1 .0), p .1 .1 .1))))
 
--- src/lib.rt:96:1
 same-length : tie.Need-same-length
 same-length c = c .before .before .read .kept .1 .0 ∙ simp length-set
 
--- src/lib.rt:96:1
 returns : tie.Need-returns
 returns c =
     let a = c .before .before .before .before .before .before .args in

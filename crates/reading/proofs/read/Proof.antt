@@ -28,7 +28,6 @@ Inv-term sheet work₀ start limit from to free₀ depth₀ at₀ work free dept
 abbrev μ-term : tie.MeasureT-term
 μ-term sheet work₀ start limit from to free₀ depth₀ at₀ work free depth at = to - at
 
--- src/lib.rt:66:5
 term-holds : tie.Need-term-holds Inv-loop μ-loop Inv-term μ-term
 term-holds c =
     let a = c .before .before .args in
@@ -36,23 +35,18 @@ term-holds c =
     let k = task (a .sheet .now) (p .1 .0 .0) (p .1 .1 .0 .0) (p .1 .1 .0 .1) (p .1 .1 .0 .2) (p .1 .1 .0 .3) in
     wants-start k (p .0) (p .1 .0 .1) (p .1 .1 .1 .0)
 
--- src/lib.rt:67:13
 symbol-requires : tie.Need-symbol-requires Inv-loop μ-loop Inv-term μ-term
 symbol-requires c κs = c .before .before .before .pre .1 .1 .0 .1
 
--- src/lib.rt:68:26
 enum-known-first : tie.Need-enum-known-first Inv-loop μ-loop Inv-term μ-term
 enum-known-first c = search needs
 
--- src/lib.rt:71:13
 symbol-requires-2 : tie.Need-symbol-requires-2 Inv-loop μ-loop Inv-term μ-term
 symbol-requires-2 c κs = c .before .before .before .before .before .before .before .pre .1 .1 .0 .1
 
--- src/lib.rt:72:30
 enum-known-second : tie.Need-enum-known-second Inv-loop μ-loop Inv-term μ-term
 enum-known-second c = search needs
 
--- src/lib.rt:73:13
 begin-requires : tie.Need-begin-requires Inv-loop μ-loop Inv-term μ-term
 begin-requires c κs =
     let a = c .before .before .before .before .before .before .before .before .before .before .before .before .args in
@@ -63,7 +57,6 @@ begin-requires c κs =
     let n = name-at-place (a .sheet .now) (t .at) (a .to) (k .within) (c .before .before .before .before .before .before .before .before .symbol .ensures) (a .from) (c .before .before .before .before .before .before .first .given .0 .0) (c .before .before .before .before .before .before .first .given .0 .1 .0) (st .after) (k .short) (c .before .before .before .before .before .before .first .given .1) in
     (st .held, (omega (arith, st .outside .len, st .deep, n .past, n .some, n .within, k .limit-is), (omega (arith, n .some), n .name, k .small)))
 
--- src/lib.rt:74:13
 add-depth : tie.Need-add-depth Inv-loop μ-loop Inv-term μ-term
 add-depth c =
     let a = c .before .before .before .before .before .before .before .before .before .before .before .before .before .before .before .args in
@@ -74,7 +67,6 @@ add-depth c =
     let n = name-at-place (a .sheet .now) (t .at) (a .to) (k .within) (c .before .before .before .before .before .before .before .before .before .before .before .symbol .ensures) (a .from) (c .before .before .before .before .before .before .before .before .before .first .given .0 .0) (c .before .before .before .before .before .before .before .before .before .first .given .0 .1 .0) (st .after) (k .short) (c .before .before .before .before .before .before .before .before .before .first .given .1) in
     omega (arith, st .deep, st .within, k .within, k .small)
 
--- src/lib.rt:66:5
 term-less : tie.Need-term-less Inv-loop μ-loop Inv-term μ-term
 term-less c =
     let a = c .before .before .before .before .before .before .before .before .before .before .before .before .before .before .before .args in
@@ -86,7 +78,6 @@ term-less c =
     let m = mark-past (a .sheet .now) (c .before .before .before .before .before .before .before .before .before .first .given .0 .1 .0) (a .to) (k .within) (c .before .before .before .before .before .before .before .symbol2 .ensures) (c .before .before .before .before .before .second .given .0 .0) (Begin (c .before .before .before .before .before .second .given .0 .0)) (c .before .before .before .before .before .second .given .1) refl in
     omega (arith, n .past, n .some, st .within)
 
--- src/lib.rt:66:5
 term-again : tie.Need-term-again Inv-loop μ-loop Inv-term μ-term
 term-again c =
     let a = c .before .before .before .before .before .before .before .before .before .before .before .before .before .before .before .args in
@@ -97,7 +88,6 @@ term-again c =
     let n = name-at-place (a .sheet .now) (t .at) (a .to) (k .within) (c .before .before .before .before .before .before .before .before .before .before .before .symbol .ensures) (a .from) (c .before .before .before .before .before .before .before .before .before .first .given .0 .0) (c .before .before .before .before .before .before .before .before .before .first .given .0 .1 .0) (st .after) (k .short) (c .before .before .before .before .before .before .before .before .before .first .given .1) in
     wants-open k (t .inv) n (c .before .before .before .before .before .before .before .before .before .before .before .symbol .ensures) (c .before .before .before .before .before .before .before .before .before .first .given .1) (c .before .before .before .before .before .before .before .symbol2 .ensures) (c .before .before .before .before .before .second .given .1) (c .before .before .begin .ensures)
 
--- src/lib.rt:78:9
 leaf-requires : tie.Need-leaf-requires Inv-loop μ-loop Inv-term μ-term
 leaf-requires c κs =
     let a = c .before .before .before .before .before .before .before .before .before .before .args in
@@ -108,7 +98,6 @@ leaf-requires c κs =
     let n = name-at-place (a .sheet .now) (t .at) (a .to) (k .within) (c .before .before .before .before .before .before .symbol .ensures) (a .from) (c .before .before .before .before .first .given .0 .0) (c .before .before .before .before .first .given .0 .1 .0) (st .after) (k .short) (c .before .before .before .before .first .given .1) in
     (st .held, ((omega (arith, t .inv .room, n .past, n .some, n .within, k .limit-is), omega (arith, k .limit-is)), (omega (arith, n .some), n .name, k .small)))
 
--- src/lib.rt:80:9
 loop-holds : tie.Need-loop-holds Inv-loop μ-loop Inv-term μ-term
 loop-holds c =
     let a = c .before .before .before .before .before .before .before .before .before .before .before .before .before .args in
@@ -119,21 +108,17 @@ loop-holds c =
     let n = name-at-place (a .sheet .now) (t .at) (a .to) (k .within) (c .before .before .before .before .before .before .before .before .before .symbol .ensures) (a .from) (c .before .before .before .before .before .before .before .first .given .0 .0) (c .before .before .before .before .before .before .before .first .given .0 .1 .0) (st .after) (k .short) (c .before .before .before .before .before .before .before .first .given .1) in
     has-leaf k (t .inv) n (c .before .before .before .before .before .before .before .before .before .symbol .ensures) (c .before .before .before .before .before .before .before .first .given .1) (c .before .before .before .before .before .symbol2 .ensures) (c .before .before .before .before .match2 .keys2) (c .before .before .leaf .ensures .0) (c .before .before .leaf .ensures .1)
 
--- src/lib.rt:81:17
 symbol-requires-3 : tie.Need-symbol-requires-3 Inv-loop μ-loop Inv-term μ-term
 symbol-requires-3 c κs = c .before .before .before .before .before .before .before .before .before .before .before .before .before .before .pre .1 .1 .0 .1
 
--- src/lib.rt:84:37
 enum-told : tie.Need-enum-told Inv-loop μ-loop Inv-term μ-term
 enum-told c = search needs
 
--- src/lib.rt:84:21
 finished-requires : tie.Need-finished-requires Inv-loop μ-loop Inv-term μ-term
 finished-requires c κs =
     let h = c .before .before .before .before .loop .inv in
     omega (arith, h .stands .held .room)
 
--- src/lib.rt:84:21
 same-length : tie.Need-same-length Inv-loop μ-loop Inv-term μ-term
 same-length c =
     let a = c .before .before .before .before .before .before .before .before .before .before .before .before .before .before .before .before .before .before .before .args in
@@ -146,7 +131,6 @@ same-length c =
     let o = outside-inner k (t .inv) (c .before .before .before .before .before .before .before .before .leaf .ensures .1) (h .stands .outside) in
     o .len
 
--- src/lib.rt:84:21
 returns : tie.Need-returns Inv-loop μ-loop Inv-term μ-term
 returns c =
     let a = c .before .before .before .before .before .before .before .before .before .before .before .before .before .before .before .before .before .before .before .args in
@@ -159,11 +143,9 @@ returns c =
     let o = outside-inner k (t .inv) (c .before .before .before .before .before .before .before .before .leaf .ensures .1) (h .stands .outside) in
     stop-ends k (l .depth) h (c .before .before .before .before .symbol3 .ensures) (c .before .before .enum-told .given .1) o (c .finished .result) (c .finished .ensures)
 
--- src/lib.rt:86:31
 enum-known-next : tie.Need-enum-known-next Inv-loop μ-loop Inv-term μ-term
 enum-known-next c = search needs
 
--- src/lib.rt:66:5
 term-less-2 : tie.Need-term-less-2 Inv-loop μ-loop Inv-term μ-term
 term-less-2 c =
     let a = c .before .before .before .before .before .before .before .before .before .before .before .before .before .before .before .before .before .before .before .args in
@@ -178,7 +160,6 @@ term-less-2 c =
     let m = mark-past (a .sheet .now) (l .at) (a .to) (k .within) (c .before .before .before .before .symbol3 .ensures) (c .before .before .next .given .0 .0) (Comma (c .before .before .next .given .0 .0)) (c .before .before .next .given .1) refl in
     omega (arith, n .past, n .some, h .past, st .within)
 
--- src/lib.rt:66:5
 term-again-2 : tie.Need-term-again-2 Inv-loop μ-loop Inv-term μ-term
 term-again-2 c =
     let a = c .before .before .before .before .before .before .before .before .before .before .before .before .before .before .before .before .before .before .before .args in
@@ -191,17 +172,14 @@ term-again-2 c =
     let o = outside-inner k (t .inv) (c .before .before .before .before .before .before .before .before .leaf .ensures .1) (h .stands .outside) in
     has-comma k h (c .before .before .before .before .symbol3 .ensures) (c .before .before .next .given .0 .0) (c .if1 .left) (c .before .before .next .given .1) o
 
--- src/lib.rt:93:30
 enum-known-next-2 : tie.Need-enum-known-next-2 Inv-loop μ-loop Inv-term μ-term
 enum-known-next-2 c = search needs
 
--- src/lib.rt:97:66
 sub-close : tie.Need-sub-close Inv-loop μ-loop Inv-term μ-term
 sub-close c =
     let h = c .before .before .before .before .before .before .loop .inv in
     omega arith
 
--- src/lib.rt:97:25
 close-requires : tie.Need-close-requires Inv-loop μ-loop Inv-term μ-term
 close-requires c κs =
     let a = c .before .before .before .before .before .before .before .before .before .before .before .before .before .before .before .before .before .before .before .before .args in
@@ -215,19 +193,15 @@ close-requires c κs =
     let z : l .depth ≡ l .depth - 1 + 1 = omega arith in
     (subst (Held (a .sheet .now) (l .work) (l .free) (a .limit)) z (h .stands .held), ((shut-room k h (c .before .before .before .before .before .symbol3 .ensures) (c .before .before .before .next2 .given .0 .0) (c .before .if2 .left) (c .before .before .before .next2 .given .1), omega (arith, k .limit-is)), k .small))
 
--- src/lib.rt:98:36
 enum-known-closed : tie.Need-enum-known-closed Inv-loop μ-loop Inv-term μ-term
 enum-known-closed c = search needs
 
--- src/lib.rt:99:25
 enum-told-2 : tie.Need-enum-told-2 Inv-loop μ-loop Inv-term μ-term
 enum-told-2 c = search needs
 
--- src/lib.rt:102:21
 sub-depth : tie.Need-sub-depth Inv-loop μ-loop Inv-term μ-term
 sub-depth c = omega arith
 
--- src/lib.rt:80:9
 loop-less : tie.Need-loop-less Inv-loop μ-loop Inv-term μ-term
 loop-less c =
     let a = c .before .before .before .before .before .before .before .before .before .before .before .before .before .before .before .before .before .before .before .before .before .before .before .before .before .before .args in
@@ -241,7 +215,6 @@ loop-less c =
     let m = mark-past (a .sheet .now) (l .at) (a .to) (k .within) (c .before .before .before .before .before .before .before .before .before .before .before .symbol3 .ensures) (c .before .before .before .before .before .before .before .before .before .next2 .given .0 .0) (Shut (c .before .before .before .before .before .before .before .before .before .next2 .given .0 .0)) (c .before .before .before .before .before .before .before .before .before .next2 .given .1) refl in
     omega (arith, h .stands .within)
 
--- src/lib.rt:80:9
 loop-again : tie.Need-loop-again Inv-loop μ-loop Inv-term μ-term
 loop-again c =
     let a = c .before .before .before .before .before .before .before .before .before .before .before .before .before .before .before .before .before .before .before .before .before .before .before .before .before .before .args in
@@ -254,11 +227,9 @@ loop-again c =
     let o = outside-inner k (t .inv) (c .before .before .before .before .before .before .before .before .before .before .before .before .before .before .before .leaf .ensures .1) (h .stands .outside) in
     has-shut k h (c .before .before .before .before .before .before .before .before .before .before .before .symbol3 .ensures) (c .before .before .before .before .before .before .before .before .before .next2 .given .0 .0) (c .before .before .before .before .before .before .before .if2 .left) (c .before .before .before .before .before .before .before .before .before .next2 .given .1) (pops-is (a .sheet .now) (l .work) (c .before .before .before .before .before .close .last .1 .0) (l .free) (a .limit) (l .depth - 1) (c .before .before .before .before .before .close .ensures) (c .before .closed .given .1))
 
--- src/lib.rt:49:1
 same-length-2 : tie.Need-same-length-2 Inv-loop μ-loop Inv-term μ-term
 same-length-2 c = c .before .before .term .inv .stands .outside .len
 
--- src/lib.rt:49:1
 returns-2 : tie.Need-returns-2 Inv-loop μ-loop Inv-term μ-term
 returns-2 c =
     let a = c .before .before .before .before .before .args in
@@ -268,7 +239,6 @@ returns-2 c =
     let st = t .inv .stands in
     (wants-out k (t .inv) (c .before .symbol .ensures) (c .match .keys2), st .outside)
 
--- src/lib.rt:49:1
 same-length-3 : tie.Need-same-length-3 Inv-loop μ-loop Inv-term μ-term
 same-length-3 c =
     let a = c .before .before .before .before .before .before .before .before .before .before .before .before .before .before .before .before .before .before .before .args in
@@ -281,7 +251,6 @@ same-length-3 c =
     let o = outside-inner k (t .inv) (c .before .before .before .before .before .before .before .before .leaf .ensures .1) (h .stands .outside) in
     o .len
 
--- src/lib.rt:49:1
 returns-3 : tie.Need-returns-3 Inv-loop μ-loop Inv-term μ-term
 returns-3 c =
     let a = c .before .before .before .before .before .before .before .before .before .before .before .before .before .before .before .before .before .before .before .args in
@@ -294,7 +263,6 @@ returns-3 c =
     let o = outside-inner k (t .inv) (c .before .before .before .before .before .before .before .before .leaf .ensures .1) (h .stands .outside) in
     (comma-out k h (c .before .before .before .before .symbol3 .ensures) (c .before .before .next .given .0 .0) (c .if1 .taken) (c .before .before .next .given .1), o)
 
--- src/lib.rt:49:1
 same-length-4 : tie.Need-same-length-4 Inv-loop μ-loop Inv-term μ-term
 same-length-4 c =
     let a = c .before .before .before .before .before .before .before .before .before .before .before .before .before .before .before .before .before .before .before .args in
@@ -307,7 +275,6 @@ same-length-4 c =
     let o = outside-inner k (t .inv) (c .before .before .before .before .before .before .before .before .leaf .ensures .1) (h .stands .outside) in
     o .len
 
--- src/lib.rt:49:1
 returns-4 : tie.Need-returns-4 Inv-loop μ-loop Inv-term μ-term
 returns-4 c =
     let a = c .before .before .before .before .before .before .before .before .before .before .before .before .before .before .before .before .before .before .before .args in
@@ -320,7 +287,6 @@ returns-4 c =
     let o = outside-inner k (t .inv) (c .before .before .before .before .before .before .before .before .leaf .ensures .1) (h .stands .outside) in
     (shut-alone k h (c .before .before .before .before .symbol3 .ensures) (c .before .before .next2 .given .0 .0) (c .if2 .taken) (c .before .before .next2 .given .1), o)
 
--- src/lib.rt:49:1
 same-length-5 : tie.Need-same-length-5 Inv-loop μ-loop Inv-term μ-term
 same-length-5 c =
     let a = c .before .before .before .before .before .before .before .before .before .before .before .before .before .before .before .before .before .before .before .before .before .before .before .before .before .args in
@@ -334,7 +300,6 @@ same-length-5 c =
     let y = (pops-is (a .sheet .now) (l .work) (c .before .before .before .before .close .last .1 .0) (l .free) (a .limit) (l .depth - 1) (c .before .before .before .before .close .ensures) (c .enum-told2 .given .1)) in
     y .1 .len ∙ o .len
 
--- src/lib.rt:49:1
 returns-5 : tie.Need-returns-5 Inv-loop μ-loop Inv-term μ-term
 returns-5 c =
     let a = c .before .before .before .before .before .before .before .before .before .before .before .before .before .before .before .before .before .before .before .before .before .before .before .before .before .args in
@@ -348,7 +313,6 @@ returns-5 c =
     let y = (pops-is (a .sheet .now) (l .work) (c .before .before .before .before .close .last .1 .0) (l .free) (a .limit) (l .depth - 1) (c .before .before .before .before .close .ensures) (c .enum-told2 .given .1)) in
     (shut-refused k h (c .before .before .before .before .before .before .before .before .before .before .symbol3 .ensures) (c .before .before .before .before .before .before .before .before .next2 .given .0 .0) (c .before .before .before .before .before .before .if2 .left) (c .before .before .before .before .before .before .before .before .next2 .given .1) (y .0), outside-on (omega (arith, h .stands .starts)) (omega (arith, k .limit-is)) o (y .1))
 
--- src/lib.rt:49:1
 same-length-6 : tie.Need-same-length-6 Inv-loop μ-loop Inv-term μ-term
 same-length-6 c =
     let a = c .before .before .before .before .before .before .before .before .before .before .before .before .before .before .before .before .args in
@@ -361,7 +325,6 @@ same-length-6 c =
     let o = outside-inner k (t .inv) (c .before .before .before .before .before .leaf .ensures .1) (h .stands .outside) in
     o .len
 
--- src/lib.rt:49:1
 returns-6 : tie.Need-returns-6 Inv-loop μ-loop Inv-term μ-term
 returns-6 c =
     let a = c .before .before .before .before .before .before .before .before .before .before .before .before .before .before .before .before .args in

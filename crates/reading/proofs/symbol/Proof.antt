@@ -7,15 +7,12 @@ use Rattle.reading.proofs.symbol.Reads as reads
 use Rattle.reading.proofs.symbol.Lts as lts
 use Rattle.syntax.proofs.next_symbol.Reads as next-symbol-reads
 
--- src/lib.rt:30:17
 slice-aggregate-next-symbol : tie.Need-slice-aggregate-next-symbol
 slice-aggregate-next-symbol c = sym (length-take-le _ _ (c .before .before .pre))
 
--- src/lib.rt:30:5
 next-symbol-requires : tie.Need-next-symbol-requires
 next-symbol-requires c κs = search needs
 
--- src/lib.rt:26:1
 returns : tie.Need-returns
 returns c = search needs
 

@@ -8,41 +8,33 @@ use Rattle.archive.proofs.admission.admit.Lts as lts
 use Rattle.archive.proofs.admission.admit_screened.Reads as admit-screened-reads
 use Rattle.text.proofs.screen.Reads as screen-reads
 
--- src/admission.rt:45:9
 screen-requires : tie.Need-screen-requires
 screen-requires c κs = search needs
 
--- src/admission.rt:47:45
 enum-told : tie.Need-enum-told
 enum-told c = search needs
 
--- src/admission.rt:48:48
 enum-told-2 : tie.Need-enum-told-2
 enum-told-2 c = search needs
 
--- src/admission.rt:49:27
 enum-told-3 : tie.Need-enum-told-3
 enum-told-3 c = search needs
 
--- src/admission.rt:49:27
 admit-screened-requires : tie.Need-admit-screened-requires
 admit-screened-requires c κs =
     screened-fine (c .before .before .before .before .args .sheet .now) (c .before .before .screen .ensures) (c .enum-told3 .given .1)
 
--- src/admission.rt:42:1
 returns : tie.Need-returns
 returns c =
     let a = c .before .before .before .before .args in
     long (a .sheet .now) (a .words) (screened-long (a .sheet .now) (c .before .before .screen .ensures) (c .enum-told .given .1))
 
--- src/admission.rt:42:1
 returns-2 : tie.Need-returns-2
 returns-2 c =
     let a = c .before .before .before .before .args in
     let h = screened-foreign (a .sheet .now) (c .before .before .screen .ensures) (c .enum-told2 .given .1) in
     foreign (a .sheet .now) (a .words) (h .0) (h .1)
 
--- src/admission.rt:42:1
 returns-3 : tie.Need-returns-3
 returns-3 c = search needs
 

@@ -7,31 +7,25 @@ use Rattle.archive.proofs.admission.admit_screened.Lts as lts
 use Rattle.sheet.proofs.form.read_sheet.Reads as read-sheet-reads
 use Rattle.sheet.proofs.form.words_needed.Reads as words-needed-reads
 
--- src/admission.rt:30:9
 read-sheet-requires : tie.Need-read-sheet-requires
 read-sheet-requires c κs = search needs
 
--- src/admission.rt:32:34
 enum-told : tie.Need-enum-told
 enum-told c = search needs
 
--- src/admission.rt:32:9
 returns : tie.Need-returns
 returns c =
     let a = c .before .before .before .before .args in
     unread (a .sheet .now) (a .words) (c .before .before .before .before .pre) (three-unread (a .sheet .now) _ (c .before .before .read-sheet .ensures) (c .enum-told .given .1))
 
--- src/admission.rt:34:9
 words-needed-requires : tie.Need-words-needed-requires
 words-needed-requires c κs = search needs
 
--- src/admission.rt:36:9
 returns-2 : tie.Need-returns-2
 returns-2 c =
     let b = c .before .before .before .before .before in
     refuses-words (b .args .sheet .now) (b .args .words) (b .pre) (c .before .before .before .read-sheet .result) (c .before .before .before .read-sheet .ensures) (c .before .before .match .keys2) (c .before .words-needed .result) (c .before .words-needed .ensures) (c .if1 .taken)
 
--- src/admission.rt:26:1
 returns-3 : tie.Need-returns-3
 returns-3 c =
     let b = c .before .before .before .before .before in

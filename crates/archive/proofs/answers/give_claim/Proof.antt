@@ -10,55 +10,43 @@ use Rattle.archive.proofs.answers.give_claim.Reads as reads
 use Rattle.archive.proofs.answers.give_claim.Lts as lts
 use Rattle.archive.proofs.answers.give.Reads as give-reads
 
--- src/answers.rt:39:28
 enum-told : tie.Need-enum-told
 enum-told c = search needs
 
--- src/answers.rt:39:23
 give-requires : tie.Need-give-requires
 give-requires c κs = search needs
 
--- src/answers.rt:40:27
 enum-told-2 : tie.Need-enum-told-2
 enum-told-2 c = search needs
 
--- src/answers.rt:40:22
 give-requires-2 : tie.Need-give-requires-2
 give-requires-2 c κs = search needs
 
--- src/answers.rt:41:32
 enum-told-3 : tie.Need-enum-told-3
 enum-told-3 c = search needs
 
--- src/answers.rt:41:27
 give-requires-3 : tie.Need-give-requires-3
 give-requires-3 c κs = search needs
 
--- src/answers.rt:35:1
 same-length : tie.Need-same-length
 same-length c = search needs
 
--- src/answers.rt:35:1
 returns : tie.Need-returns
 returns c =
     let a = c .before .before .before .before .before .before .before .before .before .before .args in
     settles-as (ap (λ (x : Claim). some (claim-text x (a .yes .now) (a .no .now) (a .none .now))) (c .before .before .before .before .enum-told .given .1)) (c .before .before .give .ensures)
 
--- src/answers.rt:35:1
 same-length-2 : tie.Need-same-length-2
 same-length-2 c = search needs
 
--- src/answers.rt:35:1
 returns-2 : tie.Need-returns-2
 returns-2 c =
     let a = c .before .before .before .before .before .before .before .before .before .before .args in
     settles-as (ap (λ (x : Claim). some (claim-text x (a .yes .now) (a .no .now) (a .none .now))) (c .before .before .before .before .enum-told2 .given .1)) (c .before .before .give2 .ensures)
 
--- src/answers.rt:35:1
 same-length-3 : tie.Need-same-length-3
 same-length-3 c = search needs
 
--- src/answers.rt:35:1
 returns-3 : tie.Need-returns-3
 returns-3 c =
     let a = c .before .before .before .before .before .before .before .before .before .before .args in

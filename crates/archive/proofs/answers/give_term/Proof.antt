@@ -15,7 +15,6 @@ use Rattle.tree.proofs.names.print_byte.Reads as print-byte-reads
 use Rattle.tree.proofs.names.print_text.Reads as print-text-reads
 use Rattle.tree.proofs.writing.write_term.Reads as write-term-reads
 
--- src/answers.rt:48:9
 returns : tie.Need-returns
 returns c =
     let a = c .before .before .before .before .before .args in
@@ -23,26 +22,21 @@ returns c =
     let e = line-length (a .key .now) t in
     short-settles _ (a .output .now) (omega arith)
 
--- src/answers.rt:50:55
 sub-measure-term : tie.Need-sub-measure-term
 sub-measure-term c = search needs
 
--- src/answers.rt:50:55
 sub-measure-term-2 : tie.Need-sub-measure-term-2
 sub-measure-term-2 c = search needs
 
--- src/answers.rt:50:9
 measure-term-requires : tie.Need-measure-term-requires
 measure-term-requires c κs = search needs
 
 enum-told : tie.Need-enum-told
 enum-told c = search needs
 
--- src/answers.rt:52:9
 enum-told-2 : tie.Need-enum-told-2
 enum-told-2 c = search needs
 
--- src/answers.rt:52:9
 returns-2 : tie.Need-returns-2
 returns-2 c =
     let a = c .before .before .before .before .before .before .before .before .args in
@@ -51,11 +45,9 @@ returns-2 c =
     let h = told-over {x = length t} {room = length (a .output .now) - length (a .key .now) - 1} (c .before .before .measure-term .ensures) (c .enum-told2 .given .1) in
     short-settles _ (a .output .now) (omega arith)
 
--- src/answers.rt:54:9
 print-text-requires : tie.Need-print-text-requires
 print-text-requires c κs = search needs
 
--- src/answers.rt:55:9
 write-term-requires : tie.Need-write-term-requires
 write-term-requires c κs =
     let a = c .before .before .before .before .before .before .before .before .before .before .before .before .before .args in
@@ -63,7 +55,6 @@ write-term-requires c κs =
     let h = told {x = length t} {room = length (a .output .now) - length (a .key .now) - 1} (c .before .before .before .before .before .before .before .measure-term .ensures) (c .before .before .before .before .before .enum-told .given .1) in
     (c .before .before .before .before .before .before .before .before .before .before .before .before .before .pre .0, (c .before .before .before .before .before .before .before .before .before .before .before .before .before .pre .1, omega arith))
 
--- src/answers.rt:56:9
 print-byte-requires : tie.Need-print-byte-requires
 print-byte-requires c κs =
     let a = c .before .before .before .before .before .before .before .before .before .before .before .before .before .before .before .before .before .args in
@@ -71,11 +62,9 @@ print-byte-requires c κs =
     let h = told {x = length t} {room = length (a .output .now) - length (a .key .now) - 1} (c .before .before .before .before .before .before .before .before .before .before .before .measure-term .ensures) (c .before .before .before .before .before .before .before .before .before .enum-told .given .1) in
     omega arith
 
--- src/answers.rt:34:1
 same-length : tie.Need-same-length
 same-length c = search needs
 
--- src/answers.rt:34:1
 returns-3 : tie.Need-returns-3
 returns-3 c =
     let a = c .before .before .before .before .before .before .before .before .before .before .before .before .before .before .before .before .before .before .before .before .args in

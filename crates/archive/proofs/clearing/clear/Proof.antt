@@ -5,7 +5,7 @@ use native.Mathlib.Omega.{arith}
 use borrow.Author.Needs.{needs}
 use lib.ListN.{length, set, length-set}
 use Rattle.archive.specs.Clearing.{zeroed}
-use Rattle.archive.proofs.Zeroing.{zeroed-next, zeroed-length}
+use Rattle.archive.proofs.Zeroing.{zeroed-next}
 use Rattle.archive.proofs.clearing.clear.Statement.{statement}
 use Rattle.archive.proofs.clearing.clear.Tie as tie
 use Rattle.archive.proofs.clearing.clear.Reads as reads

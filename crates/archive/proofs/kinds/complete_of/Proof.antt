@@ -16,54 +16,43 @@ use Rattle.reading.proofs.parse.Reads as parse-reads
 use Rattle.sheet.proofs.part.Reads as part-reads
 use Rattle.text.proofs.count_of.Reads as count-of-reads
 
--- src/kinds.rt:206:9
 parse-requires : tie.Need-parse-requires
 parse-requires c κs = search needs
 
--- src/kinds.rt:207:24
 enum-known-parsed : tie.Need-enum-known-parsed
 enum-known-parsed c = search needs
 
--- src/kinds.rt:208:9
 enum-told : tie.Need-enum-told
 enum-told c = search needs
 
--- src/kinds.rt:208:9
 same-length : tie.Need-same-length
 same-length c = search needs
 
--- src/kinds.rt:208:9
 returns : tie.Need-returns
 returns c =
     let a = c .before .before .before .before .before .before .before .before .before .args in
     let p = subst (Parses (a .sheet .now) (a .work .now) (c .before .before .before .before .parse .last .1 .0) 1 (a .term .from) (a .term .to)) (c .enum-told .given .1) (c .before .before .before .before .parse .ensures) in
     complete-unread (a .sheet .now) (a .term) (a .members .at) (c .before .before .before .before .before .before .before .before .before .pre .0) (a .output .now) (p .0)
 
--- src/kinds.rt:210:9
 part-requires : tie.Need-part-requires
 part-requires c κs = search needs
 
--- src/kinds.rt:211:17
 count-of-requires : tie.Need-count-of-requires
 count-of-requires c κs = search needs
 
--- src/kinds.rt:211:42
 count-of-requires-2 : tie.Need-count-of-requires-2
 count-of-requires-2 c κs = search needs
 
--- src/kinds.rt:211:38
 mul-named : tie.Need-mul-named
 mul-named c =
     let a = c .before .before .before .before .before .before .before .before .before .before .before .before .before .args in
     omega (arith, part-count-bound 40 (a .sheet .now) (a .term .from) (a .term .to) (c .before .before .before .before .before .before .before .before .before .before .before .before .before .pre .0 .short) (c .before .before .part .ensures) (c .count-of2 .ensures))
 
--- src/kinds.rt:211:17
 add-named : tie.Need-add-named
 add-named c =
     let a = c .before .before .before .before .before .before .before .before .before .before .before .before .before .args in
     omega (arith, part-count-bound 40 (a .sheet .now) (a .term .from) (a .term .to) (c .before .before .before .before .before .before .before .before .before .before .before .before .before .pre .0 .short) (c .before .before .part .ensures) (c .count-of2 .ensures), part-count-bound 58 (a .sheet .now) (a .term .from) (a .term .to) (c .before .before .before .before .before .before .before .before .before .before .before .before .before .pre .0 .short) (c .before .before .part .ensures) (c .before .count-of .ensures))
 
--- src/kinds.rt:212:9
 complete-requires : tie.Need-complete-requires
 complete-requires c κs =
     let a = c .before .before .before .before .before .before .before .before .before .before .before .before .before .before .args in
@@ -71,31 +60,24 @@ complete-requires c κs =
     let e = complete-asks (a .sheet .now) (a .term) (a .members .at) (c .before .before .before .before .before .before .before .before .before .before .before .before .before .before .pre .0) p (c .before .before .count-of .ensures ∙ ap (λ (x : Text). count-of 58 x) (c .before .before .before .part .ensures)) (c .before .count-of2 .ensures ∙ ap (λ (x : Text). count-of 40 x) (c .before .before .before .part .ensures)) refl (c .before .before .before .before .before .before .before .before .before .before .before .before .before .before .pre .1) in
     (p .arena, (p .placed .0, p .placed .1, e))
 
--- src/kinds.rt:216:9
 slice-aggregate-give-claim : tie.Need-slice-aggregate-give-claim
 slice-aggregate-give-claim c = search needs
 
--- src/kinds.rt:217:9
 slice-aggregate-give-claim-2 : tie.Need-slice-aggregate-give-claim-2
 slice-aggregate-give-claim-2 c = search needs
 
--- src/kinds.rt:218:9
 slice-aggregate-give-claim-3 : tie.Need-slice-aggregate-give-claim-3
 slice-aggregate-give-claim-3 c = search needs
 
--- src/kinds.rt:213:5
 give-claim-requires : tie.Need-give-claim-requires
 give-claim-requires c κs = search needs
 
--- src/kinds.rt:193:1
 same-length-2 : tie.Need-same-length-2
 same-length-2 c = search needs
 
--- src/kinds.rt:193:1
 same-length-3 : tie.Need-same-length-3
 same-length-3 c = search needs
 
--- src/kinds.rt:193:1
 returns-2 : tie.Need-returns-2
 returns-2 c =
     let a = c .before .before .before .before .before .before .before .before .before .before .before .before .before .before .before .before .before .before .before .before .before .before .before .before .args in

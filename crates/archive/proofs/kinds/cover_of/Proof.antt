@@ -9,30 +9,24 @@ use Rattle.archive.proofs.answers.give_claim.Reads as give-claim-reads
 use Rattle.archive.proofs.pairs.read_pairs.Reads as read-pairs-reads
 use Rattle.cover.proofs.covered.covered.Reads as covered-reads
 
--- src/kinds.rt:178:9
 read-pairs-requires : tie.Need-read-pairs-requires
 read-pairs-requires c κs = ((c .before .before .before .before .pre .0 .short, omega (arith, c .before .before .before .before .pre .1)), c .before .before .before .before .pre .0 .inside)
 
--- src/kinds.rt:179:24
 enum-known-read : tie.Need-enum-known-read
 enum-known-read c = search needs
 
--- src/kinds.rt:180:9
 enum-told : tie.Need-enum-told
 enum-told c = search needs
 
--- src/kinds.rt:180:9
 same-length : tie.Need-same-length
 same-length c = search needs
 
--- src/kinds.rt:180:9
 returns : tie.Need-returns
 returns c =
     let a = c .before .before .before .before .before .before .before .before .before .args in
     let k = c .before .before .before .before .before .before .before .before .before .pre .0 in
     cover-unread (a .sheet .now) (a .pairs .at) k (a .output .now) (rw (c .enum-told .given .1) at (c .before .before .before .before .read-pairs .ensures (k .entries) (k .rest) (k .lines)) .0)
 
--- src/kinds.rt:182:9
 covered-requires : tie.Need-covered-requires
 covered-requires c κs =
     let a = c .before .before .before .before .before .before .before .before .before .before .before .args in
@@ -40,31 +34,24 @@ covered-requires c κs =
     let r = rw (c .before .before .read .given .1) at (c .before .before .before .before .before .before .read-pairs .ensures (k .entries) (k .rest) (k .lines)) in
     (r .arena, (r .inside, cover-asks (a .sheet .now) (a .pairs .at) k r (c .before .before .before .before .before .before .before .before .before .before .before .pre .1)))
 
--- src/kinds.rt:186:9
 slice-aggregate-give-claim : tie.Need-slice-aggregate-give-claim
 slice-aggregate-give-claim c = search needs
 
--- src/kinds.rt:187:9
 slice-aggregate-give-claim-2 : tie.Need-slice-aggregate-give-claim-2
 slice-aggregate-give-claim-2 c = search needs
 
--- src/kinds.rt:188:9
 slice-aggregate-give-claim-3 : tie.Need-slice-aggregate-give-claim-3
 slice-aggregate-give-claim-3 c = search needs
 
--- src/kinds.rt:183:5
 give-claim-requires : tie.Need-give-claim-requires
 give-claim-requires c κs = search needs
 
--- src/kinds.rt:173:1
 same-length-2 : tie.Need-same-length-2
 same-length-2 c = search needs
 
--- src/kinds.rt:173:1
 same-length-3 : tie.Need-same-length-3
 same-length-3 c = search needs
 
--- src/kinds.rt:173:1
 returns-2 : tie.Need-returns-2
 returns-2 c =
     let a = c .before .before .before .before .before .before .before .before .before .before .before .before .before .before .before .before .before .before .before .before .before .args in

@@ -8,71 +8,55 @@ use Rattle.archive.proofs.kinds.equal.Lts as lts
 use Rattle.archive.proofs.answers.give.Reads as give-reads
 use Rattle.certificate.proofs.equivalent_texts.Reads as equivalent-texts-reads
 
--- src/kinds.rt:32:9
 equivalent-texts-requires : tie.Need-equivalent-texts-requires
 equivalent-texts-requires c κs = search needs
 
--- src/kinds.rt:34:34
 enum-told : tie.Need-enum-told
 enum-told c = search needs
 
--- src/kinds.rt:34:42
 slice-aggregate-give : tie.Need-slice-aggregate-give
 slice-aggregate-give c = search needs
 
--- src/kinds.rt:34:29
 give-requires : tie.Need-give-requires
 give-requires c κs = search needs
 
--- src/kinds.rt:35:33
 enum-told-2 : tie.Need-enum-told-2
 enum-told-2 c = search needs
 
--- src/kinds.rt:35:41
 slice-aggregate-give-2 : tie.Need-slice-aggregate-give-2
 slice-aggregate-give-2 c = search needs
 
--- src/kinds.rt:35:28
 give-requires-2 : tie.Need-give-requires-2
 give-requires-2 c κs = search needs
 
--- src/kinds.rt:36:36
 enum-told-3 : tie.Need-enum-told-3
 enum-told-3 c = search needs
 
--- src/kinds.rt:17:1
 same-length : tie.Need-same-length
 same-length c = search needs
 
--- src/kinds.rt:17:1
 same-length-2 : tie.Need-same-length-2
 same-length-2 c = search needs
 
--- src/kinds.rt:17:1
 returns : tie.Need-returns
 returns c =
     let a = c .before .before .before .before .before .before .before .before .before .before .before .before .before .before .args in
     settles-as (equal-yes (a .sheet .now) (a .left .from) (a .left .to) (a .right .from) (a .right .to) (c .before .before .before .before .before .before .before .before .before .equivalent-texts .result) (c .before .before .before .before .before .before .before .before .before .equivalent-texts .ensures .0) (c .before .before .before .before .before .enum-told .given .1)) (c .before .before .give .ensures)
 
--- src/kinds.rt:17:1
 same-length-3 : tie.Need-same-length-3
 same-length-3 c = search needs
 
--- src/kinds.rt:17:1
 same-length-4 : tie.Need-same-length-4
 same-length-4 c = search needs
 
--- src/kinds.rt:17:1
 returns-2 : tie.Need-returns-2
 returns-2 c =
     let a = c .before .before .before .before .before .before .before .before .before .before .before .before .before .before .args in
     settles-as (equal-no (a .sheet .now) (a .left .from) (a .left .to) (a .right .from) (a .right .to) (c .before .before .before .before .before .before .before .before .before .equivalent-texts .result) (c .before .before .before .before .before .before .before .before .before .equivalent-texts .ensures .0) (c .before .before .before .before .before .enum-told2 .given .1)) (c .before .before .give2 .ensures)
 
--- src/kinds.rt:17:1
 same-length-5 : tie.Need-same-length-5
 same-length-5 c = search needs
 
--- src/kinds.rt:17:1
 returns-3 : tie.Need-returns-3
 returns-3 c =
     let a = c .before .before .before .before .before .before .before .before .before .args in

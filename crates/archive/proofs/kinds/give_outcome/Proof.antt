@@ -9,53 +9,41 @@ use Rattle.archive.proofs.verdicts.give_failed.Reads as give-failed-rea
 use Rattle.archive.proofs.verdicts.give_solved.Reads as give-solved-reads
 use Rattle.archive.proofs.verdicts.give_unsupported.Reads as give-unsupported-reads
 
--- src/kinds.rt:100:13
 enum-known-outcome : tie.Need-enum-known-outcome
 enum-known-outcome c = search needs
 
--- src/kinds.rt:103:14
 give-solved-requires : tie.Need-give-solved-requires
 give-solved-requires c κs =
     let h = subst (Listed (c .before .before .before .before .before .before .before .args .sheet .now) (c .before .before .before .before .before .before .before .args .work .now)) (c .before .before .outcome .given .1) (c .before .before .before .before .before .before .before .pre) in
     (h .0, (h .1, h .2))
 
--- src/kinds.rt:104:27
 enum-known-outcome-2 : tie.Need-enum-known-outcome-2
 enum-known-outcome-2 c = search needs
 
--- src/kinds.rt:104:38
 give-failed-requires : tie.Need-give-failed-requires
 give-failed-requires c κs = search needs
 
--- src/kinds.rt:105:32
 enum-known-outcome-3 : tie.Need-enum-known-outcome-3
 enum-known-outcome-3 c = search needs
 
--- src/kinds.rt:105:43
 give-unsupported-requires : tie.Need-give-unsupported-requires
 give-unsupported-requires c κs = search needs
 
--- src/kinds.rt:94:1
 same-length : tie.Need-same-length
 same-length c = search needs
 
--- src/kinds.rt:94:1
 returns : tie.Need-returns
 returns c = rw (c .before .before .before .before .before .outcome .given .1) (c .before .before .give-solved .ensures)
 
--- src/kinds.rt:94:1
 same-length-2 : tie.Need-same-length-2
 same-length-2 c = search needs
 
--- src/kinds.rt:94:1
 returns-2 : tie.Need-returns-2
 returns-2 c = rw (c .before .before .before .before .before .outcome2 .given .1) (c .before .before .give-failed .ensures)
 
--- src/kinds.rt:94:1
 same-length-3 : tie.Need-same-length-3
 same-length-3 c = search needs
 
--- src/kinds.rt:94:1
 returns-3 : tie.Need-returns-3
 returns-3 c = rw (c .before .before .before .before .before .outcome3 .given .1) (c .before .before .give-unsupported .ensures)
 

@@ -18,32 +18,26 @@ use Rattle.archive.proofs.answers.give_term.Reads as give-term-reads
 use Rattle.reading.proofs.parse.Reads as parse-reads
 use Rattle.reduction.proofs.normalizing.normalize.Reads as normalize-reads
 
--- src/kinds.rt:46:9
 parse-requires : tie.Need-parse-requires
 parse-requires c κs =
     let a = c .before .before .before .before .args in
     (arena-none (a .sheet .now) (a .work .now) (omega arith), ((c .before .before .before .before .pre .1 .0, omega (arith, c .before .before .before .before .pre .1), c .before .before .before .before .pre .0 .0, omega (arith, c .before .before .before .before .pre .1)), (omega (arith, c .before .before .before .before .pre .1), omega (arith, c .before .before .before .before .pre .1))))
 
--- src/kinds.rt:47:24
 enum-known-parsed : tie.Need-enum-known-parsed
 enum-known-parsed c = search needs
 
--- src/kinds.rt:48:9
 enum-told : tie.Need-enum-told
 enum-told c = search needs
 
--- src/kinds.rt:48:9
 same-length : tie.Need-same-length
 same-length c = search needs
 
--- src/kinds.rt:48:9
 returns : tie.Need-returns
 returns c =
     let a = c .before .before .before .before .before .before .before .before .before .args in
     let p = subst (Parses (a .sheet .now) (a .work .now) (c .before .before .before .before .parse .last .1 .0) 1 (a .term .from) (a .term .to)) (c .enum-told .given .1) (c .before .before .before .before .parse .ensures) in
     settles-as (reduce-unreadable (take (a .term .to - a .term .from) (drop (a .term .from) (a .sheet .now))) (p .0)) (unreadable-settles (a .output .now))
 
--- src/kinds.rt:50:9
 normalize-requires : tie.Need-normalize-requires
 normalize-requires c κs =
     let a = c .before .before .before .before .before .before .before .before .before .before .before .args in
@@ -52,23 +46,18 @@ normalize-requires c κs =
     let r : c .before .before .parsed .given .0 .1 .0 ≤ limit-of 1 (a .term .from) (a .term .to) = p .room in
     (p .arena, ((p .placed .0, p .placed .1, omega (arith, p .placed), h), (omega (arith, c .before .before .before .before .before .before .before .before .before .before .before .pre .1), omega (arith, c .before .before .before .before .before .before .before .before .before .before .before .pre .1))))
 
--- src/kinds.rt:53:44
 slice-aggregate-give-term : tie.Need-slice-aggregate-give-term
 slice-aggregate-give-term c = search needs
 
--- src/kinds.rt:53:5
 give-term-requires : tie.Need-give-term-requires
 give-term-requires c κs = search needs
 
--- src/kinds.rt:39:1
 same-length-2 : tie.Need-same-length-2
 same-length-2 c = search needs
 
--- src/kinds.rt:39:1
 same-length-3 : tie.Need-same-length-3
 same-length-3 c = search needs
 
--- src/kinds.rt:39:1
 returns-2 : tie.Need-returns-2
 returns-2 c =
     let a = c .before .before .before .before .before .before .before .before .before .before .before .before .before .before .before .before .before .before .before .before .args in

@@ -7,27 +7,21 @@ use Rattle.archive.proofs.kinds.solve.Lts as lts
 use Rattle.unifier.proofs.matching.matcher.Reads as matcher-reads
 use Rattle.unifier.proofs.unifying.unify.Reads as unify-reads
 
--- src/kinds.rt:88:9
 matcher-requires : tie.Need-matcher-requires
 matcher-requires c κs = (c .before .before .before .before .pre .0, (c .before .before .before .before .pre .1 .0, match-room (c .before .before .before .before .pre .1 .1)))
 
--- src/kinds.rt:88:9
 same-length : tie.Need-same-length
 same-length c = search needs
 
--- src/kinds.rt:88:9
 returns : tie.Need-returns
 returns c = rw (c .before .before .before .before .if1 .taken) (c .before .before .matcher .ensures)
 
--- src/kinds.rt:90:5
 unify-requires : tie.Need-unify-requires
 unify-requires c κs = c .before .before .before .before .pre
 
--- src/kinds.rt:74:1
 same-length-2 : tie.Need-same-length-2
 same-length-2 c = search needs
 
--- src/kinds.rt:74:1
 returns-2 : tie.Need-returns-2
 returns-2 c = rw (c .before .before .before .before .if1 .left) (c .before .before .unify .ensures)
 

@@ -10,48 +10,38 @@ use Rattle.archive.proofs.kinds.give_outcome.Reads as give-outcome-read
 use Rattle.archive.proofs.kinds.solve.Reads as solve-reads
 use Rattle.archive.proofs.pairs.read_pairs.Reads as read-pairs-reads
 
--- src/kinds.rt:110:9
 read-pairs-requires : tie.Need-read-pairs-requires
 read-pairs-requires c κs = ((c .before .before .before .before .pre .0 .short, omega (arith, c .before .before .before .before .pre .1)), c .before .before .before .before .pre .0 .inside)
 
--- src/kinds.rt:111:24
 enum-known-read : tie.Need-enum-known-read
 enum-known-read c = search needs
 
--- src/kinds.rt:112:9
 enum-told : tie.Need-enum-told
 enum-told c = search needs
 
--- src/kinds.rt:112:9
 same-length : tie.Need-same-length
 same-length c = search needs
 
--- src/kinds.rt:112:9
 returns : tie.Need-returns
 returns c =
     let k = c .before .before .before .before .before .before .before .before .before .pre .0 in
     unread-settled (c .before .before .before .before .before .before .before .before .before .args .sheet .now) (c .before .before .before .before .before .before .before .before .before .args .matching) (c .before .before .before .before .before .before .before .before .before .args .fuel) (c .before .before .before .before .before .before .before .before .before .args .pairs .at) k (c .before .before .before .before .before .before .before .before .before .args .output .now) (rw (c .enum-told .given .1) at (c .before .before .before .before .read-pairs .ensures (k .entries) [] (k .lines)) .0)
 
--- src/kinds.rt:114:9
 solve-requires : tie.Need-solve-requires
 solve-requires c κs =
     let k = c .before .before .before .before .before .before .before .before .before .before .before .pre .0 in
     let r = rw (c .before .before .read .given .1) at (c .before .before .before .before .before .before .read-pairs .ensures (k .entries) [] (k .lines)) in
     (r .arena, ((r .inside, k .fuelled, read-whole r, read-fit r), read-roomy (c .before .before .before .before .before .before .before .before .before .before .before .args .sheet .now) (c .before .before .before .before .before .before .before .before .before .before .before .args .matching) (c .before .before .before .before .before .before .before .before .before .before .before .args .fuel) (c .before .before .before .before .before .before .before .before .before .before .before .args .pairs .at) k r (c .before .before .before .before .before .before .before .before .before .before .before .pre .1)))
 
--- src/kinds.rt:115:5
 give-outcome-requires : tie.Need-give-outcome-requires
 give-outcome-requires c κs = answers-listed (c .before .before .before .before .before .before .before .before .before .before .before .before .before .before .before .before .args .sheet .now) _ _ _ _ (c .before .before .before .before .solve .result) (c .before .before .before .before .solve .ensures)
 
--- src/kinds.rt:102:1
 same-length-2 : tie.Need-same-length-2
 same-length-2 c = search needs
 
--- src/kinds.rt:102:1
 same-length-3 : tie.Need-same-length-3
 same-length-3 c = search needs
 
--- src/kinds.rt:102:1
 returns-2 : tie.Need-returns-2
 returns-2 c =
     let k = c .before .before .before .before .before .before .before .before .before .before .before .before .before .before .before .before .before .before .before .pre .0 in

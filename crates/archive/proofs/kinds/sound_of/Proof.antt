@@ -14,30 +14,24 @@ use Rattle.archive.proofs.answers.give_claim.Reads as give-claim-reads
 use Rattle.reading.proofs.parse.Reads as parse-reads
 use Rattle.variants.proofs.soundness.sound.Reads as sound-reads
 
--- src/kinds.rt:158:9
 parse-requires : tie.Need-parse-requires
 parse-requires c κs = search needs
 
--- src/kinds.rt:159:24
 enum-known-parsed : tie.Need-enum-known-parsed
 enum-known-parsed c = search needs
 
--- src/kinds.rt:160:9
 enum-told : tie.Need-enum-told
 enum-told c = search needs
 
--- src/kinds.rt:160:9
 same-length : tie.Need-same-length
 same-length c = search needs
 
--- src/kinds.rt:160:9
 returns : tie.Need-returns
 returns c =
     let a = c .before .before .before .before .before .before .before .before .before .args in
     let p = subst (Parses (a .sheet .now) (a .work .now) (c .before .before .before .before .parse .last .1 .0) 1 (a .term .from) (a .term .to)) (c .enum-told .given .1) (c .before .before .before .before .parse .ensures) in
     λ m h. settles-as (sound-unreadable (take (a .term .to - a .term .from) (drop (a .term .from) (a .sheet .now))) m (p .0)) (unreadable-settles (a .output .now))
 
--- src/kinds.rt:162:9
 sound-requires : tie.Need-sound-requires
 sound-requires c κs =
     let a = c .before .before .before .before .before .before .before .before .before .before .before .args in
@@ -46,31 +40,24 @@ sound-requires c κs =
     let r : c .before .before .parsed .given .0 .1 .0 ≤ limit-of 1 (a .term .from) (a .term .to) = p .room in
     (p .arena, ((p .placed .0, p .placed .1), (q .0 .0, omega (arith, q .0), omega (arith, q .1))))
 
--- src/kinds.rt:166:9
 slice-aggregate-give-claim : tie.Need-slice-aggregate-give-claim
 slice-aggregate-give-claim c = search needs
 
--- src/kinds.rt:167:9
 slice-aggregate-give-claim-2 : tie.Need-slice-aggregate-give-claim-2
 slice-aggregate-give-claim-2 c = search needs
 
--- src/kinds.rt:168:9
 slice-aggregate-give-claim-3 : tie.Need-slice-aggregate-give-claim-3
 slice-aggregate-give-claim-3 c = search needs
 
--- src/kinds.rt:163:5
 give-claim-requires : tie.Need-give-claim-requires
 give-claim-requires c κs = search needs
 
--- src/kinds.rt:145:1
 same-length-2 : tie.Need-same-length-2
 same-length-2 c = search needs
 
--- src/kinds.rt:145:1
 same-length-3 : tie.Need-same-length-3
 same-length-3 c = search needs
 
--- src/kinds.rt:145:1
 returns-2 : tie.Need-returns-2
 returns-2 c =
     let a = c .before .before .before .before .before .before .before .before .before .before .before .before .before .before .before .before .before .before .before .before .before .args in

@@ -10,11 +10,9 @@ use Rattle.certificate.proofs.order.code_byte.Reads as reads
 use Rattle.certificate.proofs.order.code_byte.Lts as lts
 use Rattle.certificate.proofs.order.name_byte.Reads as name-byte-reads
 
--- src/lib.rt:95:16
 cast-result : tie.Need-cast-result
 cast-result c = search needs
 
--- src/lib.rt:95:9
 returns : tie.Need-returns
 returns c =
     let a = c .before .args in
@@ -22,23 +20,19 @@ returns c =
     let z : a .a ≡ 0 = omega arith in
     sym (rw (m .0, z))
 
--- src/lib.rt:98:9
 name-byte-requires : tie.Need-name-byte-requires
 name-byte-requires c κs =
     let m = code-named (c .before .before .args .code) (c .before .if1 .left) (c .if2 .taken) in
     omega (arith, m .1)
 
--- src/lib.rt:98:9
 returns-2 : tie.Need-returns-2
 returns-2 c =
     let a = c .before .before .before .args in
     c .name-byte .ensures ∙ sym (ap (λ (l : List _). getD l (a .a) 0) (code-named (a .code) (c .before .before .if1 .left) (c .before .if2 .taken) .0))
 
--- src/lib.rt:100:5
 cast-result-2 : tie.Need-cast-result-2
 cast-result-2 c = search needs
 
--- src/lib.rt:90:1
 returns-3 : tie.Need-returns-3
 returns-3 c =
     let a = c .before .before .args in

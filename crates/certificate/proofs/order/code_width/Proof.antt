@@ -8,19 +8,15 @@ use Rattle.certificate.proofs.order.code_width.Reads as reads
 use Rattle.certificate.proofs.order.code_width.Lts as lts
 use Rattle.certificate.proofs.order.name_width.Reads as name-width-reads
 
--- src/lib.rt:81:9
 returns : tie.Need-returns
 returns c = sym (code-mark (c .before .args .code) (c .if1 .taken) .1)
 
--- src/lib.rt:84:9
 name-width-requires : tie.Need-name-width-requires
 name-width-requires c κs = search needs
 
--- src/lib.rt:84:9
 returns-2 : tie.Need-returns-2
 returns-2 c = c .name-width .ensures ∙ sym (code-named (c .before .before .before .args .code) (c .before .before .if1 .left) (c .before .if2 .taken) .1)
 
--- src/lib.rt:77:1
 returns-3 : tie.Need-returns-3
 returns-3 c = sym (code-byte (c .before .before .args .code) (c .if2 .left) .1)
 

@@ -15,56 +15,45 @@ use Rattle.complete.proofs.fresh.fresh_cells.Reads as fresh-cells-reads
 use Rattle.complete.proofs.judging.judge.Reads as judge-reads
 use Rattle.schemes.proofs.counting.count_schemes.Reads as count-schemes-reads
 
--- src/completing.rt:70:9
 name-variables-requires : tie.Need-name-variables-requires
 name-variables-requires c κs =
     let p = c .before .before .before .pre in
     let k = p .1 .2 in
     ((p .0, k .short), ((p .1 .0, p .1 .1, term-spelled k, term-fits k), term-room k))
 
--- src/completing.rt:72:16
 enum-known-found : tie.Need-enum-known-found
 enum-known-found c = search needs
 
--- src/completing.rt:77:9
 enum-told : tie.Need-enum-told
 enum-told c = search needs
 
--- src/completing.rt:77:9
 same-length : tie.Need-same-length
 same-length c = search needs
 
--- src/completing.rt:77:9
 returns : tie.Need-returns
 returns c = claims-unindexed (c .before .before .before .before .before .before .before .before .pre .1 .2) (rw (c .enum-told .given .1) at (c .before .before .before .before .name-variables .ensures))
 
--- src/completing.rt:79:9
 count-schemes-requires : tie.Need-count-schemes-requires
 count-schemes-requires c κs =
     let p = c .before .before .before .before .before .before .before .before .before .before .pre in
     let t = rw (c .before .before .found .given .1) at (c .before .before .before .before .before .before .name-variables .ensures) in
     (t .arena, (p .1 .0, term-inside (p .1 .2) (p .0) (p .1 .0) (p .1 .1) t))
 
--- src/completing.rt:80:26
 enum-known-counted : tie.Need-enum-known-counted
 enum-known-counted c = search needs
 
--- src/completing.rt:81:9
 enum-told-2 : tie.Need-enum-told-2
 enum-told-2 c = search needs
 
--- src/completing.rt:81:9
 same-length-2 : tie.Need-same-length-2
 same-length-2 c = search needs
 
--- src/completing.rt:81:9
 returns-2 : tie.Need-returns-2
 returns-2 c =
     let p = c .before .before .before .before .before .before .before .before .before .before .before .before .before .pre in
     let t = rw (c .before .before .before .before .before .found .given .1) at (c .before .before .before .before .before .before .before .before .before .name-variables .ensures) in
     over-claims (p .1 .2) (p .0) (p .1 .0) (p .1 .1) t (sym (c .enum-told2 .given .1) ∙ c .before .before .count-schemes .ensures)
 
--- src/completing.rt:83:9
 fresh-cells-requires : tie.Need-fresh-cells-requires
 fresh-cells-requires c κs =
     let p = c .before .before .before .before .before .before .before .before .before .before .before .before .before .before .before .pre in
@@ -72,7 +61,6 @@ fresh-cells-requires c κs =
     let m = members-room (p .1 .2) (p .0) (p .1 .0) (p .1 .1) t (c .before .before .before .before .before .before .before .before .before .before .before .name-variables .last .1 .0) _ refl refl in
     ((t .arena, p .1 .2 .short, t .small), (omega (arith, m .1), omega (arith, m .2)))
 
--- src/completing.rt:84:9
 read-members-requires : tie.Need-read-members-requires
 read-members-requires c κs =
     let p = c .before .before .before .before .before .before .before .before .before .before .before .before .before .before .before .before .before .before .before .pre in
@@ -80,26 +68,21 @@ read-members-requires c κs =
     let f = c .before .before .before .fresh-cells .ensures in
     (f .arena, members-room (p .1 .2) (p .0) (p .1 .0) (p .1 .1) t (c .before .before .before .fresh-cells .last .1 .0) _ (f .end) (f .grown .len))
 
--- src/completing.rt:85:25
 enum-known-read : tie.Need-enum-known-read
 enum-known-read c = search needs
 
--- src/completing.rt:86:9
 enum-told-3 : tie.Need-enum-told-3
 enum-told-3 c = search needs
 
--- src/completing.rt:86:9
 same-length-3 : tie.Need-same-length-3
 same-length-3 c = search needs
 
--- src/completing.rt:86:9
 returns-3 : tie.Need-returns-3
 returns-3 c =
     let p = c .before .before .before .before .before .before .before .before .before .before .before .before .before .before .before .before .before .before .before .before .before .before .before .before .pre in
     let t = rw (c .before .before .before .before .before .before .before .before .before .before .before .before .before .before .before .before .found .given .1) at (c .before .before .before .before .before .before .before .before .before .before .before .before .before .before .before .before .before .before .before .before .name-variables .ensures) in
     unread-claims (p .1 .2) (p .0) (p .1 .0) (p .1 .1) t (c .before .before .before .before .before .before .before .before .fresh-cells .ensures) (rw (c .enum-told3 .given .1) at (c .before .before .before .before .read-members .ensures))
 
--- src/completing.rt:88:5
 judge-requires : tie.Need-judge-requires
 judge-requires c κs =
     let p = c .before .before .before .before .before .before .before .before .before .before .before .before .before .before .before .before .before .before .before .before .before .before .before .before .before .before .pre in
@@ -112,7 +95,6 @@ judge-requires c κs =
     let i = chosen-inside k (p .0) (p .1 .0) (p .1 .1) t f r in
     ((r .arena, k .short), ((p .1 .0, i .0, i .1, i .2, chosen-variables k (p .0) (p .1 .0) (p .1 .1) t f r), ((omega (arith, asked-small k, ap size e), n .0 ∙ ap scheme-count e, n .1), chosen-judge k (p .0) (p .1 .0) (p .1 .1) t f r (c .before .before .before .before .before .before .before .before .before .before .before .before .before .counted .given .0 .0) (n .0))))
 
--- src/completing.rt:58:1
 same-length-4 : tie.Need-same-length-4
 same-length-4 c =
     let t = rw (c .before .before .before .before .before .before .before .before .before .before .before .before .before .before .before .before .before .before .before .before .before .found .given .1) at (c .before .before .before .before .before .before .before .before .before .before .before .before .before .before .before .before .before .before .before .before .before .before .before .before .before .name-variables .ensures) in
@@ -120,7 +102,6 @@ same-length-4 c =
     let r = rw (c .before .before .before .before .before .read .given .1) at (c .before .before .before .before .before .before .before .before .before .read-members .ensures) in
     c .before .before .judge .ensures .1 .len ∙ r .kept .len ∙ f .grown .len ∙ t .below .len
 
--- src/completing.rt:58:1
 returns-4 : tie.Need-returns-4
 returns-4 c =
     let p = c .before .before .before .before .before .before .before .before .before .before .before .before .before .before .before .before .before .before .before .before .before .before .before .before .before .before .before .before .before .pre in

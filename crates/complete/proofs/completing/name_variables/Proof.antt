@@ -12,21 +12,17 @@ use Rattle.cover.proofs.listing.list_variables.Reads as list-variables-reads
 use Rattle.cover.proofs.variables.variables_of.Reads as variables-of-reads
 use Rattle.tree.proofs.cells.share.Reads as share-reads
 
--- src/completing.rt:41:9
 share-requires : tie.Need-share-requires
 share-requires c κs =
     let p = c .before .before .before .pre in
     (p .0 .0, ((p .1 .0 .0, p .1 .0 .1, p .0 .0 .links .some), (omega (arith, p .1 .1 .0), omega (arith, p .1 .1 .1))))
 
--- src/completing.rt:42:19
 add-at : tie.Need-add-at
 add-at c = omega (arith, c .before .before .share .ensures .0, c .before .before .before .before .before .before .pre .1 .1 .1, c .before .before .before .before .before .before .pre .0 .1)
 
--- src/completing.rt:42:14
 mul-at : tie.Need-mul-at
 mul-at c = omega (arith, c .before .before .share .ensures .0, c .before .before .before .before .before .before .pre .1 .1 .1, c .before .before .before .before .before .before .pre .0 .1)
 
--- src/completing.rt:43:9
 variables-of-requires : tie.Need-variables-of-requires
 variables-of-requires c κs =
     let p = c .before .before .before .before .before .before .before .pre in
@@ -34,7 +30,6 @@ variables-of-requires c κs =
     let h = c .before .before .before .share .ensures .1 in
     (shared-arena (c .before .before .before .before .before .before .before .args .term) (c .before .before .before .share .result) q h, ((omega arith, one-spelled (c .before .before .before .before .before .before .before .args .term) (c .before .before .before .share .result) q h (p .1 .0 .2)), (omega arith, omega (arith, one-size (c .before .before .before .before .before .before .before .args .term) (c .before .before .before .share .result) q h, p .1 .0 .3, p .1 .1 .0, h .grown .len))))
 
--- src/completing.rt:44:9
 base-of-requires : tie.Need-base-of-requires
 base-of-requires c κs =
     let p = c .before .before .before .before .before .before .before .before .before .before .before .pre in
@@ -43,19 +38,15 @@ base-of-requires c κs =
     let o = c .before .before .before .variables-of .ensures in
     (o .grew, omega (arith, o .most-is, o .kept .len, one-size (c .before .before .before .before .before .before .before .before .before .before .before .args .term) (c .before .before .before .before .before .before .before .share .result) q h, p .1 .0 .3, p .1 .1 .0, h .grown .len))
 
--- src/completing.rt:45:20
 enum-known-found : tie.Need-enum-known-found
 enum-known-found c = search needs
 
--- src/completing.rt:46:9
 enum-told : tie.Need-enum-told
 enum-told c = search needs
 
--- src/completing.rt:46:9
 same-length : tie.Need-same-length
 same-length c = search needs
 
--- src/completing.rt:46:9
 returns : tie.Need-returns
 returns c =
     let p = c .before .before .before .before .before .before .before .before .before .before .before .before .before .before .pre in
@@ -64,7 +55,6 @@ returns c =
     let o = c .before .before .before .before .before .before .variables-of .ensures in
     no-base (c .before .before .before .before .before .before .before .before .before .before .before .before .before .before .args .term) (c .before .before .before .before .before .before .before .before .before .before .share .result) q h (omega arith) o (sym (c .enum-told .given .1) ∙ c .before .before .base-of .ensures)
 
--- src/completing.rt:48:9
 list-variables-requires : tie.Need-list-variables-requires
 list-variables-requires c κs =
     let p = c .before .before .before .before .before .before .before .before .before .before .before .before .before .before .before .before .pre in
@@ -75,11 +65,9 @@ list-variables-requires c κs =
     let z = one-size (c .before .before .before .before .before .before .before .before .before .before .before .before .before .before .before .before .args .term) (c .before .before .before .before .before .before .before .before .before .before .before .before .share .result) q h in
     ((arena-kept (c .before .before .before .before .before .before .before .before .before .before .before .before .before .before .before .before .args .sheet .now) (shared-arena (c .before .before .before .before .before .before .before .before .before .before .before .before .before .before .before .before .args .term) (c .before .before .before .before .before .before .before .before .before .before .before .before .share .result) q h) (omega arith) (o .kept), p .0 .1), ((o .grew, omega (arith, o .most-is, z, p .1 .0 .3, p .1 .1 .0, h .grown .len), o .places), (omega (arith, o .most-is, z, p .1 .0 .3), omega (arith, o .most-is, z, p .1 .0 .3, p .1 .1 .1))))
 
--- src/completing.rt:35:1
 same-length-2 : tie.Need-same-length-2
 same-length-2 c = search needs
 
--- src/completing.rt:35:1
 returns-2 : tie.Need-returns-2
 returns-2 c =
     let p = c .before .before .before .before .before .before .before .before .before .before .before .before .before .before .before .before .before .before .before .pre in

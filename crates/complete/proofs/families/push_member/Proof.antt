@@ -9,34 +9,28 @@ use Rattle.reduction.proofs.building.nodes.Reads as nodes-reads
 use Rattle.tree.proofs.cells.push_cell.Reads as push-cell-reads
 use Rattle.tree.proofs.cells.share.Reads as share-reads
 
--- src/families.rt:42:9
 share-requires : tie.Need-share-requires
 share-requires c κs = search needs
 
--- src/families.rt:43:9
 nodes-requires : tie.Need-nodes-requires
 nodes-requires c κs =
     let p = c .before .before .before .before .before .before .before .pre in
     (shared-arena (c .before .before .before .before .before .before .before .args .value) (p .0) (c .before .before .before .share .result) (c .before .before .before .share .ensures .1) (c .before .before .before .share .ensures .0), (omega (arith, c .before .before .before .share .ensures .0), omega (arith, shared-sizes (c .before .before .before .before .before .before .before .args .value) (p .0) (c .before .before .before .share .result) (c .before .before .before .share .ensures .1) (c .before .before .before .share .ensures .0), p .1 .1 .0)))
 
--- src/families.rt:44:60
 add-push-cell : tie.Need-add-push-cell
 add-push-cell c =
     let p = c .before .before .before .before .before .before .before .before .before .pre in
     omega (arith, c .before .nodes .ensures, shared-sizes (c .before .before .before .before .before .before .before .before .before .args .value) (p .0) (c .before .before .before .before .before .share .result) (c .before .before .before .before .before .share .ensures .1) (c .before .before .before .before .before .share .ensures .0), p .1 .1 .0)
 
--- src/families.rt:44:9
 push-cell-requires : tie.Need-push-cell-requires
 push-cell-requires c κs =
     let p = c .before .before .before .before .before .before .before .before .before .pre in
     let z = shared-sizes (c .before .before .before .before .before .before .before .before .before .args .value) (p .0) (c .before .before .before .before .before .share .result) (c .before .before .before .before .before .share .ensures .1) (c .before .before .before .before .before .share .ensures .0) in
     (omega (arith, c .before .before .before .before .before .share .ensures .0, c .before .before .before .before .before .share .ensures .1 .grown .len, p .1 .1 .1), ((omega arith, omega arith, omega arith, omega (arith, c .before .nodes .ensures, z, p .1 .1 .0)), (omega (arith, p .1 .1 .1), omega (arith, p .1 .0, p .1 .1 .1))))
 
--- src/families.rt:28:1
 same-length : tie.Need-same-length
 same-length c = search needs
 
--- src/families.rt:28:1
 returns : tie.Need-returns
 returns c =
     let p = c .before .before .before .before .before .before .before .before .before .before .before .before .pre in

@@ -18,53 +18,42 @@ Inv-loop sheet work₀ free cursor₀ list₀ end₀ work cursor list end = Gath
 abbrev μ-loop : tie.MeasureT-loop
 μ-loop sheet work₀ free cursor₀ list₀ end₀ work cursor list end = length sheet - cursor .at
 
--- src/families.rt:60:5
 loop-holds : tie.Need-loop-holds Inv-loop μ-loop
 loop-holds c = gathering-starts (c .before .before .args .sheet .now) (c .before .before .args .work .now) (c .before .before .args .free) (c .before .before .args .start .at) (c .before .before .pre .0)
 
--- src/families.rt:61:13
 next-member-requires : tie.Need-next-member-requires Inv-loop μ-loop
 next-member-requires c κs = tt
 
 enum-told : tie.Need-enum-told Inv-loop μ-loop
 enum-told c = search needs
 
--- src/families.rt:68:13
 enum-told-2 : tie.Need-enum-told-2 Inv-loop μ-loop
 enum-told-2 c = search needs
 
--- src/families.rt:68:13
 same-length : tie.Need-same-length Inv-loop μ-loop
 same-length c = c .before .before .before .loop .inv .kept .len
 
--- src/families.rt:68:13
 returns : tie.Need-returns Inv-loop μ-loop
 returns c = gathering-ends (c .before .before .before .loop .inv) (sym (c .enum-told2 .given .1) ∙ c .before .before .next-member .ensures)
 
--- src/families.rt:73:13
 read-member-requires : tie.Need-read-member-requires Inv-loop μ-loop
 read-member-requires c κs =
     let p = c .before .before .before .before .before .before .before .pre in
     let h = c .before .before .before .before .loop .inv in
     (h .arena, (p .1 .0, omega (arith, p .1, h .kept .len, h .used), omega (arith, p .1, h .used)))
 
--- src/families.rt:75:13
 enum-known-member : tie.Need-enum-known-member Inv-loop μ-loop
 enum-known-member c = search needs
 
--- src/families.rt:81:13
 enum-told-3 : tie.Need-enum-told-3 Inv-loop μ-loop
 enum-told-3 c = search needs
 
--- src/families.rt:81:13
 same-length-2 : tie.Need-same-length-2 Inv-loop μ-loop
 same-length-2 c = search needs
 
--- src/families.rt:81:13
 returns-2 : tie.Need-returns-2 Inv-loop μ-loop
 returns-2 c = gathering-unread (c .before .before .before .before .before .before .before .before .before .loop .inv) (c .before .before .before .before .before .before .enum-told .given .0 .0) (c .before .before .before .before .before .before .enum-told .given .0 .1 .0) (c .before .before .before .before .before .before .enum-told .given .0 .1 .1 .0) (sym (c .before .before .before .before .before .before .enum-told .given .1) ∙ c .before .before .before .before .before .before .before .before .next-member .ensures) (rw (c .enum-told3 .given .1) at (c .before .before .before .before .read-member .ensures))
 
--- src/families.rt:83:13
 push-member-requires : tie.Need-push-member-requires Inv-loop μ-loop
 push-member-requires c κs =
     let p = c .before .before .before .before .before .before .before .before .before .before .before .before .before .before .pre in
@@ -72,13 +61,11 @@ push-member-requires c κs =
     let x = rw (c .before .before .member .given .1) at (c .before .before .before .before .before .before .read-member .ensures) in
     (x .arena, ((x .placed .0, x .placed .1, x .inside, omega (arith, h .inside, x .grew)), (omega (arith, x .light, x .within, p .1), (omega (arith, x .used, x .onward, x .within, h .used, p .1, h .kept .len, x .kept .len), omega (arith, x .used, x .onward, x .within, h .used, p .1)))))
 
--- src/families.rt:60:5
 loop-less : tie.Need-loop-less Inv-loop μ-loop
 loop-less c =
     let x = rw (c .before .before .before .before .before .member .given .1) at (c .before .before .before .before .before .before .before .before .before .read-member .ensures) in
     omega (arith, x .onward, x .within)
 
--- src/families.rt:60:5
 loop-again : tie.Need-loop-again Inv-loop μ-loop
 loop-again c =
     let x = rw (c .before .before .before .before .before .member .given .1) at (c .before .before .before .before .before .before .before .before .before .read-member .ensures) in

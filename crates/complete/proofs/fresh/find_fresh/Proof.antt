@@ -13,31 +13,24 @@ use Rattle.complete.proofs.fresh.print_fresh.Reads as print-fresh-reads
 use Rattle.complete.proofs.searching.find_text.Reads as find-text-reads
 use Rattle.sheet.proofs.part.Reads as part-reads
 
--- src/fresh.rt:42:20
 name-bytes-requires : tie.Need-name-bytes-requires
 name-bytes-requires c κs = search needs
 
--- src/fresh.rt:43:30
 slice-aggregate-print-fresh : tie.Need-slice-aggregate-print-fresh
 slice-aggregate-print-fresh c = search needs
 
--- src/fresh.rt:43:9
 print-fresh-requires : tie.Need-print-fresh-requires
 print-fresh-requires c κs = search needs
 
--- src/fresh.rt:44:27
 slice-aggregate-part : tie.Need-slice-aggregate-part
 slice-aggregate-part c = search needs
 
--- src/fresh.rt:44:22
 part-requires : tie.Need-part-requires
 part-requires c κs = (omega arith, omega (arith, fresh-length (c .before .before .before .before .before .before .args .n), width-within (c .before .before .before .before .before .before .args .n) (omega arith), c .before .before .print-fresh .ensures .end, c .before .before .before .before .name-bytes .ensures))
 
--- src/fresh.rt:44:5
 find-text-requires : tie.Need-find-text-requires
 find-text-requires c κs = rw (c .part .ensures ∙ printed-front (c .before .before .before .print-fresh .ensures)) (fresh-some (c .before .before .before .before .before .before .before .args .n))
 
--- src/fresh.rt:39:1
 returns : tie.Need-returns
 returns c = subst (λ (x : Text). Finds (c .before .before .before .before .before .before .before .before .args .sheet .now) x (c .find-text .result)) (c .before .part .ensures ∙ printed-front (c .before .before .before .before .print-fresh .ensures)) (c .find-text .ensures)
 

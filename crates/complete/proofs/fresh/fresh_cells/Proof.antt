@@ -13,34 +13,27 @@ Inv-loop sheet work₀ free base n₀ end₀ work n end = Writing sheet work₀ 
 abbrev μ-loop : tie.MeasureT-loop
 μ-loop sheet work₀ free base n₀ end₀ work n end = 24 - n
 
--- src/fresh.rt:79:5
 loop-holds : tie.Need-loop-holds Inv-loop μ-loop
 loop-holds c = writing-starts (c .before .before .args .base) (c .before .before .pre .0 .0)
 
--- src/fresh.rt:80:9
 push-fresh-requires : tie.Need-push-fresh-requires Inv-loop μ-loop
 push-fresh-requires c κs =
     let h = c .before .before .loop .inv in
     let p = c .before .before .before .before .before .pre in
     ((h .arena, p .0 .1), ((c .before .loop-test .taken, p .0 .2), (omega (arith, h .end, h .grown .len), omega (arith, h .end))))
 
--- src/fresh.rt:81:9
 add-n : tie.Need-add-n Inv-loop μ-loop
 add-n c = omega arith
 
--- src/fresh.rt:79:5
 loop-less : tie.Need-loop-less Inv-loop μ-loop
 loop-less c = omega arith
 
--- src/fresh.rt:79:5
 loop-again : tie.Need-loop-again Inv-loop μ-loop
 loop-again c = writing-turn (c .before .before .before .before .before .before .before .before .pre .0 .0) (c .before .before .before .before .before .loop .inv) (c .before .before .push-fresh .result) (c .before .before .before .before .loop-test .taken) (c .before .before .push-fresh .ensures .1) (c .before .before .push-fresh .ensures .0)
 
--- src/fresh.rt:72:1
 same-length : tie.Need-same-length Inv-loop μ-loop
 same-length c = c .before .loop .inv .grown .len
 
--- src/fresh.rt:72:1
 returns : tie.Need-returns Inv-loop μ-loop
 returns c = writing-ends (c .before .before .before .before .pre .0 .0) (c .before .loop .inv) (c .loop-test .left)
 

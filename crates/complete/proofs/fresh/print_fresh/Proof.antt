@@ -8,31 +8,24 @@ use Rattle.complete.proofs.fresh.print_fresh.Lts as lts
 use Rattle.text.proofs.decimal.print.Reads as print-reads
 use Rattle.tree.proofs.names.print_text.Reads as print-text-reads
 
--- src/fresh.rt:26:36
 slice-aggregate-print-text : tie.Need-slice-aggregate-print-text
 slice-aggregate-print-text c = search needs
 
--- src/fresh.rt:26:9
 print-text-requires : tie.Need-print-text-requires
 print-text-requires c κs = search needs
 
--- src/fresh.rt:27:9
 print-requires : tie.Need-print-requires
 print-requires c κs = omega (arith, width-within (c .before .before .before .before .before .before .before .args .n) (omega arith))
 
--- src/fresh.rt:28:26
 slice-aggregate-print-text-2 : tie.Need-slice-aggregate-print-text-2
 slice-aggregate-print-text-2 c = search needs
 
--- src/fresh.rt:28:5
 print-text-requires-2 : tie.Need-print-text-requires-2
 print-text-requires-2 c κs = omega (arith, width-within (c .before .before .before .before .before .before .before .before .before .before .before .before .args .n) (omega arith))
 
--- src/fresh.rt:22:1
 same-length : tie.Need-same-length
 same-length c = search needs
 
--- src/fresh.rt:22:1
 returns : tie.Need-returns
 returns c = fresh-printed (c .before .before .before .before .before .before .before .before .before .before .before .before .before .before .before .args .n) (omega arith) (c .before .before .before .before .before .before .before .before .before .before .before .before .before .before .before .pre) (c .before .before .before .before .before .before .before .before .before .before .before .print-text .ensures) (c .before .before .before .before .before .before .before .print .ensures) (c .before .before .print-text2 .ensures)
 

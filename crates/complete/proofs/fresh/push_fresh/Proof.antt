@@ -13,58 +13,45 @@ use Rattle.tree.proofs.cells.push_unspelled.Reads as push-unspelled-reads
 use Rattle.cover.proofs.listing.push_variable.Reads as push-variable-reads
 use Rattle.text.proofs.decimal.width_of.Reads as width-of-reads
 
--- src/fresh.rt:62:18
 add-number : tie.Need-add-number
 add-number c = search needs
 
--- src/fresh.rt:63:9
 find-fresh-requires : tie.Need-find-fresh-requires
 find-fresh-requires c κs = search needs
 
--- src/fresh.rt:64:19
 enum-known-found : tie.Need-enum-known-found
 enum-known-found c = search needs
 
--- src/fresh.rt:65:38
 enum-told : tie.Need-enum-told
 enum-told c = search needs
 
--- src/fresh.rt:65:9
 push-unspelled-requires : tie.Need-push-unspelled-requires
 push-unspelled-requires c κs = search needs
 
--- src/fresh.rt:65:9
 same-length : tie.Need-same-length
 same-length c = search needs
 
--- src/fresh.rt:65:9
 returns : tie.Need-returns
 returns c = (c .before .before .push-unspelled .ensures .0, pushed-unspelled (c .before .before .before .before .before .before .before .before .before .args .sheet .now) (c .before .before .before .before .before .before .before .before .before .args .base) (c .before .before .before .before .before .before .before .before .before .args .n) (rw (c .before .before .before .before .enum-told .given .1) at (c .before .before .before .before .before .before .find-fresh .ensures)) (c .before .before .push-unspelled .ensures .1))
 
--- src/fresh.rt:67:37
 width-of-requires : tie.Need-width-of-requires
 width-of-requires c κs = search needs
 
--- src/fresh.rt:67:33
 add-place-of : tie.Need-add-place-of
 add-place-of c = omega (arith, c .width-of .ensures, width-within (c .before .before .before .before .before .before .before .args .base + c .before .before .before .before .before .before .before .args .n) (omega arith))
 
--- src/fresh.rt:67:9
 place-of-requires : tie.Need-place-of-requires
 place-of-requires c κs = place-fits (c .before .before .before .before .before .before .before .args .sheet .now) (c .before .before .before .before .before .before .before .args .base) (c .before .before .before .before .before .before .before .args .n) (rw (c .before .before .found .given .1) at (c .before .before .before .before .find-fresh .ensures)) (c .before .before .before .before .before .before .before .pre .0 .1) refl (omega arith) (c .width-of .ensures)
 
--- src/fresh.rt:68:5
 push-variable-requires : tie.Need-push-variable-requires
 push-variable-requires c κs =
     let p = c .before .before .before .before .before .before .before .before .before .pre in
     let h = p .0 .0 .links .some in
     (p .0 .0, ((place-variable (c .before .before .before .before .before .before .before .before .before .args .sheet .now) (c .before .before .before .before .before .before .before .before .before .args .base) (c .before .before .before .before .before .before .before .before .before .args .n) (rw (c .before .before .before .before .found .given .1) at (c .before .before .before .before .before .before .find-fresh .ensures)) (p .0 .1) refl (omega arith) (c .before .before .width-of .ensures) (c .before .place-of .ensures), p .0 .1), (h, p .1 .1 .0, p .1 .1 .1)))
 
--- src/fresh.rt:56:1
 same-length-2 : tie.Need-same-length-2
 same-length-2 c = search needs
 
--- src/fresh.rt:56:1
 returns-2 : tie.Need-returns-2
 returns-2 c = (c .before .before .push-variable .ensures .0, pushed-spelled (c .before .before .before .before .before .before .before .before .before .before .before .before .args .sheet .now) (c .before .before .before .before .before .before .before .before .before .before .before .before .args .base) (c .before .before .before .before .before .before .before .before .before .before .before .before .args .n) (rw (c .before .before .before .before .before .before .before .found .given .1) at (c .before .before .before .before .before .before .before .before .before .find-fresh .ensures)) (c .before .before .before .before .before .before .before .before .before .before .before .before .pre .0 .1) refl (omega arith) (c .before .before .before .before .before .width-of .ensures) (c .before .before .before .before .place-of .ensures) (c .before .before .push-variable .ensures .1))
 

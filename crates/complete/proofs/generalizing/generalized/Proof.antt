@@ -1,14 +1,14 @@
 use mathlib.Core.Path.{sym, _∙_}
-use Rattle.unifier.proofs.Areas.{below-then}
 use Prim.Native.Nat.{_<_}
 use native.Mathlib.Omega.{arith}
-use Rattle.complete.proofs.Generals.{Searching, arena-below, searching-starts, searching-ends, here-member, here-variables, here-matched, searching-found, searching-turn}
+use Rattle.complete.proofs.Generals.{Searching, searching-starts, searching-ends, here-member, here-variables, here-matched, searching-found, searching-turn}
 use Rattle.complete.proofs.generalizing.generalized.Statement.{statement}
 use Rattle.complete.proofs.generalizing.generalized.Tie as tie
 use Rattle.complete.proofs.generalizing.generalized.Reads as reads
 use Rattle.complete.proofs.generalizing.generalized.Lts as lts
 use Rattle.complete.proofs.generalizing.generalizes.Reads as generalizes-reads
 use Rattle.tree.proofs.cells.next_of.Reads as next-of-reads
+use Rattle.tree.proofs.Areas.{below-then, arena-below}
 
 abbrev Inv-loop : tie.InvT-loop
 Inv-loop sheet work₀ free members names bindings value k₀ work k = Searching sheet work₀ work free names bindings value members k
@@ -16,13 +16,11 @@ Inv-loop sheet work₀ free members names bindings value k₀ work k = Searching
 abbrev μ-loop : tie.MeasureT-loop
 μ-loop sheet work₀ free members names bindings value k₀ work k = k
 
--- src/generalizing.rt:75:5
 loop-holds : tie.Need-loop-holds Inv-loop μ-loop
 loop-holds c =
     let p = c .before .before .pre in
     searching-starts (c .before .before .args .sheet .now) (c .before .before .args .work .now) (c .before .before .args .free) (c .before .before .args .names) (c .before .before .args .bindings) (c .before .before .args .value) (c .before .before .args .members) (p .0 .0) (p .1 .0 .1) (p .1 .0 .2) (p .1 .0 .3) (p .1 .0 .4) (p .1 .0 .0) (p .1 .1 .1)
 
--- src/generalizing.rt:76:12
 generalizes-requires : tie.Need-generalizes-requires Inv-loop μ-loop
 generalizes-requires c κs =
     let p = c .before .before .before .before .before .pre in
@@ -31,11 +29,9 @@ generalizes-requires c κs =
     let q : 0 < c .before .before .loop .k = omega (arith, c .before .loop-test .taken) in
     ((arena-below (p .0 .0) (h .below), p .0 .1), ((q, h .left, p .1 .0 .1, p .1 .0 .2, p .1 .0 .3, p .1 .0 .4), ((here-member (a .sheet .now) (a .work .now) (a .free) (a .names) (a .bindings) (a .value) (a .members) (p .0 .0) (p .1 .0 .1) (p .1 .0 .2) (p .1 .0 .3) (p .1 .0 .4) h q, here-variables (a .sheet .now) (a .work .now) (a .free) (a .names) (a .bindings) (a .value) (a .members) (p .0 .0) (p .1 .0 .1) (p .1 .0 .2) (p .1 .0 .3) (p .1 .0 .4) h q (p .1 .1 .0)), here-matched (a .sheet .now) (a .work .now) (a .free) (a .names) (a .bindings) (a .value) (a .members) (p .0 .0) (p .1 .0 .1) (p .1 .0 .2) (p .1 .0 .3) (p .1 .0 .4) h q)))
 
--- src/generalizing.rt:77:13
 same-length : tie.Need-same-length Inv-loop μ-loop
 same-length c = c .before .before .before .generalizes .ensures .1 .len ∙ c .before .before .before .before .before .before .loop .inv .below .len
 
--- src/generalizing.rt:77:13
 returns : tie.Need-returns Inv-loop μ-loop
 returns c =
     let p = c .before .before .before .before .before .before .before .before .before .pre in
@@ -44,7 +40,6 @@ returns c =
     let q : 0 < c .before .before .before .before .before .before .loop .k = omega (arith, c .before .before .before .before .before .loop-test .taken) in
     searching-found (a .sheet .now) (a .work .now) (a .free) (a .names) (a .bindings) (a .value) (a .members) (p .0 .0) (p .1 .0 .1) (p .1 .0 .2) (p .1 .0 .3) (p .1 .0 .4) h q (sym (c .if1 .taken) ∙ c .before .before .before .generalizes .ensures .0, c .before .before .before .generalizes .ensures .1)
 
--- src/generalizing.rt:79:9
 next-of-requires : tie.Need-next-of-requires Inv-loop μ-loop
 next-of-requires c κs =
     let p = c .before .before .before .before .before .before .before .before .before .before .pre in
@@ -53,11 +48,9 @@ next-of-requires c κs =
     let b = below-then (h .below) (c .before .before .before .before .generalizes .ensures .1) (omega arith) in
     (arena-below (p .0 .0) b .links, (q, h .left))
 
--- src/generalizing.rt:75:5
 loop-less : tie.Need-loop-less Inv-loop μ-loop
 loop-less c = omega (arith, c .next-of .ensures .1)
 
--- src/generalizing.rt:75:5
 loop-again : tie.Need-loop-again Inv-loop μ-loop
 loop-again c =
     let p = c .before .before .before .before .before .before .before .before .before .before .before .pre in
@@ -66,11 +59,9 @@ loop-again c =
     let q : 0 < c .before .before .before .before .before .before .before .before .loop .k = omega (arith, c .before .before .before .before .before .before .before .loop-test .taken) in
     searching-turn (a .sheet .now) (a .work .now) (a .free) (a .names) (a .bindings) (a .value) (a .members) (p .0 .0) (p .1 .0 .1) (p .1 .0 .2) (p .1 .0 .3) (p .1 .0 .4) h q (c .next-of .result) (sym (c .before .before .if1 .left) ∙ c .before .before .before .before .before .generalizes .ensures .0, c .before .before .before .before .before .generalizes .ensures .1) (c .next-of .ensures .0)
 
--- src/generalizing.rt:59:1
 same-length-2 : tie.Need-same-length-2 Inv-loop μ-loop
 same-length-2 c = c .before .loop .inv .below .len
 
--- src/generalizing.rt:59:1
 returns-2 : tie.Need-returns-2 Inv-loop μ-loop
 returns-2 c =
     let p = c .before .before .before .before .pre in

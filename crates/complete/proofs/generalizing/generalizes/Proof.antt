@@ -14,18 +14,15 @@ use Rattle.tree.proofs.cells.first_of.Reads as first-of-reads
 use Rattle.tree.proofs.cells.next_of.Reads as next-of-reads
 use Rattle.unifier.proofs.matching.matcher.Reads as matcher-reads
 
--- src/generalizing.rt:39:9
 first-of-requires : tie.Need-first-of-requires
 first-of-requires c κs = search needs
 
--- src/generalizing.rt:40:9
 next-of-requires : tie.Need-next-of-requires
 next-of-requires c κs =
     let p = c .before .before .before .before .before .pre in
     let m = c .before .before .before .before .before .args .member in
     (p .0 .0 .links, (own-some m (p .0 .0) (p .1 .0 .0) (p .1 .0 .1) (p .1 .1 .0 .0) (c .before .first-of .result) (c .before .first-of .ensures .0), own-inside m (p .0 .0) (p .1 .0 .0) (p .1 .0 .1) (p .1 .1 .0 .0) (c .before .first-of .result) (c .before .first-of .ensures .0)))
 
--- src/generalizing.rt:41:9
 push-pair-requires : tie.Need-push-pair-requires
 push-pair-requires c κs =
     let p = c .before .before .before .before .before .before .before .pre in
@@ -33,7 +30,6 @@ push-pair-requires c κs =
     let r = p .1 .1 .1 .room in
     (p .0 .0, ((own-some m (p .0 .0) (p .1 .0 .0) (p .1 .0 .1) (p .1 .1 .0 .0) (c .before .before .before .first-of .result) (c .before .before .before .first-of .ensures .0), own-inside m (p .0 .0) (p .1 .0 .0) (p .1 .0 .1) (p .1 .1 .0 .0) (c .before .before .before .first-of .result) (c .before .before .before .first-of .ensures .0), p .1 .0 .4, p .1 .0 .5, p .0 .0 .links .some), (omega (arith, r .0), omega (arith, r .1))))
 
--- src/generalizing.rt:42:9
 pair-variables-requires : tie.Need-pair-variables-requires
 pair-variables-requires c κs =
     let p = c .before .before .before .before .before .before .before .before .before .before .before .pre in
@@ -47,7 +43,6 @@ pair-variables-requires c κs =
     let e = entries-inside m (p .0 .0) (p .1 .0 .0) (p .1 .0 .1) (p .1 .1 .0 .0) (c .before .before .before .before .before .before .before .first-of .result) (c .before .before .before .before .before .before .before .first-of .ensures .0) (c .before .before .before .before .before .next-of .result) (c .before .before .before .before .before .next-of .ensures .0) in
     (d .arena, ((omega (arith, z, p .1 .0 .2), omega (arith, z, e), omega (arith, z, p .1 .0 .3), subst OfVariables t (p .1 .1 .0 .1), d .inside), (omega (arith, r .0, z), omega (arith, r .1, z))))
 
--- src/generalizing.rt:51:9
 matcher-requires : tie.Need-matcher-requires
 matcher-requires c κs =
     let p = c .before .before .before .before .before .before .before .before .before .before .before .before .before .before .before .pre in
@@ -60,25 +55,20 @@ matcher-requires c κs =
     let f = c .before .before .before .before .before .before .before .before .before .next-of .ensures .0 in
     (g .made .arena, ((g .made .inside, p .0 .1, its-whole m (p .0 .0) (p .1 .0 .0) (p .1 .0 .1) (p .1 .1 .0 .0) (c .before .before .before .before .before .before .before .before .before .before .before .first-of .result) e (c .before .before .before .before .before .before .before .before .before .next-of .result) f v (p .1 .0 .2) (p .1 .0 .3) d z g, its-fit m (p .0 .0) (p .1 .0 .0) (p .1 .0 .1) (p .1 .1 .0 .0) (c .before .before .before .before .before .before .before .before .before .before .before .first-of .result) e (c .before .before .before .before .before .before .before .before .before .next-of .result) f v (p .1 .0 .2) (p .1 .0 .3) d z g (p .1 .1 .1)), its-room m (p .0 .0) (p .1 .0 .0) (p .1 .0 .1) (p .1 .1 .0 .0) (c .before .before .before .before .before .before .before .before .before .before .before .first-of .result) e (c .before .before .before .before .before .before .before .before .before .next-of .result) f v (p .1 .0 .2) (p .1 .0 .3) d z g (p .1 .1 .1)))
 
--- src/generalizing.rt:53:41
 enum-told : tie.Need-enum-told
 enum-told c = search needs
 
--- src/generalizing.rt:24:1
 same-length : tie.Need-same-length
 same-length c = search needs
 
--- src/generalizing.rt:24:1
 returns : tie.Need-returns
 returns c =
     let p = c .before .before .before .before .before .before .before .before .before .before .before .before .before .before .before .before .before .before .before .before .pre in
     failed-not (c .before .before .before .before .before .before .before .before .before .before .before .before .before .before .before .before .before .before .before .before .args .member) (p .0 .0) (p .1 .0 .0) (p .1 .0 .1) (p .1 .1 .0 .0) (c .before .before .before .before .before .before .before .before .before .before .before .before .before .before .before .before .first-of .result) (c .before .before .before .before .before .before .before .before .before .before .before .before .before .before .before .before .first-of .ensures .0) (c .before .before .before .before .before .before .before .before .before .before .before .before .before .before .next-of .result) (c .before .before .before .before .before .before .before .before .before .before .before .before .before .before .next-of .ensures .0) (c .before .before .before .before .before .before .before .before .before .before .before .before .before .before .before .before .before .before .before .before .args .value) (p .1 .0 .2) (p .1 .0 .3) (c .before .before .before .before .before .before .before .before .before .before .before .before .push-pair .ensures .0) (c .before .before .before .before .before .before .before .before .before .before .before .before .push-pair .ensures .1) (c .before .before .before .before .before .before .before .before .pair-variables .ensures) (p .1 .1 .1) (c .enum-told .given .0 .0) (p .0 .1) (rw (c .enum-told .given .1) at (c .before .before .before .before .matcher .ensures))
 
--- src/generalizing.rt:24:1
 same-length-2 : tie.Need-same-length-2
 same-length-2 c = search needs
 
--- src/generalizing.rt:24:1
 returns-2 : tie.Need-returns-2
 returns-2 c =
     let p = c .before .before .before .before .before .before .before .before .before .before .before .before .before .before .before .before .before .before .before .pre in

@@ -21,61 +21,47 @@ Inv-loop sheet work at end base₀ i₀ base i = (i₀ ≤ i) × (i ≤ end) × 
 abbrev μ-loop : tie.MeasureT-loop
 μ-loop sheet work at end base₀ i₀ base i = end - i
 
--- src/indices.rt:55:5
 loop-holds : tie.Need-loop-holds Inv-loop μ-loop
 loop-holds c = (omega arith, c .before .before .pre .0, omega arith, refl)
 
--- src/indices.rt:56:45
 mul-text-at : tie.Need-mul-text-at Inv-loop μ-loop
 mul-text-at c = omega (arith, c .before .before .before .before .pre)
 
--- src/indices.rt:56:45
 shared-slice-read-text-at : tie.Need-shared-slice-read-text-at Inv-loop μ-loop
 shared-slice-read-text-at c = omega (arith, c .before .before .before .before .before .pre)
 
--- src/indices.rt:56:30
 text-at-requires : tie.Need-text-at-requires Inv-loop μ-loop
 text-at-requires c κs = tt
 
--- src/indices.rt:56:13
 index-of-requires : tie.Need-index-of-requires Inv-loop μ-loop
 index-of-requires c κs = tt
 
--- src/indices.rt:57:24
 enum-known-index : tie.Need-enum-known-index Inv-loop μ-loop
 enum-known-index c = search needs
 
--- src/indices.rt:58:13
 enum-told : tie.Need-enum-told Inv-loop μ-loop
 enum-told c = search needs
 
--- src/indices.rt:58:13
 returns : tie.Need-returns Inv-loop μ-loop
 returns c = rest-fails (c .before .before .before .before .before .before .before .before .before .args .sheet .now) (c .before .before .before .before .before .before .before .before .before .args .work .now) (c .before .before .before .before .before .before .loop .i) (c .before .before .before .before .before .before .before .before .before .args .end) (c .before .before .before .before .before .before .loop .base) (c .before .before .before .before .before .loop-test .taken) (c .before .before .before .before .before .before .before .before .before .pre .1) (c .before .before .before .text-at .ensures) (c .before .before .before .before .before .before .loop .inv .3) (sym (c .enum-told .given .1) ∙ c .before .before .index-of .ensures)
 
--- src/indices.rt:60:29
 add-larger : tie.Need-add-larger Inv-loop μ-loop
 add-larger c = omega (arith, index-small (c .before .before .before .before .text-at .result .now) (c .before .index .given .0 .0) (sym (c .before .index .given .1) ∙ c .before .before .before .index-of .ensures))
 
--- src/indices.rt:60:9
 larger-requires : tie.Need-larger-requires Inv-loop μ-loop
 larger-requires c κs = search needs
 
--- src/indices.rt:61:9
 add-i : tie.Need-add-i Inv-loop μ-loop
 add-i c = omega (arith, c .before .before .before .before .before .before .before .before .before .before .before .pre)
 
--- src/indices.rt:55:5
 loop-less : tie.Need-loop-less Inv-loop μ-loop
 loop-less c = omega arith
 
--- src/indices.rt:55:5
 loop-again : tie.Need-loop-again Inv-loop μ-loop
 loop-again c =
     let z = index-small (c .before .before .before .before .before .text-at .result .now) (c .before .before .index .given .0 .0) (sym (c .before .before .index .given .1) ∙ c .before .before .before .before .index-of .ensures) in
     (omega arith, omega arith, omega (arith, c .larger .ensures), rw (c .larger .ensures) (rest-passes (c .before .before .before .before .before .before .before .before .before .before .before .args .sheet .now) (c .before .before .before .before .before .before .before .before .before .before .before .args .work .now) (c .before .before .before .before .before .before .before .before .loop .i) (c .before .before .before .before .before .before .before .before .before .before .before .args .end) (c .before .before .before .before .before .before .before .before .loop .base) (c .before .before .before .before .before .before .before .loop-test .taken) (c .before .before .before .before .before .before .before .before .before .before .before .pre .1) (c .before .before .before .before .before .text-at .ensures) (c .before .before .before .before .before .before .before .before .loop .inv .3) (sym (c .before .before .index .given .1) ∙ c .before .before .before .before .index-of .ensures)))
 
--- src/indices.rt:49:1
 returns-2 : tie.Need-returns-2 Inv-loop μ-loop
 returns-2 c = rest-ends (c .before .before .before .before .args .sheet .now) (c .before .before .before .before .args .work .now) (c .before .loop .i) (c .before .before .before .before .args .end) (c .before .loop .base) (c .loop-test .left) (c .before .loop .inv .3)
 

@@ -11,31 +11,24 @@ use Rattle.sheet.proofs.part.Reads as part-reads
 use Rattle.syntax.proofs.run_end.Reads as run-end-reads
 use Rattle.text.proofs.decimal.number_up_to.Reads as number-up-to-reads
 
--- src/indices.rt:29:9
 returns : tie.Need-returns
 returns c = no-name (c .before .before .args .name .now) (c .if1 .taken)
 
--- src/indices.rt:31:8
 shared-slice-read-if2 : tie.Need-shared-slice-read-if2
 shared-slice-read-if2 c = search needs
 
--- src/indices.rt:32:9
 returns-2 : tie.Need-returns-2
 returns-2 c = unindexed (c .before .before .before .before .args .name .now) (c .if2 .taken)
 
--- src/indices.rt:34:9
 run-end-requires : tie.Need-run-end-requires
 run-end-requires c κs = search needs
 
--- src/indices.rt:35:18
 part-requires : tie.Need-part-requires
 part-requires c κs = digits-inside (c .before .before .before .before .before .args .name .now) (c .run-end .result) (omega (arith, c .before .before .before .if1 .left)) (c .run-end .ensures)
 
--- src/indices.rt:35:5
 number-up-to-requires : tie.Need-number-up-to-requires
 number-up-to-requires c κs = search needs
 
--- src/indices.rt:25:1
 returns-3 : tie.Need-returns-3
 returns-3 c = c .number-up-to .ensures ∙ ap number-of (index-read (c .before .before .before .before .before .before .before .args .name .now) (c .before .part .result .now) (c .before .before .run-end .result) (c .before .before .run-end .ensures) (c .before .part .ensures) (c .before .before .before .if2 .left))
 

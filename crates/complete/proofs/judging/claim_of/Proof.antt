@@ -5,35 +5,27 @@ use Rattle.complete.proofs.judging.claim_of.Tie as tie
 use Rattle.complete.proofs.judging.claim_of.Reads as reads
 use Rattle.complete.proofs.judging.claim_of.Lts as lts
 
--- src/judging.rt:134:28
 enum-told : tie.Need-enum-told
 enum-told c = search needs
 
--- src/judging.rt:135:28
 enum-told-2 : tie.Need-enum-told-2
 enum-told-2 c = search needs
 
--- src/judging.rt:136:25
 enum-told-3 : tie.Need-enum-told-3
 enum-told-3 c = search needs
 
--- src/judging.rt:137:32
 enum-told-4 : tie.Need-enum-told-4
 enum-told-4 c = search needs
 
--- src/judging.rt:130:1
 returns : tie.Need-returns
 returns c = rw (c .enum-told .given .1) ends-pending
 
--- src/judging.rt:130:1
 returns-2 : tie.Need-returns-2
 returns-2 c = rw (c .enum-told2 .given .1) ends-missing
 
--- src/judging.rt:130:1
 returns-3 : tie.Need-returns-3
 returns-3 c = rw (c .enum-told3 .given .1) ends-over
 
--- src/judging.rt:130:1
 returns-4 : tie.Need-returns-4
 returns-4 c = rw (c .enum-told4 .given .1) ends-unsupported
 

@@ -6,23 +6,18 @@ use Rattle.complete.proofs.judging.enough.Tie as tie
 use Rattle.complete.proofs.judging.enough.Reads as reads
 use Rattle.complete.proofs.judging.enough.Lts as lts
 
--- src/judging.rt:79:24
 mul-fuel : tie.Need-mul-fuel
 mul-fuel c = search needs
 
--- src/judging.rt:79:16
 add-fuel : tie.Need-add-fuel
 add-fuel c = search needs
 
--- src/judging.rt:79:16
 add-fuel-2 : tie.Need-add-fuel-2
 add-fuel-2 c = search needs
 
--- src/judging.rt:81:9
 returns : tie.Need-returns
 returns c = fuel-below (c .before .args .nodes) (c .before .args .named) (omega arith)
 
--- src/judging.rt:75:1
 returns-2 : tie.Need-returns-2
 returns-2 c = fuel-above (c .before .args .nodes) (c .before .args .named) (omega arith)
 

@@ -2,7 +2,7 @@ use borrow.Author.Needs.{needs}
 use Prim.Native.Nat.{_<_, _-_}
 use native.Mathlib.Omega.{arith}
 use mathlib.Core.Path.{_∙_}
-use Rattle.complete.proofs.Generals.{arena-below}
+use Rattle.tree.proofs.Areas.{arena-below}
 use Rattle.complete.proofs.Deciding.{Going, going-starts, going-ends, here-variables, here-term, here-judgeable, going-kept, going-unsupported, going-turn}
 use Rattle.complete.proofs.judging.judge.Statement.{statement}
 use Rattle.complete.proofs.judging.judge.Tie as tie
@@ -17,13 +17,11 @@ Inv-loop sheet work₀ free term fresh count named names members state₀ i₀ w
 abbrev μ-loop : tie.MeasureT-loop
 μ-loop sheet work₀ free term fresh count named names members state₀ i₀ work state i = count - i
 
--- src/judging.rt:161:5
 loop-holds : tie.Need-loop-holds Inv-loop μ-loop
 loop-holds c =
     let a = c .before .before .args in
     going-starts (a .sheet .now) (a .work .now) (a .free) (a .fresh) (a .term) (a .names) (a .members) (a .count)
 
--- src/judging.rt:162:9
 judge-scheme-requires : tie.Need-judge-scheme-requires Inv-loop μ-loop
 judge-scheme-requires c κs =
     let a = c .before .before .before .before .before .args in
@@ -33,15 +31,12 @@ judge-scheme-requires c κs =
     let t = here-term (a .sheet .now) (a .work .now) (a .free) (a .fresh) (a .term) (a .names) (a .members) (a .count) (p .0 .0) (p .1 .0 .0) (p .1 .0 .1) (p .1 .0 .2) (p .1 .0 .3) h (p .1 .1 .0 .0) (p .1 .1 .0 .1) in
     ((arena-below (p .0 .0) (h .below), p .0 .1), ((p .1 .0 .0, p .1 .0 .1, p .1 .0 .2, p .1 .0 .3, here-variables (a .sheet .now) (a .work .now) (a .free) (a .fresh) (a .term) (a .names) (a .members) (a .count) (p .0 .0) (p .1 .0 .0) (p .1 .0 .1) (p .1 .0 .2) (p .1 .0 .3) h (p .1 .0 .4)), ((t .0, t .1, p .1 .1 .0 .2, l), here-judgeable (a .sheet .now) (a .work .now) (a .free) (a .fresh) (a .term) (a .names) (a .members) (a .count) (p .0 .0) (p .1 .0 .0) (p .1 .0 .1) (p .1 .0 .2) (p .1 .0 .3) h (p .1 .1 .1) l)))
 
--- src/judging.rt:176:13
 enum-told : tie.Need-enum-told Inv-loop μ-loop
 enum-told c = search needs
 
--- src/judging.rt:176:13
 same-length : tie.Need-same-length Inv-loop μ-loop
 same-length c = c .before .before .before .before .judge-scheme .ensures .1 .len ∙ c .before .before .before .before .before .before .before .loop .inv .below .len
 
--- src/judging.rt:176:13
 returns : tie.Need-returns Inv-loop μ-loop
 returns c =
     let a = c .before .before .before .before .before .before .before .before .before .before .args in
@@ -49,15 +44,12 @@ returns c =
     let h = c .before .before .before .before .before .before .before .loop .inv in
     going-unsupported (a .sheet .now) (a .work .now) (a .free) (a .fresh) (a .term) (a .names) (a .members) (a .count) (p .0 .0) (p .1 .0 .0) (p .1 .0 .1) (p .1 .0 .2) (p .1 .0 .3) h (p .1 .1 .0 .1) (omega arith) (c .before .before .before .before .judge-scheme .result) (c .before .before .before .before .judge-scheme .ensures) (c .enum-told .given .1)
 
--- src/judging.rt:178:9
 add-i : tie.Need-add-i Inv-loop μ-loop
 add-i c = omega arith
 
--- src/judging.rt:161:5
 loop-less : tie.Need-loop-less Inv-loop μ-loop
 loop-less c = omega arith
 
--- src/judging.rt:161:5
 loop-again : tie.Need-loop-again Inv-loop μ-loop
 loop-again c =
     let a = c .before .before .before .before .before .before .before .before .before .args in
@@ -65,15 +57,12 @@ loop-again c =
     let h = c .before .before .before .before .before .before .loop .inv in
     going-turn (a .sheet .now) (a .work .now) (a .free) (a .fresh) (a .term) (a .names) (a .members) (a .count) (p .0 .0) (p .1 .0 .0) (p .1 .0 .1) (p .1 .0 .2) (p .1 .0 .3) h (p .1 .1 .0 .1) (omega arith) (c .before .before .before .judge-scheme .result) (c .before .before .before .judge-scheme .ensures) (c .match .keys2)
 
--- src/judging.rt:180:5
 claim-of-requires : tie.Need-claim-of-requires Inv-loop μ-loop
 claim-of-requires c κs = search needs
 
--- src/judging.rt:142:1
 same-length-2 : tie.Need-same-length-2 Inv-loop μ-loop
 same-length-2 c = c .before .before .loop .inv .below .len
 
--- src/judging.rt:142:1
 returns-2 : tie.Need-returns-2 Inv-loop μ-loop
 returns-2 c =
     let a = c .before .before .before .before .before .args in

@@ -15,7 +15,6 @@ use Rattle.cover.proofs.covered.nodes_in.Reads as nodes-in-reads
 use Rattle.schemes.proofs.systems.system_at.Reads as system-at-reads
 use Rattle.unifier.proofs.unifying.unify.Reads as unify-reads
 
--- src/judging.rt:107:9
 system-at-requires : tie.Need-system-at-requires
 system-at-requires c κs =
     let p = c .before .before .before .pre in
@@ -23,84 +22,72 @@ system-at-requires c κs =
     let r = k .scheme .room in
     ((p .0 .0, record { name = k .name; cells = k .cells }), ((p .1 .0 .0, p .1 .0 .1, p .1 .1 .0 .0), ((p .1 .1 .0 .1, p .1 .1 .0 .2, p .1 .1 .0 .3), (omega (arith, r .0), omega (arith, r .1)))))
 
--- src/judging.rt:111:9
 nodes-in-requires : tie.Need-nodes-in-requires
 nodes-in-requires c κs =
     let k = c .before .before .before .before .before .before .before .pre .1 .1 .1 in
     let y = c .before .before .before .system-at .ensures (k .name) (k .cells) in
     (y .written .arena, (y .stack .inside, nodes-few (k .scheme) y .1))
 
--- src/judging.rt:112:9
 enough-requires : tie.Need-enough-requires
 enough-requires c κs =
     let k = c .before .before .before .before .before .before .before .before .pre .1 .1 .1 in
     let y = c .before .before .before .before .system-at .ensures (k .name) (k .cells) in
     omega (arith, nodes-few (k .scheme) y .0, c .nodes-in .ensures)
 
--- src/judging.rt:113:22
 add-limit : tie.Need-add-limit
 add-limit c =
     let k = c .before .before .before .before .before .before .before .before .before .pre .1 .1 .1 in
     let y = c .before .before .before .before .before .system-at .ensures (k .name) (k .cells) in
     omega (arith, limit-few (k .scheme) y (c .before .nodes-in .result) (c .enough .result) (c .before .nodes-in .ensures) (c .enough .ensures))
 
--- src/judging.rt:113:36
 mul-limit : tie.Need-mul-limit
 mul-limit c =
     let k = c .before .before .before .before .before .before .before .before .before .pre .1 .1 .1 in
     let y = c .before .before .before .before .before .system-at .ensures (k .name) (k .cells) in
     omega (arith, limit-few (k .scheme) y (c .before .nodes-in .result) (c .enough .result) (c .before .nodes-in .ensures) (c .enough .ensures))
 
--- src/judging.rt:113:22
 add-limit-2 : tie.Need-add-limit-2
 add-limit-2 c =
     let k = c .before .before .before .before .before .before .before .before .before .pre .1 .1 .1 in
     let y = c .before .before .before .before .before .system-at .ensures (k .name) (k .cells) in
     omega (arith, limit-few (k .scheme) y (c .before .nodes-in .result) (c .enough .result) (c .before .nodes-in .ensures) (c .enough .ensures))
 
--- src/judging.rt:113:47
 mul-limit-2 : tie.Need-mul-limit-2
 mul-limit-2 c =
     let k = c .before .before .before .before .before .before .before .before .before .pre .1 .1 .1 in
     let y = c .before .before .before .before .before .system-at .ensures (k .name) (k .cells) in
     omega (arith, limit-few (k .scheme) y (c .before .nodes-in .result) (c .enough .result) (c .before .nodes-in .ensures) (c .enough .ensures))
 
--- src/judging.rt:113:22
 add-limit-3 : tie.Need-add-limit-3
 add-limit-3 c =
     let k = c .before .before .before .before .before .before .before .before .before .pre .1 .1 .1 in
     let y = c .before .before .before .before .before .system-at .ensures (k .name) (k .cells) in
     omega (arith, limit-few (k .scheme) y (c .before .nodes-in .result) (c .enough .result) (c .before .nodes-in .ensures) (c .enough .ensures))
 
--- src/judging.rt:113:17
 mul-limit-3 : tie.Need-mul-limit-3
 mul-limit-3 c =
     let k = c .before .before .before .before .before .before .before .before .before .pre .1 .1 .1 in
     let y = c .before .before .before .before .before .system-at .ensures (k .name) (k .cells) in
     omega (arith, limit-few (k .scheme) y (c .before .nodes-in .result) (c .enough .result) (c .before .nodes-in .ensures) (c .enough .ensures))
 
--- src/judging.rt:113:17
 add-limit-4 : tie.Need-add-limit-4
 add-limit-4 c =
     let k = c .before .before .before .before .before .before .before .before .before .pre .1 .1 .1 in
     let y = c .before .before .before .before .before .system-at .ensures (k .name) (k .cells) in
     omega (arith, limit-few (k .scheme) y (c .before .nodes-in .result) (c .enough .result) (c .before .nodes-in .ensures) (c .enough .ensures))
 
--- src/judging.rt:114:32
 slice-relend-prefix-unify : tie.Need-slice-relend-prefix-unify
 slice-relend-prefix-unify c =
     let k = c .before .before .before .before .before .before .before .before .before .pre .1 .1 .1 in
     let y = c .before .before .before .before .before .system-at .ensures (k .name) (k .cells) in
     limit-inside (k .scheme) y _ (c .before .nodes-in .result) (c .enough .result) (c .before .nodes-in .ensures) (c .enough .ensures) refl
 
--- src/judging.rt:114:32
 slice-aggregate-unify : tie.Need-slice-aggregate-unify
 slice-aggregate-unify c =
     let k = c .before .before .before .before .before .before .before .before .before .before .pre .1 .1 .1 in
     let y = c .before .before .before .before .before .before .system-at .ensures (k .name) (k .cells) in
     sym (length-take-le _ _ (limit-inside (k .scheme) y _ (c .before .before .nodes-in .result) (c .before .enough .result) (c .before .before .nodes-in .ensures) (c .before .enough .ensures) refl))
 
--- src/judging.rt:114:9
 unify-requires : tie.Need-unify-requires
 unify-requires c κs =
     let k = c .before .before .before .before .before .before .before .before .before .before .pre .1 .1 .1 in
@@ -109,23 +96,18 @@ unify-requires c κs =
     let d = c .before .enough .ensures in
     (run-arena (k .scheme) y _ _ _ n d refl, ((y .stack .inside, fuel-most (k .scheme) y _ _ _ n d refl, run-whole (k .scheme) y _ _ _ n d refl, run-fit (k .scheme) y _ _ _ n d refl), run-roomy (k .scheme) y _ _ _ n d refl))
 
--- src/judging.rt:116:46
 enum-told : tie.Need-enum-told
 enum-told c = search needs
 
--- src/judging.rt:117:41
 enum-told-2 : tie.Need-enum-told-2
 enum-told-2 c = search needs
 
--- src/judging.rt:119:13
 enum-known-outcome : tie.Need-enum-known-outcome
 enum-known-outcome c = search needs
 
--- src/judging.rt:123:52
 enum-told-3 : tie.Need-enum-told-3
 enum-told-3 c = search needs
 
--- src/judging.rt:123:32
 judge-solved-requires : tie.Need-judge-solved-requires
 judge-solved-requires c κs =
     let a = c .before .before .before .before .before .before .before .before .before .before .before .before .before .before .before .before .before .before .before .args in
@@ -140,11 +122,9 @@ judge-solved-requires c κs =
     let gr = top-grew (k .scheme) y _ _ _ n d refl u _ _ _ g in
     ((solved-arena (k .scheme) y _ _ _ n d refl u _ _ _ g, p .0 .1), ((vi .0, vi .1, g .1 .inside, omega (arith, gr, p .1 .0 .2), omega (arith, gr, p .1 .0 .3), solved-variables (k .scheme) y _ _ _ n d refl u _ _ _ g (a .names) (a .members) (p .0 .0) (p .1 .0 .2) (p .1 .0 .3) refl refl (p .1 .0 .4)), (solved-room (k .scheme) y _ _ _ n d refl u _ _ _ g, solved-matched (k .scheme) y _ _ _ n d refl u _ _ _ g (a .names) (a .members) (p .0 .0) (p .1 .0 .2) (p .1 .0 .3) refl refl)))
 
--- src/judging.rt:88:1
 same-length : tie.Need-same-length
 same-length c = search needs
 
--- src/judging.rt:88:1
 returns : tie.Need-returns
 returns c =
     let a = c .before .before .before .before .before .before .before .before .before .before .before .before .before .before .before .args in
@@ -156,11 +136,9 @@ returns c =
     let u = c .before .before .before .before .unify .last .1 .0 in
     judged-unsupported k (c .before .before .before .before .before .before .before .before .before .before .before .system-at .ensures) (a .before) (run-unsupported (k .scheme) y _ _ _ n d refl u _ (rw (c .enum-told .given .1) at (c .before .before .before .before .unify .ensures)))
 
--- src/judging.rt:88:1
 same-length-2 : tie.Need-same-length-2
 same-length-2 c = search needs
 
--- src/judging.rt:88:1
 returns-2 : tie.Need-returns-2
 returns-2 c =
     let a = c .before .before .before .before .before .before .before .before .before .before .before .before .before .before .before .args in
@@ -172,11 +150,9 @@ returns-2 c =
     let u = c .before .before .before .before .unify .last .1 .0 in
     judged-failed k (c .before .before .before .before .before .before .before .before .before .before .before .system-at .ensures) (a .before) (run-failed (k .scheme) y _ _ _ n d refl u _ (rw (c .enum-told2 .given .1) at (c .before .before .before .before .unify .ensures)))
 
--- src/judging.rt:88:1
 same-length-3 : tie.Need-same-length-3
 same-length-3 c = search needs
 
--- src/judging.rt:88:1
 returns-3 : tie.Need-returns-3
 returns-3 c =
     let a = c .before .before .before .before .before .before .before .before .before .before .before .before .before .before .before .before .before .before .before .before .before .before .args in
@@ -189,11 +165,9 @@ returns-3 c =
     let g = rw (c .before .before .before .before .before .before .before .outcome .given .1) at (c .before .before .before .before .before .before .before .before .before .before .before .unify .ensures) in
     judged-solved k (c .before .before .before .before .before .before .before .before .before .before .before .before .before .before .before .before .before .before .system-at .ensures) (a .before) _ (is-solved (k .scheme) y _ _ _ n d refl u _ _ _ g) (c .before .before .before .before .enum-told3 .given .1) (c .before .before .judge-solved .result) (solved-judged (k .scheme) y _ _ _ n d refl u _ _ _ g (a .names) (a .members) (p .0 .0) (p .1 .0 .2) (p .1 .0 .3) refl refl (c .before .before .judge-solved .ensures))
 
--- src/judging.rt:88:1
 same-length-4 : tie.Need-same-length-4
 same-length-4 c = search needs
 
--- src/judging.rt:88:1
 returns-4 : tie.Need-returns-4
 returns-4 c =
     let a = c .before .before .before .before .before .before .before .before .before .before .before .before .before .before .before .before .before .args in

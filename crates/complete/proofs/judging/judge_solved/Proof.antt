@@ -4,8 +4,8 @@ use mathlib.Core.Bool.{true, false}
 use native.Mathlib.Omega.{arith}
 use borrow.Author.Tests.{not-true, not-false}
 use Rattle.tree.specs.Cells.{tree-at}
+use Rattle.tree.proofs.Areas.{below-grown}
 use Rattle.substitution.specs.Bindings.{bindings-at}
-use Rattle.unifier.proofs.Areas.{below-grown}
 use Rattle.variants.proofs.Claiming.{built-small}
 use Rattle.cover.specs.Generals.{names-at}
 use Rattle.complete.specs.Generalizing.{variants-at}
@@ -20,30 +20,24 @@ use Rattle.equivalence.proofs.equivalent.Reads as equivalent-reads
 use Rattle.reduction.proofs.normalizing.normalize.Reads as normalize-reads
 use Rattle.substitution.proofs.instances.substitute.Reads as substitute-reads
 
--- src/judging.rt:54:9
 substitute-requires : tie.Need-substitute-requires
 substitute-requires c κs = search needs
 
--- src/judging.rt:56:9
 enum-known-built : tie.Need-enum-known-built
 enum-known-built c = search needs
 
--- src/judging.rt:61:9
 enum-told : tie.Need-enum-told
 enum-told c = search needs
 
--- src/judging.rt:61:9
 same-length : tie.Need-same-length
 same-length c = search needs
 
--- src/judging.rt:61:9
 returns : tie.Need-returns
 returns c =
     let a = c .before .before .before .before .before .before .before .before .args in
     let x = rw (c .enum-told .given .1) at (c .before .before .before .before .substitute .ensures) in
     (ap some (sym (judge-over (names-at (a .sheet .now) (a .work .now) (a .names)) (variants-at (a .sheet .now) (a .work .now) (a .members)) (bindings-at (a .sheet .now) (a .work .now) (a .bindings)) (tree-at (a .sheet .now) (a .work .now) (a .value)) (x .0))), below-grown (x .1))
 
--- src/judging.rt:63:9
 normalize-requires : tie.Need-normalize-requires
 normalize-requires c κs =
     let p = c .before .before .before .before .before .before .before .before .before .before .pre in
@@ -51,7 +45,6 @@ normalize-requires c κs =
     let b = built-small one in
     (one .before .arena, ((one .before .some-cell, one .before .inside, omega (arith, one .before .inside), b .0), (omega (arith, b, one .used, one .before .grown .len, p .1 .1 .0), omega (arith, b, one .used, p .1 .1 .0))))
 
--- src/judging.rt:65:60
 mul-equivalent : tie.Need-mul-equivalent
 mul-equivalent c =
     let a = c .before .before .before .before .before .before .before .before .before .before .before .before .before .before .args in
@@ -60,7 +53,6 @@ mul-equivalent c =
     let two = c .before .before .before .normalize .ensures in
     omega (arith, solved-sizes (a .value) (a .bindings) (a .names) (a .members) (p .0 .0) (p .1 .0 .2) (p .1 .0 .3) (p .1 .0 .4) one two, p .1 .1 .0)
 
--- src/judging.rt:65:9
 equivalent-requires : tie.Need-equivalent-requires
 equivalent-requires c κs =
     let a = c .before .before .before .before .before .before .before .before .before .before .before .before .before .before .args in
@@ -70,11 +62,9 @@ equivalent-requires c κs =
     let z = solved-sizes (a .value) (a .bindings) (a .names) (a .members) (p .0 .0) (p .1 .0 .2) (p .1 .0 .3) (p .1 .0 .4) one two in
     (two .arena, ((one .before .some-cell, omega (arith, one .before .inside, z), two .some-cell, two .inside, omega arith), ((omega (arith, z), omega (arith, z)), omega (arith, z, p .1 .1 .0, one .before .grown .len, two .kept .len))))
 
--- src/judging.rt:66:9
 same-length-2 : tie.Need-same-length-2
 same-length-2 c = search needs
 
--- src/judging.rt:66:9
 returns-2 : tie.Need-returns-2
 returns-2 c =
     let a = c .before .before .before .before .before .before .before .before .before .before .before .before .before .before .before .before .before .before .args in
@@ -83,7 +73,6 @@ returns-2 c =
     let two = c .before .before .before .before .before .before .before .normalize .ensures in
     not-normal (a .value) (a .bindings) (a .names) (a .members) (p .0 .0) (p .1 .0 .2) (p .1 .0 .3) (p .1 .0 .4) one two (c .before .before .before .equivalent .ensures .1) (c .before .before .before .equivalent .result) (c .before .before .before .equivalent .ensures .0) (not-true (c .before .before .before .equivalent .result) (c .if1 .taken))
 
--- src/judging.rt:68:8
 generalized-requires : tie.Need-generalized-requires
 generalized-requires c κs =
     let a = c .before .before .before .before .before .before .before .before .before .before .before .before .before .before .before .before .before .before .before .args in
@@ -94,11 +83,9 @@ generalized-requires c κs =
     let g = one .before .grew in
     ((end-arena (a .value) (a .bindings) (a .names) (a .members) (p .0 .0) (p .1 .0 .2) (p .1 .0 .3) (p .1 .0 .4) one two k, p .0 .1), ((omega (arith, p .1 .0 .4), omega (arith, p .1 .0 .3), omega (arith, p .1 .0 .2), one .before .some-cell, one .before .inside), (variables-now (a .value) (a .bindings) (a .names) (a .members) (p .0 .0) (p .1 .0 .2) (p .1 .0 .3) (p .1 .0 .4) one two k (p .1 .0 .5), matched-now (a .value) (a .bindings) (a .names) (a .members) (p .0 .0) (p .1 .0 .2) (p .1 .0 .3) (p .1 .0 .4) one two k (p .1 .0 .5) (p .1 .1 .1))))
 
--- src/judging.rt:69:9
 same-length-3 : tie.Need-same-length-3
 same-length-3 c = search needs
 
--- src/judging.rt:69:9
 returns-3 : tie.Need-returns-3
 returns-3 c =
     let a = c .before .before .before .before .before .before .before .before .before .before .before .before .before .before .before .before .before .before .before .before .before .before .before .args in
@@ -107,11 +94,9 @@ returns-3 c =
     let two = c .before .before .before .before .before .before .before .before .before .before .before .before .normalize .ensures in
     searched (a .value) (a .bindings) (a .names) (a .members) (p .0 .0) (p .1 .0 .2) (p .1 .0 .3) (p .1 .0 .4) one two (c .before .before .before .before .before .before .before .before .equivalent .ensures .1) (c .before .before .before .before .before .before .before .before .equivalent .result) true (c .before .before .before .before .before .before .before .before .equivalent .ensures .0) (not-false (c .before .before .before .before .before .before .before .before .equivalent .result) (c .before .before .before .before .before .if1 .left)) (sym (c .if2 .taken) ∙ c .before .before .before .generalized .ensures .0, c .before .before .before .generalized .ensures .1)
 
--- src/judging.rt:39:1
 same-length-4 : tie.Need-same-length-4
 same-length-4 c = search needs
 
--- src/judging.rt:39:1
 returns-4 : tie.Need-returns-4
 returns-4 c =
     let a = c .before .before .before .before .before .before .before .before .before .before .before .before .before .before .before .before .before .before .before .before .before .before .before .args in

@@ -18,64 +18,51 @@ Inv-loop sheet text at₀ at = (at ≤ length sheet) × (spells (drop at sheet) 
 abbrev μ-loop : tie.MeasureT-loop
 μ-loop sheet text at₀ at = length sheet - at
 
--- src/searching.rt:20:5
 loop-holds : tie.Need-loop-holds Inv-loop μ-loop
 loop-holds c = (omega arith, refl)
 
--- src/searching.rt:21:12
 shared-slice-read-if1 : tie.Need-shared-slice-read-if1 Inv-loop μ-loop
 shared-slice-read-if1 c = omega arith
 
--- src/searching.rt:21:25
 shared-slice-read-if1-2 : tie.Need-shared-slice-read-if1-2 Inv-loop μ-loop
 shared-slice-read-if1-2 c = omega arith
 
--- src/searching.rt:22:13
 add-at : tie.Need-add-at Inv-loop μ-loop
 add-at c = omega arith
 
--- src/searching.rt:20:5
 loop-less : tie.Need-loop-less Inv-loop μ-loop
 loop-less c = omega arith
 
--- src/searching.rt:20:5
 loop-again : tie.Need-loop-again Inv-loop μ-loop
 loop-again c =
     let s = c .before .before .before .before .before .before .before .args .sheet .now in
     let x = c .before .before .before .before .before .before .before .args .text .now in
     (omega arith, search-passes s x (c .before .before .before .before .loop .at) (c .before .before .before .before .before .before .before .pre) (c .before .before .before .loop-test .taken) (first-other s x (c .before .before .before .before .loop .at) (c .before .before .before .before .before .before .before .pre) (c .before .before .before .loop-test .taken) (c .if1 .taken)) (c .before .before .before .before .loop .inv .1))
 
--- src/searching.rt:25:19
 part-requires : tie.Need-part-requires Inv-loop μ-loop
 part-requires c κs = (omega arith, omega arith)
 
--- src/searching.rt:25:12
 begins-requires : tie.Need-begins-requires Inv-loop μ-loop
 begins-requires c κs = tt
 
--- src/searching.rt:26:13
 returns : tie.Need-returns Inv-loop μ-loop
 returns c =
     let s = c .before .before .before .before .before .before .before .before .before .before .args .sheet .now in
     let x = c .before .before .before .before .before .before .before .before .before .before .args .text .now in
     search-finds s x (c .before .before .before .before .before .before .before .loop .at) (c .before .before .before .before .before .before .before .before .before .before .pre) (c .before .before .before .before .before .before .loop-test .taken) (ap (begins-with x) (sym (c .before .before .part .ensures ∙ part-rest s (c .before .before .before .before .before .before .before .loop .at))) ∙ sym (c .before .begins .ensures) ∙ c .if2 .taken) (c .before .before .before .before .before .before .before .loop .inv .1)
 
--- src/searching.rt:28:9
 add-at-2 : tie.Need-add-at-2 Inv-loop μ-loop
 add-at-2 c = omega arith
 
--- src/searching.rt:20:5
 loop-less-2 : tie.Need-loop-less-2 Inv-loop μ-loop
 loop-less-2 c = omega arith
 
--- src/searching.rt:20:5
 loop-again-2 : tie.Need-loop-again-2 Inv-loop μ-loop
 loop-again-2 c =
     let s = c .before .before .before .before .before .before .before .before .before .before .args .sheet .now in
     let x = c .before .before .before .before .before .before .before .before .before .before .args .text .now in
     (omega arith, search-passes s x (c .before .before .before .before .before .before .before .loop .at) (c .before .before .before .before .before .before .before .before .before .before .pre) (c .before .before .before .before .before .before .loop-test .taken) (ap (begins-with x) (sym (c .before .before .part .ensures ∙ part-rest s (c .before .before .before .before .before .before .before .loop .at))) ∙ sym (c .before .begins .ensures) ∙ c .if2 .left) (c .before .before .before .before .before .before .before .loop .inv .1))
 
--- src/searching.rt:15:1
 returns-2 : tie.Need-returns-2 Inv-loop μ-loop
 returns-2 c = search-ends (c .before .before .before .before .args .sheet .now) (c .before .before .before .before .args .text .now) (c .before .loop .at) (c .before .before .before .before .pre) (c .loop-test .left) (c .before .loop .inv .1)
 

@@ -9,21 +9,17 @@ use Rattle.cover.proofs.covered.names_of.Lts as lts
 use Rattle.cover.proofs.listing.list_variables.Reads as list-variables-reads
 use Rattle.cover.proofs.variables.variables_of.Reads as variables-of-reads
 
--- src/covered.rt:44:19
 add-at : tie.Need-add-at
 add-at c = search needs
 
--- src/covered.rt:44:14
 mul-at : tie.Need-mul-at
 mul-at c = search needs
 
--- src/covered.rt:45:9
 variables-of-requires : tie.Need-variables-of-requires
 variables-of-requires c κs =
     let p = c .before .before .before .pre in
     (p .0 .0, ((p .1 .0 .0, p .1 .0 .2), (omega arith, omega (arith, p .1 .0 .3, p .1 .1 .0))))
 
--- src/covered.rt:46:5
 list-variables-requires : tie.Need-list-variables-requires
 list-variables-requires c κs =
     let p = c .before .before .before .before .before .before .before .pre in
@@ -31,11 +27,9 @@ list-variables-requires c κs =
     let l = o .kept .len in
     (((arena-kept (c .before .before .before .before .before .before .before .args .sheet .now) (p .0 .0) (omega arith) (o .kept)), p .0 .1), ((o .grew, omega (arith, o .most-is, p .1 .0 .3, p .1 .1 .0), o .places), (omega (arith, o .most-is, p .1 .0 .3), omega (arith, o .most-is, p .1 .0 .3, p .1 .1 .1))))
 
--- src/covered.rt:38:1
 same-length : tie.Need-same-length
 same-length c = search needs
 
--- src/covered.rt:38:1
 returns : tie.Need-returns
 returns c =
     let p = c .before .before .before .before .before .before .before .before .before .before .pre in

@@ -15,15 +15,12 @@ Inv-loop sheet work free list k₀ nodes₀ k nodes = Counting sheet work free l
 abbrev μ-loop : tie.MeasureT-loop
 μ-loop sheet work free list k₀ nodes₀ k nodes = k
 
--- src/covered.rt:30:5
 loop-holds : tie.Need-loop-holds Inv-loop μ-loop
 loop-holds c = counting-starts (c .before .before .args .sheet .now) (c .before .before .args .work .now) (c .before .before .args .free) (c .before .before .args .list) (c .before .before .args .list) 0 (c .before .before .pre .1 .0) refl refl
 
--- src/covered.rt:31:18
 count-of-requires : tie.Need-count-of-requires Inv-loop μ-loop
 count-of-requires c κs = omega (arith, c .before .loop .inv .left, c .before .before .before .before .pre .0 .links .room)
 
--- src/covered.rt:31:9
 add-nodes : tie.Need-add-nodes Inv-loop μ-loop
 add-nodes c =
     let p = c .before .before .before .before .before .pre in
@@ -31,21 +28,17 @@ add-nodes c =
     let r = counting-room (c .before .before .before .before .before .args .sheet .now) (p .0) (c .before .before .loop .inv) q (c .count-of .result) (c .count-of .ensures .0) in
     omega (arith, r, p .1 .1)
 
--- src/covered.rt:32:9
 next-of-requires : tie.Need-next-of-requires Inv-loop μ-loop
 next-of-requires c κs = (c .before .before .before .before .before .pre .0 .links, (omega (arith, c .before .loop-test .taken), c .before .before .loop .inv .left))
 
--- src/covered.rt:30:5
 loop-less : tie.Need-loop-less Inv-loop μ-loop
 loop-less c = c .next-of .ensures .1
 
--- src/covered.rt:30:5
 loop-again : tie.Need-loop-again Inv-loop μ-loop
 loop-again c =
     let q : 0 < c .before .before .before .loop .k = omega (arith, c .before .before .loop-test .taken) in
     counting-turn (c .before .before .before .before .before .before .args .sheet .now) (c .before .before .before .before .before .before .pre .0) (c .before .before .before .loop .inv) q (c .before .count-of .result) (c .before .count-of .ensures .0) (c .next-of .result) (c .next-of .ensures .0)
 
--- src/covered.rt:23:1
 returns : tie.Need-returns Inv-loop μ-loop
 returns c = counting-ends (c .before .before .before .before .args .sheet .now) (c .before .before .before .before .pre .0) (c .before .loop .inv) (c .loop-test .left)
 

@@ -8,7 +8,7 @@ use lib.ListN.{length}
 use Rattle.rules.specs.Tree.{count}
 use Rattle.rules.specs.Sheet.{Member}
 use Rattle.sheet.specs.Members.{members-at}
-use Rattle.equivalence.proofs.Scratch.{arena-frame}
+use Rattle.tree.proofs.Areas.{arena-frame}
 use Rattle.cover.specs.Generals.{OfVariables}
 use Rattle.cover.proofs.Deciding.{Deciding, deciding-starts, deciding-ends, names-now, next-after, next-matchable, deciding-yes, deciding-no}
 use Rattle.cover.proofs.covering.any_covers.Statement.{statement}
@@ -24,32 +24,26 @@ Inv-loop sheet work₀ free names bindings cursor₀ work cursor = (ms : List Me
 abbrev μ-loop : tie.MeasureT-loop
 μ-loop sheet work₀ free names bindings cursor₀ work cursor = length sheet - cursor .at
 
--- src/covering.rt:74:5
 loop-holds : tie.Need-loop-holds Inv-loop μ-loop
 loop-holds c =
     let a = c .before .before .args in
     λ ms e. deciding-starts (a .sheet .now) (a .work .now) (a .free) (a .names) (a .bindings) ms (a .start .at) (c .before .before .pre .1 .1 .0 .0) e
 
--- src/covering.rt:75:13
 next-member-requires : tie.Need-next-member-requires Inv-loop μ-loop
 next-member-requires c κs = tt
 
--- src/covering.rt:79:13
 enum-known-line : tie.Need-enum-known-line Inv-loop μ-loop
 enum-known-line c = search needs
 
--- src/covering.rt:82:13
 enum-told : tie.Need-enum-told Inv-loop μ-loop
 enum-told c = search needs
 
--- src/covering.rt:82:13
 same-length : tie.Need-same-length Inv-loop μ-loop
 same-length c =
     let p = c .before .before .before .before .before .before .pre in
     let k = p .1 .1 .1 .1 in
     c .before .before .before .loop .inv (k .members) (k .reads) .below .len
 
--- src/covering.rt:82:13
 returns : tie.Need-returns Inv-loop μ-loop
 returns c =
     let p = c .before .before .before .before .before .before .pre in
@@ -57,7 +51,6 @@ returns c =
     let e = sym (c .enum-told .given .1) ∙ c .before .before .next-member .ensures in
     ((λ ms f. sym (deciding-ends (p .0) (p .1 .0 .0) (p .1 .0 .1) (c .before .before .before .loop .inv ms f) e)), c .before .before .before .loop .inv (k .members) (k .reads) .below)
 
--- src/covering.rt:84:13
 covers-requires : tie.Need-covers-requires Inv-loop μ-loop
 covers-requires c κs =
     let p = c .before .before .before .before .before .before .before .before .pre in
@@ -73,15 +66,12 @@ covers-requires c κs =
     let b = arena-frame (c .before .before .before .before .before .before .before .before .args .sheet .now) (p .0) (h .below .len) (h .below .words) in
     (b, ((p .1 .0 .0, p .1 .0 .1, subst OfVariables x (p .1 .0 .2)), ((next-after (p .0) (p .1 .0 .0) (p .1 .0 .1) h f t n e .1, p .1 .1 .0 .1), ((omega (arith, p .1 .1 .1 .0 .0), omega (arith, p .1 .1 .1 .0 .1)), next-matchable (p .0) (p .1 .0 .0) (p .1 .0 .1) h f t n e (k .matched)))))
 
--- src/covering.rt:85:34
 enum-known-found : tie.Need-enum-known-found Inv-loop μ-loop
 enum-known-found c = search needs
 
--- src/covering.rt:86:13
 enum-told-2 : tie.Need-enum-told-2 Inv-loop μ-loop
 enum-told-2 c = search needs
 
--- src/covering.rt:86:13
 same-length-2 : tie.Need-same-length-2 Inv-loop μ-loop
 same-length-2 c =
     let p = c .before .before .before .before .before .before .before .before .before .before .before .before .before .pre in
@@ -93,7 +83,6 @@ same-length-2 c =
     let y = rw (c .enum-told2 .given .1) at (c .before .before .before .before .covers .ensures) in
     deciding-yes (p .0) (p .1 .0 .0) (p .1 .0 .1) (c .before .before .before .before .before .before .before .before .before .before .loop .inv (k .members) (k .reads)) f t n e y .1 .len
 
--- src/covering.rt:86:13
 returns-2 : tie.Need-returns-2 Inv-loop μ-loop
 returns-2 c =
     let p = c .before .before .before .before .before .before .before .before .before .before .before .before .before .pre in
@@ -105,7 +94,6 @@ returns-2 c =
     let y = rw (c .enum-told2 .given .1) at (c .before .before .before .before .covers .ensures) in
     ((λ ms g. sym (deciding-yes (p .0) (p .1 .0 .0) (p .1 .0 .1) (c .before .before .before .before .before .before .before .before .before .before .loop .inv ms g) f t n e y .0)), deciding-yes (p .0) (p .1 .0 .0) (p .1 .0 .1) (c .before .before .before .before .before .before .before .before .before .before .loop .inv (k .members) (k .reads)) f t n e y .1)
 
--- src/covering.rt:74:5
 loop-less : tie.Need-loop-less Inv-loop μ-loop
 loop-less c =
     let p = c .before .before .before .before .before .before .before .before .before .before .before .before .before .before .pre in
@@ -119,7 +107,6 @@ loop-less c =
     let x = next-after (p .0) (p .1 .0 .0) (p .1 .0 .1) h f t n e in
     omega (arith, x .0, x .1, y .0 .low, y .0 .high)
 
--- src/covering.rt:74:5
 loop-again : tie.Need-loop-again Inv-loop μ-loop
 loop-again c =
     let p = c .before .before .before .before .before .before .before .before .before .before .before .before .before .before .pre in

@@ -7,29 +7,23 @@ use Rattle.cover.proofs.covering.covers.Lts as lts
 use Rattle.cover.proofs.members.member_pairs.Reads as member-pairs-reads
 use Rattle.unifier.proofs.matching.matcher.Reads as matcher-reads
 
--- src/covering.rt:41:9
 member-pairs-requires : tie.Need-member-pairs-requires
 member-pairs-requires c κs = search needs
 
--- src/covering.rt:43:9
 enum-known-sides : tie.Need-enum-known-sides
 enum-known-sides c = search needs
 
--- src/covering.rt:48:9
 enum-told : tie.Need-enum-told
 enum-told c = search needs
 
--- src/covering.rt:48:9
 same-length : tie.Need-same-length
 same-length c = search needs
 
--- src/covering.rt:48:9
 returns : tie.Need-returns
 returns c =
     let a = c .before .before .before .before .before .before .before .before .args in
     unread-covers (a .sheet .now) (a .work .now) (c .before .before .before .before .member-pairs .last .1 .0) (a .free) (a .names) (a .bindings) (a .start .at) (rw (c .enum-told .given .1) at (c .before .before .before .before .member-pairs .ensures))
 
--- src/covering.rt:50:9
 matcher-requires : tie.Need-matcher-requires
 matcher-requires c κs =
     let p = c .before .before .before .before .before .before .before .before .before .before .pre in
@@ -38,15 +32,12 @@ matcher-requires c κs =
     let k = p .1 .1 .1 .1 in
     (h .arena, ((h .inside, p .1 .1 .0 .1, pairs-whole n h k, pairs-fit n h k), pairs-room n h k))
 
--- src/covering.rt:52:41
 enum-told-2 : tie.Need-enum-told-2
 enum-told-2 c = search needs
 
--- src/covering.rt:26:1
 same-length-2 : tie.Need-same-length-2
 same-length-2 c = search needs
 
--- src/covering.rt:26:1
 returns-2 : tie.Need-returns-2
 returns-2 c =
     let p = c .before .before .before .before .before .before .before .before .before .before .before .before .before .before .before .pre in
@@ -54,11 +45,9 @@ returns-2 c =
     let n = c .before .before .before .before .before .before .before .sides .given .0 .1 .1 .0 in
     failed-uncovered n h (p .1 .1 .1 .1) (c .enum-told2 .given .0 .0) (p .1 .1 .0 .1) (rw (c .enum-told2 .given .1) at (c .before .before .before .before .matcher .ensures))
 
--- src/covering.rt:26:1
 same-length-3 : tie.Need-same-length-3
 same-length-3 c = search needs
 
--- src/covering.rt:26:1
 returns-3 : tie.Need-returns-3
 returns-3 c =
     let p = c .before .before .before .before .before .before .before .before .before .before .before .before .before .before .pre in

@@ -6,25 +6,20 @@ use Rattle.cover.proofs.generals.value_at.Reads as reads
 use Rattle.cover.proofs.generals.value_at.Lts as lts
 use Rattle.substitution.proofs.bindings.lookup.Reads as lookup-reads
 
--- src/generals.rt:24:9
 lookup-requires : tie.Need-lookup-requires
 lookup-requires c κs = search needs
 
--- src/generals.rt:25:19
 enum-known-found : tie.Need-enum-known-found
 enum-known-found c = search needs
 
--- src/generals.rt:26:9
 enum-told : tie.Need-enum-told
 enum-told c = search needs
 
--- src/generals.rt:26:9
 returns : tie.Need-returns
 returns c =
     let f = rw (c .enum-told .given .1) at (c .before .before .lookup .ensures) in
     (c .before .before .before .before .before .pre .1 .1 .0, c .before .before .before .before .before .pre .1 .1 .1, c .before .before .before .before .before .pre .1 .1 .2 ∙ sym (f .1))
 
--- src/generals.rt:18:1
 returns-2 : tie.Need-returns-2
 returns-2 c =
     let f = rw (c .before .found .given .1) at (c .before .before .before .lookup .ensures) in

@@ -14,42 +14,33 @@ Inv-loop sheet work₀ free at end i₀ list₀ top₀ work i list top = Listing
 abbrev μ-loop : tie.MeasureT-loop
 μ-loop sheet work₀ free at end i₀ list₀ top₀ work i list top = end - i
 
--- src/listing.rt:46:5
 loop-holds : tie.Need-loop-holds Inv-loop μ-loop
 loop-holds c = listing-starts (c .before .before .args .sheet .now) (c .before .before .args .work .now) (c .before .before .args .free) (c .before .before .args .at) (c .before .before .args .end) (c .before .before .pre .0 .0) (c .before .before .pre .1 .0 .0) (c .before .before .pre .1 .0 .2)
 
--- src/listing.rt:47:17
 mul-x : tie.Need-mul-x Inv-loop μ-loop
 mul-x c = search needs
 
--- src/listing.rt:47:17
 slice-read-x : tie.Need-slice-read-x Inv-loop μ-loop
 slice-read-x c = omega (arith, c .before .loop-test .taken, c .before .before .before .before .before .pre .1 .0 .1, c .before .before .loop .inv .made .grown .len)
 
--- src/listing.rt:48:13
 push-variable-requires : tie.Need-push-variable-requires Inv-loop μ-loop
 push-variable-requires c κs =
     let h = c .before .before .before .loop .inv in
     let p = c .before .before .before .before .before .before .pre in
     (h .made .arena, ((listing-variable h (c .before .before .loop-test .taken) (p .1 .0 .1) (p .1 .1 .0), p .0 .1), (h .made .inside, omega (arith, listing-room h (c .before .before .loop-test .taken) (p .1 .0 .1) (p .1 .1 .0), p .1 .0 .0, p .1 .0 .1, h .made .grown .len), omega (arith, h .used, h .low, c .before .before .loop-test .taken, p .1 .1 .1))))
 
--- src/listing.rt:51:9
 add-i : tie.Need-add-i Inv-loop μ-loop
 add-i c = omega (arith, c .before .before .before .before .before .loop-test .taken, c .before .before .before .before .before .before .before .before .before .pre .1 .0 .1)
 
--- src/listing.rt:46:5
 loop-less : tie.Need-loop-less Inv-loop μ-loop
 loop-less c = omega (arith, c .before .before .before .before .before .loop-test .taken)
 
--- src/listing.rt:46:5
 loop-again : tie.Need-loop-again Inv-loop μ-loop
 loop-again c = listing-turn (c .before .before .before .before .before .before .loop .inv) (c .before .before .before .before .before .loop-test .taken) (c .before .before .before .before .before .before .before .before .before .pre .1 .0 .1) (c .before .before .before .before .before .before .before .before .before .pre .1 .1 .0) (c .before .before .push-variable .last .1 .0) (c .before .before .push-variable .result) (c .before .before .push-variable .ensures .1) (c .before .before .push-variable .ensures .0)
 
--- src/listing.rt:31:1
 same-length : tie.Need-same-length Inv-loop μ-loop
 same-length c = c .before .loop .inv .made .grown .len
 
--- src/listing.rt:31:1
 returns : tie.Need-returns Inv-loop μ-loop
 returns c = listing-ends (c .before .loop .inv) (omega (arith, c .loop-test .left))
 

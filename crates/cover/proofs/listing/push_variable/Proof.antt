@@ -11,27 +11,21 @@ use Rattle.text.proofs.places.text_at.Reads as text-at-reads
 use Rattle.text.proofs.places.wide.Reads as wide-reads
 use Rattle.tree.proofs.cells.push_cell.Reads as push-cell-reads
 
--- src/listing.rt:25:9
 wide-requires : tie.Need-wide-requires
 wide-requires c κs = search needs
 
--- src/listing.rt:26:26
 text-at-requires : tie.Need-text-at-requires
 text-at-requires c κs = search needs
 
--- src/listing.rt:26:9
 leaf-kind-requires : tie.Need-leaf-kind-requires
 leaf-kind-requires c κs = search needs
 
--- src/listing.rt:27:5
 push-cell-requires : tie.Need-push-cell-requires
 push-cell-requires c κs = search needs
 
--- src/listing.rt:19:1
 same-length : tie.Need-same-length
 same-length c = search needs
 
--- src/listing.rt:19:1
 returns : tie.Need-returns
 returns c =
     let a = c .before .before .before .before .before .before .before .before .before .args in

@@ -11,31 +11,25 @@ use Rattle.cover.proofs.members.member_pairs.Lts as lts
 use Rattle.cover.proofs.generals.pair_variables.Reads as pair-variables-reads
 use Rattle.cover.proofs.values.read_values.Reads as read-values-reads
 
--- src/members.rt:36:9
 read-values-requires : tie.Need-read-values-requires
 read-values-requires c κs =
     let p = c .before .before .before .pre in
     (p .0, ((p .1 .0 .0, p .1 .0 .2), (p .1 .1 .0, (omega (arith, p .1 .1 .1 .0), omega (arith, p .1 .1 .1 .1)))))
 
--- src/members.rt:38:19
 enum-known-read : tie.Need-enum-known-read
 enum-known-read c = search needs
 
--- src/members.rt:42:9
 enum-told : tie.Need-enum-told
 enum-told c = search needs
 
--- src/members.rt:42:9
 same-length : tie.Need-same-length
 same-length c = search needs
 
--- src/members.rt:42:9
 returns : tie.Need-returns
 returns c =
     let a = c .before .before .before .before .before .before .before .before .args in
     member-unread (a .sheet .now) (a .work .now) (c .before .before .before .before .read-values .last .1 .0) (a .free) (a .names) (a .bindings) (a .start .at) (rw (c .enum-told .given .1) at (c .before .before .before .before .read-values .ensures))
 
--- src/members.rt:44:9
 pair-variables-requires : tie.Need-pair-variables-requires
 pair-variables-requires c κs =
     let p = c .before .before .before .before .before .before .before .before .before .before .pre in
@@ -47,11 +41,9 @@ pair-variables-requires c κs =
     let n = h .len in
     (h .arena, ((omega (arith, p .1 .0 .0), h .inside, omega (arith, p .1 .0 .1), subst OfVariables t (p .1 .0 .2), h .arena .links .some), (omega (arith, p .1 .1 .1 .0), omega (arith, p .1 .1 .1 .1))))
 
--- src/members.rt:22:1
 same-length-2 : tie.Need-same-length-2
 same-length-2 c = search needs
 
--- src/members.rt:22:1
 returns-2 : tie.Need-returns-2
 returns-2 c =
     let p = c .before .before .before .before .before .before .before .before .before .before .before .before .before .pre in

@@ -19,41 +19,33 @@ Inv-loop sheet work free names from to k₀ k = Finding sheet work free names (p
 abbrev μ-loop : tie.MeasureT-loop
 μ-loop sheet work free names from to k₀ k = k
 
--- src/values.rt:39:5
 loop-holds : tie.Need-loop-holds Inv-loop μ-loop
 loop-holds c = record { left = c .before .before .pre .1 .0; variables = c .before .before .pre .1 .3; are = refl }
 
--- src/values.rt:40:42
 part-requires : tie.Need-part-requires Inv-loop μ-loop
 part-requires c κs = search needs
 
--- src/values.rt:40:12
 name-is-requires : tie.Need-name-is-requires Inv-loop μ-loop
 name-is-requires c κs = search needs
 
--- src/values.rt:41:13
 returns : tie.Need-returns Inv-loop μ-loop
 returns c =
     let a = c .before .before .before .before .before .before .before .args in
     let x = part-of (a .from) (a .to) (a .sheet .now) in
     finding-found (a .sheet .now) (a .work .now) (a .free) (a .names) x (c .before .before .before .before .before .before .before .pre .0) (c .before .before .before .before .loop .inv) (omega (arith, c .before .before .before .loop-test .taken)) (sym (c .before .name-is .ensures ∙ ap (spec.same (name-at (a .sheet .now) (a .work .now) (c .before .before .before .before .loop .k))) (c .before .before .part .ensures)) ∙ c .if1 .taken)
 
--- src/values.rt:43:9
 next-of-requires : tie.Need-next-of-requires Inv-loop μ-loop
 next-of-requires c κs = search needs
 
--- src/values.rt:39:5
 loop-less : tie.Need-loop-less Inv-loop μ-loop
 loop-less c = search needs
 
--- src/values.rt:39:5
 loop-again : tie.Need-loop-again Inv-loop μ-loop
 loop-again c =
     let a = c .before .before .before .before .before .before .before .before .args in
     let x = part-of (a .from) (a .to) (a .sheet .now) in
     finding-turn (a .sheet .now) (a .work .now) (a .free) (a .names) x (c .before .before .before .before .before .before .before .before .pre .0) (c .before .before .before .before .before .loop .inv) (omega (arith, c .before .before .before .before .loop-test .taken)) (c .next-of .result) (c .next-of .ensures .0) (sym (c .before .before .name-is .ensures ∙ ap (spec.same (name-at (a .sheet .now) (a .work .now) (c .before .before .before .before .before .loop .k))) (c .before .before .before .part .ensures)) ∙ c .before .if1 .left)
 
--- src/values.rt:26:1
 returns-2 : tie.Need-returns-2 Inv-loop μ-loop
 returns-2 c =
     let a = c .before .before .before .before .args in

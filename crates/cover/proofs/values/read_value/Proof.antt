@@ -17,36 +17,29 @@ use Rattle.reading.proofs.parse.Reads as parse-reads
 use Rattle.substitution.proofs.bindings.lookup.Reads as lookup-reads
 use Rattle.substitution.proofs.bindings.push_pair.Reads as push-pair-reads
 
--- src/values.rt:72:9
 find-variable-requires : tie.Need-find-variable-requires
 find-variable-requires c κs =
     let p = c .before .before .before .pre in
     (p .0, (p .1 .0 .0, p .1 .1 .0 .0 .0, omega (arith, p .1 .1 .0 .0 .1), p .1 .0 .2))
 
--- src/values.rt:74:9
 same-length : tie.Need-same-length
 same-length c = search needs
 
--- src/values.rt:74:9
 returns : tie.Need-returns
 returns c =
     let a = c .before .before .before .before .before .args in
     let p = c .before .before .before .before .before .pre in
     value-passed (a .sheet .now) (a .work .now) (a .free) (names-of (trees-at (a .sheet .now) (a .work .now) (a .names))) (a .key) (a .value) (a .list) (p .0) (p .1 .0 .1) (c .before .find-variable .ensures .absent (c .if1 .taken))
 
--- src/values.rt:79:9
 lookup-requires : tie.Need-lookup-requires
 lookup-requires c κs = search needs
 
--- src/values.rt:81:9
 enum-told : tie.Need-enum-told
 enum-told c = search needs
 
--- src/values.rt:81:9
 same-length-2 : tie.Need-same-length-2
 same-length-2 c = search needs
 
--- src/values.rt:81:9
 returns-2 : tie.Need-returns-2
 returns-2 c =
     let a = c .before .before .before .before .before .before .before .before .before .args in
@@ -58,26 +51,21 @@ returns-2 c =
 enum-told-2 : tie.Need-enum-told-2
 enum-told-2 c = search needs
 
--- src/values.rt:88:9
 parse-requires : tie.Need-parse-requires
 parse-requires c κs =
     let p = c .before .before .before .before .before .before .before .before .before .before .pre in
     let k = p .1 .1 .0 .1 in
     (p .0, ((k .0, omega (arith, k .1), p .1 .1 .0 .2, omega (arith, k .1, p .1 .1 .0 .2)), (omega (arith, p .1 .1 .1 .0), omega (arith, p .1 .1 .1 .1))))
 
--- src/values.rt:89:24
 enum-known-read : tie.Need-enum-known-read
 enum-known-read c = search needs
 
--- src/values.rt:90:9
 enum-told-3 : tie.Need-enum-told-3
 enum-told-3 c = search needs
 
--- src/values.rt:90:9
 same-length-3 : tie.Need-same-length-3
 same-length-3 c = search needs
 
--- src/values.rt:90:9
 returns-3 : tie.Need-returns-3
 returns-3 c =
     let a = c .before .before .before .before .before .before .before .before .before .before .before .before .before .before .before .args in
@@ -87,7 +75,6 @@ returns-3 c =
     let g = rw (c .enum-told3 .given .1) at (c .before .before .before .before .parse .ensures) in
     value-unread (a .sheet .now) (a .work .now) (a .free) (names-of (trees-at (a .sheet .now) (a .work .now) (a .names))) (a .key) (a .value) (a .list) (ap (λ (z : Text). bound z (bindings-at (a .sheet .now) (a .work .now) (a .list))) (sym (c .before .before .before .before .before .before .before .before .before .before .before .find-variable .ensures .named q)) ∙ f .0) (c .before .before .before .before .before .before .before .before .before .before .before .find-variable .ensures .present q) (g .0) (record { len = g .1 .len; words = g .1 .below })
 
--- src/values.rt:92:9
 push-pair-requires : tie.Need-push-pair-requires
 push-pair-requires c κs =
     let p = c .before .before .before .before .before .before .before .before .before .before .before .before .before .before .before .before .before .pre in
@@ -100,11 +87,9 @@ push-pair-requires c κs =
     let n = r .outside .len in
     (r .arena, ((q, omega arith, r .placed .0, r .placed .1, omega arith), (omega (arith, p .1 .1 .1 .0), omega (arith, p .1 .1 .1 .1))))
 
--- src/values.rt:55:1
 same-length-4 : tie.Need-same-length-4
 same-length-4 c = search needs
 
--- src/values.rt:55:1
 returns-4 : tie.Need-returns-4
 returns-4 c =
     let a = c .before .before .before .before .before .before .before .before .before .before .before .before .before .before .before .before .before .before .before .before .args in

@@ -17,33 +17,26 @@ Inv-loop sheet work₀ free names cursor₀ list₀ end₀ work cursor list end 
 abbrev μ-loop : tie.MeasureT-loop
 μ-loop sheet work₀ free names cursor₀ list₀ end₀ work cursor list end = length sheet - cursor .at
 
--- src/values.rt:118:5
 loop-holds : tie.Need-loop-holds Inv-loop μ-loop
 loop-holds c =
     let a = c .before .before .args in
     walking-starts (a .sheet .now) (a .work .now) (a .free) (a .names) (a .start .at) (c .before .before .pre .0) (c .before .before .pre .1 .1 .0 .0)
 
--- src/values.rt:119:13
 next-entry-requires : tie.Need-next-entry-requires Inv-loop μ-loop
 next-entry-requires c κs = tt
 
--- src/values.rt:120:31
 enum-known-entry : tie.Need-enum-known-entry Inv-loop μ-loop
 enum-known-entry c = search needs
 
--- src/values.rt:121:13
 enum-told : tie.Need-enum-told Inv-loop μ-loop
 enum-told c = search needs
 
--- src/values.rt:121:13
 same-length : tie.Need-same-length Inv-loop μ-loop
 same-length c = c .before .before .before .loop .inv .len
 
--- src/values.rt:121:13
 returns : tie.Need-returns Inv-loop μ-loop
 returns c = walking-ends (c .before .before .before .before .before .before .pre .0) (c .before .before .before .before .before .before .pre .1 .0 .0) (c .before .before .before .loop .inv) (sym (c .enum-told .given .1) ∙ c .before .before .next-entry .ensures)
 
--- src/values.rt:126:13
 read-value-requires : tie.Need-read-value-requires Inv-loop μ-loop
 read-value-requires c κs =
     let p = c .before .before .before .before .before .before .before .before .pre in
@@ -57,19 +50,15 @@ read-value-requires c κs =
     let m = h .len in
     (h .arena, ((omega (arith, h .grew, p .1 .0 .0), h .inside, names-there (p .0) (p .1 .0 .0) h (p .1 .0 .1)), ((x .key, x .value, p .1 .1 .0 .1), (omega (arith, k .0, p .1 .1 .1 .0), omega (arith, k .1, p .1 .1 .1 .1)))))
 
--- src/values.rt:128:13
 enum-known-read : tie.Need-enum-known-read Inv-loop μ-loop
 enum-known-read c = search needs
 
--- src/values.rt:132:13
 enum-told-2 : tie.Need-enum-told-2 Inv-loop μ-loop
 enum-told-2 c = search needs
 
--- src/values.rt:132:13
 same-length-2 : tie.Need-same-length-2 Inv-loop μ-loop
 same-length-2 c = search needs
 
--- src/values.rt:132:13
 returns-2 : tie.Need-returns-2 Inv-loop μ-loop
 returns-2 c =
     let p = c .before .before .before .before .before .before .before .before .before .before .before .before .before .pre in
@@ -79,7 +68,6 @@ returns-2 c =
     let e = sym (c .before .before .before .before .before .before .before .entry .given .1) ∙ c .before .before .before .before .before .before .before .before .before .next-entry .ensures in
     walking-unread (p .0) (p .1 .0 .0) (c .before .before .before .before .before .before .before .before .before .before .loop .inv) l r n e (rw (c .enum-told2 .given .1) at (c .before .before .before .before .read-value .ensures))
 
--- src/values.rt:118:5
 loop-less : tie.Need-loop-less Inv-loop μ-loop
 loop-less c =
     let l = c .before .before .before .before .before .before .before .before .entry .given .0 .0 in
@@ -89,7 +77,6 @@ loop-less c =
     let x = placed (c .before .before .before .before .before .before .before .before .before .before .before .before .before .before .args .sheet .now) (c .before .before .before .before .before .before .before .before .before .before .before .loop .cursor .at) l r n e in
     omega (arith, x .next, x .within)
 
--- src/values.rt:118:5
 loop-again : tie.Need-loop-again Inv-loop μ-loop
 loop-again c =
     let p = c .before .before .before .before .before .before .before .before .before .before .before .before .before .before .pre in

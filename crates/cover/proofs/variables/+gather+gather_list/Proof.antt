@@ -47,15 +47,12 @@ gather-calls t = (kind-of-reads.Asked, kind-of-reads.Learnt, first-of-reads.Aske
 abbrev gather-list-calls : ℕ → gather-list-lts.Claims
 gather-list-calls t = (gather-below t, gather.Post, next-of-reads.Asked, next-of-reads.Learnt, gather-list-below t, gather-list.Post)
 
--- src/variables.rt:29:9
 gather-kind-of-requires : (t : ℕ) → gather-lts.Need-kind-of-requires (gather-calls t) (gather-at t) gather.Post
 gather-kind-of-requires t c κs = omega (arith, c .before .before .before .pre .1 .0 .links .room, c .before .before .before .pre .1 .1 .0 .1)
 
--- src/variables.rt:31:13
 gather-first-of-requires : (t : ℕ) → gather-lts.Need-first-of-requires (gather-calls t) (gather-at t) gather.Post
 gather-first-of-requires t c κs = (c .before .before .before .before .before .before .pre .1 .0 .links, (c .before .before .before .before .before .before .pre .1 .1 .0 .0, c .before .before .before .before .before .before .pre .1 .1 .0 .1))
 
--- src/variables.rt:32:9
 gather-gather-list-requires : (t : ℕ) → gather-lts.Need-gather-list-requires (gather-calls t) (gather-at t) gather.Post
 gather-gather-list-requires t c κs =
     let a = c .before .before .before .before .before .before .before .before .args in
@@ -66,49 +63,39 @@ gather-gather-list-requires t c κs =
       (p .0, ((omega (arith, f .1, p .1 .0 .1), list-spelled (a .sheet .now) (a .work .now) (a .i) (c .before .first-of .result) k (f .0) (p .1 .0 .2)), (p .1 .1 .0, omega (arith, p .1 .1 .1, size-apply (a .sheet .now) (a .work .now) (a .i) k, sizes-is (a .sheet .now) (a .work .now) (f .0))))),
     )
 
--- src/variables.rt:32:9
 gather-same-length : (t : ℕ) → gather-lts.Need-same-length (gather-calls t) (gather-at t) gather.Post
 gather-same-length t c = search needs
 
--- src/variables.rt:32:9
 gather-returns : (t : ℕ) → gather-lts.Need-returns (gather-calls t) (gather-at t) gather.Post
 gather-returns t c =
     let a = c .before .before .before .before .before .before .before .before .before .before .before .args in
     named-list (a .sheet .now) (a .work .now) (a .i) (c .before .before .before .before .first-of .result) (sym (c .before .before .before .before .before .before .before .kind-of .ensures) ∙ c .before .before .before .before .before .before .if1 .taken) (c .before .before .before .before .first-of .ensures .0) (c .before .before .gather-list .ensures)
 
--- src/variables.rt:35:25
 gather-mul-work : (t : ℕ) → gather-lts.Need-mul-work (gather-calls t) (gather-at t) gather.Post
 gather-mul-work t c = omega (arith, c .before .before .before .before .before .before .pre .1 .0 .links .room, c .before .before .before .before .before .before .pre .1 .1 .0 .1)
 
--- src/variables.rt:35:20
 gather-mul-work-2 : (t : ℕ) → gather-lts.Need-mul-work-2 (gather-calls t) (gather-at t) gather.Post
 gather-mul-work-2 t c = search needs
 
--- src/variables.rt:35:20
 gather-slice-read-work : (t : ℕ) → gather-lts.Need-slice-read-work (gather-calls t) (gather-at t) gather.Post
 gather-slice-read-work t c = omega (arith, c .before .before .before .before .before .before .before .pre .1 .0 .links .room, c .before .before .before .before .before .before .before .pre .1 .1 .0 .1)
 
--- src/variables.rt:35:9
 gather-mul-work-3 : (t : ℕ) → gather-lts.Need-mul-work-3 (gather-calls t) (gather-at t) gather.Post
 gather-mul-work-3 t c = search needs
 
--- src/variables.rt:35:9
 gather-slice-write-work : (t : ℕ) → gather-lts.Need-slice-write-work (gather-calls t) (gather-at t) gather.Post
 gather-slice-write-work t c =
     let a = c .before .before .before .before .before .before .before .args in
     omega (arith, c .before .before .before .before .before .before .before .pre .1 .1 .1 .1, size-pos (tree-at (a .sheet .now) (a .work .now) (a .i)))
 
--- src/variables.rt:36:16
 gather-add-result : (t : ℕ) → gather-lts.Need-add-result (gather-calls t) (gather-at t) gather.Post
 gather-add-result t c =
     let a = c .before .before .before .before .before .before .before .args in
     omega (arith, c .before .before .before .before .before .before .before .pre .1 .1 .1 .1, size-pos (tree-at (a .sheet .now) (a .work .now) (a .i)))
 
--- src/variables.rt:36:9
 gather-same-length-2 : (t : ℕ) → gather-lts.Need-same-length-2 (gather-calls t) (gather-at t) gather.Post
 gather-same-length-2 t c = search needs
 
--- src/variables.rt:36:9
 gather-returns-2 : (t : ℕ) → gather-lts.Need-returns-2 (gather-calls t) (gather-at t) gather.Post
 gather-returns-2 t c =
     let a = c .before .before .before .before .before .before .before .args in
@@ -116,23 +103,19 @@ gather-returns-2 t c =
     let k = c .before .before .before .kind-of .ensures in
     named-variable (a .sheet .now) (a .work .now) (a .i) (a .at) (a .at + 1) (p .0) (p .1 .0 .0) (p .1 .0 .1) (omega (arith, k, c .before .before .if1 .left)) (omega (arith, k, c .before .if2 .taken)) (p .1 .0 .2) (omega (arith, p .1 .1 .1, size-pos (tree-at (a .sheet .now) (a .work .now) (a .i)))) refl
 
--- src/variables.rt:23:1
 gather-same-length-3 : (t : ℕ) → gather-lts.Need-same-length-3 (gather-calls t) (gather-at t) gather.Post
 gather-same-length-3 t c = search needs
 
--- src/variables.rt:23:1
 gather-returns-3 : (t : ℕ) → gather-lts.Need-returns-3 (gather-calls t) (gather-at t) gather.Post
 gather-returns-3 t c =
     let a = c .before .before .before .before .before .before .args in
     named-atom (a .sheet .now) (a .work .now) (a .i) (a .at) (a .at) (omega (arith, c .before .before .kind-of .ensures, c .if2 .left)) refl
 
--- src/variables.rt:49:9
 gather-list-returns : (t : ℕ) → gather-list-lts.Need-returns (gather-list-calls t) (gather-list-at t) gather-list.Post
 gather-list-returns t c =
     let a = c .before .before .before .args in
     named-none (a .sheet .now) (a .work .now) (a .i) (a .at) (a .at) (c .if1 .taken) refl
 
--- src/variables.rt:51:9
 gather-list-gather-requires : (t : ℕ) → gather-list-lts.Need-gather-requires (gather-list-calls t) (gather-list-at t) gather-list.Post
 gather-list-gather-requires t c κs =
     let a = c .before .before .before .before .args in
@@ -142,14 +125,12 @@ gather-list-gather-requires t c κs =
     let n = sizes-more s (p .0 .links) (a .i) q (p .1 .0 .0) in
     (omega (arith, c .before .before .before .before .pre .0, head-falls s (p .0 .links) (a .i) q (p .1 .0 .0)), (p .0, ((q, p .1 .0 .0, parts-spelled s (p .0) (a .i) q (p .1 .0 .0) (p .1 .0 .1) .0), (p .1 .1 .0, omega (arith, p .1 .1 .1, n)))))
 
--- src/variables.rt:52:9
 gather-list-next-of-requires : (t : ℕ) → gather-list-lts.Need-next-of-requires (gather-list-calls t) (gather-list-at t) gather-list.Post
 gather-list-next-of-requires t c κs =
     let a = c .before .before .before .before .before .before .before .before .args in
     let p = c .before .before .before .before .before .before .before .before .pre .1 in
     (arena-kept (a .sheet .now) (p .0) (p .1 .1 .0) (c .before .before .before .gather .ensures .kept) .links, (omega (arith, c .before .before .before .before .before .if1 .left), p .1 .0 .0))
 
--- src/variables.rt:53:5
 gather-list-gather-list-requires : (t : ℕ) → gather-list-lts.Need-gather-list-requires (gather-list-calls t) (gather-list-at t) gather-list.Post
 gather-list-gather-list-requires t c κs =
     let a = c .before .before .before .before .before .before .before .before .before .before .args in
@@ -164,11 +145,9 @@ gather-list-gather-list-requires t c κs =
       (arena-kept s (p .0) (p .1 .1 .0) (g .kept), ((omega (arith, c .before .next-of .ensures .1, p .1 .0 .0), rest-spelled s (a .work .now) (c .before .before .before .before .before .gather .last .1 .0) (a .free) (a .i) (c .before .next-of .result) (a .at) (c .before .before .before .before .before .gather .result) (p .0) q (p .1 .0 .0) (p .1 .1 .0) (c .before .next-of .ensures .0) (g .kept) (p .1 .0 .1)), (omega (arith, p .1 .1 .0, g .grew), omega (arith, p .1 .1 .1, r, g .most-is, m)))),
     )
 
--- src/variables.rt:42:1
 gather-list-same-length : (t : ℕ) → gather-list-lts.Need-same-length (gather-list-calls t) (gather-list-at t) gather-list.Post
 gather-list-same-length t c = search needs
 
--- src/variables.rt:42:1
 gather-list-returns-2 : (t : ℕ) → gather-list-lts.Need-returns-2 (gather-list-calls t) (gather-list-at t) gather-list.Post
 gather-list-returns-2 t c =
     let a = c .before .before .before .before .before .before .before .before .before .before .before .before .before .args in

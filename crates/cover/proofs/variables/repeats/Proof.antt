@@ -10,47 +10,36 @@ use Rattle.cover.proofs.variables.repeats.Lts as lts
 use Rattle.text.proofs.places.text_at.Reads as text-at-reads
 use Rattle.text.proofs.same.Reads as same-reads
 
--- src/variables.rt:77:15
 add-if1 : tie.Need-add-if1
 add-if1 c = search needs
 
--- src/variables.rt:78:9
 returns : tie.Need-returns
 returns c = repeats-last (c .before .before .before .args .sheet .now) (c .before .before .before .args .work .now) (c .before .before .before .args .i) (c .before .before .before .args .end) (c .before .before .before .pre .0) (c .before .before .before .pre .1) (c .if1 .taken)
 
--- src/variables.rt:80:25
 mul-text-at : tie.Need-mul-text-at
 mul-text-at c = search needs
 
--- src/variables.rt:80:25
 shared-slice-read-text-at : tie.Need-shared-slice-read-text-at
 shared-slice-read-text-at c = search needs
 
--- src/variables.rt:80:10
 text-at-requires : tie.Need-text-at-requires
 text-at-requires c κs = search needs
 
--- src/variables.rt:80:55
 add-text-at : tie.Need-add-text-at
 add-text-at c = search needs
 
--- src/variables.rt:80:50
 mul-text-at-2 : tie.Need-mul-text-at-2
 mul-text-at-2 c = search needs
 
--- src/variables.rt:80:50
 shared-slice-read-text-at-2 : tie.Need-shared-slice-read-text-at-2
 shared-slice-read-text-at-2 c = search needs
 
--- src/variables.rt:80:35
 text-at-requires-2 : tie.Need-text-at-requires-2
 text-at-requires-2 c κs = search needs
 
--- src/variables.rt:80:5
 same-requires : tie.Need-same-requires
 same-requires c κs = search needs
 
--- src/variables.rt:73:1
 returns-2 : tie.Need-returns-2
 returns-2 c = c .same .ensures ∙ ap₂ spec.same (c .before .before .before .text-at .ensures) (c .before .text-at2 .ensures) ∙ sym (repeats-next (c .before .before .before .before .before .before .before .before .args .sheet .now) (c .before .before .before .before .before .before .before .before .args .work .now) (c .before .before .before .before .before .before .before .before .args .i) (c .before .before .before .before .before .before .before .before .args .end) (omega (arith, c .before .before .before .before .before .if1 .left)) (c .before .before .before .before .before .before .before .before .pre .1))
 

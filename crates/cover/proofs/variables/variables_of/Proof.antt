@@ -12,11 +12,9 @@ use Rattle.cover.proofs.variables.drop_repeats.Reads as drop-repeats-re
 use Rattle.cover.proofs.variables.gather_all.Reads as gather-all-reads
 use Rattle.text.proofs.places.sort_places.Reads as sort-places-reads
 
--- src/variables.rt:110:9
 gather-all-requires : tie.Need-gather-all-requires
 gather-all-requires c κs = (c .before .before .before .pre .0, (c .before .before .before .pre .1 .0, (c .before .before .before .pre .1 .1 .0, omega (arith, c .before .before .before .pre .1 .1 .1))))
 
--- src/variables.rt:111:5
 sort-places-requires : tie.Need-sort-places-requires
 sort-places-requires c κs =
     let g = c .before .before .before .gather-all .ensures in
@@ -25,7 +23,6 @@ sort-places-requires c κs =
     let n = g .kept .len in
     (omega arith, omega arith, omega (arith, c .before .before .before .before .before .before .before .pre .1 .1 .1))
 
--- src/variables.rt:112:5
 drop-repeats-requires : tie.Need-drop-repeats-requires
 drop-repeats-requires c κs =
     let g = c .before .before .before .before .before .before .before .gather-all .ensures in
@@ -35,11 +32,9 @@ drop-repeats-requires c κs =
     let m = c .before .before .before .sort-places .ensures .len in
     (a, omega (arith, c .before .before .before .before .before .before .before .before .before .before .before .pre .1 .1 .1))
 
--- src/variables.rt:104:1
 same-length : tie.Need-same-length
 same-length c = search needs
 
--- src/variables.rt:104:1
 returns : tie.Need-returns
 returns c = in-order (c .before .before .before .before .before .before .before .before .before .before .before .before .before .before .args .sheet .now) (c .before .before .before .before .before .before .before .before .before .before .before .before .before .before .args .work .now) (c .before .before .before .before .before .before .before .before .before .before .gather-all .last .1 .0) (c .before .before .before .before .before .before .sort-places .last .1 .0) (c .before .before .drop-repeats .last .1 .0) (c .before .before .before .before .before .before .before .before .before .before .before .before .before .before .args .at) (c .before .before .before .before .before .before .before .before .before .before .gather-all .result) (c .before .before .drop-repeats .result) (sizes (trees-at (c .before .before .before .before .before .before .before .before .before .before .before .before .before .before .args .sheet .now) (c .before .before .before .before .before .before .before .before .before .before .before .before .before .before .args .work .now) (c .before .before .before .before .before .before .before .before .before .before .before .before .before .before .args .list))) (variable-names-in (trees-at (c .before .before .before .before .before .before .before .before .before .before .before .before .before .before .args .sheet .now) (c .before .before .before .before .before .before .before .before .before .before .before .before .before .before .args .work .now) (c .before .before .before .before .before .before .before .before .before .before .before .before .before .before .args .list))) (c .before .before .before .before .before .before .before .before .before .before .gather-all .ensures) (c .before .before .before .before .before .before .sort-places .ensures) (c .before .before .drop-repeats .ensures)
 

@@ -1,65 +1,71 @@
 use borrow.Author.Needs.{needs}
 use native.Mathlib.Omega.{arith}
-use Prim.Native.Nat.{_-_}
+use Prim.Native.Nat.{ℕ, _-_}
+use mathlib.Core.Path.{_≡_, sym, ap, _∙_}
+use Rattle.certificate.specs.Texts.{zeros-name}
+use Rattle.certificate.proofs.WordTexts.{zeros-small, text-zeros}
+use Rattle.equivalence.specs.Fingerprints.{mixed}
 use Rattle.equivalence.proofs.Fingerprinting.{Mixing, mixing-starts, mixing-next, mixing-ends}
 use Rattle.equivalence.proofs.fingerprints.mix.Statement.{statement}
 use Rattle.equivalence.proofs.fingerprints.mix.Tie as tie
 use Rattle.equivalence.proofs.fingerprints.mix.Reads as reads
 use Rattle.equivalence.proofs.fingerprints.mix.Lts as lts
+use Rattle.equivalence.proofs.fingerprints.mix_byte.Reads as mix-byte-reads
+use Rattle.equivalence.proofs.fingerprints.mix_zeros.Reads as mix-zeros-reads
 use Rattle.certificate.proofs.order.byte_of.Reads as byte-of-reads
 use Rattle.certificate.proofs.order.width_of.Reads as width-of-reads
+use Rattle.certificate.proofs.order.zeros_of.Reads as zeros-of-reads
 
 abbrev Inv-loop : tie.InvT-loop
-Inv-loop sheet x h width a₀ r₀ a r = Mixing sheet x h a r
+Inv-loop sheet x h zeros width a₀ r₀ a r = Mixing sheet x h a r
 
 abbrev μ-loop : tie.MeasureT-loop
-μ-loop sheet x h width a₀ r₀ a r = width - a
+μ-loop sheet x h zeros width a₀ r₀ a r = width - a
 
--- src/fingerprints.rt:22:9
-width-of-requires : tie.Need-width-of-requires Inv-loop μ-loop
-width-of-requires c κs = search needs
+zeros-of-requires : tie.Need-zeros-of-requires Inv-loop μ-loop
+zeros-of-requires c κs = search needs
 
--- src/fingerprints.rt:25:5
-loop-holds : tie.Need-loop-holds Inv-loop μ-loop
-loop-holds c =
-    let a = c .before .before .args in
-    mixing-starts (a .sheet .now) (a .x) (a .h) (c .before .before .pre .1)
+mix-zeros-requires : tie.Need-mix-zeros-requires Inv-loop μ-loop
+mix-zeros-requires c κs = (omega (arith, c .before .zeros-of .ensures, zeros-small (c .before .before .before .args .x)), c .before .before .before .pre .1)
 
--- src/fingerprints.rt:26:17
-byte-of-requires : tie.Need-byte-of-requires Inv-loop μ-loop
-byte-of-requires c κs = (c .before .before .before .before .pre .0, omega (arith, c .loop-test .taken, c .before .before .width-of .ensures))
-
--- src/fingerprints.rt:26:17
-cast-b : tie.Need-cast-b Inv-loop μ-loop
-cast-b c = search needs
-
--- src/fingerprints.rt:27:14
-mul-r : tie.Need-mul-r Inv-loop μ-loop
-mul-r c = omega (arith, c .before .before .loop .inv .small)
-
--- src/fingerprints.rt:27:14
-add-r : tie.Need-add-r Inv-loop μ-loop
-add-r c = omega (arith, c .before .before .loop .inv .small, c .byte-of .ok)
-
--- src/fingerprints.rt:28:9
-add-a : tie.Need-add-a Inv-loop μ-loop
-add-a c = omega (arith, c .before .loop-test .taken, c .before .before .before .width-of .ok)
-
--- src/fingerprints.rt:25:5
-loop-less : tie.Need-loop-less Inv-loop μ-loop
-loop-less c = omega (arith, c .before .loop-test .taken)
-
--- src/fingerprints.rt:25:5
-loop-again : tie.Need-loop-again Inv-loop μ-loop
-loop-again c =
-    let a = c .before .before .before .before .before .args in
-    mixing-next (a .sheet .now) (a .x) (a .h) (c .before .before .before .before .before .pre .0) (c .before .before .loop .a) (c .before .before .loop .r) (c .before .before .loop .inv) (c .byte-of .result) (c .byte-of .ensures) (omega (arith, c .before .loop-test .taken, c .before .before .before .width-of .ensures))
-
--- src/fingerprints.rt:17:1
 returns : tie.Need-returns Inv-loop μ-loop
 returns c =
     let a = c .before .before .before .before .args in
-    mixing-ends (a .sheet .now) (a .x) (a .h) (c .before .before .before .before .pre .0) (c .before .loop .a) (c .before .loop .r) (c .before .loop .inv) (omega (arith, c .loop-test .left, c .before .before .width-of .ensures))
+    let r = c .mix-zeros .ensures in
+    let z = c .before .before .zeros-of in
+    (r .0, r .1 ∙ ap (λ (n : ℕ). mixed (a .h) (zeros-name n)) (z .ensures) ∙ sym (ap (mixed (a .h)) (text-zeros (a .sheet .now) (a .x) (omega (arith, z .ensures, c .before .if1 .taken)))))
+
+width-of-requires : tie.Need-width-of-requires Inv-loop μ-loop
+width-of-requires c κs = search needs
+
+loop-holds : tie.Need-loop-holds Inv-loop μ-loop
+loop-holds c =
+    let a = c .before .before .before .before .args in
+    mixing-starts (a .sheet .now) (a .x) (a .h) (c .before .before .before .before .pre .1)
+
+byte-of-requires : tie.Need-byte-of-requires Inv-loop μ-loop
+byte-of-requires c κs = (c .before .before .before .before .before .before .pre .0, omega (arith, c .loop-test .taken, c .before .before .width-of .ensures))
+
+mix-byte-requires : tie.Need-mix-byte-requires Inv-loop μ-loop
+mix-byte-requires c κs = c .before .before .loop .inv .small
+
+add-a : tie.Need-add-a Inv-loop μ-loop
+add-a c = omega (arith, c .before .before .loop-test .taken, c .before .before .before .before .width-of .ok)
+
+loop-less : tie.Need-loop-less Inv-loop μ-loop
+loop-less c = omega (arith, c .before .before .loop-test .taken)
+
+loop-again : tie.Need-loop-again Inv-loop μ-loop
+loop-again c =
+    let a = c .before .before .before .before .before .before .before .before .args in
+    let l = c .before .before .before .loop in
+    mixing-next (a .sheet .now) (a .x) (a .h) (c .before .before .before .before .before .before .before .before .pre .0) (l .a) (l .r) (l .inv) (c .before .byte-of .result) (c .mix-byte .result) (c .before .byte-of .ensures) (c .mix-byte .ensures) (omega (arith, c .before .before .loop-test .taken, c .before .before .before .before .width-of .ensures))
+
+returns-2 : tie.Need-returns-2 Inv-loop μ-loop
+returns-2 c =
+    let a = c .before .before .before .before .before .before .args in
+    let l = c .before .loop in
+    mixing-ends (a .sheet .now) (a .x) (a .h) (c .before .before .before .before .before .before .pre .0) (l .a) (l .r) (l .inv) (omega (arith, c .loop-test .left, c .before .before .width-of .ensures))
 
 pub mix-spec : {M : Type 1} → statement M
 mix-spec =
@@ -67,13 +73,14 @@ mix-spec =
     (tie.spec
     Inv-loop
     μ-loop
+    zeros-of-requires
+    mix-zeros-requires
+    returns
     width-of-requires
     loop-holds
     byte-of-requires
-    cast-b
-    mul-r
-    add-r
+    mix-byte-requires
     add-a
     loop-less
     loop-again
-    returns)
+    returns-2)

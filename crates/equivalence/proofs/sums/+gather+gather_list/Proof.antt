@@ -47,15 +47,12 @@ gather-calls t = (is-sum-reads.Asked, is-sum-reads.Learnt, first-of-reads.Asked,
 abbrev gather-list-calls : ℕ → gather-list-lts.Claims
 gather-list-calls t = (gather-below t, gather.Post, next-of-reads.Asked, next-of-reads.Learnt, gather-list-below t, gather-list.Post)
 
--- src/sums.rt:42:8
 gather-is-sum-requires : (t : ℕ) → gather-lts.Need-is-sum-requires (gather-calls t) (gather-at t) gather.Post
 gather-is-sum-requires t c κs = (c .before .before .before .pre .1 .0, (c .before .before .before .pre .1 .1 .0 .0, c .before .before .before .pre .1 .1 .0 .1))
 
--- src/sums.rt:43:13
 gather-first-of-requires : (t : ℕ) → gather-lts.Need-first-of-requires (gather-calls t) (gather-at t) gather.Post
 gather-first-of-requires t c κs = (c .before .before .before .before .before .before .pre .1 .0 .links, (c .before .before .before .before .before .before .pre .1 .1 .0 .0, c .before .before .before .before .before .before .pre .1 .1 .0 .1))
 
--- src/sums.rt:44:9
 gather-gather-list-requires : (t : ℕ) → gather-lts.Need-gather-list-requires (gather-calls t) (gather-at t) gather.Post
 gather-gather-list-requires t c κs =
     let a = c .before .before .before .before .before .before .before .before .args in
@@ -66,55 +63,45 @@ gather-gather-list-requires t c κs =
       (p .0, ((omega (arith, f .1, p .1 .0 .1), p .1 .0 .2), (p .1 .1 .0, omega (arith, p .1 .1 .1, size-apply (a .sheet .now) (a .work .now) (a .i) (k .0), sizes-is (a .sheet .now) (a .work .now) (f .0))))),
     )
 
--- src/sums.rt:44:9
 gather-same-length : (t : ℕ) → gather-lts.Need-same-length (gather-calls t) (gather-at t) gather.Post
 gather-same-length t c = search needs
 
--- src/sums.rt:44:9
 gather-returns : (t : ℕ) → gather-lts.Need-returns (gather-calls t) (gather-at t) gather.Post
 gather-returns t c =
     let a = c .before .before .before .before .before .before .before .before .before .before .before .args in
     let k = sum-told (a .sheet .now) (a .work .now) (a .i) (sym (c .before .before .before .before .before .before .if1 .taken) ∙ c .before .before .before .before .before .before .before .is-sum .ensures) in
     gathered-sum (a .sheet .now) (a .work .now) (a .i) (c .before .before .before .before .first-of .result) (k .0) (k .1) (c .before .before .before .before .first-of .ensures .0) (c .before .before .gather-list .ensures)
 
--- src/sums.rt:46:16
 gather-cast-work : (t : ℕ) → gather-lts.Need-cast-work (gather-calls t) (gather-at t) gather.Post
 gather-cast-work t c = omega (arith, c .before .before .before .before .before .pre .1 .1 .0)
 
--- src/sums.rt:46:5
 gather-mul-work : (t : ℕ) → gather-lts.Need-mul-work (gather-calls t) (gather-at t) gather.Post
 gather-mul-work t c = search needs
 
--- src/sums.rt:46:5
 gather-slice-write-work : (t : ℕ) → gather-lts.Need-slice-write-work (gather-calls t) (gather-at t) gather.Post
 gather-slice-write-work t c =
     let a = c .before .before .before .before .before .args in
     omega (arith, c .before .before .before .before .before .pre .1 .1 .1, size-pos (tree-at (a .sheet .now) (a .work .now) (a .i)))
 
--- src/sums.rt:47:5
 gather-add-result : (t : ℕ) → gather-lts.Need-add-result (gather-calls t) (gather-at t) gather.Post
 gather-add-result t c =
     let a = c .before .before .before .before .before .args in
     omega (arith, c .before .before .before .before .before .pre .1 .1 .1, size-pos (tree-at (a .sheet .now) (a .work .now) (a .i)))
 
--- src/sums.rt:36:1
 gather-same-length-2 : (t : ℕ) → gather-lts.Need-same-length-2 (gather-calls t) (gather-at t) gather.Post
 gather-same-length-2 t c = search needs
 
--- src/sums.rt:36:1
 gather-returns-2 : (t : ℕ) → gather-lts.Need-returns-2 (gather-calls t) (gather-at t) gather.Post
 gather-returns-2 t c =
     let a = c .before .before .before .before .before .args in
     let p = c .before .before .before .before .before .pre .1 in
     gathered-leaf (a .sheet .now) (a .work .now) (a .i) (a .free) (a .at) (a .at + 1) (p .1 .0 .0) (p .1 .0 .1) (omega (arith, p .1 .1 .1, size-pos (tree-at (a .sheet .now) (a .work .now) (a .i)))) (other-told (a .sheet .now) (a .work .now) (a .i) (sym (c .if1 .left) ∙ c .before .is-sum .ensures)) refl
 
--- src/sums.rt:58:9
 gather-list-returns : (t : ℕ) → gather-list-lts.Need-returns (gather-list-calls t) (gather-list-at t) gather-list.Post
 gather-list-returns t c =
     let a = c .before .before .before .args in
     gathered-none (a .sheet .now) (a .work .now) (a .i) (a .free) (a .at) (a .at) (c .if1 .taken) refl
 
--- src/sums.rt:60:9
 gather-list-gather-requires : (t : ℕ) → gather-list-lts.Need-gather-requires (gather-list-calls t) (gather-list-at t) gather-list.Post
 gather-list-gather-requires t c κs =
     let a = c .before .before .before .before .args in
@@ -124,7 +111,6 @@ gather-list-gather-requires t c κs =
     let n = sizes-more s (p .0 .links) (a .i) q (p .1 .0 .0) in
     (omega (arith, c .before .before .before .before .pre .0, head-falls s (p .0 .links) (a .i) q (p .1 .0 .0)), (p .0, ((q, p .1 .0 .0, p .1 .0 .1), (p .1 .1 .0, omega (arith, p .1 .1 .1, n)))))
 
--- src/sums.rt:61:9
 gather-list-next-of-requires : (t : ℕ) → gather-list-lts.Need-next-of-requires (gather-list-calls t) (gather-list-at t) gather-list.Post
 gather-list-next-of-requires t c κs =
     let a = c .before .before .before .before .before .before .before .before .args in
@@ -132,7 +118,6 @@ gather-list-next-of-requires t c κs =
     let g = c .before .before .before .gather .ensures in
     (gathered-arena (a .sheet .now) (a .work .now) (c .before .before .before .gather .last .1 .0) (a .free) (a .i) (next-of (c .before .before .before .gather .last .1 .0) (a .i)) (a .at) (c .before .before .before .gather .result) (p .0) (omega (arith, c .before .before .before .before .before .if1 .left)) (p .1 .0 .0) (p .1 .1 .0) refl g .links, (omega (arith, c .before .before .before .before .before .if1 .left), p .1 .0 .0))
 
--- src/sums.rt:62:5
 gather-list-gather-list-requires : (t : ℕ) → gather-list-lts.Need-gather-list-requires (gather-list-calls t) (gather-list-at t) gather-list.Post
 gather-list-gather-list-requires t c κs =
     let a = c .before .before .before .before .before .before .before .before .before .before .args in
@@ -145,11 +130,9 @@ gather-list-gather-list-requires t c κs =
       (gathered-arena (a .sheet .now) (a .work .now) (c .before .before .before .before .before .gather .last .1 .0) (a .free) (a .i) (c .before .next-of .result) (a .at) (c .before .before .before .before .before .gather .result) (p .0) (omega (arith, c .before .before .before .before .before .before .before .if1 .left)) (p .1 .0 .0) (p .1 .1 .0) (c .before .next-of .ensures .0) (c .before .before .before .before .before .gather .ensures), ((omega (arith, next-falls (a .sheet .now) (a .work .now) (c .before .before .before .before .before .gather .last .1 .0) (a .free) (a .i) (c .before .next-of .result) (a .at) (c .before .before .before .before .before .gather .result) (p .0) (omega (arith, c .before .before .before .before .before .before .before .if1 .left)) (p .1 .0 .0) (p .1 .1 .0) (c .before .next-of .ensures .0) (c .before .before .before .before .before .gather .ensures), p .1 .0 .0), p .1 .0 .1), (omega (arith, p .1 .1 .0, g .grew), omega (arith, p .1 .1 .1, r, g .most-is, m)))),
     )
 
--- src/sums.rt:51:1
 gather-list-same-length : (t : ℕ) → gather-list-lts.Need-same-length (gather-list-calls t) (gather-list-at t) gather-list.Post
 gather-list-same-length t c = search needs
 
--- src/sums.rt:51:1
 gather-list-returns-2 : (t : ℕ) → gather-list-lts.Need-returns-2 (gather-list-calls t) (gather-list-at t) gather-list.Post
 gather-list-returns-2 t c =
     let a = c .before .before .before .before .before .before .before .before .before .before .before .before .before .args in

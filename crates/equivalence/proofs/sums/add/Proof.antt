@@ -11,7 +11,6 @@ use Rattle.tree.proofs.cells.count_of.Reads as count-of-reads
 use Rattle.tree.proofs.cells.push_like.Reads as push-like-reads
 use Rattle.tree.proofs.cells.share.Reads as share-reads
 
--- src/sums.rt:251:9
 share-requires : tie.Need-share-requires
 share-requires c κs =
     let a = c .before .before .before .args in
@@ -20,7 +19,6 @@ share-requires c κs =
     let m = c .before .before .before .pre .1 .1 .1 in
     (c .before .before .before .pre .0, ((r .0, r .1, r .3), (omega (arith, m .0), omega (arith, m .1))))
 
--- src/sums.rt:252:17
 count-of-requires : tie.Need-count-of-requires
 count-of-requires c κs =
     let a = c .before .before .before .before .before .before .before .args in
@@ -30,7 +28,6 @@ count-of-requires c κs =
     let e = c .before .before .before .share .ensures .1 .grown .len in
     omega (arith, m .0)
 
--- src/sums.rt:252:40
 count-of-requires-2 : tie.Need-count-of-requires-2
 count-of-requires-2 c κs =
     let a = c .before .before .before .before .before .before .before .before .before .args in
@@ -40,15 +37,12 @@ count-of-requires-2 c κs =
     let e = c .before .before .before .before .before .share .ensures .1 .grown .len in
     omega (arith, m .0, r .3)
 
--- src/sums.rt:252:17
 add-nodes : tie.Need-add-nodes
 add-nodes c = search needs
 
--- src/sums.rt:252:17
 add-nodes-2 : tie.Need-add-nodes-2
 add-nodes-2 c = search needs
 
--- src/sums.rt:253:5
 push-like-requires : tie.Need-push-like-requires
 push-like-requires c κs =
     let a = c .before .before .before .before .before .before .before .before .before .before .before .args in
@@ -62,11 +56,9 @@ push-like-requires c κs =
     let y = c .before .count-of2 .ensures .0 in
     ((omega (arith, m .0), omega (arith, q .1)), (omega (arith, m .1), omega arith, omega (arith, m .2)))
 
--- src/sums.rt:237:1
 same-length : tie.Need-same-length
 same-length c = search needs
 
--- src/sums.rt:237:1
 returns : tie.Need-returns
 returns c =
     let a = c .before .before .before .before .before .before .before .before .before .before .before .before .before .before .args in

@@ -14,14 +14,12 @@ Inv-loop sheet work₀ free d base at mid end every p₀ work p = Cancelling she
 abbrev μ-loop : tie.MeasureT-loop
 μ-loop sheet work₀ free d base at mid end every p₀ work p = mid - p
 
--- src/sums.rt:194:5
 loop-holds : tie.Need-loop-holds Inv-loop μ-loop
 loop-holds c =
     let a = c .before .before .args in
     let q = c .before .before .pre .1 .0 in
     cancelling-starts (a .sheet .now) (a .work .now) (a .free) (a .d) (a .base) (a .at) (a .mid) (a .end) (a .every) (c .before .before .pre .0) (q .0) (q .1) (q .2) (q .3) (q .4) (q .5) (c .before .before .pre .1 .1 .0) (c .before .before .pre .1 .1 .1)
 
--- src/sums.rt:195:9
 take-one-requires : tie.Need-take-one-requires Inv-loop μ-loop
 take-one-requires c κs =
     let a = c .before .before .before .before .before .args in
@@ -31,28 +29,23 @@ take-one-requires c κs =
     let k = cell-now (a .sheet .now) (a .work .now) (a .free) (a .d) (a .base) (a .at) (a .mid) (a .end) (a .every) (c .before .before .before .before .before .pre .0) (q .0) (q .1) (q .2) (q .3) (q .4) (q .5) (c .before .before .before .before .before .pre .1 .1 .0) (c .before .before .before .before .before .pre .1 .1 .1) (c .before .before .loop .work) (c .before .before .loop .p) (c .before .before .loop .inv) (c .before .loop-test .taken) in
     (cancel-arena (a .sheet .now) (a .work .now) (a .free) (a .d) (a .base) (a .at) (a .mid) (a .end) (a .every) (c .before .before .before .before .before .pre .0) (q .0) (q .1) (q .2) (q .3) (q .4) (q .5) (c .before .before .before .before .before .pre .1 .1 .0) (c .before .before .before .before .before .pre .1 .1 .1) (c .before .before .loop .work) (c .before .before .loop .p) (c .before .before .loop .inv), ((omega (arith, i .low, q .0), c .before .loop-test .taken, q .2, omega (arith, e, q .4, q .5)), (k .0, k .1, runs-now (a .sheet .now) (a .work .now) (a .free) (a .d) (a .base) (a .at) (a .mid) (a .end) (a .every) (c .before .before .before .before .before .pre .0) (q .0) (q .1) (q .2) (q .3) (q .4) (q .5) (c .before .before .before .before .before .pre .1 .1 .0) (c .before .before .before .before .before .pre .1 .1 .1) (c .before .before .loop .work) (c .before .before .loop .p) (c .before .before .loop .inv) (c .before .loop-test .taken))))
 
--- src/sums.rt:196:9
 add-p : tie.Need-add-p Inv-loop μ-loop
 add-p c =
     let q = c .before .before .before .before .before .before .before .before .pre .1 .0 in
     omega (arith, c .before .before .before .before .loop-test .taken, q .2, q .4, q .5)
 
--- src/sums.rt:194:5
 loop-less : tie.Need-loop-less Inv-loop μ-loop
 loop-less c = omega (arith, c .before .before .before .before .loop-test .taken)
 
--- src/sums.rt:194:5
 loop-again : tie.Need-loop-again Inv-loop μ-loop
 loop-again c =
     let a = c .before .before .before .before .before .before .before .before .args in
     let q = c .before .before .before .before .before .before .before .before .pre .1 .0 in
     cancelling-next (a .sheet .now) (a .work .now) (a .free) (a .d) (a .base) (a .at) (a .mid) (a .end) (a .every) (c .before .before .before .before .before .before .before .before .pre .0) (q .0) (q .1) (q .2) (q .3) (q .4) (q .5) (c .before .before .before .before .before .before .before .before .pre .1 .1 .0) (c .before .before .before .before .before .before .before .before .pre .1 .1 .1) (c .before .before .before .before .before .loop .work) (c .before .before .before .before .before .loop .p) (c .before .before .before .before .before .loop .inv) (c .before .before .before .before .loop-test .taken) (c .before .before .take-one .last .1 .0) (c .before .before .take-one .ensures)
 
--- src/sums.rt:177:1
 same-length : tie.Need-same-length Inv-loop μ-loop
 same-length c = c .before .loop .inv .zeroed .len
 
--- src/sums.rt:177:1
 returns : tie.Need-returns Inv-loop μ-loop
 returns c =
     let a = c .before .before .before .before .args in

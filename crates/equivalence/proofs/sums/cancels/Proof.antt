@@ -9,15 +9,12 @@ use Rattle.equivalence.proofs.sums.cancels.Reads as reads
 use Rattle.equivalence.proofs.sums.cancels.Lts as lts
 use Rattle.substitution.proofs.ground.ground.Reads as ground-reads
 
--- src/sums.rt:143:9
 returns : tie.Need-returns
 returns c = search needs
 
--- src/sums.rt:145:5
 ground-requires : tie.Need-ground-requires
 ground-requires c κs = search needs
 
--- src/sums.rt:137:1
 returns-2 : tie.Need-returns-2
 returns-2 c =
     let a = c .before .before .before .before .args in

@@ -13,26 +13,21 @@ use Rattle.equivalence.proofs.sums.is_sum.Lts as lts
 use Rattle.tree.proofs.cells.kind_of.Reads as kind-of-reads
 use Rattle.tree.proofs.names.name_is.Reads as name-is-reads
 
--- src/sums.rt:29:8
 kind-of-requires : tie.Need-kind-of-requires
 kind-of-requires c κs = search needs
 
--- src/sums.rt:30:46
 slice-aggregate-name-is : tie.Need-slice-aggregate-name-is
 slice-aggregate-name-is c = search needs
 
--- src/sums.rt:30:9
 name-is-requires : tie.Need-name-is-requires
 name-is-requires c κs = search needs
 
--- src/sums.rt:30:9
 returns : tie.Need-returns
 returns c =
     let a = c .before .before .before .before .before .before .args in
     let k = kind-of (a .work .now) (a .i) in
     c .name-is .ensures ∙ ap (λ (b : Bool). b && same (name-at (a .sheet .now) (a .work .now) (a .i)) tamtplus) (sym (eq-eqb k 0 (sym (c .before .before .before .kind-of .ensures) ∙ c .before .before .if1 .taken)))
 
--- src/sums.rt:24:1
 returns-2 : tie.Need-returns-2
 returns-2 c =
     let a = c .before .before .before .before .args in

@@ -12,18 +12,15 @@ use Rattle.equivalence.proofs.sums.cancel.Reads as cancel-reads
 use Rattle.equivalence.proofs.sums.describe.Reads as describe-reads
 use Rattle.equivalence.proofs.sums.gather.Reads as gather-reads
 
--- src/sums.rt:222:9
 gather-requires : tie.Need-gather-requires
 gather-requires c κs = search needs
 
--- src/sums.rt:223:9
 gather-requires-2 : tie.Need-gather-requires-2
 gather-requires-2 c κs =
     let a = c .before .before .before .before .before .before .before .args in
     let q = c .before .before .before .before .before .before .before .pre .1 .0 in
     (first-arena (a .sheet .now) (a .work .now) (c .before .before .before .gather .last .1 .0) (a .work .now) (a .free) (a .left) (a .right) (a .at) (c .before .before .before .gather .result) 0 (a .every) (c .before .before .before .before .before .before .before .pre .0) (q .2) (q .3) (q .5) (c .before .before .before .before .before .before .before .pre .1 .1 .1) (c .before .before .before .gather .ensures), ((q .2, q .3, q .4), (omega (arith, q .5, c .before .before .before .gather .ensures .grew), second-room (a .sheet .now) (a .work .now) (c .before .before .before .gather .last .1 .0) (a .work .now) (a .free) (a .left) (a .right) (a .at) (c .before .before .before .gather .result) 0 (a .every) (c .before .before .before .before .before .before .before .pre .0) (q .2) (q .3) (q .5) (c .before .before .before .before .before .before .before .pre .1 .1 .1) (c .before .before .before .gather .ensures))))
 
--- src/sums.rt:224:5
 mul-work : tie.Need-mul-work
 mul-work c =
     let a = c .before .before .before .before .before .before .before .before .before .before .args in
@@ -31,18 +28,15 @@ mul-work c =
     let k = mark-room (a .sheet .now) (a .work .now) (c .before .before .before .before .before .before .gather .last .1 .0) (c .before .before .gather2 .last .1 .0) (a .free) (a .left) (a .right) (a .at) (c .before .before .before .before .before .before .gather .result) (c .before .before .gather2 .result) (a .every) (c .before .before .before .before .before .before .before .before .before .before .pre .0) (q .2) (q .3) (q .5) (c .before .before .before .before .before .before .before .before .before .before .pre .1 .1 .1) (c .before .before .before .before .before .before .gather .ensures) (c .before .before .gather2 .ensures) in
     search needs
 
--- src/sums.rt:224:5
 slice-write-work : tie.Need-slice-write-work
 slice-write-work c =
     let a = c .before .before .before .before .before .before .before .before .before .before .args in
     let q = c .before .before .before .before .before .before .before .before .before .before .pre .1 .0 in
     mark-room (a .sheet .now) (a .work .now) (c .before .before .before .before .before .before .gather .last .1 .0) (c .before .before .gather2 .last .1 .0) (a .free) (a .left) (a .right) (a .at) (c .before .before .before .before .before .before .gather .result) (c .before .before .gather2 .result) (a .every) (c .before .before .before .before .before .before .before .before .before .before .pre .0) (q .2) (q .3) (q .5) (c .before .before .before .before .before .before .before .before .before .before .pre .1 .1 .1) (c .before .before .before .before .before .before .gather .ensures) (c .before .before .gather2 .ensures)
 
--- src/sums.rt:225:13
 sub-d : tie.Need-sub-d
 sub-d c = search needs
 
--- src/sums.rt:226:22
 mul-base : tie.Need-mul-base
 mul-base c =
     let a = c .before .before .before .before .before .before .before .before .before .before .args in
@@ -52,7 +46,6 @@ mul-base c =
     let e = length-set (c .before .before .gather2 .last .1 .0) (c .before .before .gather2 .result) 0 in
     omega arith
 
--- src/sums.rt:226:16
 add-base : tie.Need-add-base
 add-base c =
     let a = c .before .before .before .before .before .before .before .before .before .before .args in
@@ -62,7 +55,6 @@ add-base c =
     let e = length-set (c .before .before .gather2 .last .1 .0) (c .before .before .gather2 .result) 0 in
     omega arith
 
--- src/sums.rt:226:16
 add-base-2 : tie.Need-add-base-2
 add-base-2 c =
     let a = c .before .before .before .before .before .before .before .before .before .before .args in
@@ -72,25 +64,21 @@ add-base-2 c =
     let e = length-set (c .before .before .gather2 .last .1 .0) (c .before .before .gather2 .result) 0 in
     omega arith
 
--- src/sums.rt:227:5
 describe-requires : tie.Need-describe-requires
 describe-requires c κs =
     let a = c .before .before .before .before .before .before .before .before .before .before .before .args in
     let q = c .before .before .before .before .before .before .before .before .before .before .before .pre .1 .0 in
     (gathered-arena (a .sheet .now) (a .work .now) (c .before .before .before .before .before .before .before .gather .last .1 .0) (c .before .before .before .gather2 .last .1 .0) (a .free) (a .left) (a .right) (a .at) (c .before .before .before .before .before .before .before .gather .result) (c .before .before .before .gather2 .result) (a .every) (c .before .before .before .before .before .before .before .before .before .before .before .pre .0) (q .2) (q .3) (q .5) (c .before .before .before .before .before .before .before .before .before .before .before .pre .1 .1 .1) (c .before .before .before .before .before .before .before .gather .ensures) (c .before .before .before .gather2 .ensures), (describe-order (a .sheet .now) (a .work .now) (c .before .before .before .before .before .before .before .gather .last .1 .0) (c .before .before .before .gather2 .last .1 .0) (a .free) (a .left) (a .right) (a .at) (c .before .before .before .before .before .before .before .gather .result) (c .before .before .before .gather2 .result) (a .every) (c .before .before .before .before .before .before .before .before .before .before .before .pre .0) (q .2) (q .3) (q .5) (c .before .before .before .before .before .before .before .before .before .before .before .pre .1 .1 .1) (c .before .before .before .before .before .before .before .gather .ensures) (c .before .before .before .gather2 .ensures) (c .before .before .before .gather2 .result - a .at) (c .before .before .before .gather2 .result + 2 * (c .before .before .before .gather2 .result - a .at) + 1) refl refl, ((all-cells (a .sheet .now) (a .work .now) (c .before .before .before .before .before .before .before .gather .last .1 .0) (c .before .before .before .gather2 .last .1 .0) (a .free) (a .left) (a .right) (a .at) (c .before .before .before .before .before .before .before .gather .result) (c .before .before .before .gather2 .result) (a .every) (c .before .before .before .before .before .before .before .before .before .before .before .pre .0) (q .2) (q .3) (q .5) (c .before .before .before .before .before .before .before .before .before .before .before .pre .1 .1 .1) (c .before .before .before .before .before .before .before .gather .ensures) (c .before .before .before .gather2 .ensures), mark-zero (a .sheet .now) (a .work .now) (c .before .before .before .before .before .before .before .gather .last .1 .0) (c .before .before .before .gather2 .last .1 .0) (a .free) (a .left) (a .right) (a .at) (c .before .before .before .before .before .before .before .gather .result) (c .before .before .before .gather2 .result) (a .every) (c .before .before .before .before .before .before .before .before .before .before .before .pre .0) (q .2) (q .3) (q .5) (c .before .before .before .before .before .before .before .before .before .before .before .pre .1 .1 .1) (c .before .before .before .before .before .before .before .gather .ensures) (c .before .before .before .gather2 .ensures) (c .before .before .before .gather2 .result - a .at) refl), describe-room (a .sheet .now) (a .work .now) (c .before .before .before .before .before .before .before .gather .last .1 .0) (c .before .before .before .gather2 .last .1 .0) (a .free) (a .left) (a .right) (a .at) (c .before .before .before .before .before .before .before .gather .result) (c .before .before .before .gather2 .result) (a .every) (c .before .before .before .before .before .before .before .before .before .before .before .pre .0) (q .2) (q .3) (q .5) (c .before .before .before .before .before .before .before .before .before .before .before .pre .1 .1 .1) (c .before .before .before .before .before .before .before .gather .ensures) (c .before .before .before .gather2 .ensures) (c .before .before .before .gather2 .result - a .at) (c .before .before .before .gather2 .result + 2 * (c .before .before .before .gather2 .result - a .at) + 1) refl refl (c .before .before .before .before .before .before .before .before .before .before .before .pre .1 .1 .0))))
 
--- src/sums.rt:228:5
 cancel-requires : tie.Need-cancel-requires
 cancel-requires c κs =
     let a = c .before .before .before .before .before .before .before .before .before .before .before .before .before .before .before .args in
     let q = c .before .before .before .before .before .before .before .before .before .before .before .before .before .before .before .pre .1 .0 in
     (described-arena (a .sheet .now) (a .work .now) (c .before .before .before .before .before .before .before .before .before .before .before .gather .last .1 .0) (c .before .before .before .before .before .before .before .gather2 .last .1 .0) (a .free) (a .left) (a .right) (a .at) (c .before .before .before .before .before .before .before .before .before .before .before .gather .result) (c .before .before .before .before .before .before .before .gather2 .result) (a .every) (c .before .before .before .before .before .before .before .before .before .before .before .before .before .before .before .pre .0) (q .2) (q .3) (q .5) (c .before .before .before .before .before .before .before .before .before .before .before .before .before .before .before .pre .1 .1 .1) (c .before .before .before .before .before .before .before .before .before .before .before .gather .ensures) (c .before .before .before .before .before .before .before .gather2 .ensures) (c .before .before .before .before .before .before .before .gather2 .result - a .at) (c .before .before .before .before .before .before .before .gather2 .result + 2 * (c .before .before .before .before .before .before .before .gather2 .result - a .at) + 1) refl refl (c .before .before .before .describe .last .1 .0) (c .before .before .before .describe .ensures), (cancel-room (a .sheet .now) (a .work .now) (c .before .before .before .before .before .before .before .before .before .before .before .gather .last .1 .0) (c .before .before .before .before .before .before .before .gather2 .last .1 .0) (a .free) (a .left) (a .right) (a .at) (c .before .before .before .before .before .before .before .before .before .before .before .gather .result) (c .before .before .before .before .before .before .before .gather2 .result) (a .every) (c .before .before .before .before .before .before .before .before .before .before .before .before .before .before .before .pre .0) (q .2) (q .3) (q .5) (c .before .before .before .before .before .before .before .before .before .before .before .before .before .before .before .pre .1 .1 .1) (c .before .before .before .before .before .before .before .before .before .before .before .gather .ensures) (c .before .before .before .before .before .before .before .gather2 .ensures) (c .before .before .before .before .before .before .before .gather2 .result - a .at) (c .before .before .before .before .before .before .before .gather2 .result + 2 * (c .before .before .before .before .before .before .before .gather2 .result - a .at) + 1) refl refl (c .before .before .before .describe .last .1 .0) (c .before .before .before .describe .ensures), (cells₄ (a .sheet .now) (a .work .now) (c .before .before .before .before .before .before .before .before .before .before .before .gather .last .1 .0) (c .before .before .before .before .before .before .before .gather2 .last .1 .0) (a .free) (a .left) (a .right) (a .at) (c .before .before .before .before .before .before .before .before .before .before .before .gather .result) (c .before .before .before .before .before .before .before .gather2 .result) (a .every) (c .before .before .before .before .before .before .before .before .before .before .before .before .before .before .before .pre .0) (q .2) (q .3) (q .5) (c .before .before .before .before .before .before .before .before .before .before .before .before .before .before .before .pre .1 .1 .1) (c .before .before .before .before .before .before .before .before .before .before .before .gather .ensures) (c .before .before .before .before .before .before .before .gather2 .ensures) (c .before .before .before .before .before .before .before .gather2 .result - a .at) (c .before .before .before .before .before .before .before .gather2 .result + 2 * (c .before .before .before .before .before .before .before .gather2 .result - a .at) + 1) refl refl (c .before .before .before .describe .last .1 .0) (c .before .before .before .describe .ensures), lasting₄ (a .sheet .now) (a .work .now) (c .before .before .before .before .before .before .before .before .before .before .before .gather .last .1 .0) (c .before .before .before .before .before .before .before .gather2 .last .1 .0) (a .free) (a .left) (a .right) (a .at) (c .before .before .before .before .before .before .before .before .before .before .before .gather .result) (c .before .before .before .before .before .before .before .gather2 .result) (a .every) (c .before .before .before .before .before .before .before .before .before .before .before .before .before .before .before .pre .0) (q .2) (q .3) (q .5) (c .before .before .before .before .before .before .before .before .before .before .before .before .before .before .before .pre .1 .1 .1) (c .before .before .before .before .before .before .before .before .before .before .before .gather .ensures) (c .before .before .before .before .before .before .before .gather2 .ensures) (c .before .before .before .before .before .before .before .gather2 .result - a .at) (c .before .before .before .before .before .before .before .gather2 .result + 2 * (c .before .before .before .before .before .before .before .gather2 .result - a .at) + 1) refl refl (c .before .before .before .describe .last .1 .0) (c .before .before .before .describe .ensures))))
 
--- src/sums.rt:208:1
 same-length : tie.Need-same-length
 same-length c = c .before .before .cancel .ensures .zeroed .len ∙ c .before .before .before .before .before .before .describe .ensures .kept .len ∙ length-set (c .before .before .before .before .before .before .before .before .before .before .gather2 .last .1 .0) (c .before .before .before .before .before .before .before .before .before .before .gather2 .result) 0 ∙ c .before .before .before .before .before .before .before .before .before .before .gather2 .ensures .kept .len ∙ c .before .before .before .before .before .before .before .before .before .before .before .before .before .before .gather .ensures .kept .len
 
--- src/sums.rt:208:1
 returns : tie.Need-returns
 returns c =
     let a = c .before .before .before .before .before .before .before .before .before .before .before .before .before .before .before .before .before .before .args in

@@ -15,23 +15,18 @@ use Rattle.equivalence.proofs.sums.cancels.Reads as cancels-reads
 use Rattle.equivalence.proofs.sums.find.Reads as find-reads
 use Rattle.text.proofs.places.wide.Reads as wide-reads
 
--- src/sums.rt:164:21
 mul-wide : tie.Need-mul-wide
 mul-wide c = search needs
 
--- src/sums.rt:164:21
 slice-read-wide : tie.Need-slice-read-wide
 slice-read-wide c = search needs
 
--- src/sums.rt:164:9
 wide-requires : tie.Need-wide-requires
 wide-requires c κs = search needs
 
--- src/sums.rt:165:8
 cancels-requires : tie.Need-cancels-requires
 cancels-requires c κs = search needs
 
--- src/sums.rt:166:13
 find-requires : tie.Need-find-requires
 find-requires c κs =
     let a = c .before .before .before .before .before .before .before .before .args in
@@ -39,51 +34,41 @@ find-requires c κs =
     let r = c .before .before .before .before .before .before .before .before .pre .1 .1 in
     ((r .2 (a .p) (omega arith) (omega (arith, q .1, q .2)) (r .0), λ k x y z. r .2 k (omega (arith, q .1)) y z), (q .2, q .3))
 
--- src/sums.rt:168:13
 mul-work : tie.Need-mul-work
 mul-work c = search needs
 
--- src/sums.rt:168:13
 slice-write-work : tie.Need-slice-write-work
 slice-write-work c = search needs
 
--- src/sums.rt:169:13
 mul-work-2 : tie.Need-mul-work-2
 mul-work-2 c = search needs
 
--- src/sums.rt:169:13
 slice-write-work-2 : tie.Need-slice-write-work-2
 slice-write-work-2 c =
     let q = c .before .before .before .before .before .before .before .before .before .before .pre .1 .0 in
     simp length-set (omega (arith, q .1, q .2, q .3))
 
--- src/sums.rt:170:13
 same-length : tie.Need-same-length
 same-length c = search needs
 
--- src/sums.rt:170:13
 returns : tie.Need-returns
 returns c =
     let a = c .before .before .before .before .before .before .before .before .before .before .args in
     let q = c .before .before .before .before .before .before .before .before .before .before .pre .1 .0 in
     took-both (a .sheet .now) (a .work .now) (a .p) (a .mid) (a .end) (a .every) (q .1) (q .2) (omega (arith, q .3)) (c .before .before .before .before .before .before .before .before .before .before .pre .1 .1 .0) (sym (c .before .before .before .if1 .taken) ∙ c .before .before .before .before .cancels .ensures ∙ ap (λ (k : ℕ). a .every || ground (tree-at (a .sheet .now) (a .work .now) k)) (c .before .before .before .before .before .before .wide .ensures)) (c .before .find .result) (c .before .find .ensures) (c .if2 .taken)
 
--- src/sums.rt:172:9
 same-length-2 : tie.Need-same-length-2
 same-length-2 c = search needs
 
--- src/sums.rt:172:9
 returns-2 : tie.Need-returns-2
 returns-2 c =
     let a = c .before .before .before .before .before .before .before .before .before .before .args in
     let q = c .before .before .before .before .before .before .before .before .before .before .pre .1 .0 in
     took-none (a .sheet .now) (a .work .now) (a .p) (a .mid) (a .end) (a .every) (q .1) (q .2) (omega (arith, q .3)) (c .before .before .before .before .before .before .before .before .before .before .pre .1 .1 .0) (sym (c .before .before .before .if1 .taken) ∙ c .before .before .before .before .cancels .ensures ∙ ap (λ (k : ℕ). a .every || ground (tree-at (a .sheet .now) (a .work .now) k)) (c .before .before .before .before .before .before .wide .ensures)) (c .before .find .result) (c .before .find .ensures) (omega (arith, c .if2 .left))
 
--- src/sums.rt:148:1
 same-length-3 : tie.Need-same-length-3
 same-length-3 c = search needs
 
--- src/sums.rt:148:1
 returns-3 : tie.Need-returns-3
 returns-3 c =
     let a = c .before .before .before .before .before .before .before .args in

@@ -55,7 +55,6 @@ put-list-calls t = (put-term-below t, put-term.Post, next-of-reads.Asked, next-o
 abbrev put-term-calls : ℕ → put-term-lts.Claims
 put-term-calls t = (child-of-reads.Asked, child-of-reads.Learnt, put-leaf-reads.Asked, put-leaf-reads.Learnt, name-is-reads.Asked, name-is-reads.Learnt, word-of-reads.Asked, word-of-reads.Learnt, put-opening-reads.Asked, put-opening-reads.Learnt, put-list-below t, put-list.Post, bracket-of-reads.Asked, bracket-of-reads.Learnt, put-closing-reads.Asked, put-closing-reads.Learnt)
 
--- src/words.rt:95:9
 put-list-put-term-requires : (t : ℕ) → put-list-lts.Need-put-term-requires (put-list-calls t) (put-list-at t) put-list.Post
 put-list-put-term-requires t c κs =
     let a = c .before .before .before .args in
@@ -64,25 +63,21 @@ put-list-put-term-requires t c κs =
     let n = sizes-more s (p .0 .links) (a .i) (p .1 .0 .0) (p .1 .0 .1) in
     (omega (arith, c .before .before .before .pre .0, head-falls s (p .0 .links) (a .i) (p .1 .0 .0) (p .1 .0 .1)), (p .0, (p .1 .0, (p .1 .1 .0, omega (arith, p .1 .1 .1, n)))))
 
--- src/words.rt:96:9
 put-list-next-of-requires : (t : ℕ) → put-list-lts.Need-next-of-requires (put-list-calls t) (put-list-at t) put-list.Post
 put-list-next-of-requires t c κs =
     let a = c .before .before .before .before .before .before .before .args in
     let p = c .before .before .before .before .before .before .before .pre .1 in
     (wrote-arena (c .before .before .before .put-term .ensures .wrote) (a .sheet .now) (a .free) (p .1 .1 .0) (p .0) .links, p .1 .0)
 
--- src/words.rt:98:9
 put-list-same-length : (t : ℕ) → put-list-lts.Need-same-length (put-list-calls t) (put-list-at t) put-list.Post
 put-list-same-length t c = search needs
 
--- src/words.rt:98:9
 put-list-returns : (t : ℕ) → put-list-lts.Need-returns (put-list-calls t) (put-list-at t) put-list.Post
 put-list-returns t c =
     let a = c .before .before .before .before .before .before .before .before .before .args in
     let p = c .before .before .before .before .before .before .before .before .before .pre .1 in
     one-spelled (a .sheet .now) (a .work .now) (c .before .before .before .before .before .put-term .last .1 .0) (a .free) (a .i) (c .before .next-of .result) (a .out) (c .before .before .before .before .before .put-term .result) (a .inside) (p .0) (p .1 .0 .0) (p .1 .0 .1) (p .1 .1 .0) (c .before .before .before .before .before .put-term .ensures) (c .before .next-of .ensures .0) (c .if1 .taken)
 
--- src/words.rt:100:5
 put-list-mul-work : (t : ℕ) → put-list-lts.Need-mul-work (put-list-calls t) (put-list-at t) put-list.Post
 put-list-mul-work t c =
     let a = c .before .before .before .before .before .before .before .before .before .args in
@@ -90,21 +85,18 @@ put-list-mul-work t c =
     let k = comma-room (a .sheet .now) (a .work .now) (c .before .before .before .before .before .put-term .last .1 .0) (a .free) (a .i) (c .before .next-of .result) (a .out) (c .before .before .before .before .before .put-term .result) (a .inside) (p .0) (p .1 .0 .0) (p .1 .0 .1) (p .1 .1 .0) (c .before .before .before .before .before .put-term .ensures) (c .before .next-of .ensures .0) (p .1 .1 .1) (omega (arith, c .if1 .left)) in
     search needs
 
--- src/words.rt:100:5
 put-list-slice-write-work : (t : ℕ) → put-list-lts.Need-slice-write-work (put-list-calls t) (put-list-at t) put-list.Post
 put-list-slice-write-work t c =
     let a = c .before .before .before .before .before .before .before .before .before .args in
     let p = c .before .before .before .before .before .before .before .before .before .pre .1 in
     comma-room (a .sheet .now) (a .work .now) (c .before .before .before .before .before .put-term .last .1 .0) (a .free) (a .i) (c .before .next-of .result) (a .out) (c .before .before .before .before .before .put-term .result) (a .inside) (p .0) (p .1 .0 .0) (p .1 .0 .1) (p .1 .1 .0) (c .before .before .before .before .before .put-term .ensures) (c .before .next-of .ensures .0) (p .1 .1 .1) (omega (arith, c .if1 .left))
 
--- src/words.rt:101:47
 put-list-add-put-list : (t : ℕ) → put-list-lts.Need-add-put-list (put-list-calls t) (put-list-at t) put-list.Post
 put-list-add-put-list t c =
     let a = c .before .before .before .before .before .before .before .before .before .before .args in
     let p = c .before .before .before .before .before .before .before .before .before .before .pre .1 in
     omega (arith, comma-room (a .sheet .now) (a .work .now) (c .before .before .before .before .before .before .put-term .last .1 .0) (a .free) (a .i) (c .before .before .next-of .result) (a .out) (c .before .before .before .before .before .before .put-term .result) (a .inside) (p .0) (p .1 .0 .0) (p .1 .0 .1) (p .1 .1 .0) (c .before .before .before .before .before .before .put-term .ensures) (c .before .before .next-of .ensures .0) (p .1 .1 .1) (omega (arith, c .before .if1 .left)))
 
--- src/words.rt:101:5
 put-list-put-list-requires : (t : ℕ) → put-list-lts.Need-put-list-requires (put-list-calls t) (put-list-at t) put-list.Post
 put-list-put-list-requires t c κs =
     let a = c .before .before .before .before .before .before .before .before .before .before .args in
@@ -117,56 +109,45 @@ put-list-put-list-requires t c κs =
       (comma-arena (a .sheet .now) (a .work .now) (c .before .before .before .before .before .before .put-term .last .1 .0) (a .free) (a .i) (c .before .before .next-of .result) (a .out) (c .before .before .before .before .before .before .put-term .result) (a .inside) (p .0) (p .1 .0 .0) (p .1 .0 .1) (p .1 .1 .0) (c .before .before .before .before .before .before .put-term .ensures) (c .before .before .next-of .ensures .0) (p .1 .1 .1) (omega (arith, c .before .if1 .left)), ((omega (arith, c .before .if1 .left), omega (arith, f, p .1 .0 .1)), (omega (arith, p .1 .1 .0, c .before .before .before .before .before .before .put-term .ensures .end), rest-room (a .sheet .now) (a .work .now) (c .before .before .before .before .before .before .put-term .last .1 .0) (a .free) (a .i) (c .before .before .next-of .result) (a .out) (c .before .before .before .before .before .before .put-term .result) (a .inside) (p .0) (p .1 .0 .0) (p .1 .0 .1) (p .1 .1 .0) (c .before .before .before .before .before .before .put-term .ensures) (c .before .before .next-of .ensures .0) (p .1 .1 .1) (omega (arith, c .before .if1 .left))))),
     )
 
--- src/words.rt:89:1
 put-list-same-length-2 : (t : ℕ) → put-list-lts.Need-same-length-2 (put-list-calls t) (put-list-at t) put-list.Post
 put-list-same-length-2 t c = c .before .before .put-list .ensures .wrote .len ∙ length-set (c .before .before .before .before .before .before .before .before .before .put-term .last .1 .0) (c .before .before .before .before .before .before .before .before .before .put-term .result) 2883584 ∙ c .before .before .before .before .before .before .before .before .before .put-term .ensures .wrote .len
 
--- src/words.rt:89:1
 put-list-returns-2 : (t : ℕ) → put-list-lts.Need-returns-2 (put-list-calls t) (put-list-at t) put-list.Post
 put-list-returns-2 t c =
     let a = c .before .before .before .before .before .before .before .before .before .before .before .before .before .args in
     let p = c .before .before .before .before .before .before .before .before .before .before .before .before .before .pre .1 in
     more-spelled (a .sheet .now) (a .work .now) (c .before .before .before .before .before .before .before .before .before .put-term .last .1 .0) (a .free) (a .i) (c .before .before .before .before .before .next-of .result) (a .out) (c .before .before .before .before .before .before .before .before .before .put-term .result) (a .inside) (p .0) (p .1 .0 .0) (p .1 .0 .1) (p .1 .1 .0) (c .before .before .before .before .before .before .before .before .before .put-term .ensures) (c .before .before .before .before .before .next-of .ensures .0) (p .1 .1 .1) (omega (arith, c .before .before .before .before .if1 .left)) (c .before .before .put-list .last .1 .0) (c .before .before .before .before .before .before .before .before .before .put-term .result + 1) (c .before .before .put-list .result) refl (c .before .before .put-list .ensures)
 
--- src/words.rt:77:9
 put-term-child-of-requires : (t : ℕ) → put-term-lts.Need-child-of-requires (put-term-calls t) (put-term-at t) put-term.Post
 put-term-child-of-requires t c κs = (c .before .before .before .pre .1 .0 .links, c .before .before .before .pre .1 .1 .0)
 
--- src/words.rt:79:9
 put-term-put-leaf-requires : (t : ℕ) → put-term-lts.Need-put-leaf-requires (put-term-calls t) (put-term-at t) put-term.Post
 put-term-put-leaf-requires t c κs =
     let a = c .before .before .before .before .before .before .args in
     let p = c .before .before .before .before .before .before .pre .1 in
     (p .0, ((p .1 .0 .0, p .1 .0 .1, omega (arith, p .1 .1 .1, size-pos (tree-at (a .sheet .now) (a .work .now) (a .i)))), c .before .before .child-of .ensures .2 (c .before .if1 .taken)))
 
--- src/words.rt:79:9
 put-term-same-length : (t : ℕ) → put-term-lts.Need-same-length (put-term-calls t) (put-term-at t) put-term.Post
 put-term-same-length t c = search needs
 
--- src/words.rt:79:9
 put-term-returns : (t : ℕ) → put-term-lts.Need-returns (put-term-calls t) (put-term-at t) put-term.Post
 put-term-returns t c = c .before .before .put-leaf .ensures (c .before .before .before .before .before .before .before .before .before .args .inside)
 
--- src/words.rt:81:45
 put-term-slice-aggregate-name-is : (t : ℕ) → put-term-lts.Need-slice-aggregate-name-is (put-term-calls t) (put-term-at t) put-term.Post
 put-term-slice-aggregate-name-is t c = search needs
 
--- src/words.rt:81:9
 put-term-name-is-requires : (t : ℕ) → put-term-lts.Need-name-is-requires (put-term-calls t) (put-term-at t) put-term.Post
 put-term-name-is-requires t c κs = (c .before .before .before .before .before .before .before .pre .1 .0, c .before .before .before .before .before .before .before .pre .1 .1 .0)
 
--- src/words.rt:82:9
 put-term-word-of-requires : (t : ℕ) → put-term-lts.Need-word-of-requires (put-term-calls t) (put-term-at t) put-term.Post
 put-term-word-of-requires t c κs = (c .before .before .before .before .before .before .before .before .before .pre .1 .0, c .before .before .before .before .before .before .before .before .before .pre .1 .1 .0)
 
--- src/words.rt:83:9
 put-term-put-opening-requires : (t : ℕ) → put-term-lts.Need-put-opening-requires (put-term-calls t) (put-term-at t) put-term.Post
 put-term-put-opening-requires t c κs =
     let a = c .before .before .before .before .before .before .before .before .before .before .before .args in
     let p = c .before .before .before .before .before .before .before .before .before .before .before .pre .1 in
     omega (arith, p .1 .1 .1, size-pos (tree-at (a .sheet .now) (a .work .now) (a .i)))
 
--- src/words.rt:84:9
 put-term-put-list-requires : (t : ℕ) → put-term-lts.Need-put-list-requires (put-term-calls t) (put-term-at t) put-term.Post
 put-term-put-list-requires t c κs =
     let a = c .before .before .before .before .before .before .before .before .before .before .before .before .before .before .before .args in
@@ -179,22 +160,18 @@ put-term-put-list-requires t c κs =
       (wrote-arena (c .before .before .before .put-opening .ensures .0) s (a .free) (p .1 .1 .0) (p .0), ((omega (arith, c .before .before .before .before .before .before .before .before .before .before .if1 .left), omega (arith, c .before .before .before .before .before .before .before .before .before .before .before .child-of .ensures .0, p .1 .0 .1)), (omega (arith, p .1 .1 .0, c .before .before .before .put-opening .ensures .1), list-room (a .sheet .now) (a .work .now) (c .before .before .before .put-opening .last .0) (a .free) (a .i) (c .before .before .before .before .before .before .before .before .before .before .before .child-of .result) (c .before .before .before .before .before .word-of .result) (a .out) (c .before .before .before .put-opening .result) (c .before .before .before .before .before .before .before .name-is .result) (a .inside) (p .0) (p .1 .0 .0) (p .1 .0 .1) (p .1 .1 .0) (p .1 .1 .1) (c .before .before .before .before .before .before .before .before .before .before .before .child-of .ensures .1 (omega (arith, c .before .before .before .before .before .before .before .before .before .before .if1 .left)) .0) (c .before .before .before .before .before .before .before .before .before .before .before .child-of .ensures .1 (omega (arith, c .before .before .before .before .before .before .before .before .before .before .if1 .left)) .1) (c .before .before .before .before .before .before .before .name-is .ensures) (c .before .before .before .before .before .word-of .ensures .0) (c .before .before .before .before .before .word-of .ensures .1) (c .before .before .before .put-opening .ensures .0) (c .before .before .before .put-opening .ensures .1)))),
     )
 
--- src/words.rt:85:28
 put-term-bracket-of-requires : (t : ℕ) → put-term-lts.Need-bracket-of-requires (put-term-calls t) (put-term-at t) put-term.Post
 put-term-bracket-of-requires t c κs = search needs
 
--- src/words.rt:85:5
 put-term-put-closing-requires : (t : ℕ) → put-term-lts.Need-put-closing-requires (put-term-calls t) (put-term-at t) put-term.Post
 put-term-put-closing-requires t c κs =
     let a = c .before .before .before .before .before .before .before .before .before .before .before .before .before .before .before .before .before .before .before .before .args in
     let p = c .before .before .before .before .before .before .before .before .before .before .before .before .before .before .before .before .before .before .before .before .pre .1 in
     close-room (a .sheet .now) (a .work .now) (c .before .before .before .before .before .before .before .before .put-opening .last .0) (a .free) (a .i) (c .before .before .before .before .before .before .before .before .before .before .before .before .before .before .before .before .child-of .result) (c .before .before .before .before .before .before .before .before .before .before .word-of .result) (a .out) (c .before .before .before .before .before .before .before .before .put-opening .result) (c .before .before .before .before .before .before .before .before .before .before .before .before .name-is .result) (a .inside) (p .0) (p .1 .0 .0) (p .1 .0 .1) (p .1 .1 .0) (p .1 .1 .1) (c .before .before .before .before .before .before .before .before .before .before .before .before .before .before .before .before .child-of .ensures .1 (omega (arith, c .before .before .before .before .before .before .before .before .before .before .before .before .before .before .before .if1 .left)) .0) (c .before .before .before .before .before .before .before .before .before .before .before .before .before .before .before .before .child-of .ensures .1 (omega (arith, c .before .before .before .before .before .before .before .before .before .before .before .before .before .before .before .if1 .left)) .1) (c .before .before .before .before .before .before .before .before .before .before .before .before .name-is .ensures) (c .before .before .before .before .before .before .before .before .before .before .word-of .ensures .0) (c .before .before .before .before .before .before .before .before .before .before .word-of .ensures .1) (c .before .before .before .before .before .before .before .before .put-opening .ensures .0) (c .before .before .before .before .before .before .before .before .put-opening .ensures .1) (c .before .before .before .before .put-list .last .1 .0) (c .before .before .before .before .put-list .result) (c .before .before .before .before .put-list .ensures)
 
--- src/words.rt:71:1
 put-term-same-length-2 : (t : ℕ) → put-term-lts.Need-same-length-2 (put-term-calls t) (put-term-at t) put-term.Post
 put-term-same-length-2 t c = search needs
 
--- src/words.rt:71:1
 put-term-returns-2 : (t : ℕ) → put-term-lts.Need-returns-2 (put-term-calls t) (put-term-at t) put-term.Post
 put-term-returns-2 t c =
     let a = c .before .before .before .before .before .before .before .before .before .before .before .before .before .before .before .before .before .before .before .before .before .before .before .args in

@@ -11,102 +11,78 @@ use Rattle.equivalence.proofs.words.put_leaf.Lts as lts
 use Rattle.equivalence.proofs.words.word_of.Reads as word-of-reads
 use Rattle.tree.proofs.cells.kind_of.Reads as kind-of-reads
 
--- src/words.rt:57:9
 kind-of-requires : tie.Need-kind-of-requires
 kind-of-requires c κs = search needs
 
--- src/words.rt:58:9
 word-of-requires : tie.Need-word-of-requires
 word-of-requires c κs = search needs
 
--- src/words.rt:60:23
 add-work : tie.Need-add-work
 add-work c = omega (arith, c .before .before .before .kind-of .ensures, (c .before .before .before .before .before .before .before .pre .0 .cell (c .before .before .before .before .before .before .before .args .i) (c .before .before .before .before .before .before .before .pre .1 .0 .0) (c .before .before .before .before .before .before .before .pre .1 .0 .1) .small))
 
--- src/words.rt:60:22
 mul-work : tie.Need-mul-work
 mul-work c = omega (arith, c .before .before .before .kind-of .ensures, (c .before .before .before .before .before .before .before .pre .0 .cell (c .before .before .before .before .before .before .before .args .i) (c .before .before .before .before .before .before .before .pre .1 .0 .0) (c .before .before .before .before .before .before .before .pre .1 .0 .1) .small))
 
--- src/words.rt:60:21
 cast-work : tie.Need-cast-work
 cast-work c = omega (arith, c .before .before .before .kind-of .ensures, (c .before .before .before .before .before .before .before .pre .0 .cell (c .before .before .before .before .before .before .before .args .i) (c .before .before .before .before .before .before .before .pre .1 .0 .0) (c .before .before .before .before .before .before .before .pre .1 .0 .1) .small))
 
--- src/words.rt:60:9
 mul-work-2 : tie.Need-mul-work-2
 mul-work-2 c = search needs
 
--- src/words.rt:60:9
 slice-write-work : tie.Need-slice-write-work
 slice-write-work c = search needs
 
--- src/words.rt:61:14
 add-work-2 : tie.Need-add-work-2
 add-work-2 c = search needs
 
--- src/words.rt:61:9
 mul-work-3 : tie.Need-mul-work-3
 mul-work-3 c = search needs
 
--- src/words.rt:61:9
 slice-write-work-2 : tie.Need-slice-write-work-2
 slice-write-work-2 c = simp length-set (omega (arith, c .before .before .before .before .before .before .before .pre .1 .0 .2))
 
--- src/words.rt:62:14
 add-work-3 : tie.Need-add-work-3
 add-work-3 c = search needs
 
--- src/words.rt:62:9
 mul-work-4 : tie.Need-mul-work-4
 mul-work-4 c = search needs
 
--- src/words.rt:62:9
 slice-write-work-3 : tie.Need-slice-write-work-3
 slice-write-work-3 c = simp length-set (omega (arith, c .before .before .before .before .before .before .before .pre .1 .0 .2))
 
--- src/words.rt:63:14
 add-work-4 : tie.Need-add-work-4
 add-work-4 c = search needs
 
--- src/words.rt:63:9
 mul-work-5 : tie.Need-mul-work-5
 mul-work-5 c = search needs
 
--- src/words.rt:63:9
 slice-write-work-4 : tie.Need-slice-write-work-4
 slice-write-work-4 c = simp length-set (omega (arith, c .before .before .before .before .before .before .before .pre .1 .0 .2))
 
--- src/words.rt:64:16
 add-result : tie.Need-add-result
 add-result c = search needs
 
--- src/words.rt:64:9
 same-length : tie.Need-same-length
 same-length c = search needs
 
--- src/words.rt:64:9
 returns : tie.Need-returns
 returns c =
     let a = c .before .before .before .before .before .before .before .args in
     let q = c .before .before .before .before .before .before .before .pre .1 .0 in
     λ b. atom-spelled (a .sheet .now) (a .work .now) (a .free) (a .i) (a .out) (c .before .word-of .result) (c .before .before .before .before .before .before .before .pre .0) (q .0) (q .1) (c .before .word-of .ensures .0) (c .before .word-of .ensures .1) (q .2) (omega (arith, c .before .before .before .kind-of .ensures, c .if1 .taken)) ((512 + c .before .before .before .kind-of .result) * 65536) (ap (λ (k : ℕ). (512 + k) * 65536) (c .before .before .before .kind-of .ensures)) _ refl b
 
--- src/words.rt:66:5
 mul-work-6 : tie.Need-mul-work-6
 mul-work-6 c = search needs
 
--- src/words.rt:66:5
 slice-write-work-5 : tie.Need-slice-write-work-5
 slice-write-work-5 c = search needs
 
--- src/words.rt:67:5
 add-result-2 : tie.Need-add-result-2
 add-result-2 c = search needs
 
--- src/words.rt:51:1
 same-length-2 : tie.Need-same-length-2
 same-length-2 c = search needs
 
--- src/words.rt:51:1
 returns-2 : tie.Need-returns-2
 returns-2 c =
     let a = c .before .before .before .before .before .before .before .args in

@@ -8,19 +8,15 @@ use Rattle.equivalence.proofs.words.same_text.Reads as reads
 use Rattle.equivalence.proofs.words.same_text.Lts as lts
 use Rattle.certificate.proofs.order.compare.Reads as compare-reads
 
--- src/words.rt:132:9
 compare-requires : tie.Need-compare-requires
 compare-requires c κs = search needs
 
--- src/words.rt:134:25
 enum-told : tie.Need-enum-told
 enum-told c = search needs
 
--- src/words.rt:118:1
 returns : tie.Need-returns
 returns c = order-equal (texts (c .before .before .before .before .before .args .sheet .now) (slice (c .before .before .before .before .before .args .from) (c .before .before .before .before .before .args .to) (c .before .before .before .before .before .args .work .now))) (texts (c .before .before .before .before .before .args .sheet .now) (slice (c .before .before .before .before .before .args .start) (c .before .before .before .before .before .args .end) (c .before .before .before .before .before .args .work .now))) (c .before .before .compare .ensures) (c .enum-told .given .1)
 
--- src/words.rt:118:1
 returns-2 : tie.Need-returns-2
 returns-2 c = order-other (texts (c .before .before .before .before .args .sheet .now) (slice (c .before .before .before .before .args .from) (c .before .before .before .before .args .to) (c .before .before .before .before .args .work .now))) (texts (c .before .before .before .before .args .sheet .now) (slice (c .before .before .before .before .args .start) (c .before .before .before .before .args .end) (c .before .before .before .before .args .work .now))) (c .before .compare .ensures) (c .match .keys2)
 

@@ -9,21 +9,17 @@ use Rattle.equivalence.proofs.words.tree_words.Lts as lts
 use Rattle.certificate.proofs.sums.settle.Reads as settle-reads
 use Rattle.equivalence.proofs.words.put_term.Reads as put-term-reads
 
--- src/words.rt:109:9
 put-term-requires : tie.Need-put-term-requires
 put-term-requires c κs = search needs
 
--- src/words.rt:110:5
 settle-requires : tie.Need-settle-requires
 settle-requires c κs =
     let a = c .before .before .before .before .before .before .before .args in
     (settle-room (a .sheet .now) (a .work .now) (c .before .before .before .put-term .last .1 .0) (tree-at (a .sheet .now) (a .work .now) (a .i)) (a .base) (c .before .before .before .put-term .result) (c .before .before .before .put-term .ensures) (c .before .before .before .before .before .before .before .pre .1 .1 .0) (c .before .before .before .before .before .before .before .pre .1 .1 .1), settle-tokens (a .sheet .now) (a .work .now) (c .before .before .before .put-term .last .1 .0) (tree-at (a .sheet .now) (a .work .now) (a .i)) (a .base) (c .before .before .before .put-term .result) (c .before .before .before .put-term .ensures) (c .before .before .before .before .before .before .before .pre .1 .1 .0) (c .before .before .before .before .before .before .before .pre .1 .1 .1))
 
--- src/words.rt:103:1
 same-length : tie.Need-same-length
 same-length c = search needs
 
--- src/words.rt:103:1
 returns : tie.Need-returns
 returns c =
     let a = c .before .before .before .before .before .before .before .before .before .before .args in

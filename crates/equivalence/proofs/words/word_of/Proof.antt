@@ -9,33 +9,27 @@ use Rattle.equivalence.proofs.words.word_of.Tie as tie
 use Rattle.equivalence.proofs.words.word_of.Reads as reads
 use Rattle.equivalence.proofs.words.word_of.Lts as lts
 
--- src/words.rt:28:22
 mul-place : tie.Need-mul-place
 mul-place c = search needs
 
--- src/words.rt:28:17
 mul-place-2 : tie.Need-mul-place-2
 mul-place-2 c = search needs
 
--- src/words.rt:28:17
 shared-slice-read-place : tie.Need-shared-slice-read-place
 shared-slice-read-place c = search needs
 
--- src/words.rt:30:16
 add-result : tie.Need-add-result
 add-result c =
     let a = c .before .before .args in
     let q = c .before .before .pre .1 in
     omega (arith, code-small (a .sheet .now) (a .work .now) (a .k) (getD (a .work .now) (4 * a .k) 0) (c .before .before .pre .0 .cell (a .k) (q .0) (q .1)) refl (c .if1 .taken))
 
--- src/words.rt:30:9
 returns : tie.Need-returns
 returns c =
     let a = c .before .before .args in
     let q = c .before .before .pre .1 in
     word-coded (a .sheet .now) (a .work .now) (a .k) (getD (a .work .now) (4 * a .k) 0) (c .before .before .pre .0 .cell (a .k) (q .0) (q .1)) refl (getD (a .work .now) (4 * a .k) 0 + 16777216) refl (c .if1 .taken)
 
--- src/words.rt:23:1
 returns-2 : tie.Need-returns-2
 returns-2 c =
     let a = c .before .before .args in

@@ -17,29 +17,23 @@ use Rattle.tree.proofs.cells.length_of.Reads as length-of-reads
 use Rattle.tree.proofs.cells.push_cell.Reads as push-cell-reads
 use Rattle.tree.proofs.cells.start_of.Reads as start-of-reads
 
--- src/closing.rt:185:9
 is-number-requires : tie.Need-is-number-requires
 is-number-requires c κs = search needs
 
--- src/closing.rt:186:9
 same-length : tie.Need-same-length
 same-length c = search needs
 
--- src/closing.rt:186:9
 returns : tie.Need-returns
 returns c =
     let a = c .before .before .before .before .before .args in
     (no-atom (a .letter ∷ []) _ (alone-is (a .sheet .now) (a .work .now) (a .chain) (c .before .is-number .result) (c .before .is-number .ensures) (not-true _ (c .if1 .taken)) (a .letter ∷ [])), grown-more (omega arith) (grown-same _ _))
 
--- src/closing.rt:188:9
 start-of-requires : tie.Need-start-of-requires
 start-of-requires c κs = search needs
 
--- src/closing.rt:189:9
 length-of-requires : tie.Need-length-of-requires
 length-of-requires c κs = search needs
 
--- src/closing.rt:190:16
 push-cell-requires : tie.Need-push-cell-requires
 unfolding start-of length-of
 push-cell-requires c κs =
@@ -47,11 +41,9 @@ push-cell-requires c κs =
     let p = c .before .before .before .before .before .before .before .before .before .before .pre in
     (omega arith, ((omega (arith, c .before .before .before .start-of .ensures, c .before .before .before .before .before .before .before .before .slice-known .given (4 * a .chain)), omega (arith, c .before .length-of .ensures), omega arith, omega arith), (omega arith, omega arith)))
 
--- src/closing.rt:171:1
 same-length-2 : tie.Need-same-length-2
 same-length-2 c = search needs
 
--- src/closing.rt:171:1
 returns-2 : tie.Need-returns-2
 returns-2 c =
     let a = c .before .before .before .before .before .before .before .before .before .before .before .before .before .args in

@@ -15,29 +15,24 @@ Inv-loop sheet work₀ start chain free₀ k₀ first₀ nodes₀ work free k fi
 abbrev μ-loop : tie.MeasureT-loop
 μ-loop sheet work₀ start chain free₀ k₀ first₀ nodes₀ work free k first nodes = k
 
--- src/closing.rt:50:5
 loop-holds : tie.Need-loop-holds Inv-loop μ-loop
 loop-holds c =
     let a = c .before .before .args in
     ordering-starts (a .sheet .now) (a .work .now) (a .start) (a .chain) (c .before .before .pre .0) (c .before .before .pre .1 .0)
 
--- src/closing.rt:51:18
 count-of-requires : tie.Need-count-of-requires Inv-loop μ-loop
 count-of-requires c κs =
     let h = c .before .before .loop .inv in
     omega (arith, h .arena .links .room, h .at, h .from)
 
--- src/closing.rt:51:9
 add-nodes : tie.Need-add-nodes Inv-loop μ-loop
 add-nodes c =
     let h = c .before .before .before .loop .inv in
     omega (arith, h .small, c .count-of .ensures .1)
 
--- src/closing.rt:53:13
 same-length : tie.Need-same-length Inv-loop μ-loop
 same-length c = c .before .before .before .before .loop .inv .grown .len
 
--- src/closing.rt:53:13
 returns : tie.Need-returns Inv-loop μ-loop
 returns c =
     let a = c .before .before .before .before .before .before .before .args in
@@ -45,13 +40,11 @@ returns c =
     let r = h .room in
     (ordering-over (a .sheet .now) (a .work .now) (a .start) (a .chain) (c .before .before .before .before .before .before .before .pre .0) (c .before .before .before .before .before .before .before .pre .1 .0) h (c .before .before .before .loop-test .taken) (c .before .count-of .ensures .0) (omega (arith, c .if1 .taken)), grown-more (omega arith) (h .grown))
 
--- src/closing.rt:55:13
 next-of-requires : tie.Need-next-of-requires Inv-loop μ-loop
 next-of-requires c κs =
     let h = c .before .before .before .before .before .loop .inv in
     (h .arena .links, (c .before .before .before .before .loop-test .taken, omega (arith, h .at, h .from)))
 
--- src/closing.rt:56:13
 share-requires : tie.Need-share-requires Inv-loop μ-loop
 share-requires c κs =
     let a = c .before .before .before .before .before .before .before .before .before .before .args in
@@ -59,22 +52,18 @@ share-requires c κs =
     let r = room-for (a .sheet .now) (a .work .now) (a .start) (a .chain) (c .before .before .before .before .before .before .before .before .before .before .pre .0) (c .before .before .before .before .before .before .before .before .before .before .pre .1 .0) h (c .before .before .before .before .before .before .loop-test .taken) in
     (h .arena, ((c .before .before .before .before .before .before .loop-test .taken, omega (arith, h .at, h .from), h .placed), (omega (arith, h .grown .len), omega arith)))
 
--- src/closing.rt:50:5
 loop-less : tie.Need-loop-less Inv-loop μ-loop
 loop-less c = omega (arith, c .before .before .before .before .next-of .ensures .1)
 
--- src/closing.rt:50:5
 loop-again : tie.Need-loop-again Inv-loop μ-loop
 loop-again c =
     let a = c .before .before .before .before .before .before .before .before .before .before .before .before .before .args in
     let h = c .before .before .before .before .before .before .before .before .before .before .loop .inv in
     ordering-turn (a .sheet .now) (a .work .now) (a .start) (a .chain) (c .before .before .before .before .before .before .before .before .before .before .before .before .before .pre .0) (c .before .before .before .before .before .before .before .before .before .before .before .before .before .pre .1 .0) h (c .before .before .before .before .before .before .before .before .before .loop-test .taken) (c .before .before .before .before .before .before .before .count-of .ensures .0) (c .before .before .before .before .before .before .if1 .left) (c .before .before .before .before .next-of .ensures .0) (c .before .before .share .ensures .0) (c .before .before .share .ensures .1)
 
--- src/closing.rt:40:1
 same-length-2 : tie.Need-same-length-2 Inv-loop μ-loop
 same-length-2 c = c .before .loop .inv .grown .len
 
--- src/closing.rt:40:1
 returns-2 : tie.Need-returns-2 Inv-loop μ-loop
 returns-2 c =
     let a = c .before .before .before .before .args in

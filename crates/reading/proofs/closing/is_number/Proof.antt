@@ -12,67 +12,51 @@ use Rattle.tree.proofs.cells.length_of.Reads as length-of-reads
 use Rattle.tree.proofs.cells.next_of.Reads as next-of-reads
 use Rattle.tree.proofs.cells.start_of.Reads as start-of-reads
 
--- src/closing.rt:136:9
 returns : tie.Need-returns
 returns c = none-alone _ _ _ (c .if1 .taken)
 
--- src/closing.rt:138:12
 next-of-requires : tie.Need-next-of-requires
 next-of-requires c κs = search needs
 
--- src/closing.rt:139:9
 returns-2 : tie.Need-returns-2
 returns-2 c = several _ (c .before .before .before .before .before .pre .0) (c .before .before .before .before .before .args .k) (omega arith) (c .before .before .before .before .before .pre .1) (c .before .next-of .ensures .0) (c .if2 .taken)
 
--- src/closing.rt:141:12
 kind-of-requires : tie.Need-kind-of-requires
 kind-of-requires c κs = search needs
 
--- src/closing.rt:142:9
 returns-3 : tie.Need-returns-3
 returns-3 c = no-constant _ (c .before .before .before .before .before .before .before .pre .0) (c .before .before .before .before .before .before .before .args .k) (omega arith) (c .before .before .before .before .before .before .before .pre .1) (c .before .before .before .next-of .ensures .0) (c .before .before .if2 .left) (c .before .kind-of .ensures) (c .if3 .taken)
 
--- src/closing.rt:144:12
 first-of-requires : tie.Need-first-of-requires
 first-of-requires c κs = search needs
 
--- src/closing.rt:145:9
 returns-4 : tie.Need-returns-4
 returns-4 c = with-children _ (c .before .before .before .before .before .before .before .before .before .pre .0) (c .before .before .before .before .before .before .before .before .before .args .k) (omega arith) (c .before .before .before .before .before .before .before .before .before .pre .1) (c .before .before .before .before .before .next-of .ensures .0) (c .before .before .before .before .if2 .left) (c .before .before .before .kind-of .ensures) (c .before .before .if3 .left) (c .before .first-of .ensures .0) (c .if4 .taken)
 
--- src/closing.rt:147:9
 start-of-requires : tie.Need-start-of-requires
 start-of-requires c κs = search needs
 
--- src/closing.rt:148:9
 length-of-requires : tie.Need-length-of-requires
 length-of-requires c κs = search needs
 
--- src/closing.rt:150:9
 returns-5 : tie.Need-returns-5
 returns-5 c = fixed-alone _ (c .before .before .before .before .before .before .before .before .before .before .before .before .pre .0) (c .before .before .before .before .before .before .before .before .before .before .before .before .args .k) (omega arith) (c .before .before .before .before .before .before .before .before .before .before .before .before .pre .1) (c .before .before .before .before .before .before .before .before .next-of .ensures .0) (c .before .before .before .before .before .before .before .if2 .left) (c .before .before .before .before .before .before .kind-of .ensures) (c .before .before .before .before .before .if3 .left) (c .before .before .before .before .first-of .ensures .0) (c .before .before .before .if4 .left) (c .before .length-of .ensures) (c .if5 .taken)
 
--- src/closing.rt:152:13
 add-e : tie.Need-add-e
 add-e c = omega (arith, c .before .before .before .before .before .before .before .before .before .before .before .before .pre .0 .cell (c .before .before .before .before .before .before .before .before .before .before .before .before .args .k) (omega arith) (c .before .before .before .before .before .before .before .before .before .before .before .before .pre .1) .placed .inside (omega arith))
 
--- src/closing.rt:153:16
 sub-all-digits : tie.Need-sub-all-digits
 sub-all-digits c = search needs
 
--- src/closing.rt:153:16
 part-all-digits-start : tie.Need-part-all-digits-start
 part-all-digits-start c = search needs
 
--- src/closing.rt:153:16
 part-all-digits-end : tie.Need-part-all-digits-end
 part-all-digits-end c = omega (arith, c .before .before .before .before .before .before .before .before .before .before .before .before .pre .0 .cell (c .before .before .before .before .before .before .before .before .before .before .before .before .args .k) (omega arith) (c .before .before .before .before .before .before .before .before .before .before .before .before .pre .1) .placed .inside (omega arith))
 
--- src/closing.rt:153:5
 all-digits-requires : tie.Need-all-digits-requires
 all-digits-requires c κs = search needs
 
--- src/closing.rt:130:1
 returns-6 : tie.Need-returns-6
 returns-6 c = alone-by _ (c .before .before .before .before .before .before .before .before .before .before .before .before .before .before .pre .0) (c .before .before .before .before .before .before .before .before .before .before .before .before .before .before .args .k) (omega arith) (c .before .before .before .before .before .before .before .before .before .before .before .before .before .before .pre .1) (c .before .before .before .before .before .before .before .before .before .before .next-of .ensures .0) (c .before .before .before .before .before .before .before .before .before .if2 .left) (c .before .before .before .before .before .before .before .before .kind-of .ensures) (c .before .before .before .before .before .before .before .if3 .left) (c .before .before .before .before .before .before .first-of .ensures .0) (c .before .before .before .before .before .if4 .left) (c .all-digits .result) (c .before .before .before .before .start-of .ensures) (c .before .before .before .length-of .ensures) (c .before .before .if5 .left) (c .all-digits .ensures)
 

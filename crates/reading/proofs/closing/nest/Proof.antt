@@ -18,38 +18,31 @@ Inv-loop sheet work₀ tail at len chain last₀ k₀ work last k = Summing shee
 abbrev μ-loop : tie.MeasureT-loop
 μ-loop sheet work₀ tail at len chain last₀ k₀ work last k = k
 
--- src/closing.rt:98:5
 loop-holds : tie.Need-loop-holds Inv-loop μ-loop
 loop-holds c =
     let a = c .before .before .args in
     let p = c .before .before .pre in
     summing-starts (a .sheet .now) (a .work .now) (a .tail) (a .chain) (p .0) (p .1 .0 .0) (p .1 .0 .3) (p .1 .0 .1) (p .1 .0 .2)
 
--- src/closing.rt:99:25
 count-of-requires : tie.Need-count-of-requires Inv-loop μ-loop
 count-of-requires c κs =
     let h = c .before .before .loop .inv in
     omega (arith, h .from, h .at, h .arena .links .room)
 
--- src/closing.rt:99:21
 add-nodes : tie.Need-add-nodes Inv-loop μ-loop
 add-nodes c = omega (arith, c .count-of .ensures .1)
 
--- src/closing.rt:99:45
 count-of-requires-2 : tie.Need-count-of-requires-2 Inv-loop μ-loop
 count-of-requires-2 c κs =
     let h = c .before .before .before .before .loop .inv in
     omega (arith, h .from, h .at, h .arena .links .room)
 
--- src/closing.rt:99:21
 add-nodes-2 : tie.Need-add-nodes-2 Inv-loop μ-loop
 add-nodes-2 c = omega (arith, c .before .before .count-of .ensures .1, c .count-of2 .ensures .1)
 
--- src/closing.rt:101:13
 same-length : tie.Need-same-length Inv-loop μ-loop
 same-length c = c .before .before .before .before .before .before .loop .inv .grown .len
 
--- src/closing.rt:101:13
 returns : tie.Need-returns Inv-loop μ-loop
 returns c =
     let a = c .before .before .before .before .before .before .before .before .before .args in
@@ -58,7 +51,6 @@ returns c =
     let r = h .room in
     (summing-over (a .sheet .now) (a .work .now) (a .tail) (a .chain) (p .0) (p .1 .0 .0) (p .1 .0 .3) h (c .before .before .before .before .before .loop-test .taken) (c .before .before .before .count-of .ensures .0) (c .before .count-of2 .ensures .0) (c .if1 .taken), grown-more (omega arith) (h .grown))
 
--- src/closing.rt:103:36
 add-next-of : tie.Need-add-next-of Inv-loop μ-loop
 add-next-of c =
     let a = c .before .before .before .before .before .before .before .before .before .before .args in
@@ -67,13 +59,11 @@ add-next-of c =
     let r = h .room in
     omega arith
 
--- src/closing.rt:103:13
 next-of-requires : tie.Need-next-of-requires Inv-loop μ-loop
 next-of-requires c κs =
     let h = c .before .before .before .before .before .before .before .loop .inv in
     (h .arena .links, (c .before .before .before .before .before .before .loop-test .taken, omega (arith, h .from, h .at)))
 
--- src/closing.rt:104:39
 add-share : tie.Need-add-share Inv-loop μ-loop
 add-share c =
     let a = c .before .before .before .before .before .before .before .before .before .before .before .before .args in
@@ -82,7 +72,6 @@ add-share c =
     let r = h .room in
     omega arith
 
--- src/closing.rt:104:13
 share-requires : tie.Need-share-requires Inv-loop μ-loop
 share-requires c κs =
     let a = c .before .before .before .before .before .before .before .before .before .before .before .before .args in
@@ -91,7 +80,6 @@ share-requires c κs =
     let r = summing-room (a .sheet .now) (a .work .now) (a .tail) (a .chain) (p .0) (p .1 .0 .0) (p .1 .0 .3) h (c .before .before .before .before .before .before .before .before .loop-test .taken) in
     (h .arena, ((c .before .before .before .before .before .before .before .before .loop-test .taken, omega (arith, h .from, h .at), omega arith), (omega (arith, h .grown .len), omega arith)))
 
--- src/closing.rt:105:51
 add-push-cell : tie.Need-add-push-cell Inv-loop μ-loop
 add-push-cell c =
     let a = c .before .before .before .before .before .before .before .before .before .before .before .before .before .before .before .before .args in
@@ -100,7 +88,6 @@ add-push-cell c =
     let r = h .room in
     omega arith
 
--- src/closing.rt:105:17
 push-cell-requires : tie.Need-push-cell-requires Inv-loop μ-loop
 push-cell-requires c κs =
     let a = c .before .before .before .before .before .before .before .before .before .before .before .before .before .before .before .before .args in
@@ -110,11 +97,9 @@ push-cell-requires c κs =
     let r = summing-room (a .sheet .now) (a .work .now) (a .tail) (a .chain) (p .0) (p .1 .0 .0) (p .1 .0 .3) h (c .before .before .before .before .before .before .before .before .before .before .before .before .loop-test .taken) in
     (omega (arith, c .before .before .before .share .ensures .0, h .grown .len, c .before .before .before .share .ensures .1 .grown .len), ((omega (arith, n .inside, n .some), n .short, omega arith, omega arith), (omega arith, omega arith)))
 
--- src/closing.rt:98:5
 loop-less : tie.Need-loop-less Inv-loop μ-loop
 loop-less c = omega (arith, c .before .before .before .before .before .before .before .before .next-of .ensures .1)
 
--- src/closing.rt:98:5
 loop-again : tie.Need-loop-again Inv-loop μ-loop
 loop-again c =
     let a = c .before .before .before .before .before .before .before .before .before .before .before .before .before .before .before .before .before .before .before .args in
@@ -122,7 +107,6 @@ loop-again c =
     let h = c .before .before .before .before .before .before .before .before .before .before .before .before .before .before .before .before .loop .inv in
     summing-turn (a .sheet .now) (a .work .now) (a .tail) (a .chain) (p .0) (p .1 .0 .0) (p .1 .0 .3) h (c .before .before .before .before .before .before .before .before .before .before .before .before .before .before .before .loop-test .taken) (c .before .before .before .before .before .before .before .before .before .before .before .before .before .count-of .ensures .0) (c .before .before .before .before .before .before .before .before .before .before .before .count-of2 .ensures .0) (c .before .before .before .before .before .before .before .before .before .before .if1 .left) (p .1 .1 .1 .0) (p .1 .1 .1 .2) (c .before .before .before .before .before .before .before .before .next-of .ensures .0) (c .before .before .before .before .before .before .share .ensures .0) (c .before .before .before .before .before .before .share .ensures .1) (p .1 .1 .0 .0) (c .before .before .push-cell .ensures .1)
 
--- src/closing.rt:109:16
 add-t26 : tie.Need-add-t26 Inv-loop μ-loop
 add-t26 c =
     let a = c .before .before .before .before .args in
@@ -131,11 +115,9 @@ add-t26 c =
     let r = h .room in
     omega arith
 
--- src/closing.rt:89:1
 same-length-2 : tie.Need-same-length-2 Inv-loop μ-loop
 same-length-2 c = c .before .loop .inv .grown .len
 
--- src/closing.rt:89:1
 returns-2 : tie.Need-returns-2 Inv-loop μ-loop
 returns-2 c =
     let a = c .before .before .before .before .args in

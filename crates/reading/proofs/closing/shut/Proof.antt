@@ -18,99 +18,78 @@ use Rattle.reading.proofs.closing.wide.Reads as wide-reads
 use Rattle.reading.proofs.leaves.is_letter_name.Reads as is-letter-name-reads
 use Rattle.text.proofs.same.Reads as same-reads
 
--- src/closing.rt:215:15
 add-end : tie.Need-add-end
 add-end c = search needs
 
--- src/closing.rt:216:23
 sub-is-letter-name : tie.Need-sub-is-letter-name
 sub-is-letter-name c = search needs
 
--- src/closing.rt:216:23
 part-is-letter-name-start : tie.Need-part-is-letter-name-start
 part-is-letter-name-start c = search needs
 
--- src/closing.rt:216:23
 part-is-letter-name-end : tie.Need-part-is-letter-name-end
 part-is-letter-name-end c = search needs
 
--- src/closing.rt:216:8
 is-letter-name-requires : tie.Need-is-letter-name-requires
 is-letter-name-requires c κs = search needs
 
--- src/closing.rt:217:45
 shared-slice-read-wide : tie.Need-shared-slice-read-wide
 shared-slice-read-wide c = search needs
 
--- src/closing.rt:217:40
 wide-requires : tie.Need-wide-requires
 wide-requires c κs = search needs
 
--- src/closing.rt:217:9
 atom-requires : tie.Need-atom-requires
 atom-requires c κs =
     let a = c .before .before .before .before .before .before .before .before .args in
     let p = c .before .before .before .before .before .before .before .before .pre in
     (p .0, (p .1 .0, (p .1 .1 .0, (letter-high (p .1 .1 .1 .0) none (c .before .before .before .before .is-letter-name .ensures) (c .wide .ensures .0) (c .before .before .before .if1 .taken), c .wide .ensures .1))))
 
--- src/closing.rt:217:9
 same-length : tie.Need-same-length
 same-length c = search needs
 
--- src/closing.rt:217:9
 returns : tie.Need-returns
 returns c =
     let a = c .before .before .before .before .before .before .before .before .before .before .before .args in
     let p = c .before .before .before .before .before .before .before .before .before .before .before .pre in
     closes-of (a .sheet .now) (a .work .now) (c .before .before .atom .last .1 .0) (a .free) (most (a .sheet .now) (a .work .now) (a .free) (a .chain)) (a .next) (c .before .before .atom .result) (c .before .before .atom .ensures) (close-atom (p .1 .1 .1 .0) (back (trees-at (a .sheet .now) (a .work .now) (a .chain)) none) (c .before .before .before .before .before .before .before .is-letter-name .ensures) (c .before .before .before .wide .ensures .0) (c .before .before .before .before .before .before .if1 .taken))
 
--- src/closing.rt:219:13
 sub-same : tie.Need-sub-same
 sub-same c = search needs
 
--- src/closing.rt:219:13
 part-same-start : tie.Need-part-same-start
 part-same-start c = search needs
 
--- src/closing.rt:219:13
 part-same-end : tie.Need-part-same-end
 part-same-end c = search needs
 
--- src/closing.rt:219:30
 slice-aggregate-same : tie.Need-slice-aggregate-same
 slice-aggregate-same c = search needs
 
--- src/closing.rt:219:8
 same-requires : tie.Need-same-requires
 same-requires c κs = search needs
 
--- src/closing.rt:220:9
 sum-requires : tie.Need-sum-requires
 sum-requires c κs =
     let a = c .before .before .before .before .before .before .before .before .before .before .args in
     let p = c .before .before .before .before .before .before .before .before .before .before .pre in
     (p .0, (p .1 .0, (p .1 .1 .0, (p .1 .1 .1 .0, p .1 .1 .1 .1, plus-named (p .1 .1 .1 .0) none (c .before .before .before .before .before .before .is-letter-name .ensures) (c .before .before .same .ensures) (c .before .if2 .taken)))))
 
--- src/closing.rt:220:9
 same-length-2 : tie.Need-same-length-2
 same-length-2 c = search needs
 
--- src/closing.rt:220:9
 returns-2 : tie.Need-returns-2
 returns-2 c =
     let a = c .before .before .before .before .before .before .before .before .before .before .before .before .before .args in
     let p = c .before .before .before .before .before .before .before .before .before .before .before .before .before .pre in
     closes-of (a .sheet .now) (a .work .now) (c .before .before .sum .last .1 .0) (a .free) (most (a .sheet .now) (a .work .now) (a .free) (a .chain)) (a .next) (c .before .before .sum .result) (c .before .before .sum .ensures) (close-sum (p .1 .1 .1 .0) (back (trees-at (a .sheet .now) (a .work .now) (a .chain)) none) (c .before .before .before .before .before .before .before .before .before .is-letter-name .ensures) (c .before .before .before .before .before .same .ensures) (c .before .before .before .before .before .before .before .before .if1 .left) (c .before .before .before .before .if2 .taken))
 
--- src/closing.rt:222:5
 list-requires : tie.Need-list-requires
 list-requires c κs = search needs
 
--- src/closing.rt:200:1
 same-length-3 : tie.Need-same-length-3
 same-length-3 c = search needs
 
--- src/closing.rt:200:1
 returns-3 : tie.Need-returns-3
 returns-3 c =
     let a = c .before .before .before .before .before .before .before .before .before .before .before .before .before .args in

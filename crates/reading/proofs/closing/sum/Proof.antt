@@ -18,31 +18,25 @@ use Rattle.reading.proofs.closing.nest.Reads as nest-reads
 use Rattle.tree.proofs.cells.next_of.Reads as next-of-reads
 use Rattle.tree.proofs.cells.share.Reads as share-reads
 
--- src/closing.rt:128:9
 returns : tie.Need-returns
 returns c =
     let p = c .before .before .before .pre in
     (sum-none _ _ _ (c .if1 .taken), grown-more (omega arith) (grown-same _ _))
 
--- src/closing.rt:130:9
 next-of-requires : tie.Need-next-of-requires
 next-of-requires c κs = search needs
 
--- src/closing.rt:132:9
 same-length : tie.Need-same-length
 same-length c = search needs
 
--- src/closing.rt:132:9
 returns-2 : tie.Need-returns-2
 returns-2 c =
     let p = c .before .before .before .before .before .before .pre in
     (sum-one _ (p .0 .links) (c .before .before .before .before .before .before .args .chain) (omega arith) (p .1 .0 .0) (c .before .next-of .ensures .0) (c .if2 .taken), grown-more (omega arith) (grown-same _ _))
 
--- src/closing.rt:134:13
 share-requires : tie.Need-share-requires
 share-requires c κs = search needs
 
--- src/closing.rt:135:9
 nest-requires : tie.Need-nest-requires
 nest-requires c κs =
     let a = c .before .before .before .before .before .before .before .before .before .before .before .args in
@@ -51,19 +45,15 @@ nest-requires c κs =
     let f = front-count (a .sheet .now) (a .work .now) (a .start) (a .chain) (p .0) (omega arith) (p .1 .0 .0) (c .before .before .before .before .before .before .next-of .ensures .0) (omega arith) x in
     (x .arena, ((omega (arith, p .0 .links .some), x .link, omega arith, omega (arith, c .before .before .before .before .before .before .next-of .ensures .1)), ((omega (arith, x .grown .len), omega arith), p .1 .1 .1)))
 
--- src/closing.rt:136:20
 enum-known-nested : tie.Need-enum-known-nested
 enum-known-nested c = search needs
 
--- src/closing.rt:137:9
 enum-told : tie.Need-enum-told
 enum-told c = search needs
 
--- src/closing.rt:137:9
 same-length-2 : tie.Need-same-length-2
 same-length-2 c = search needs
 
--- src/closing.rt:137:9
 returns-3 : tie.Need-returns-3
 returns-3 c =
     let a = c .before .before .before .before .before .before .before .before .before .before .before .before .before .before .before .before .args in
@@ -74,7 +64,6 @@ returns-3 c =
     let o = closes-is (a .sheet .now) v (c .before .before .before .before .nest .last .1 .0) (a .start + 1) (a .start + 1 + 2 * count (trees-at (a .sheet .now) v (c .before .before .before .before .before .before .before .before .before .before .before .next-of .result))) 0 (some (summed (tree-at (a .sheet .now) v (a .start)) (trees-at (a .sheet .now) v (c .before .before .before .before .before .before .before .before .before .before .before .next-of .result)))) (c .before .before .before .before .nest .ensures) (c .enum-told .given .1) in
     (sum-over (a .sheet .now) (a .work .now) (a .start) (a .chain) (p .0) (omega arith) (p .1 .0 .0) (c .before .before .before .before .before .before .before .before .before .before .before .next-of .ensures .0) (omega arith) x (o .0), grown-more (omega arith) (grown-on (omega arith) (omega arith) (x .grown) (o .1)))
 
--- src/closing.rt:139:16
 sub-last : tie.Need-sub-last
 sub-last c =
     let a = c .before .before .before .before .before .before .before .before .before .before .before .before .before .before .before .before .before .args in
@@ -82,7 +71,6 @@ sub-last c =
     let o = closes-is (a .sheet .now) v (c .before .before .before .before .before .nest .last .1 .0) (a .start + 1) (a .start + 1 + 2 * count (trees-at (a .sheet .now) v (c .before .before .before .before .before .before .before .before .before .before .before .before .next-of .result))) 0 (some (summed (tree-at (a .sheet .now) v (a .start)) (trees-at (a .sheet .now) v (c .before .before .before .before .before .before .before .before .before .before .before .before .next-of .result)))) (c .before .before .before .before .before .nest .ensures) (c .before .nested .given .1) in
     omega (arith, o .made .some)
 
--- src/closing.rt:140:16
 share-requires-2 : tie.Need-share-requires-2
 share-requires-2 c κs =
     let a = c .before .before .before .before .before .before .before .before .before .before .before .before .before .before .before .before .before .before .args in
@@ -97,11 +85,9 @@ share-requires-2 c κs =
     let m = x .grown .len in
     (o .made .arena, ((omega (arith, p .0 .links .some), omega arith, omega arith), (omega arith, omega arith)))
 
--- src/closing.rt:112:1
 same-length-3 : tie.Need-same-length-3
 same-length-3 c = search needs
 
--- src/closing.rt:112:1
 returns-4 : tie.Need-returns-4
 returns-4 c =
     let a = c .before .before .before .before .before .before .before .before .before .before .before .before .before .before .before .before .before .before .before .before .before .args in

@@ -17,35 +17,27 @@ Inv-loop name i₀ i = all digit (drop i name) ≡ all digit name
 abbrev μ-loop : tie.MeasureT-loop
 μ-loop name i₀ i = length name - i
 
--- src/leaves.rt:66:5
 loop-holds : tie.Need-loop-holds Inv-loop μ-loop
 loop-holds c = refl
 
--- src/leaves.rt:67:28
 shared-slice-read-is-digit : tie.Need-shared-slice-read-is-digit Inv-loop μ-loop
 shared-slice-read-is-digit c = omega arith
 
--- src/leaves.rt:67:13
 is-digit-requires : tie.Need-is-digit-requires Inv-loop μ-loop
 is-digit-requires c κs = tt
 
--- src/leaves.rt:68:13
 returns : tie.Need-returns Inv-loop μ-loop
 returns c = sym (all-fail digit (c .before .before .before .before .before .before .args .name .now) (c .before .before .before .before .loop .i) (omega arith) (c .before .is-digit .ensures) (not-true _ (c .if1 .taken)) (c .before .before .before .before .loop .inv))
 
--- src/leaves.rt:70:9
 add-i : tie.Need-add-i Inv-loop μ-loop
 add-i c = omega arith
 
--- src/leaves.rt:66:5
 loop-less : tie.Need-loop-less Inv-loop μ-loop
 loop-less c = omega arith
 
--- src/leaves.rt:66:5
 loop-again : tie.Need-loop-again Inv-loop μ-loop
 loop-again c = all-pass digit (c .before .before .before .before .before .before .args .name .now) (c .before .before .before .before .loop .i) (omega arith) (c .before .is-digit .ensures) (not-false _ (c .if1 .left)) (c .before .before .before .before .loop .inv)
 
--- src/leaves.rt:62:1
 returns-2 : tie.Need-returns-2 Inv-loop μ-loop
 returns-2 c = sym (all-end digit (c .before .before .before .args .name .now) (c .before .loop .i) (omega arith)) ∙ c .before .loop .inv
 

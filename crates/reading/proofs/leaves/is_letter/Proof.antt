@@ -4,11 +4,9 @@ use Rattle.reading.proofs.leaves.is_letter.Tie as tie
 use Rattle.reading.proofs.leaves.is_letter.Reads as reads
 use Rattle.reading.proofs.leaves.is_letter.Lts as lts
 
--- src/leaves.rt:46:1
 returns : tie.Need-returns
 returns c = a-letter _ (c .match .keys1)
 
--- src/leaves.rt:46:1
 returns-2 : tie.Need-returns-2
 returns-2 c = other-letter _ (c .match .rest .1)
 

@@ -7,19 +7,15 @@ use Rattle.reading.proofs.leaves.is_letter_name.Reads as reads
 use Rattle.reading.proofs.leaves.is_letter_name.Lts as lts
 use Rattle.reading.proofs.leaves.is_letter.Reads as is-letter-reads
 
--- src/leaves.rt:57:9
 returns : tie.Need-returns
 returns c = no-letter _ (c .if1 .taken)
 
--- src/leaves.rt:59:15
 shared-slice-read-is-letter : tie.Need-shared-slice-read-is-letter
 shared-slice-read-is-letter c = search needs
 
--- src/leaves.rt:59:5
 is-letter-requires : tie.Need-is-letter-requires
 is-letter-requires c κs = search needs
 
--- src/leaves.rt:53:1
 returns-2 : tie.Need-returns-2
 returns-2 c = c .is-letter .ensures ∙ one-letter _ (c .before .before .if1 .left)
 

@@ -16,51 +16,39 @@ Inv-loop name i₀ i = leaf-kind (drop i name) ≡ leaf-kind name
 abbrev μ-loop : tie.MeasureT-loop
 μ-loop name i₀ i = length name - i
 
--- src/leaves.rt:37:5
 loop-holds : tie.Need-loop-holds Inv-loop μ-loop
 loop-holds c = refl
 
--- src/leaves.rt:38:12
 shared-slice-read-if1 : tie.Need-shared-slice-read-if1 Inv-loop μ-loop
 shared-slice-read-if1 c = omega arith
 
--- src/leaves.rt:39:36
 add-sort-kind : tie.Need-add-sort-kind Inv-loop μ-loop
 add-sort-kind c = omega arith
 
--- src/leaves.rt:39:30
 sub-sort-kind : tie.Need-sub-sort-kind Inv-loop μ-loop
 sub-sort-kind c = omega arith
 
--- src/leaves.rt:39:30
 part-sort-kind-start : tie.Need-part-sort-kind-start Inv-loop μ-loop
 part-sort-kind-start c = omega arith
 
--- src/leaves.rt:39:30
 part-sort-kind-end : tie.Need-part-sort-kind-end Inv-loop μ-loop
 part-sort-kind-end c = omega arith
 
--- src/leaves.rt:39:13
 sort-kind-requires : tie.Need-sort-kind-requires Inv-loop μ-loop
 sort-kind-requires c κs = tt
 
--- src/leaves.rt:39:13
 returns : tie.Need-returns Inv-loop μ-loop
 returns c = (kind-found (c .before .before .before .before .before .before .before .args .name .now) (c .before .before .before .before .before .loop .i) (omega arith) (c .before .before .if1 .taken) (c .before .before .before .before .before .loop .inv) (c .sort-kind .ensures .0), c .sort-kind .ensures .1)
 
--- src/leaves.rt:41:9
 add-i : tie.Need-add-i Inv-loop μ-loop
 add-i c = omega arith
 
--- src/leaves.rt:37:5
 loop-less : tie.Need-loop-less Inv-loop μ-loop
 loop-less c = omega arith
 
--- src/leaves.rt:37:5
 loop-again : tie.Need-loop-again Inv-loop μ-loop
 loop-again c = kind-passed (c .before .before .before .before .before .args .name .now) (c .before .before .before .loop .i) (omega arith) (c .if1 .left) (c .before .before .before .loop .inv)
 
--- src/leaves.rt:33:1
 returns-2 : tie.Need-returns-2 Inv-loop μ-loop
 returns-2 c = (kind-ended (c .before .before .before .args .name .now) (c .before .loop .i) (omega arith) (c .before .loop .inv), omega arith)
 

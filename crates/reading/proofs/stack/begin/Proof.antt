@@ -7,71 +7,54 @@ use Rattle.reading.proofs.stack.begin.Tie as tie
 use Rattle.reading.proofs.stack.begin.Reads as reads
 use Rattle.reading.proofs.stack.begin.Lts as lts
 
--- src/stack.rt:61:15
 mul-top : tie.Need-mul-top
 mul-top c = search needs
 
--- src/stack.rt:61:27
 mul-top-2 : tie.Need-mul-top-2
 mul-top-2 c = search needs
 
--- src/stack.rt:61:15
 add-top : tie.Need-add-top
 add-top c = search needs
 
--- src/stack.rt:62:21
 cast-work : tie.Need-cast-work
 cast-work c = search needs
 
--- src/stack.rt:62:10
 add-work : tie.Need-add-work
 add-work c = search needs
 
--- src/stack.rt:62:5
 mul-work : tie.Need-mul-work
 mul-work c = search needs
 
--- src/stack.rt:62:5
 slice-write-work : tie.Need-slice-write-work
 slice-write-work c = search needs
 
--- src/stack.rt:63:22
 sub-work : tie.Need-sub-work
 sub-work c = search needs
 
--- src/stack.rt:63:21
 cast-work-2 : tie.Need-cast-work-2
 cast-work-2 c = search needs
 
--- src/stack.rt:63:10
 add-work-2 : tie.Need-add-work-2
 add-work-2 c = search needs
 
--- src/stack.rt:63:5
 mul-work-2 : tie.Need-mul-work-2
 mul-work-2 c = search needs
 
--- src/stack.rt:63:5
 slice-write-work-2 : tie.Need-slice-write-work-2
 slice-write-work-2 c = simp length-set (omega arith)
 
--- src/stack.rt:64:10
 add-work-3 : tie.Need-add-work-3
 add-work-3 c = search needs
 
--- src/stack.rt:64:5
 mul-work-3 : tie.Need-mul-work-3
 mul-work-3 c = search needs
 
--- src/stack.rt:64:5
 slice-write-work-3 : tie.Need-slice-write-work-3
 slice-write-work-3 c = simp length-set (omega arith)
 
--- src/stack.rt:47:1
 same-length : tie.Need-same-length
 same-length c = search needs
 
--- src/stack.rt:47:1
 returns : tie.Need-returns
 returns c =
     let p = c .pre in

@@ -17,79 +17,60 @@ use Rattle.reading.proofs.stack.close.Lts as lts
 use Rattle.reading.proofs.closing.shut.Reads as shut-reads
 use Rattle.reading.proofs.stack.wide.Reads as wide-reads
 
--- src/stack.rt:74:15
 mul-top : tie.Need-mul-top
 mul-top c = search needs
 
--- src/stack.rt:74:27
 mul-top-2 : tie.Need-mul-top-2
 mul-top-2 c = search needs
 
--- src/stack.rt:74:15
 add-top : tie.Need-add-top
 add-top c = search needs
 
--- src/stack.rt:75:21
 mul-wide : tie.Need-mul-wide
 mul-wide c = search needs
 
--- src/stack.rt:75:21
 slice-read-wide : tie.Need-slice-read-wide
 slice-read-wide c = search needs
 
--- src/stack.rt:75:9
 wide-requires : tie.Need-wide-requires
 wide-requires c κs = search needs
 
--- src/stack.rt:76:24
 add-wide : tie.Need-add-wide
 add-wide c = search needs
 
--- src/stack.rt:76:19
 mul-wide-2 : tie.Need-mul-wide-2
 mul-wide-2 c = search needs
 
--- src/stack.rt:76:19
 slice-read-wide-2 : tie.Need-slice-read-wide-2
 slice-read-wide-2 c = search needs
 
--- src/stack.rt:76:9
 wide-requires-2 : tie.Need-wide-requires-2
 wide-requires-2 c κs = search needs
 
--- src/stack.rt:77:25
 add-wide-2 : tie.Need-add-wide-2
 add-wide-2 c = search needs
 
--- src/stack.rt:77:20
 mul-wide-3 : tie.Need-mul-wide-3
 mul-wide-3 c = search needs
 
--- src/stack.rt:77:20
 slice-read-wide-3 : tie.Need-slice-read-wide-3
 slice-read-wide-3 c = search needs
 
--- src/stack.rt:77:9
 wide-requires-3 : tie.Need-wide-requires-3
 wide-requires-3 c κs = search needs
 
--- src/stack.rt:78:27
 add-wide-3 : tie.Need-add-wide-3
 add-wide-3 c = search needs
 
--- src/stack.rt:78:22
 mul-wide-4 : tie.Need-mul-wide-4
 mul-wide-4 c = search needs
 
--- src/stack.rt:78:22
 slice-read-wide-4 : tie.Need-slice-read-wide-4
 slice-read-wide-4 c = search needs
 
--- src/stack.rt:78:9
 wide-requires-4 : tie.Need-wide-requires-4
 wide-requires-4 c κs = search needs
 
--- src/stack.rt:79:9
 shut-requires : tie.Need-shut-requires
 shut-requires c κs =
     let a = c .before .before .before .before .before .before .before .before .before .before .before .args in
@@ -98,19 +79,15 @@ shut-requires c κs =
     let m = most-is (a .sheet .now) (a .work .now) (a .limit) (a .depth) (c .before .before .before .before .before .wide2 .ensures) (c .before .before .before .wide3 .ensures) (c .before .wide4 .ensures) (a .free) in
     (h .arena, ((chain-below (a .sheet .now) (a .work .now) (a .limit) (a .depth) (c .before .before .before .before .before .wide2 .ensures) (c .before .before .before .wide3 .ensures) (c .before .wide4 .ensures) h, omega (arith, c .before .before .before .before .before .before .before .wide .ensures, h .trees (a .depth) (omega arith))), ((omega (arith, h .room), omega arith), (placed-at (a .sheet .now) (a .work .now) (a .limit) (a .depth) (c .before .before .before .before .before .wide2 .ensures) (c .before .before .before .wide3 .ensures) (c .before .wide4 .ensures) h, p .1 .1))))
 
--- src/stack.rt:80:20
 enum-known-closed : tie.Need-enum-known-closed
 enum-known-closed c = search needs
 
--- src/stack.rt:81:9
 enum-told : tie.Need-enum-told
 enum-told c = search needs
 
--- src/stack.rt:81:9
 same-length : tie.Need-same-length
 same-length c = search needs
 
--- src/stack.rt:81:9
 returns : tie.Need-returns
 returns c =
     let a = c .before .before .before .before .before .before .before .before .before .before .before .before .before .before .before .before .args in
@@ -119,14 +96,12 @@ returns c =
     let o = closes-is (a .sheet .now) (a .work .now) (c .before .before .before .before .shut .last .1 .0) (a .free) (most (a .sheet .now) (a .work .now) (a .free) (c .before .before .before .before .before .before .wide4 .result)) (c .before .before .before .before .before .before .before .before .before .before .before .before .wide .result) (close (part (a .sheet .now) (c .before .before .before .before .before .before .before .before .before .before .wide2 .result) (c .before .before .before .before .before .before .before .before .wide3 .result)) (back (trees-at (a .sheet .now) (a .work .now) (c .before .before .before .before .before .before .wide4 .result)) none)) (c .before .before .before .before .shut .ensures) (c .enum-told .given .1) in
     (not-popped (a .sheet .now) (a .work .now) (a .limit) (a .depth) (c .before .before .before .before .before .before .before .before .before .before .wide2 .ensures) (c .before .before .before .before .before .before .before .before .wide3 .ensures) (c .before .before .before .before .before .before .wide4 .ensures) (o .0), outside-grown (omega arith) (o .1))
 
--- src/stack.rt:83:18
 sub-work : tie.Need-sub-work
 sub-work c =
     let a = c .before .before .before .before .before .before .before .before .before .before .before .before .before .before .before .before .before .args in
     let o = closes-is (a .sheet .now) (a .work .now) (c .before .before .before .before .before .shut .last .1 .0) (a .free) (most (a .sheet .now) (a .work .now) (a .free) (c .before .before .before .before .before .before .before .wide4 .result)) (c .before .before .before .before .before .before .before .before .before .before .before .before .before .wide .result) (close (part (a .sheet .now) (c .before .before .before .before .before .before .before .before .before .before .before .wide2 .result) (c .before .before .before .before .before .before .before .before .before .wide3 .result)) (back (trees-at (a .sheet .now) (a .work .now) (c .before .before .before .before .before .before .before .wide4 .result)) none)) (c .before .before .before .before .before .shut .ensures) (c .before .closed .given .1) in
     omega (arith, o .made .some)
 
--- src/stack.rt:83:17
 cast-work : tie.Need-cast-work
 cast-work c =
     let a = c .before .before .before .before .before .before .before .before .before .before .before .before .before .before .before .before .before .args in
@@ -136,19 +111,15 @@ cast-work c =
     let r = o .room in
     omega arith
 
--- src/stack.rt:83:5
 mul-work : tie.Need-mul-work
 mul-work c = search needs
 
--- src/stack.rt:83:5
 slice-write-work : tie.Need-slice-write-work
 slice-write-work c = search needs
 
--- src/stack.rt:68:1
 same-length-2 : tie.Need-same-length-2
 same-length-2 c = search needs
 
--- src/stack.rt:68:1
 returns-2 : tie.Need-returns-2
 returns-2 c =
     let a = c .before .before .before .before .before .before .before .before .before .before .before .before .before .before .before .before .before .args in

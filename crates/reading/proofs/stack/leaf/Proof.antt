@@ -9,51 +9,39 @@ use Rattle.reading.proofs.leaves.leaf_kind.Reads as leaf-kind-reads
 use Rattle.reading.proofs.stack.wide.Reads as wide-reads
 use Rattle.tree.proofs.cells.push_cell.Reads as push-cell-reads
 
--- src/stack.rt:38:15
 mul-top : tie.Need-mul-top
 mul-top c = search needs
 
--- src/stack.rt:38:27
 mul-top-2 : tie.Need-mul-top-2
 mul-top-2 c = search needs
 
--- src/stack.rt:38:15
 add-top : tie.Need-add-top
 add-top c = search needs
 
--- src/stack.rt:39:26
 sub-leaf-kind : tie.Need-sub-leaf-kind
 sub-leaf-kind c = search needs
 
--- src/stack.rt:39:26
 part-leaf-kind-start : tie.Need-part-leaf-kind-start
 part-leaf-kind-start c = search needs
 
--- src/stack.rt:39:26
 part-leaf-kind-end : tie.Need-part-leaf-kind-end
 part-leaf-kind-end c = search needs
 
--- src/stack.rt:39:9
 leaf-kind-requires : tie.Need-leaf-kind-requires
 leaf-kind-requires c κs = search needs
 
--- src/stack.rt:40:21
 mul-wide : tie.Need-mul-wide
 mul-wide c = search needs
 
--- src/stack.rt:40:21
 slice-read-wide : tie.Need-slice-read-wide
 slice-read-wide c = search needs
 
--- src/stack.rt:40:9
 wide-requires : tie.Need-wide-requires
 wide-requires c κs = search needs
 
--- src/stack.rt:41:43
 sub-push-cell : tie.Need-sub-push-cell
 sub-push-cell c = search needs
 
--- src/stack.rt:41:9
 push-cell-requires : tie.Need-push-cell-requires
 push-cell-requires c κs =
     let p = c .before .before .before .before .before .before .before .pre in
@@ -61,23 +49,18 @@ push-cell-requires c κs =
     let n = p .1 .1 .1 in
     (omega (arith, h .room), ((omega (arith, n .inside, n .some), n .short, omega (arith, c .before .before .before .leaf-kind .ensures .1), omega arith), (omega arith, omega (arith, c .before .wide .ensures, h .trees (c .before .before .before .before .before .before .before .args .depth) (omega arith)))))
 
--- src/stack.rt:42:17
 cast-work : tie.Need-cast-work
 cast-work c = search needs
 
--- src/stack.rt:42:5
 mul-work : tie.Need-mul-work
 mul-work c = search needs
 
--- src/stack.rt:42:5
 slice-write-work : tie.Need-slice-write-work
 slice-write-work c = search needs
 
--- src/stack.rt:24:1
 same-length : tie.Need-same-length
 same-length c = search needs
 
--- src/stack.rt:24:1
 returns : tie.Need-returns
 returns c =
     let p = c .before .before .before .before .before .before .before .before .before .before .pre in

@@ -3,7 +3,6 @@ use mathlib.Core.Path.{sym, ap, _∙_}
 use mathlib.Core.Option.{some}
 use Rattle.tree.specs.Cells.{first-of, tree-at, trees-at}
 use Rattle.reduction.proofs.Holding.{held-some, two-none, two-some}
-use Rattle.reduction.proofs.Placing.{kept-same}
 use Rattle.reduction.proofs.Fired.{open-no-arguments, open-no-cipher, open-if, opened, unopened, cells-less}
 use borrow.Author.Needs.{needs}
 use Rattle.reduction.proofs.keys.decrypted.Statement.{statement}
@@ -14,6 +13,7 @@ use Rattle.reduction.proofs.firing.key_of.Reads as key-of-reads
 use Rattle.reduction.proofs.keys.opens.Reads as opens-reads
 use Rattle.reduction.proofs.naming.two_arguments.Reads as two-arguments-reads
 use Rattle.tree.proofs.cells.first_of.Reads as first-of-reads
+use Rattle.tree.proofs.Areas.{below-same}
 
 two-arguments-requires : tie.Need-two-arguments-requires
 two-arguments-requires c κs = search needs
@@ -26,7 +26,7 @@ returns c =
     let a = c .before .before .before .before .before .args in
     let s = a .sheet .now in
     let w = a .work .now in
-    (omega arith, open-no-arguments (a .boxed) (trees-at s w (a .i)) (c .before .two-arguments .ensures .2 ∙ two-none s w (a .i) (c .if1 .taken)), kept-same _ _)
+    (omega arith, open-no-arguments (a .boxed) (trees-at s w (a .i)) (c .before .two-arguments .ensures .2 ∙ two-none s w (a .i) (c .if1 .taken)), below-same _ _)
 
 key-of-requires : tie.Need-key-of-requires
 key-of-requires c κs =
@@ -42,7 +42,7 @@ returns-2 c =
     let s = a .sheet .now in
     let w = a .work .now in
     let e = c .before .before .before .before .two-arguments .ensures .2 ∙ two-some s w (a .i) (c .before .before .before .before .two-arguments .result) (omega (arith, c .before .before .before .if1 .left)) in
-    (omega arith, open-no-cipher (a .boxed) (trees-at s w (a .i)) e (c .before .key-of .ensures .2 ∙ two-none s w (first-of w (a .i)) (c .if2 .taken)), kept-same _ _)
+    (omega arith, open-no-cipher (a .boxed) (trees-at s w (a .i)) e (c .before .key-of .ensures .2 ∙ two-none s w (first-of w (a .i)) (c .if2 .taken)), below-same _ _)
 
 first-of-requires : tie.Need-first-of-requires
 first-of-requires c κs =

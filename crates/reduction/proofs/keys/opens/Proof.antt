@@ -1,9 +1,9 @@
 use mathlib.Core.Path.{sym, _∙_}
 use borrow.Author.Tests.{not-true, not-false}
 use Rattle.tree.specs.Cells.{tree-at}
+use Rattle.tree.proofs.Areas.{below-same}
+use Rattle.equivalence.proofs.Scratch.{below-kept}
 use native.Mathlib.Omega.{arith}
-use Rattle.reduction.specs.Building.{Kept}
-use Rattle.reduction.proofs.Placing.{kept-same}
 use Rattle.reduction.proofs.Fired.{opens-not, opens-no-key, opens-by}
 use borrow.Author.Needs.{needs}
 use Rattle.reduction.proofs.keys.opens.Statement.{statement}
@@ -23,7 +23,7 @@ returns : tie.Need-returns
 returns c =
     let a = c .before .before .before .before .before .args in
     let t = tree-at (a .sheet .now) (a .work .now) in
-    (sym (opens-not (t (a .payload)) (t (a .key)) (t (a .other)) (sym (c .before .message .ensures) ∙ not-true _ (c .if1 .taken))), kept-same _ _)
+    (sym (opens-not (t (a .payload)) (t (a .key)) (t (a .other)) (sym (c .before .message .ensures) ∙ not-true _ (c .if1 .taken))), below-same _ _)
 
 message-requires-2 : tie.Need-message-requires-2
 message-requires-2 c κs = search needs
@@ -35,7 +35,7 @@ returns-2 : tie.Need-returns-2
 returns-2 c =
     let a = c .before .before .before .before .before .before .before .before .args in
     let t = tree-at (a .sheet .now) (a .work .now) in
-    (sym (opens-no-key (t (a .payload)) (t (a .key)) (t (a .other)) (sym (c .before .before .before .before .message .ensures) ∙ not-false _ (c .before .before .before .if1 .left)) (sym (c .before .message2 .ensures) ∙ not-true _ (c .if2 .taken))), kept-same _ _)
+    (sym (opens-no-key (t (a .payload)) (t (a .key)) (t (a .other)) (sym (c .before .before .before .before .message .ensures) ∙ not-false _ (c .before .before .before .if1 .left)) (sym (c .before .message2 .ensures) ∙ not-true _ (c .if2 .taken))), below-same _ _)
 
 mul-equivalent : tie.Need-mul-equivalent
 mul-equivalent c = search needs
@@ -51,10 +51,8 @@ same-length-3 c = search needs
 returns-3 : tie.Need-returns-3
 returns-3 c =
     let a = c .before .before .before .before .before .before .before .before .before .before .before .before .args in
-    let k = c .before .before .equivalent .ensures .1 in
-    let kept : Kept (a .work .now) (c .before .before .equivalent .last .1 .0) (a .free) = record { len = k .len; below = λ p h. sym (k .below p h) } in
     let t = tree-at (a .sheet .now) (a .work .now) in
-    (opens-by (t (a .payload)) (t (a .key)) (t (a .other)) (sym (c .before .before .before .before .before .before .before .before .message .ensures) ∙ not-false _ (c .before .before .before .before .before .before .before .if1 .left)) (sym (c .before .before .before .before .before .message2 .ensures) ∙ not-false _ (c .before .before .before .before .if2 .left)) (c .before .before .equivalent .ensures .0), kept)
+    (opens-by (t (a .payload)) (t (a .key)) (t (a .other)) (sym (c .before .before .before .before .before .before .before .before .message .ensures) ∙ not-false _ (c .before .before .before .before .before .before .before .if1 .left)) (sym (c .before .before .before .before .before .message2 .ensures) ∙ not-false _ (c .before .before .before .before .if2 .left)) (c .before .before .equivalent .ensures .0), below-kept (c .before .before .equivalent .ensures .1) (omega arith))
 
 pub opens-spec : {M : Type 1} → statement M
 opens-spec =

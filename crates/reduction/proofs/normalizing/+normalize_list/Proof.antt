@@ -80,7 +80,7 @@ normalize-list-keep-requires t c κs =
     let y = sizes-is s w (c .before .before .before .before .before .before .before .next-of .ensures .0) in
     let d = c .before .before .before .before .before .before .normalize-list .ensures in
     let v = c .before .before .before .before .before .before .normalize-list .last .1 .0 in
-    let t = ap size (frame-tree s v (p .0 .links) (d .kept .below) (a .i) q (p .1 .0 .0)) in
+    let t = ap size (frame-tree s v (p .0 .links) (d .kept .words) (a .i) q (p .1 .0 .0)) in
     let h = size-pos (tree-at s w (a .i)) in
     (d .arena, ((q, omega (arith, d .grew, p .1 .0 .0), d .inside), (omega (arith, h, z, y, d .used, d .kept .len, p .1 .1 .0), omega (arith, h, z, y, d .used, p .1 .1 .1))))
 
@@ -114,7 +114,7 @@ normalize-list-normalize-list-requires-2 t c κs =
     let y = sizes-is s w (c .before .before .before .before .before .before .before .before .before .next-of .ensures .0) in
     let d = c .before .before .before .before .before .before .before .before .normalize-list .ensures in
     let v = c .before .before .before .before .before .before .before .before .normalize-list .last .1 .0 in
-    let t = ap size (frame-tree s v (p .0 .links) (d .kept .below) (a .i) q (p .1 .0 .0)) in
+    let t = ap size (frame-tree s v (p .0 .links) (d .kept .words) (a .i) q (p .1 .0 .0)) in
     let k : kind-of v (a .i) ≡ 0 = omega (arith, c .before .before .before .before .kind-of .ensures, c .before .before .before .if2 .left) in
     let x = size-apply s v (a .i) k in
     let f = sizes-is s v (c .first-of .ensures .0) in
@@ -131,14 +131,14 @@ normalize-list-root-requires t c κs =
     let y = sizes-is s w (c .before .before .before .before .before .before .before .before .before .before .before .before .before .next-of .ensures .0) in
     let d = c .before .before .before .before .before .before .before .before .before .before .before .before .normalize-list .ensures in
     let v = c .before .before .before .before .before .before .before .before .before .before .before .before .normalize-list .last .1 .0 in
-    let t = ap size (frame-tree s v (p .0 .links) (d .kept .below) (a .i) q (p .1 .0 .0)) in
+    let t = ap size (frame-tree s v (p .0 .links) (d .kept .words) (a .i) q (p .1 .0 .0)) in
     let k : kind-of v (a .i) ≡ 0 = omega (arith, c .before .before .before .before .before .before .before .before .kind-of .ensures, c .before .before .before .before .before .before .before .if2 .left) in
     let x = size-apply s v (a .i) k in
     let f = sizes-is s v (c .before .before .before .before .first-of .ensures .0) in
     let e = c .before .before .before .normalize-list2 .ensures in
     let u = c .before .before .before .normalize-list2 .last .1 .0 in
     let h = normalizes-size (trees-at s v (c .before .before .before .before .first-of .result)) in
-    (e .arena, ((q, omega (arith, e .grew, d .grew, p .1 .0 .0), e .inside, omega (arith, e .grew, d .inside)), ((sym (same-kind v u (e .kept .below) (a .i) (omega (arith, d .grew, p .1 .0 .0))) ∙ k, omega (arith, ap sizes (e .trees), h, t, z, x, f, p .1 .0 .1)), (omega (arith, e .used, e .kept .len, t, z, y, x, f, d .used, d .kept .len, p .1 .1 .0), omega (arith, e .used, t, z, y, x, f, d .used, p .1 .1 .1)))))
+    (e .arena, ((q, omega (arith, e .grew, d .grew, p .1 .0 .0), e .inside, omega (arith, e .grew, d .inside)), ((sym (same-kind v u (e .kept .words) (a .i) (omega (arith, d .grew, p .1 .0 .0))) ∙ k, omega (arith, ap sizes (e .trees), h, t, z, x, f, p .1 .0 .1)), (omega (arith, e .used, e .kept .len, t, z, y, x, f, d .used, d .kept .len, p .1 .1 .0), omega (arith, e .used, t, z, y, x, f, d .used, p .1 .1 .1)))))
 
 normalize-list-same-length-2 : (t : ℕ) → normalize-list-lts.Need-same-length-2 (normalize-list-calls t) (normalize-list-at t) normalize-list.Post
 normalize-list-same-length-2 t c = search needs

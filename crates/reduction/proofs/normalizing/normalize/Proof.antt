@@ -62,7 +62,7 @@ root-requires c κs =
     let d = c .before .before .before .normalize-list .ensures in
     let v = c .before .before .before .normalize-list .last .1 .0 in
     let h = normalizes-size (trees-at s w (c .before .before .before .before .first-of .result)) in
-    (d .arena, ((p .1 .0 .0, omega (arith, d .grew, p .1 .0 .1), d .inside, omega (arith, d .grew, p .1 .0 .2)), ((sym (same-kind w v (d .kept .below) (a .i) (p .1 .0 .1)) ∙ k, omega (arith, ap sizes (d .trees), h, z, y, p .1 .0 .3)), (omega (arith, d .used, d .kept .len, z, y, p .1 .1 .0), omega (arith, d .used, z, y, p .1 .1 .1)))))
+    (d .arena, ((p .1 .0 .0, omega (arith, d .grew, p .1 .0 .1), d .inside, omega (arith, d .grew, p .1 .0 .2)), ((sym (same-kind w v (d .kept .words) (a .i) (p .1 .0 .1)) ∙ k, omega (arith, ap sizes (d .trees), h, z, y, p .1 .0 .3)), (omega (arith, d .used, d .kept .len, z, y, p .1 .1 .0), omega (arith, d .used, z, y, p .1 .1 .1)))))
 
 same-length-2 : tie.Need-same-length-2
 same-length-2 c = search needs

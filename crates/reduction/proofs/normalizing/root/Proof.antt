@@ -6,7 +6,7 @@ use Rattle.rules.specs.Tree.{sizes}
 use Rattle.rules.specs.Reduction.{fst, snd, flip, sdec, kdec, rule-named}
 use Rattle.tree.specs.Cells.{name-at, trees-at}
 use Rattle.tree.proofs.Decoding.{same-kind, frame-trees}
-use Rattle.reduction.proofs.Placing.{arena-kept}
+use Rattle.tree.proofs.Areas.{arena-below}
 use Rattle.reduction.proofs.NormalForms.{rule-is, root-by, root-none, fixed-none, fixed-some, becomes-later}
 use Rattle.reduction.proofs.normalizing.root.Statement.{statement}
 use Rattle.reduction.proofs.normalizing.root.Tie as tie
@@ -96,7 +96,7 @@ becomes-requires-4 c κs =
     let w = a .work .now in
     let v = c .before .before .before .decrypted .last .1 .0 in
     let k = c .before .before .before .decrypted .ensures .2 in
-    (arena-kept (p .0) k, (p .1 .0, ((sym (same-kind w v (k .below) (a .i) (p .1 .0 .1)) ∙ p .1 .1 .0 .0, omega (arith, p .1 .1 .0 .1, ap sizes (frame-trees s v (p .0 .links) (k .below) (a .first) (p .1 .0 .2)))), (omega (arith, k .len, p .1 .1 .1 .0), p .1 .1 .1 .1, c .before .before .before .decrypted .ensures .0))))
+    (arena-below (p .0) k, (p .1 .0, ((sym (same-kind w v (k .words) (a .i) (p .1 .0 .1)) ∙ p .1 .1 .0 .0, omega (arith, p .1 .1 .0 .1, ap sizes (frame-trees s v (p .0 .links) (k .words) (a .first) (p .1 .0 .2)))), (omega (arith, k .len, p .1 .1 .1 .0), p .1 .1 .1 .1, c .before .before .before .decrypted .ensures .0))))
 
 enum-told-5 : tie.Need-enum-told-5
 enum-told-5 c = search needs
@@ -114,7 +114,7 @@ becomes-requires-5 c κs =
     let w = a .work .now in
     let v = c .before .before .before .decrypted2 .last .1 .0 in
     let k = c .before .before .before .decrypted2 .ensures .2 in
-    (arena-kept (p .0) k, (p .1 .0, ((sym (same-kind w v (k .below) (a .i) (p .1 .0 .1)) ∙ p .1 .1 .0 .0, omega (arith, p .1 .1 .0 .1, ap sizes (frame-trees s v (p .0 .links) (k .below) (a .first) (p .1 .0 .2)))), (omega (arith, k .len, p .1 .1 .1 .0), p .1 .1 .1 .1, c .before .before .before .decrypted2 .ensures .0))))
+    (arena-below (p .0) k, (p .1 .0, ((sym (same-kind w v (k .words) (a .i) (p .1 .0 .1)) ∙ p .1 .1 .0 .0, omega (arith, p .1 .1 .0 .1, ap sizes (frame-trees s v (p .0 .links) (k .words) (a .first) (p .1 .0 .2)))), (omega (arith, k .len, p .1 .1 .1 .0), p .1 .1 .1 .1, c .before .before .before .decrypted2 .ensures .0))))
 
 enum-told-6 : tie.Need-enum-told-6
 enum-told-6 c = search needs

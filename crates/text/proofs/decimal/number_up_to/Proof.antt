@@ -21,47 +21,37 @@ Inv-loop text bound n₀ i₀ n i = (n ≤ bound) × (all digit (drop i text) �
 abbrev μ-loop : tie.MeasureT-loop
 μ-loop text bound n₀ i₀ n i = length text - i
 
--- src/decimal.rt:21:9
 returns : tie.Need-returns Inv-loop μ-loop
 returns c = number-unled (c .before .before .args .bound) (c .before .before .args .text .now) (led-none (c .before .before .args .text .now) (c .if1 .taken))
 
--- src/decimal.rt:24:12
 shared-slice-read-if3 : tie.Need-shared-slice-read-if3 Inv-loop μ-loop
 shared-slice-read-if3 c = omega arith
 
--- src/decimal.rt:25:13
 returns-2 : tie.Need-returns-2 Inv-loop μ-loop
 returns-2 c = number-unled (c .before .before .before .before .before .args .bound) (c .before .before .before .before .before .args .text .now) (led-zero (c .before .before .before .before .before .args .text .now) (c .before .before .if2 .taken) (c .if3 .taken))
 
--- src/decimal.rt:30:5
 loop-holds : tie.Need-loop-holds Inv-loop μ-loop
 loop-holds c =
     let s = c .before .before .before .args .text .now in
     (omega arith, refl, refl, ⊎-elim (λ w. led-more s (w .0 .taken) (w .2 .left)) (λ w. led-one s (c .before .if1 .left) (w .left)) (c .if2 .came))
 
--- src/decimal.rt:31:17
 shared-slice-read-b : tie.Need-shared-slice-read-b Inv-loop μ-loop
 shared-slice-read-b c = omega arith
 
--- src/decimal.rt:32:13
 is-digit-requires : tie.Need-is-digit-requires Inv-loop μ-loop
 is-digit-requires c κs = tt
 
--- src/decimal.rt:33:13
 returns-3 : tie.Need-returns-3 Inv-loop μ-loop
 returns-3 c =
     let s = c .before .before .before .before .before .before .before .before .args .text .now in
     number-foreign (c .before .before .before .before .before .before .before .before .args .bound) s (all-fail digit s (c .before .before .before .before .loop .i) (omega arith) (c .before .is-digit .ensures) (not-true _ (c .if4 .taken)) (c .before .before .before .before .loop .inv .1))
 
--- src/decimal.rt:35:17
 cast-d : tie.Need-cast-d Inv-loop μ-loop
 cast-d c = omega (arith, digit-bounds (getD (c .before .before .before .before .before .before .before .before .args .text .now) (c .before .before .before .before .loop .i) 0) (sym (c .before .is-digit .ensures) ∙ not-false (c .before .is-digit .result) (c .if4 .left)))
 
--- src/decimal.rt:35:17
 sub-d : tie.Need-sub-d Inv-loop μ-loop
 sub-d c = omega (arith, digit-bounds (getD (c .before .before .before .before .before .before .before .before .args .text .now) (c .before .before .before .before .loop .i) 0) (sym (c .before .is-digit .ensures) ∙ not-false (c .before .is-digit .result) (c .if4 .left)))
 
--- src/decimal.rt:37:13
 returns-4 : tie.Need-returns-4 Inv-loop μ-loop
 returns-4 c =
     let s = c .before .before .before .before .before .before .before .before .before .args .text .now in
@@ -69,7 +59,6 @@ returns-4 c =
     let g = value-grows (c .before .before .before .before .before .loop .n * 10 + (getD s (c .before .before .before .before .before .loop .i) 0 - 48)) (drop (c .before .before .before .before .before .loop .i + 1) s) in
     number-large (c .before .before .before .before .before .before .before .before .before .args .bound) s (omega arith)
 
--- src/decimal.rt:40:13
 returns-5 : tie.Need-returns-5 Inv-loop μ-loop
 returns-5 c =
     let s = c .before .before .before .before .before .before .before .before .before .before .args .text .now in
@@ -77,29 +66,23 @@ returns-5 c =
     let g = value-grows (c .before .before .before .before .before .before .loop .n * 10 + (getD s (c .before .before .before .before .before .before .loop .i) 0 - 48)) (drop (c .before .before .before .before .before .before .loop .i + 1) s) in
     number-large (c .before .before .before .before .before .before .before .before .before .before .args .bound) s (omega arith)
 
--- src/decimal.rt:42:13
 mul-n : tie.Need-mul-n Inv-loop μ-loop
 mul-n c = omega arith
 
--- src/decimal.rt:42:13
 add-n : tie.Need-add-n Inv-loop μ-loop
 add-n c = omega arith
 
--- src/decimal.rt:43:9
 add-i : tie.Need-add-i Inv-loop μ-loop
 add-i c = omega arith
 
--- src/decimal.rt:30:5
 loop-less : tie.Need-loop-less Inv-loop μ-loop
 loop-less c = omega arith
 
--- src/decimal.rt:30:5
 loop-again : tie.Need-loop-again Inv-loop μ-loop
 loop-again c =
     let s = c .before .before .before .before .before .before .before .before .before .before .args .text .now in
     (omega arith, all-pass digit s (c .before .before .before .before .before .before .loop .i) (omega arith) (c .before .before .before .is-digit .ensures) (not-false _ (c .before .before .if4 .left)) (c .before .before .before .before .before .before .loop .inv .1), sym (value-next (c .before .before .before .before .before .before .loop .n) s (c .before .before .before .before .before .before .loop .i) (omega arith)) ∙ c .before .before .before .before .before .before .loop .inv .2, c .before .before .before .before .before .before .loop .inv .3)
 
--- src/decimal.rt:17:1
 returns-6 : tie.Need-returns-6 Inv-loop μ-loop
 returns-6 c =
     let s = c .before .before .before .before .before .args .text .now in

@@ -1,5 +1,5 @@
 use mathlib.Core.Path.{sym}
-use Rattle.unifier.proofs.Areas.{below-grown}
+use Rattle.tree.proofs.Areas.{below-grown}
 use Rattle.unifier.proofs.Keys.{binds-put}
 use borrow.Author.Needs.{needs}
 use Rattle.unifier.proofs.elimination.bind.Statement.{statement}

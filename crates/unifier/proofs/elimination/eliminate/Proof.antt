@@ -1,9 +1,9 @@
 use mathlib.Core.Bool.{true, false}
 use native.Mathlib.Omega.{arith}
 use Rattle.tree.specs.Cells.{tree-at}
+use Rattle.tree.proofs.Areas.{below-same}
 use Rattle.unifier.specs.Stack.{pairs-at}
 use Rattle.unifier.proofs.Keys.{no-sort, checked, sort-checked}
-use Rattle.unifier.proofs.Areas.{below-same}
 use borrow.Author.Needs.{needs}
 use Rattle.unifier.proofs.elimination.eliminate.Statement.{statement}
 use Rattle.unifier.proofs.elimination.eliminate.Tie as tie

@@ -8,7 +8,6 @@ use Rattle.tree.specs.Cells.{tree-at}
 use Rattle.sorts.specs.Numbers.{numbered}
 use Rattle.unifier.specs.Stack.{pairs-at}
 use Rattle.unifier.proofs.Keys.{swap-turns, swap-stays}
-use Rattle.unifier.proofs.Areas.{below-same}
 use borrow.Author.Needs.{needs}
 use Rattle.unifier.proofs.elimination.swap.Statement.{statement}
 use Rattle.unifier.proofs.elimination.swap.Tie as tie
@@ -17,6 +16,7 @@ use Rattle.unifier.proofs.elimination.swap.Lts as lts
 use Rattle.sorts.proofs.refinable.Reads as refinable-reads
 use Rattle.sorts.proofs.sorted.Reads as sorted-reads
 use Rattle.tree.proofs.cells.kind_of.Reads as kind-of-reads
+use Rattle.tree.proofs.Areas.{below-same}
 use Rattle.unifier.proofs.elimination.bind.Reads as bind-reads
 
 -- no variable of the value's own sort: the arms of the tests that meet

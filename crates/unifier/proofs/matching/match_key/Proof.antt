@@ -1,8 +1,9 @@
 use mathlib.Core.Path.{sym, _∙_}
 use native.Mathlib.Omega.{arith}
-use Rattle.unifier.proofs.Areas.{below-same}
+use Rattle.tree.proofs.Areas.{below-same}
 use Rattle.unifier.proofs.Fitting.{bound-value}
-use Rattle.unifier.proofs.Moving.{below-kept, onwards-same, onwards-binding, bound-agrees, new-sortless, new-sorted}
+use Rattle.equivalence.proofs.Scratch.{below-kept}
+use Rattle.unifier.proofs.Moving.{onwards-same, onwards-binding, bound-agrees, new-sortless, new-sorted}
 use borrow.Author.Needs.{needs}
 use Rattle.unifier.proofs.matching.match_key.Statement.{statement}
 use Rattle.unifier.proofs.matching.match_key.Tie as tie

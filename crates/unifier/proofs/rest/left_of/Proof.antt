@@ -14,59 +14,47 @@ Inv-loop work at end found₀ k₀ found k = Seen work at end k found
 abbrev μ-loop : tie.MeasureT-loop
 μ-loop work at end found₀ k₀ found k = end - k
 
--- src/rest.rt:40:5
 loop-holds : tie.Need-loop-holds Inv-loop μ-loop
 loop-holds c = seen-starts (c .before .args .work .now) (c .before .args .at) (c .before .args .end) (c .before .pre .1) (c .before .pre .0)
 
--- src/rest.rt:41:25
 mul-wide : tie.Need-mul-wide Inv-loop μ-loop
 mul-wide c = search needs
 
--- src/rest.rt:41:25
 shared-slice-read-wide : tie.Need-shared-slice-read-wide Inv-loop μ-loop
 shared-slice-read-wide c = omega (arith, c .before .loop-test .taken, c .before .before .before .before .pre .1)
 
--- src/rest.rt:41:13
 wide-requires : tie.Need-wide-requires Inv-loop μ-loop
 wide-requires c κs = search needs
 
--- src/rest.rt:42:9
 add-k : tie.Need-add-k Inv-loop μ-loop
 add-k c = omega (arith, c .before .before .loop-test .taken, c .before .before .before .before .before .pre .1)
 
--- src/rest.rt:40:5
 loop-less : tie.Need-loop-less Inv-loop μ-loop
 loop-less c = omega (arith, c .before .before .before .loop-test .taken)
 
--- src/rest.rt:40:5
 loop-again : tie.Need-loop-again Inv-loop μ-loop
 loop-again c =
     let a = c .before .before .before .before .before .before .args in
     seen-zero (a .work .now) (a .at) (a .end) (c .before .before .before .before .before .before .pre .1) (c .before .before .before .before .loop .k) (c .before .before .before .before .loop .found) (c .before .wide .result) (c .before .before .before .before .loop .inv) (c .before .before .before .loop-test .taken) (c .before .wide .ensures) (c .if1 .taken)
 
--- src/rest.rt:47:13
 returns : tie.Need-returns Inv-loop μ-loop
 returns c =
     let a = c .before .before .before .before .before .before .before .args in
     seen-second (a .work .now) (a .at) (a .end) (c .before .before .before .before .before .before .before .pre .1) (c .before .before .before .before .before .loop .k) (c .before .before .before .before .before .loop .found) (c .before .before .wide .result) (c .before .before .before .before .before .loop .inv) (c .before .before .before .before .loop-test .taken) (c .before .before .wide .ensures) (omega (arith, c .if2 .taken)) (omega (arith, c .before .if1 .left))
 
--- src/rest.rt:40:5
 loop-less-2 : tie.Need-loop-less-2 Inv-loop μ-loop
 loop-less-2 c = omega (arith, c .before .before .before .before .loop-test .taken)
 
--- src/rest.rt:40:5
 loop-again-2 : tie.Need-loop-again-2 Inv-loop μ-loop
 loop-again-2 c =
     let a = c .before .before .before .before .before .before .before .args in
     seen-first (a .work .now) (a .at) (a .end) (c .before .before .before .before .before .before .before .pre .1) (c .before .before .before .before .before .loop .k) (c .before .before .before .before .before .loop .found) (c .before .before .wide .result) (c .before .before .before .before .before .loop .inv) (c .before .before .before .before .loop-test .taken) (c .before .before .wide .ensures) (omega (arith, c .if2 .left))
 
--- src/rest.rt:52:9
 returns-2 : tie.Need-returns-2 Inv-loop μ-loop
 returns-2 c =
     let a = c .before .before .before .before .args in
     seen-none (a .work .now) (a .at) (a .end) (c .before .before .before .before .pre .1) (c .before .before .loop .k) (c .before .before .loop .found) (c .before .before .loop .inv) (omega (arith, c .before .loop-test .left)) (c .if3 .taken)
 
--- src/rest.rt:34:1
 returns-3 : tie.Need-returns-3 Inv-loop μ-loop
 returns-3 c =
     let a = c .before .before .before .before .args in

@@ -11,31 +11,24 @@ use Rattle.unifier.proofs.rest.rest_of_none.Reads as rest-of-none-reads
 use Rattle.unifier.proofs.rest.rest_of_one.Reads as rest-of-one-reads
 use Rattle.unifier.proofs.rest.rest_of_several.Reads as rest-of-several-reads
 
--- src/rest.rt:174:31
 count-of-requires : tie.Need-count-of-requires
 count-of-requires c κs = search needs
 
--- src/rest.rt:174:54
 count-of-requires-2 : tie.Need-count-of-requires-2
 count-of-requires-2 c κs = search needs
 
--- src/rest.rt:174:31
 add-at : tie.Need-add-at
 add-at c = search needs
 
--- src/rest.rt:174:26
 mul-at : tie.Need-mul-at
 mul-at c = search needs
 
--- src/rest.rt:174:19
 add-at-2 : tie.Need-add-at-2
 add-at-2 c = search needs
 
--- src/rest.rt:174:14
 mul-at-2 : tie.Need-mul-at-2
 mul-at-2 c = search needs
 
--- src/rest.rt:175:9
 prepare-requires : tie.Need-prepare-requires
 prepare-requires c κs =
     let a = c .before .before .before .before .before .before .before .args in
@@ -44,7 +37,6 @@ prepare-requires c κs =
     let q = prepare-room (p .0) (p .1 .1 .1 .1) (p .1 .1 .1 .0) e in
     (p .0, ((p .1 .0 .0, p .1 .0 .1, p .1 .0 .2, p .1 .0 .3, q .0, q .1), (q .2, q .3)))
 
--- src/rest.rt:178:9
 left-of-requires : tie.Need-left-of-requires
 left-of-requires c κs =
     let a = c .before .before .before .before .before .before .before .before .before .before .before .args in
@@ -53,11 +45,9 @@ left-of-requires c κs =
     let i = inside (p .0) (p .1 .1 .1 .1) (p .1 .1 .1 .0) e (c .before .before .before .prepare .ensures) in
     (i .0, i .2)
 
--- src/rest.rt:180:39
 enum-told : tie.Need-enum-told
 enum-told c = search needs
 
--- src/rest.rt:180:26
 rest-of-none-requires : tie.Need-rest-of-none-requires
 rest-of-none-requires c κs =
     let a = c .before .before .before .before .before .before .before .before .before .before .before .before .before .before .before .args in
@@ -66,11 +56,9 @@ rest-of-none-requires c κs =
     let i = inside (p .0) (p .1 .1 .1 .1) (p .1 .1 .1 .0) e (c .before .before .before .before .before .before .before .prepare .ensures) in
     (i .1, i .3)
 
--- src/rest.rt:181:19
 enum-known-kept : tie.Need-enum-known-kept
 enum-known-kept c = search needs
 
--- src/rest.rt:181:27
 rest-of-one-requires : tie.Need-rest-of-one-requires
 rest-of-one-requires c κs =
     let a = c .before .before .before .before .before .before .before .before .before .before .before .before .before .before .before .before .args in
@@ -79,11 +67,9 @@ rest-of-one-requires c κs =
     let k = p .1 .1 .0 in
     (c .before .before .before .before .before .before .before .before .prepare .ensures .arena, (one-left (p .0) (p .1 .1 .1 .1) (p .1 .1 .1 .0) e (c .before .before .before .before .before .before .before .before .prepare .ensures) (c .before .before .kept .given .1) (c .before .before .before .before .left-of .ensures), (sum-kept (p .0) (p .1 .1 .1 .1) (p .1 .1 .1 .0) e (c .before .before .before .before .before .before .before .before .prepare .ensures) (a .right) (p .1 .0 .2) (p .1 .0 .3) (k .2) (k .3), right-summable (p .0) (p .1 .1 .1 .1) (p .1 .1 .1 .0) e (c .before .before .before .before .before .before .before .before .prepare .ensures))))
 
--- src/rest.rt:182:49
 enum-told-2 : tie.Need-enum-told-2
 enum-told-2 c = search needs
 
--- src/rest.rt:182:26
 rest-of-several-requires : tie.Need-rest-of-several-requires
 rest-of-several-requires c κs =
     let a = c .before .before .before .before .before .before .before .before .before .before .before .before .before .before .before .args in
@@ -92,11 +78,9 @@ rest-of-several-requires c κs =
     let k = p .1 .1 .0 in
     (c .before .before .before .before .before .before .before .prepare .ensures .arena, (sum-kept (p .0) (p .1 .1 .1 .1) (p .1 .1 .1 .0) e (c .before .before .before .before .before .before .before .prepare .ensures) (a .left) (p .1 .0 .0) (p .1 .0 .1) (k .0) (k .1), ((left-summable (p .0) (p .1 .1 .1 .1) (p .1 .1 .1 .0) e (c .before .before .before .before .before .before .before .prepare .ensures), right-summable (p .0) (p .1 .1 .1 .1) (p .1 .1 .1 .0) e (c .before .before .before .before .before .before .before .prepare .ensures)), several-left (p .0) (p .1 .1 .1 .1) (p .1 .1 .1 .0) e (c .before .before .before .before .before .before .before .prepare .ensures) (c .before .enum-told2 .given .1) (c .before .before .before .left-of .ensures))))
 
--- src/rest.rt:159:1
 same-length : tie.Need-same-length
 same-length c = search needs
 
--- src/rest.rt:159:1
 returns : tie.Need-returns
 returns c =
     let a = c .before .before .before .before .before .before .before .before .before .before .before .before .before .before .before .before .args in
@@ -104,11 +88,9 @@ returns c =
     let e = start-is (a .left) (a .right) (c .before .before .before .before .before .before .before .before .before .before .before .before .count-of .result) (c .before .before .before .before .before .before .before .before .before .before .count-of2 .result) (p .0) (p .1 .0) (c .before .before .before .before .before .before .before .before .before .before .before .before .count-of .ensures .0) (c .before .before .before .before .before .before .before .before .before .before .count-of2 .ensures .0) in
     none-settled (p .0) (p .1 .1 .1 .1) (p .1 .1 .1 .0) e (c .before .before .before .before .before .before .before .before .prepare .ensures) (c .before .before .enum-told .given .1) (c .before .before .before .before .left-of .ensures) (c .rest-of-none .result) (c .rest-of-none .ensures)
 
--- src/rest.rt:159:1
 same-length-2 : tie.Need-same-length-2
 same-length-2 c = search needs
 
--- src/rest.rt:159:1
 returns-2 : tie.Need-returns-2
 returns-2 c =
     let a = c .before .before .before .before .before .before .before .before .before .before .before .before .before .before .before .before .before .before .before .args in
@@ -116,11 +98,9 @@ returns-2 c =
     let e = start-is (a .left) (a .right) (c .before .before .before .before .before .before .before .before .before .before .before .before .before .before .before .count-of .result) (c .before .before .before .before .before .before .before .before .before .before .before .before .before .count-of2 .result) (p .0) (p .1 .0) (c .before .before .before .before .before .before .before .before .before .before .before .before .before .before .before .count-of .ensures .0) (c .before .before .before .before .before .before .before .before .before .before .before .before .before .count-of2 .ensures .0) in
     one-settled (p .0) (p .1 .1 .1 .1) (p .1 .1 .1 .0) e (c .before .before .before .before .before .before .before .before .before .before .before .prepare .ensures) (c .before .before .before .before .before .kept .given .1) (c .before .before .before .before .before .before .before .left-of .ensures) (c .before .before .rest-of-one .last .1 .0) (c .before .before .rest-of-one .result) (c .before .before .rest-of-one .ensures)
 
--- src/rest.rt:159:1
 same-length-3 : tie.Need-same-length-3
 same-length-3 c = search needs
 
--- src/rest.rt:159:1
 returns-3 : tie.Need-returns-3
 returns-3 c =
     let a = c .before .before .before .before .before .before .before .before .before .before .before .before .before .before .before .before .before .before .args in

@@ -6,35 +6,28 @@ use Rattle.unifier.proofs.rest.rest_of_none.Reads as reads
 use Rattle.unifier.proofs.rest.rest_of_none.Lts as lts
 use Rattle.unifier.proofs.rest.left_of.Reads as left-of-reads
 
--- src/rest.rt:74:9
 left-of-requires : tie.Need-left-of-requires
 left-of-requires c κs = search needs
 
--- src/rest.rt:76:26
 enum-told : tie.Need-enum-told
 enum-told c = search needs
 
--- src/rest.rt:77:25
 enum-told-2 : tie.Need-enum-told-2
 enum-told-2 c = search needs
 
--- src/rest.rt:78:26
 enum-told-3 : tie.Need-enum-told-3
 enum-told-3 c = search needs
 
--- src/rest.rt:70:1
 returns : tie.Need-returns
 returns c =
     let a = c .before .before .before .before .args in
     λ s n b. none-none s (a .work .now) n (a .at) (a .end) b (c .enum-told .given .1) (c .before .before .left-of .ensures s)
 
--- src/rest.rt:70:1
 returns-2 : tie.Need-returns-2
 returns-2 c =
     let a = c .before .before .before .before .args in
     λ s n b. none-one s (a .work .now) n (a .at) (a .end) b (c .enum-told2 .given .1) (c .before .before .left-of .ensures s)
 
--- src/rest.rt:70:1
 returns-3 : tie.Need-returns-3
 returns-3 c =
     let a = c .before .before .before .before .args in

@@ -8,34 +8,27 @@ use Rattle.unifier.proofs.rest.rest_of_one.Lts as lts
 use Rattle.equivalence.proofs.sums.rebuild.Reads as rebuild-reads
 use Rattle.unifier.proofs.rest.left_of.Reads as left-of-reads
 
--- src/rest.rt:98:9
 left-of-requires : tie.Need-left-of-requires
 left-of-requires c κs = search needs
 
--- src/rest.rt:100:26
 enum-told : tie.Need-enum-told
 enum-told c = search needs
 
--- src/rest.rt:101:19
 enum-known-others : tie.Need-enum-known-others
 enum-known-others c = search needs
 
--- src/rest.rt:107:38
 enum-told-2 : tie.Need-enum-told-2
 enum-told-2 c = search needs
 
--- src/rest.rt:107:17
 rebuild-requires : tie.Need-rebuild-requires
 rebuild-requires c κs =
     let p = c .before .before .before .before .before .before .before .pre in
     let m = p .1 .1 .1 in
     (p .0, (p .1 .1 .0, ((m .order, m .inside, m .room, m .small), (m .cells, m .light))))
 
--- src/rest.rt:83:1
 same-length : tie.Need-same-length
 same-length c = search needs
 
--- src/rest.rt:83:1
 returns : tie.Need-returns
 returns c =
     let a = c .before .before .before .before .before .before .args in
@@ -43,11 +36,9 @@ returns c =
     let w = a .work .now in
     λ b. one-none s w (a .free) (a .at) (a .end) b (tree-at s w (a .one)) (c .enum-told .given .1) (c .before .before .left-of .ensures s)
 
--- src/rest.rt:83:1
 same-length-2 : tie.Need-same-length-2
 same-length-2 c = search needs
 
--- src/rest.rt:83:1
 returns-2 : tie.Need-returns-2
 returns-2 c =
     let a = c .before .before .before .before .before .before .before .args in
@@ -55,11 +46,9 @@ returns-2 c =
     let s = a .sheet .now in
     λ b. one-one s (a .work .now) (a .free) (a .at) (a .end) b (a .one) (p .0) (p .1 .0 .0) (p .1 .0 .1) (p .1 .1 .1) (c .before .others .given .1) (c .before .before .before .left-of .ensures s)
 
--- src/rest.rt:83:1
 same-length-3 : tie.Need-same-length-3
 same-length-3 c = search needs
 
--- src/rest.rt:83:1
 returns-3 : tie.Need-returns-3
 returns-3 c =
     let a = c .before .before .before .before .before .before .before .before .before .before .args in

@@ -9,30 +9,24 @@ use Rattle.unifier.proofs.rest.rest_of_several.Lts as lts
 use Rattle.equivalence.proofs.sums.rebuild.Reads as rebuild-reads
 use Rattle.unifier.proofs.rest.left_of.Reads as left-of-reads
 
--- src/rest.rt:137:9
 left-of-requires : tie.Need-left-of-requires
 left-of-requires c κs = search needs
 
--- src/rest.rt:139:26
 enum-told : tie.Need-enum-told
 enum-told c = search needs
 
--- src/rest.rt:140:19
 enum-known-others : tie.Need-enum-known-others
 enum-known-others c = search needs
 
--- src/rest.rt:142:21
 rebuild-requires : tie.Need-rebuild-requires
 rebuild-requires c κs =
     let p = c .before .before .before .before .before .before .before .before .before .pre in
     let m = p .1 .1 .0 .0 in
     (p .0, (p .1 .0, ((m .order, m .inside, m .room, m .small), (m .cells, m .light))))
 
--- src/rest.rt:145:17
 same-length : tie.Need-same-length
 same-length c = search needs
 
--- src/rest.rt:145:17
 returns : tie.Need-returns
 returns c =
     let a = c .before .before .before .before .before .before .before .before .before .before .before .before .args in
@@ -41,15 +35,12 @@ returns c =
     let w = a .work .now in
     several-paired s w (a .free) (a .mid) (a .end) (a .every) (remaining s w (slice (a .at) (a .mid) w)) (p .1 .1 .1) (c .before .before .rebuild .last .1 .0) (c .before .before .rebuild .result .index) (c .before .before .rebuild .result .free) (p .0) (p .1 .1 .0 .1) (c .before .before .before .before .if1 .taken) (c .before .before .before .before .before .before .others .given .1) (c .before .before .before .before .before .before .before .before .left-of .ensures s) (c .before .before .rebuild .ensures)
 
--- src/rest.rt:153:26
 enum-told-2 : tie.Need-enum-told-2
 enum-told-2 c = search needs
 
--- src/rest.rt:121:1
 same-length-2 : tie.Need-same-length-2
 same-length-2 c = search needs
 
--- src/rest.rt:121:1
 returns-2 : tie.Need-returns-2
 returns-2 c =
     let a = c .before .before .before .before .before .before .args in
@@ -58,11 +49,9 @@ returns-2 c =
     let w = a .work .now in
     several-none s w (a .free) (a .mid) (a .end) (a .every) (remaining s w (slice (a .at) (a .mid) w)) (p .1 .1 .1) (c .enum-told .given .1) (c .before .before .left-of .ensures s)
 
--- src/rest.rt:121:1
 same-length-3 : tie.Need-same-length-3
 same-length-3 c = search needs
 
--- src/rest.rt:121:1
 returns-3 : tie.Need-returns-3
 returns-3 c =
     let a = c .before .before .before .before .before .before .before .before .args in
@@ -71,11 +60,9 @@ returns-3 c =
     let w = a .work .now in
     several-one s w (a .free) (a .mid) (a .end) (a .every) (remaining s w (slice (a .at) (a .mid) w)) (p .1 .1 .1) (c .if1 .left) (c .before .before .others .given .1) (c .before .before .before .before .left-of .ensures s)
 
--- src/rest.rt:121:1
 same-length-4 : tie.Need-same-length-4
 same-length-4 c = search needs
 
--- src/rest.rt:121:1
 returns-4 : tie.Need-returns-4
 returns-4 c =
     let a = c .before .before .before .before .before .before .args in

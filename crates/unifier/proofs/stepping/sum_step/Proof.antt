@@ -1,6 +1,6 @@
 use native.Mathlib.Omega.{arith}
 use mathlib.Core.Bool.{true, false}
-use Rattle.unifier.proofs.Waiting.{arena-below}
+use Rattle.tree.proofs.Areas.{arena-below}
 use Rattle.unifier.proofs.Sums.{took-mismatch, stuck-below, took-stuck, took-emptied, equates, equation-room, took-equation}
 use borrow.Author.Needs.{needs}
 use Rattle.unifier.proofs.stepping.sum_step.Statement.{statement}

@@ -2,8 +2,8 @@ use mathlib.Core.Option.{some}
 use mathlib.Core.Path.{sym, ap, _∙_}
 use native.Mathlib.Omega.{arith}
 use Rattle.tree.specs.Cells.{tree-at}
+use Rattle.tree.proofs.Areas.{below-grown}
 use Rattle.substitution.specs.Bindings.{bindings-at}
-use Rattle.reduction.proofs.Placing.{kept-grown}
 use Rattle.variants.proofs.Claiming.{instance-over, built-small, reduced-sizes, reduced-claim, reduced-kept}
 use borrow.Author.Needs.{needs}
 use Rattle.variants.proofs.soundness.reduces_to.Statement.{statement}
@@ -25,7 +25,7 @@ returns : tie.Need-returns
 returns c =
     let a = c .before .before .before .before .before .before .before .before .args in
     let x = rw (c .enum-told .given .1) at (c .before .before .before .before .substitute .ensures) in
-    (instance-over (bindings-at (a .sheet .now) (a .work .now) (a .bindings)) (tree-at (a .sheet .now) (a .work .now) (a .term)) (tree-at (a .sheet .now) (a .work .now) (a .value)) (x .0), kept-grown (x .1))
+    (instance-over (bindings-at (a .sheet .now) (a .work .now) (a .bindings)) (tree-at (a .sheet .now) (a .work .now) (a .term)) (tree-at (a .sheet .now) (a .work .now) (a .value)) (x .0), below-grown (x .1))
 
 normalize-requires : tie.Need-normalize-requires
 normalize-requires c κs =
