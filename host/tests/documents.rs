@@ -112,6 +112,18 @@ fn a_wrong_answer_in_a_document_is_noticed() {
 }
 
 #[test]
+fn the_examples_shown_in_documents_are_as_filed() {
+    for (document, name) in [
+        ("docs/READING-AN-ANSWER.md", "counter-step"),
+        ("examples/README.md", "counter-replay"),
+    ] {
+        let filed = std::fs::read(documents::file(&format!("examples/{name}.sheet"))).unwrap();
+        let shown = documents::read(document).unwrap();
+        assert!(shown.iter().any(|worked| worked.sheet == filed), "{name}");
+    }
+}
+
+#[test]
 fn the_pairs_shown_are_the_pairs_taken() {
     let mut tables = 0;
     for worked in of_documents() {
