@@ -3,8 +3,10 @@
 pub mod command;
 pub mod deep;
 pub mod definitions;
+pub mod documents;
 pub mod examples;
 pub mod generate;
+pub mod hand;
 pub mod lent;
 pub mod linked;
 pub mod measure;

@@ -160,16 +160,22 @@ fn stacked(pairs: &[Pair]) -> Vec<Pair> {
 }
 
 pub fn unify(fuel: usize, pairs: &[Pair]) -> Outcome {
+    unify_shown(fuel, pairs, |_| ())
+}
+
+/// The same, and each pair is shown as it is taken.
+pub fn unify_shown(fuel: usize, pairs: &[Pair], mut show: impl FnMut(&Pair)) -> Outcome {
     let mut run = Unifier {
         stack: stacked(pairs),
         made: Vec::new(),
     };
     for spent in 0..fuel {
-        let Some((left, right)) = run.stack.pop() else {
+        let Some(pair) = run.stack.pop() else {
             let verdict = compose(run.made).map_or(Verdict::Unsupported, Verdict::Solved);
             return Outcome { verdict, spent };
         };
-        if let Err(end) = run.step(&left, &right) {
+        show(&pair);
+        if let Err(end) = run.step(&pair.0, &pair.1) {
             return ended(end, spent + 1);
         }
     }
@@ -226,19 +232,25 @@ impl Matcher {
 }
 
 pub fn matcher(fuel: usize, pairs: &[Pair]) -> Outcome {
+    matcher_shown(fuel, pairs, |_| ())
+}
+
+/// The same, and each pair is shown as it is taken.
+pub fn matcher_shown(fuel: usize, pairs: &[Pair], mut show: impl FnMut(&Pair)) -> Outcome {
     let mut run = Matcher {
         stack: stacked(pairs),
         bindings: Vec::new(),
     };
     for spent in 0..fuel {
-        let Some((pattern, subject)) = run.stack.pop() else {
+        let Some(pair) = run.stack.pop() else {
             run.bindings.reverse();
             return Outcome {
                 verdict: Verdict::Solved(run.bindings),
                 spent,
             };
         };
-        if let Err(end) = run.step(&pattern, &subject) {
+        show(&pair);
+        if let Err(end) = run.step(&pair.0, &pair.1) {
             return ended(end, spent + 1);
         }
     }
