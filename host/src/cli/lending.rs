@@ -39,6 +39,9 @@ pub struct NoMemory {
     pub count: u64,
 }
 
+// The count of bytes written or a refusal, where there was memory for the call.
+type Called = Result<Result<usize, Refusal>, NoMemory>;
+
 // The bytes that the system says are free, where it says so.
 fn free_bytes() -> Option<u64> {
     let text = fs::read_to_string("/proc/meminfo").ok()?;
@@ -146,5 +149,3 @@ impl Lender {
         }))
     }
 }
-
-type Called = Result<Result<usize, Refusal>, NoMemory>;
