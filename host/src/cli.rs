@@ -141,7 +141,7 @@ fn print(text: &str) -> u8 {
 pub fn run(words: impl Iterator<Item = OsString>) -> u8 {
     match arguments::read(words) {
         Ok(Asked::Help) => print(arguments::HELP),
-        Ok(Asked::Version) => print(arguments::VERSION),
+        Ok(Asked::Version) => print(&arguments::version()),
         Ok(Asked::Answers(_)) if !library::present() => {
             Failure::new(status::UNAVAILABLE, library::notice()).end()
         }

@@ -1,35 +1,11 @@
 // The command `yukhtsami` as it is built: answers, refusals with their places, options, exit statuses.
-use std::{
-    fs::{self, File},
-    io::{self, Write},
-    path::PathBuf,
-    process::{Command, Stdio},
-};
+mod shared;
 
-use host::{notice, sheet};
+use host::{notice::library_absent as absent, sheet};
+use shared::{EQUAL, Ran, answered, command, ran, run_in};
 
-const EQUAL: &str = "kind=equal\nleft=tamtplus(a,b)\nright=tamtplus(b,a)\n";
 const REDUCE: &str = "kind=reduce\nterm=tamXCfst(tamXCpair(c(1),c(2)))\n";
 const UNIFY: &str = "kind=unify\nfuel=1\n";
-
-fn command() -> Command {
-    Command::new(env!("CARGO_BIN_EXE_yukhtsami"))
-}
-
-// The exit status, standard output and standard error.
-type Ran = (i32, String, String);
-
-fn ran(mut command: Command, input: &[u8]) -> Ran {
-    command.stdin(Stdio::piped());
-    command.stdout(Stdio::piped()).stderr(Stdio::piped());
-    let mut child = command.spawn().unwrap();
-    // A command that reads no input may be gone by now.
-    let _ = child.stdin.take().unwrap().write_all(input);
-    let output = child.wait_with_output().unwrap();
-    let text = |bytes| String::from_utf8(bytes).unwrap();
-    let status = output.status.code().unwrap();
-    (status, text(output.stdout), text(output.stderr))
-}
 
 fn run(words: &[&str], input: &str) -> Ran {
     let mut command = command();
@@ -37,35 +13,8 @@ fn run(words: &[&str], input: &str) -> Ran {
     ran(command, input.as_bytes())
 }
 
-// A folder of this test's own, empty.
-fn folder(test: &str) -> PathBuf {
-    let folder = PathBuf::from(env!("CARGO_TARGET_TMPDIR")).join(test);
-    let _ = fs::remove_dir_all(&folder);
-    fs::create_dir_all(&folder).unwrap();
-    folder
-}
-
-// The command in a folder with these files.
-fn run_in(test: &str, files: &[(&str, &[u8])], words: &[&str]) -> Ran {
-    let folder = folder(test);
-    for (name, bytes) in files {
-        fs::write(folder.join(name), bytes).unwrap();
-    }
-    let mut command = command();
-    command.current_dir(folder).args(words);
-    ran(command, b"")
-}
-
-fn answered(out: &str) -> Ran {
-    (0, out.to_owned(), String::new())
-}
-
 fn failed(status: i32, message: &str) -> Ran {
     (status, String::new(), format!("yukhtsami: {message}\n"))
-}
-
-fn absent(left_out: &str) -> bool {
-    notice::library_absent(left_out)
 }
 
 #[test]
@@ -250,8 +199,12 @@ fn help_and_version_are_told_without_the_library() {
     }
     assert!(out.lines().all(|line| line.len() <= 84));
     assert_eq!(run(&["-h"], ""), (0, out, String::new()));
-    let version = format!("yukhtsami {}\n", env!("CARGO_PKG_VERSION"));
-    assert_eq!(run(&["--version"], ""), answered(&version));
+    let (status, out, err) = run(&["--version"], "");
+    let version = format!("yukhtsami {}\nproved library: ", env!("CARGO_PKG_VERSION"));
+    let library = out.strip_prefix(&version).unwrap();
+    assert_eq!((status, &*err), (0, ""));
+    assert_eq!(library == "absent\n", !library::present());
+    assert!(!library::present() || library.len() > 64, "{library}");
 }
 
 #[test]
@@ -301,96 +254,5 @@ fn memory_that_cannot_be_had_is_71() {
         assert_eq!(run(&["--words", count], EQUAL), failed(71, &said));
         let said = format!("standard input: no memory for {count} bytes of output");
         assert_eq!(run(&["--room", count], EQUAL), failed(71, &said));
-    }
-}
-
-// The status and standard error with this standard output.
-fn run_to(words: &[&str], out: Stdio) -> (i32, String) {
-    let mut command = command();
-    command.args(words).stdin(File::open("/dev/null").unwrap());
-    let output = command.stdout(out).output().unwrap();
-    let err = String::from_utf8(output.stderr).unwrap();
-    (output.status.code().unwrap(), err)
-}
-
-#[test]
-fn standard_output_that_takes_nothing_is_74() {
-    let closed = || {
-        let (reader, writer) = io::pipe().unwrap();
-        drop(reader);
-        Stdio::from(writer)
-    };
-    let full = || Stdio::from(File::create("/dev/full").unwrap());
-    let mut tries = vec![
-        run_to(&["--help"], closed()),
-        run_to(&["--version"], full()),
-    ];
-    if !absent("no answer was written by it") {
-        let file = folder("closed").join("a");
-        fs::write(&file, EQUAL).unwrap();
-        let file = file.to_str().unwrap();
-        tries.push(run_to(&[file], closed()));
-        tries.push(run_to(&[file, file], full()));
-        // Many answers: the output fails in the midst of the run.
-        tries.push(run_to(&vec![file; 9_000], closed()));
-    }
-    for (status, err) in tries {
-        assert_eq!(status, 74, "{err}");
-        let lines: Vec<&str> = err.lines().collect();
-        assert!(
-            lines.len() == 1 && lines[0].starts_with("yukhtsami: standard output: "),
-            "{err}"
-        );
-    }
-}
-
-// So many that a run of them takes longer than progress waits.
-const MANY: usize = 3_000;
-
-#[test]
-fn a_long_run_shows_no_progress_in_a_pipe() {
-    if absent("no long run was made") {
-        return;
-    }
-    let words = vec!["a"; MANY];
-    let ran = run_in("pipe", &[("a", EQUAL.as_bytes())], &words);
-    assert_eq!(ran, answered(&"equal=yes\n\n".repeat(MANY)));
-}
-
-// What a terminal gets from a line of shell in a folder with a sheet `a`; none without `script`.
-fn on_a_terminal(test: &str, line: &str) -> Option<String> {
-    let folder = folder(test);
-    fs::write(folder.join("a"), EQUAL).unwrap();
-    let line = line.replace("yukhtsami", env!("CARGO_BIN_EXE_yukhtsami"));
-    let mut command = Command::new("script");
-    command.args(["-qec", &line, "/dev/null"]);
-    let command = command.current_dir(folder).stdin(Stdio::null());
-    match command.output() {
-        Ok(output) => Some(String::from_utf8(output.stdout).unwrap()),
-        Err(_) => {
-            notice::tell("no script(1); nothing was run on a terminal\n".to_owned());
-            None
-        }
-    }
-}
-
-#[test]
-fn a_long_run_shows_progress_on_a_terminal_and_leaves_answers_alone() {
-    if absent("no long run was made") {
-        return;
-    }
-    let files = "a ".repeat(MANY);
-    if let Some(seen) = on_a_terminal("progress", &format!("yukhtsami {files} > out")) {
-        assert!(
-            seen.contains(" of 3000 files") && seen.ends_with(" \r"),
-            "{seen}"
-        );
-    }
-    if let Some(seen) = on_a_terminal("answers", &format!("yukhtsami {files}")) {
-        assert!(
-            seen == "equal=yes\r\n\r\n".repeat(MANY),
-            "{} bytes",
-            seen.len()
-        );
     }
 }

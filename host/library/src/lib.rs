@@ -178,6 +178,11 @@ pub const fn file() -> &'static str {
     env!("LIBRARY_FILE")
 }
 
+/// The logic by which the library was proved, as its file tells; empty where it does not.
+pub const fn logic() -> &'static str {
+    env!("LIBRARY_LOGIC")
+}
+
 /// What to tell the user where it was not found.
 pub fn notice() -> String {
     format!(

@@ -1,8 +1,6 @@
 // The words of the command line.
 use std::{ffi::OsString, fmt, path::PathBuf};
 
-pub const VERSION: &str = concat!("yukhtsami ", env!("CARGO_PKG_VERSION"), "\n");
-
 pub const HELP: &str = "\
 Usage: yukhtsami [OPTION]... [FILE]...
 Answers sheets of terms by the proved call: one sheet in each FILE, or on standard
@@ -18,7 +16,7 @@ still answered. Lines and columns count from 1, offsets from 0, all in bytes.
   --room N    lend N bytes of output
               (without it as many as the answer takes, up to 1,073,741,824)
   --help      this text
-  --version   the version
+  --version   the version, and the logic by which the library was proved
   --          what follows are files
 
 Exit status: 0 where every sheet is answered. Otherwise that of the first file
@@ -39,6 +37,17 @@ or one of
   71  there is no memory for the work area or the output
   74  reading or writing failed
 ";
+
+/// The version, and by which logic the library was proved.
+pub fn version() -> String {
+    let library = match library::logic() {
+        _ if !library::present() => "absent".to_owned(),
+        "" => "present".to_owned(),
+        logic => format!("rattle logic {logic}"),
+    };
+    let version = env!("CARGO_PKG_VERSION");
+    format!("yukhtsami {version}\nproved library: {library}\n")
+}
 
 /// Where a sheet comes from.
 #[derive(Debug, PartialEq, Eq)]
