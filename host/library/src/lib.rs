@@ -190,3 +190,39 @@ pub fn notice() -> String {
         file()
     )
 }
+
+#[cfg(test)]
+mod tests {
+    use super::*;
+
+    #[test]
+    fn refusals_have_their_numbers_and_names_in_their_order() {
+        let told = Refusal::ALL.map(|refusal| format!("{} {refusal}", refusal.number()));
+        let said = [
+            "1 too long",
+            "2 foreign byte",
+            "3 line out of place",
+            "11 short work area",
+            "4 unreadable term",
+            "12 short output",
+        ];
+        assert_eq!(told, said);
+        for number in 0..20 {
+            let found = Refusal::of(number).map(Refusal::number);
+            let known = matches!(number, 1..=4 | 11 | 12);
+            assert_eq!(found, known.then_some(number));
+        }
+    }
+
+    #[test]
+    fn brackets_count_in_the_term_line_of_complete_alone() {
+        let rest = "\nterm=h(g(a))\nmember=h((x0:Msg\n";
+        for (kind, count) in [("complete", 1 + 4), ("sound", 1), ("complete ", 1)] {
+            let sheet = format!("kind={kind}{rest}");
+            let needed = 65_536 * (count + 16) + 16 * sheet.len() as u64;
+            assert_eq!(words_needed(sheet.as_bytes()), needed, "{kind}");
+        }
+        assert_eq!(words_needed(b"kind=complete\n((:"), 65_536 * 21 + 16 * 17);
+        assert_eq!(words_needed(b""), 65_536 * 16);
+    }
+}
