@@ -75,10 +75,9 @@ pub fn long(bytes: &[u8], size: Option<u64>) -> Option<String> {
     if bytes.len() <= sheet::LONGEST {
         return None;
     }
-    let size = size.filter(|size| *size >= bytes.len() as u64);
-    let size = size.map_or("more".to_owned(), |size| format!("{size} bytes"));
-    Some(format!(
-        "{size}, where {} bytes are the most",
-        sheet::LONGEST
-    ))
+    let most = sheet::LONGEST;
+    Some(match size {
+        Some(size) if size > most as u64 => format!("{size} bytes, where {most} are the most"),
+        _ => format!("over {most} bytes"),
+    })
 }

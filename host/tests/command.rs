@@ -72,7 +72,7 @@ fn each_refusal_is_told_with_its_number_name_and_place() {
             &long[..],
             &[][..],
             1,
-            "too long: 70000 bytes, where 65536 bytes are the most",
+            "too long: 70000 bytes, where 65536 are the most",
         ),
         (
             b"kind=equal\nleft=a\tb\n",
@@ -118,7 +118,7 @@ fn a_sheet_on_standard_input_is_refused_too() {
         return;
     }
     let long = "a".repeat(200_000);
-    let said = "standard input: refusal 1, too long: more, where 65536 bytes are the most";
+    let said = "standard input: refusal 1, too long: over 65536 bytes";
     assert_eq!(run(&[], &long), failed(1, said));
     let said = "standard input: refusal 3, line out of place: line 1, column 1: the sheet is empty";
     assert_eq!(run(&[], ""), failed(3, said));

@@ -34,6 +34,7 @@ or one of
   64  the command line is at fault
   66  a file is not there or cannot be read
   69  the proved library is absent
+  70  the command has a fault of its own
   71  there is no memory for the work area or the output
   74  reading or writing failed
 ";
