@@ -1,6 +1,6 @@
 // Finds the proved library and links it, if it is there.
 use std::{
-    env,
+    env, fs,
     path::{Path, PathBuf},
 };
 
@@ -16,6 +16,16 @@ fn file() -> PathBuf {
     }
 }
 
+// The logic by which the library was proved, as its file tells; empty where it does not.
+fn logic(file: &Path) -> String {
+    const MARK: &[u8] = b"rattle logic=";
+    let bytes = fs::read(file).unwrap_or_default();
+    let found = bytes.windows(MARK.len()).position(|part| part == MARK);
+    let rest = found.map_or(&[][..], |at| &bytes[at + MARK.len()..]);
+    let digits = rest.iter().take_while(|byte| byte.is_ascii_hexdigit());
+    digits.map(|byte| char::from(*byte)).collect()
+}
+
 fn main() {
     println!("cargo::rerun-if-env-changed={VARIABLE}");
     println!("cargo::rerun-if-changed=build.rs");
@@ -24,6 +34,7 @@ fn main() {
     // A path that is not there makes cargo ask again at the next build.
     println!("cargo::rerun-if-changed={}", file.display());
     println!("cargo::rustc-env=LIBRARY_FILE={}", file.display());
+    println!("cargo::rustc-env=LIBRARY_LOGIC={}", logic(&file));
     if !file.is_file() {
         return;
     }

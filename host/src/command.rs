@@ -6,7 +6,6 @@ use crate::{
     generate::{self, KINDS, Size},
     linked::Comparison,
     measure, notice,
-    reference::{self, Reply},
     rng::Rng,
     sheet, store,
     tally::Tally,
@@ -15,10 +14,6 @@ use crate::{
 const HELP: &str = "\
 host: the reference of the call, generated sheets and the stored list
 
-  host answer FILE                      the proved call's answer to the sheet in FILE, or the
-                                        reference's where the library is absent; a refusal
-                                        goes to standard error and is the exit status (100:
-                                        the command line or the file is at fault)
   host store                            write the stored list anew
   host replay                           check the stored list against the reference
   host compare [--count N] [--seed S]   the model against the Rust on generated sheets
@@ -83,46 +78,6 @@ fn options(words: &[String], allowed: &[&str], count: usize) -> Result<Options, 
         }
     }
     Ok(found)
-}
-
-// The most bytes of output that are lent for an answer.
-const MOST_ROOM: usize = 1 << 30;
-
-// The reply of the proved call, with the words that the sheet needs and as much room as its answer takes.
-fn replied(bytes: &[u8]) -> Reply {
-    let needed = sheet::read(bytes).map_or(0, |read| sheet::words_needed(bytes, &read));
-    let mut work = vec![0; needed as usize];
-    let mut output = vec![0; sheet::LONGEST];
-    loop {
-        match library::answer(bytes, &mut work, &mut output) {
-            Ok(written) => return Reply::Answer(output[..written].to_vec()),
-            Err(12) if output.len() < MOST_ROOM => output.resize(4 * output.len(), 0),
-            Err(refusal) => return Reply::Refused(refusal),
-        }
-    }
-}
-
-fn answer(words: &[String]) -> Outcome {
-    let [file] = words else {
-        return Err("answer takes one file; see host --help".to_owned());
-    };
-    let bytes = fs::read(file).map_err(|error| format!("{file}: {error}"))?;
-    let reply = if notice::library_absent("the reference answers") {
-        notice::absent("the model answers alone");
-        reference::call(&bytes, u64::MAX, usize::MAX)
-    } else {
-        replied(&bytes)
-    };
-    match reply {
-        Reply::Answer(answer) => {
-            print!("{}", String::from_utf8_lossy(&answer));
-            Ok(ExitCode::SUCCESS)
-        }
-        Reply::Refused(refusal) => {
-            eprintln!("refusal {refusal}");
-            Ok(ExitCode::from(refusal as u8))
-        }
-    }
 }
 
 fn store() -> Outcome {
@@ -257,7 +212,6 @@ pub fn run(words: &[String]) -> Outcome {
             print!("{HELP}");
             Ok(ExitCode::SUCCESS)
         }
-        ("answer", rest) => answer(rest),
         ("store", []) => store(),
         ("replay", []) => replay(),
         ("store" | "replay" | "--help" | "-h" | "help", [word, ..]) => {

@@ -1,5 +1,6 @@
-// The test host: sheets, the reference of the call, a model of the rules, a generator of sheets,
-// the stored list, and the linked library against the reference.
+// The command, and the test host: sheets, the reference of the call, a model of the rules, a
+// generator of sheets, the stored list, and the linked library against the reference.
+pub mod cli;
 pub mod command;
 pub mod deep;
 pub mod definitions;
@@ -12,6 +13,7 @@ pub mod linked;
 pub mod measure;
 pub mod model;
 pub mod notice;
+pub mod place;
 pub mod reference;
 pub mod rng;
 pub mod sheet;

@@ -1,8 +1,8 @@
-// What is said where the Rust sources or the proved library were not found.
+// What is said where the Rust sources, the proved library or a tool were not found.
 use std::io::{self, Write};
 
-// The test harness does not hold this back.
-fn tell(line: String) {
+/// A line on standard error, which the test harness does not hold back.
+pub fn tell(line: String) {
     io::stderr()
         .write_all(line.as_bytes())
         .expect("standard error takes a line");

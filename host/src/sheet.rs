@@ -76,7 +76,8 @@ fn repeated(entries: &[Pair]) -> bool {
     keys.windows(2).any(|two| two[0] == two[1])
 }
 
-fn fuel(text: &str) -> Option<usize> {
+/// The fuel of a text: a decimal from 0 to 65,536 with no leading zero.
+pub fn fuel(text: &str) -> Option<usize> {
     let digits = !text.is_empty() && text.bytes().all(|byte| byte.is_ascii_digit());
     if !digits || text.len() > 5 || text.len() > 1 && text.starts_with('0') {
         return None;

@@ -4,6 +4,7 @@ use host::{
     deep, generate::KINDS, lent, linked::Comparison, measure, notice, reference::Reply, sheet,
     store,
 };
+use library::Refusal;
 
 fn none_differ(comparison: &Comparison) {
     let smallest = comparison.smallest.as_ref().map(ToString::to_string);
@@ -52,9 +53,12 @@ fn the_library_answers_with_just_the_words_and_bytes_needed() {
     let needed = 65_536 * 16 + 16 * SHEET.len();
     let (mut work, mut output) = (vec![7; needed], [0; 10]);
     let less = library::answer(SHEET, &mut work[..needed - 1], &mut output);
-    assert_eq!((less, work[0]), (Err(11), 7));
+    assert_eq!((less, work[0]), (Err(Refusal::ShortWorkArea), 7));
     let short = library::answer(SHEET, &mut work, &mut output[..9]);
-    assert_eq!((short, work[needed - 1], output), (Err(12), 0, [0; 10]));
+    assert_eq!(
+        (short, work[needed - 1], output),
+        (Err(Refusal::ShortOutput), 0, [0; 10])
+    );
     assert_eq!(library::answer(SHEET, &mut work, &mut output), Ok(10));
     assert_eq!(&output, b"equal=yes\n");
 }
