@@ -1,6 +1,8 @@
 // The command `yukhtsami` as it is built: answers, refusals with their places, options, exit statuses.
 mod shared;
 
+use std::process::Command;
+
 use host::{notice::library_absent as absent, sheet};
 use shared::{EQUAL, Ran, answered, command, ran, run_in};
 
@@ -171,7 +173,7 @@ fn the_output_grows_with_the_answer_and_the_work_area_with_the_sheet() {
 }
 
 #[test]
-fn deep_terms_are_answered_and_refused_on_any_stack() {
+fn deep_terms_are_answered_and_refused() {
     if absent("deep terms were not tried on it") {
         return;
     }
@@ -182,6 +184,25 @@ fn deep_terms_are_answered_and_refused_on_any_stack() {
     let said = "standard input: refusal 4, unreadable term: line 3, column 30007: \
                 expected `,` or `)`, found the end of the line";
     assert_eq!(run(&[], &sheet(&bad)), failed(4, said));
+}
+
+// The command by a shell that limits it first.
+fn run_limited(limit: &str, words: &str, input: &str) -> Ran {
+    let mut command = Command::new("sh");
+    let program = env!("CARGO_BIN_EXE_yukhtsami");
+    command.args(["-c", &format!("ulimit {limit} && exec '{program}' {words}")]);
+    ran(command, input.as_bytes())
+}
+
+#[test]
+fn deep_terms_are_answered_where_the_caller_has_a_small_stack() {
+    if absent("deep terms were not tried on it") {
+        return;
+    }
+    let under = |leaf: &str| format!("{}{leaf}{}", "h(".repeat(4_094), ")".repeat(4_094));
+    let (term, member) = (under("x0:Msg"), under("c(0)"));
+    let sheet = format!("kind=sound\nterm={term}\nmember={member}\nkey=x0:Msg\nvalue=c(0)\n");
+    assert_eq!(run_limited("-s 256", "", &sheet), answered("sound=yes\n"));
 }
 
 #[test]
@@ -255,4 +276,8 @@ fn memory_that_cannot_be_had_is_71() {
         let said = format!("standard input: no memory for {count} bytes of output");
         assert_eq!(run(&["--room", count], EQUAL), failed(71, &said));
     }
+    // Too little for the system to ask about: the allocation itself fails.
+    let said = "standard input: no memory for 60000000 words of work area";
+    let ran = run_limited("-v 200000", "--words 60000000", EQUAL);
+    assert_eq!(ran, failed(71, said));
 }
