@@ -1,5 +1,6 @@
 // The test host: sheets, the reference of the call, a model of the rules, a generator of sheets,
 // the stored list, and the linked library against the reference.
+pub mod bench;
 pub mod command;
 pub mod deep;
 pub mod definitions;
@@ -7,7 +8,6 @@ pub mod examples;
 pub mod generate;
 pub mod lent;
 pub mod linked;
-pub mod measure;
 pub mod model;
 pub mod notice;
 pub mod reference;
