@@ -55,27 +55,44 @@ pub fn samples(kind: &str) -> Vec<Sample> {
     }
 }
 
+/// A document to put the tables into.
+struct Document<'a> {
+    file: &'a str,
+    text: String,
+}
+
+impl<'a> Document<'a> {
+    const MARKS: [&'static str; 3] = ["machine", "times", "growth"];
+
+    // The document as it is, with all of its marks.
+    fn read(file: &'a str) -> Result<Self, String> {
+        let text = fs::read_to_string(file).map_err(|error| format!("{file}: {error}"))?;
+        let parts = Self::MARKS.map(|mark| (mark, ""));
+        written(&text, &parts).map_err(|error| format!("{file}: {error}"))?;
+        Ok(Self { file, text })
+    }
+
+    fn write(&self, parts: [&str; 3]) -> Result<(), String> {
+        let parts: Vec<_> = Self::MARKS.into_iter().zip(parts).collect();
+        let text = written(&self.text, &parts)?;
+        fs::write(self.file, text).map_err(|error| format!("{}: {error}", self.file))
+    }
+}
+
 /// Prints both tables, and puts them into a document if one is named. The sheets whose answer is not
 /// that of the Rust.
 pub fn run(kinds: &[&str], long: bool, file: Option<&str>) -> Result<Vec<String>, String> {
-    let in_file = |error| format!("{}: {error}", file.unwrap_or_default());
-    let before = file.map(fs::read_to_string).transpose();
-    let before = before.map_err(|error| in_file(error.to_string()))?;
+    let document = file.map(Document::read).transpose()?;
     let machine = report::machine();
     println!("{machine}");
     let lines = tables::lines(kinds, long);
-    println!("\n{}\n", lines.summary());
+    let summary = lines.summary();
+    println!("\n{summary}\n");
     let growths = tables::growths(kinds);
-    let wrong = [lines.wrong.clone(), growths.wrong].concat();
-    if let (Some(file), Some(text), true) = (file, before, wrong.is_empty()) {
-        let times = format!("{}\n{}\n", lines.text, lines.summary());
-        let parts = [
-            ("machine", machine.as_str()),
-            ("times", times.as_str()),
-            ("growth", growths.text.as_str()),
-        ];
-        let text = written(&text, &parts).map_err(in_file)?;
-        fs::write(file, text).map_err(|error| in_file(error.to_string()))?;
+    let wrong = [lines.wrong, growths.wrong].concat();
+    if let (Some(document), true) = (document, wrong.is_empty()) {
+        let times = format!("{}\n{summary}\n", lines.text);
+        document.write([&machine, &times, &growths.text])?;
     }
     Ok(wrong)
 }

@@ -229,8 +229,8 @@ fn benched(words: &[String]) -> Outcome {
     if !library::present() {
         return Err(format!("{}; nothing was timed", library::notice()));
     }
-    if options.out.is_some() && options.kinds.len() < KINDS.len() {
-        return Err("--write takes the tables of all kinds".to_owned());
+    if options.out.is_some() && !(oracle::present() && options.kinds.len() == KINDS.len()) {
+        return Err("--write takes the tables of all kinds, with the Rust".to_owned());
     }
     notice::absent("the library is timed alone");
     let wrong = bench::run(&options.kinds, options.long, options.out.as_deref())?;

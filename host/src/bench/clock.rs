@@ -50,6 +50,15 @@ impl Runs {
         self.spent >= LONGEST || self.count >= FEWEST_RUNS && self.spent >= enough
     }
 
+    // Takes a turn, unless the runs are enough; whether it did.
+    fn again(&mut self, enough: Duration, turn: impl FnOnce(&mut Self)) -> bool {
+        let over = self.done(enough);
+        if !over {
+            turn(self);
+        }
+        !over
+    }
+
     // Runs a function until the turn is over. The function tells its time and what it gave.
     fn turn(&mut self, mut run: impl FnMut() -> (Duration, String)) {
         let mut left = TURN;
@@ -108,20 +117,17 @@ pub fn times(name: &str, text: &str, ask_rust: bool, enough: Duration) -> Found 
     let (mut rust, mut port, mut clearing) = (Runs::new(), Runs::new(), Runs::new());
     let ask_rust = ask_rust && oracle::present();
     loop {
-        let mut over = true;
-        if ask_rust && !rust.done(enough) {
-            over = false;
-            deep::run(|| rust.turn(|| clocked(&question)));
-        }
-        if !port.done(enough) {
-            over = false;
-            lent::on_a_small_stack(name, || port.turn(|| call(bytes, &mut work, &mut output)));
-        }
-        if !clearing.done(enough) {
-            over = false;
-            lent::on_a_small_stack(name, || clearing.turn(|| clear(&mut work)));
-        }
-        if over {
+        let asked = ask_rust
+            && rust.again(enough, |runs| {
+                deep::run(|| runs.turn(|| clocked(&question)));
+            });
+        let called = port.again(enough, |runs| {
+            lent::on_a_small_stack(name, || runs.turn(|| call(bytes, &mut work, &mut output)));
+        });
+        let cleared = clearing.again(enough, |runs| {
+            lent::on_a_small_stack(name, || runs.turn(|| clear(&mut work)));
+        });
+        if !(asked || called || cleared) {
             break;
         }
     }
@@ -132,7 +138,7 @@ pub fn times(name: &str, text: &str, ask_rust: bool, enough: Duration) -> Found 
         rust: rust.least,
         port: port.least.expect("a run of the port"),
         clearing: clearing.least.expect("a run of the clearing"),
-        agreed: port.same && (!ask_rust || rust.last == without_spent(&port.last)),
+        agreed: rust.same && port.same && (!ask_rust || rust.last == without_spent(&port.last)),
         answer: port.last,
     }
 }

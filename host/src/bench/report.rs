@@ -1,5 +1,5 @@
 // A document whose tables the bench writes: each stands between two marks.
-use std::{fs, process::Command, thread};
+use std::{env, fs, process::Command, thread};
 
 fn line_of(file: &str, key: &str) -> Option<String> {
     let text = fs::read_to_string(file).ok()?;
@@ -13,7 +13,15 @@ fn said(program: &str, word: &str) -> Option<String> {
     Some(text.lines().next()?.to_owned())
 }
 
-/// The machine that this runs on, in one line.
+// The identity of the Rattle kit whose `rt` is in the path.
+fn kit() -> Option<String> {
+    let path = env::var_os("PATH")?;
+    let found = env::split_paths(&path).find_map(|folder| folder.join("rt").canonicalize().ok())?;
+    let text = fs::read_to_string(found.parent()?.parent()?.join("KIT-ID")).ok()?;
+    Some(text.trim().to_owned())
+}
+
+/// The machine that this runs on and the compilers, in one line.
 pub fn machine() -> String {
     let unknown = || "unknown".to_owned();
     let model = line_of("/proc/cpuinfo", "model name").unwrap_or_else(unknown);
@@ -23,7 +31,8 @@ pub fn machine() -> String {
         .unwrap_or(0);
     let rust = said("rustc", "--version").unwrap_or_else(unknown);
     let gibibytes = (kilobytes + (1 << 19)) >> 20;
-    format!("{model}, {cores} cores, {gibibytes} GiB of memory, {rust}.\n")
+    let kit = kit().unwrap_or_else(unknown);
+    format!("{model}, {cores} cores, {gibibytes} GiB of memory; {rust}; {kit}.\n")
 }
 
 // The text with what stands between the marks of a name replaced.

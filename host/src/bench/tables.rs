@@ -98,7 +98,9 @@ fn grouped(number: usize) -> String {
 
 fn milliseconds(time: Duration) -> String {
     let number = time.as_secs_f64() * 1e3;
-    if number < 100.0 {
+    if number < 0.1 {
+        format!("{number:.4}")
+    } else if number < 100.0 {
         format!("{number:.3}")
     } else {
         grouped(number.round() as usize)
