@@ -2,10 +2,10 @@
 use std::{collections::BTreeSet, fs, process::ExitCode};
 
 use crate::{
-    deep, definitions,
+    bench, deep, definitions,
     generate::{self, KINDS, Size},
     linked::Comparison,
-    measure, notice,
+    notice,
     rng::Rng,
     sheet, store,
     tally::Tally,
@@ -20,9 +20,11 @@ host: the reference of the call, generated sheets and the stored list
   host library [--count N] [--seed S] [--kinds equal,unify,..]
                                         the linked library against the reference, on the stored
                                         list and on generated sheets of these kinds
-  host measure [--bytes B] [--kinds equal,..]
+  host bench [--kinds equal,..] [--long] [--write FILE]
                                         times of the linked library and of the Rust on sheets
-                                        of these kinds, of about B bytes
+                                        of these kinds, and how they grow; --long asks the Rust
+                                        what takes it over 10 seconds, --write puts the tables
+                                        into FILE, between its marks
   host definitions [--count N] [--seed S] [--chunk K] --out FILE
                                         write rows for the definitions, K rows to a theorem
   host --help                           this text
@@ -34,8 +36,8 @@ struct Options {
     count: usize,
     seed: u64,
     chunk: usize,
-    bytes: usize,
     kinds: Vec<&'static str>,
+    long: bool,
     out: Option<String>,
 }
 
@@ -56,14 +58,18 @@ fn options(words: &[String], allowed: &[&str], count: usize) -> Result<Options, 
         count,
         seed: 1,
         chunk: 25,
-        bytes: 65_000,
         kinds: KINDS.to_vec(),
+        long: false,
         out: None,
     };
     let mut words = words.iter();
     while let Some(name) = words.next() {
         if !allowed.contains(&name.as_str()) {
             return Err(format!("unknown option '{name}'; see host --help"));
+        }
+        if name == "--long" {
+            found.long = true;
+            continue;
         }
         let value = words
             .next()
@@ -72,7 +78,6 @@ fn options(words: &[String], allowed: &[&str], count: usize) -> Result<Options, 
             "--count" => found.count = number(name, value)?,
             "--seed" => found.seed = number(name, value)?,
             "--chunk" => found.chunk = number::<usize>(name, value)?.max(1),
-            "--bytes" => found.bytes = number(name, value)?,
             "--kinds" => found.kinds = kinds(value)?,
             _ => found.out = Some(value.clone()),
         }
@@ -173,20 +178,25 @@ fn compare_library(words: &[String]) -> Outcome {
     Ok(ExitCode::FAILURE)
 }
 
-fn measured(words: &[String]) -> Outcome {
-    let options = options(words, &["--bytes", "--kinds"], 0)?;
-    if !(1_000..=sheet::LONGEST).contains(&options.bytes) {
-        return Err(format!("--bytes takes 1000 to {}", sheet::LONGEST));
-    }
+// Both tables, and the document with them if one is named.
+fn benched(words: &[String]) -> Outcome {
+    let options = options(words, &["--kinds", "--long", "--write"], 0)?;
     if !library::present() {
-        return Err(format!("{}; nothing was measured", library::notice()));
+        return Err(format!("{}; nothing was timed", library::notice()));
     }
-    notice::absent("the library is measured alone");
-    if measure::print(options.bytes, &options.kinds) {
-        Ok(ExitCode::SUCCESS)
+    if options.out.is_some() && !(oracle::present() && options.kinds.len() == KINDS.len()) {
+        return Err("--write takes the tables of all kinds, with the Rust".to_owned());
+    }
+    notice::absent("the library is timed alone");
+    let wrong = bench::run(&options.kinds, options.long, options.out.as_deref())?;
+    for name in &wrong {
+        eprintln!("{name}: not the Rust's answer");
+    }
+    Ok(if wrong.is_empty() {
+        ExitCode::SUCCESS
     } else {
-        Ok(ExitCode::FAILURE)
-    }
+        ExitCode::FAILURE
+    })
 }
 
 fn write_definitions(words: &[String]) -> Outcome {
@@ -219,7 +229,7 @@ pub fn run(words: &[String]) -> Outcome {
         }
         ("compare", rest) => compare(rest),
         ("library", rest) => compare_library(rest),
-        ("measure", rest) => measured(rest),
+        ("bench", rest) => benched(rest),
         ("definitions", rest) => write_definitions(rest),
         (name, _) => Err(format!("unknown subcommand '{name}'; see host --help")),
     }

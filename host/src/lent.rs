@@ -1,9 +1,6 @@
 // What is lent to the linked library: a work area and an output full of garbage, with a margin
 // beyond what is lent, and the tests of what a call left there.
-use std::{
-    thread,
-    time::{Duration, Instant},
-};
+use std::thread;
 
 use library::Called;
 
@@ -48,28 +45,19 @@ impl Default for Lent {
     }
 }
 
-/// A call of the linked library on a thread of its own, with a stack of 2 MiB. An exhausted stack
-/// ends the program with the thread's name.
+/// A call of the linked library on a thread of its own, with a stack of 2 MiB.
 pub fn call(name: &str, sheet: &[u8], work: &mut [u32], output: &mut [u8]) -> Called {
-    timed_call(name, sheet, work, output).1
+    on_a_small_stack(name, || library::call(sheet, work, output))
 }
 
-/// The same, with the time that the call took.
-pub fn timed_call(
-    name: &str,
-    sheet: &[u8],
-    work: &mut [u32],
-    output: &mut [u8],
-) -> (Duration, Called) {
+/// A function on a thread with the stack that a call has. An exhausted stack ends the program with
+/// the thread's name.
+pub fn on_a_small_stack<T: Send>(name: &str, function: impl FnOnce() -> T + Send) -> T {
     thread::scope(|scope| {
         let started = thread::Builder::new()
             .name(name.to_owned())
             .stack_size(STACK)
-            .spawn_scoped(scope, || {
-                let start = Instant::now();
-                let called = library::call(sheet, work, output);
-                (start.elapsed(), called)
-            });
+            .spawn_scoped(scope, function);
         let joined = started.expect("a thread with a small stack").join();
         joined.expect("a call that returns")
     })

@@ -1,5 +1,6 @@
 // The command, and the test host: sheets, the reference of the call, a model of the rules, a
 // generator of sheets, the stored list, and the linked library against the reference.
+pub mod bench;
 pub mod cli;
 pub mod command;
 pub mod deep;
@@ -10,7 +11,6 @@ pub mod generate;
 pub mod hand;
 pub mod lent;
 pub mod linked;
-pub mod measure;
 pub mod model;
 pub mod notice;
 pub mod place;

@@ -154,8 +154,8 @@ fn by_rust(sheet: &Sheet, modelled: &Option<String>) -> Option<String> {
     })
 }
 
-/// The Rust's answer to a sheet of kind `cover`, `sound` or `complete`.
-pub fn claimed_by_rust(sheet: &Sheet) -> Option<String> {
+// The Rust's answer to a sheet of kind `cover`, `sound` or `complete`.
+fn claimed_by_rust(sheet: &Sheet) -> Option<String> {
     Some(match sheet {
         Sheet::Cover(pairs, members) => {
             for (left, right) in pairs {

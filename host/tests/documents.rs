@@ -144,7 +144,7 @@ fn asked(sheet: &str) -> Reply {
     let (mut work, mut output) = (vec![1; words as usize], vec![0; 64]);
     match library::answer(sheet.as_bytes(), &mut work, &mut output) {
         Ok(written) => Reply::Answer(output[..written].to_vec()),
-        Err(refusal) => Reply::Refused(refusal),
+        Err(refusal) => Reply::Refused(refusal.number()),
     }
 }
 

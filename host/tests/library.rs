@@ -1,8 +1,7 @@
 // The linked library against the reference: the stored list, generated sheets, what a difference
 // shows, and terms that fill a sheet on a small stack.
 use host::{
-    deep, generate::KINDS, lent, linked::Comparison, measure, notice, reference::Reply, sheet,
-    store,
+    bench, deep, generate::KINDS, lent, linked::Comparison, notice, reference::Reply, sheet, store,
 };
 use library::Refusal;
 
@@ -87,7 +86,7 @@ fn the_library_replies_to_sheets_that_take_the_rust_long() {
     if notice::library_absent("long sheets were not tried on it") {
         return;
     }
-    for (sample, answer) in measure::slow() {
+    for (sample, answer) in bench::slow() {
         assert_eq!(on_a_small_stack(sample.name, &sample.sheet), answer);
     }
 }

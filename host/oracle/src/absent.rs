@@ -36,3 +36,27 @@ pub fn sound(_: &Term, _: &Member) -> Option<bool> {
 pub fn complete(_: &Term, _: &[Member]) -> Option<bool> {
     panic!("{}", notice())
 }
+
+pub mod texts {
+    use crate::{Member, notice};
+
+    pub fn solved(_: bool, _: usize, _: &[(&str, &str)]) -> Option<String> {
+        panic!("{}", notice())
+    }
+
+    pub fn reduced(_: &str) -> Option<String> {
+        panic!("{}", notice())
+    }
+
+    pub fn covered(_: &[(&str, &str)], _: &[Member]) -> Option<Option<bool>> {
+        panic!("{}", notice())
+    }
+
+    pub fn sound(_: &str, _: &Member) -> Option<Option<bool>> {
+        panic!("{}", notice())
+    }
+
+    pub fn complete(_: &str, _: &[Member]) -> Option<Option<bool>> {
+        panic!("{}", notice())
+    }
+}

@@ -78,39 +78,45 @@ fn add_variables(tree: &Tree, found: &mut BTreeSet<String>) {
     }
 }
 
-fn side(text: &str) -> syntax::Term {
+// A side of a pair; none where it is unreadable.
+fn side(text: &str) -> Option<syntax::Term> {
     let mut variables = BTreeSet::new();
-    if let Some(tree) = unifier::parse(text) {
-        add_variables(&tree, &mut variables);
-    }
-    syntax::Term {
+    add_variables(&unifier::parse(text)?, &mut variables);
+    Some(syntax::Term {
         sort: syntax::Sort::Msg,
         variables,
         atoms: BTreeSet::new(),
-    }
+    })
 }
 
-/// Whether a member generalizes the most general unifier; none where the pairs are not solved.
-pub fn covered(pairs: &[(&str, &str)], members: &[Member]) -> Option<bool> {
+/// Whether a member generalizes the most general unifier, or no claim where the pairs are not
+/// solved; none where a side is unreadable.
+pub(crate) fn claimed(pairs: &[(&str, &str)], members: &[Member]) -> Option<Option<bool>> {
     let sides: Vec<&str> = pairs.iter().flat_map(|(l, r)| [*l, *r]).collect();
+    let terms = sides.iter().map(|text| side(text)).collect::<Option<_>>()?;
     let query = Query {
         kind: Kind::Unify,
-        terms: sides.iter().map(|text| side(text)).collect(),
+        terms,
         sides: sides.iter().map(|text| (*text).to_owned()).collect(),
     };
-    let principal = unifier::principal(&query).expect("trees that were read render readably")?;
+    let principal = unifier::principal(&query).expect("trees that were read render readably");
+    let Some(principal) = principal else {
+        return Some(None);
+    };
     let family: Vec<BTreeMap<&str, &str>> = members
         .iter()
         .map(|member| member.entries.iter().copied().collect())
         .collect();
-    Some(
-        principal
-            .covered(&family)
-            .expect("trees that were read render readably"),
-    )
+    let covered = principal.covered(&family);
+    Some(Some(covered.expect("trees that were read render readably")))
 }
 
-fn variant(member: &Member) -> Option<variants::Member> {
+/// Whether a member generalizes the most general unifier; none where the pairs are not solved.
+pub fn covered(pairs: &[(&str, &str)], members: &[Member]) -> Option<bool> {
+    claimed(pairs, members).flatten()
+}
+
+pub(crate) fn variant(member: &Member) -> Option<variants::Member> {
     let value = unifier::parse(member.text)?;
     let entries: BTreeMap<&str, &str> = member.entries.iter().copied().collect();
     let bindings = entries

@@ -8,6 +8,8 @@ include!(concat!(env!("OUT_DIR"), "/modules.rs"));
 mod bridge;
 #[cfg(sources)]
 pub use bridge::*;
+#[cfg(sources)]
+pub mod texts;
 
 #[cfg(not(sources))]
 mod absent;
