@@ -26,13 +26,13 @@ use Rattle.reading.specs.Parsing.{Read}
 use Rattle.variants.specs.Soundness as code
 use Rattle.variants.specs.declared.soundness.Claim.{Claim}
 use Rattle.complete.specs.Completing.{Asks}
-use Rattle.archive.specs.Settling.{Settles, claim-text}
-use Rattle.archive.specs.Admission.{Decoded}
+use Rattle.answers.specs.Settling.{Settles, claim-text}
+use Rattle.answers.specs.Admission.{Decoded}
 use Rattle.archive.specs.Answering.{SettlesForm}
 use Rattle.archive.specs.Outcomes.{CompleteAsked}
-use Rattle.archive.specs.declared.answers.Settled.{Settled}
-use Rattle.archive.specs.declared.answers.Settled.the-variants.{Unreadable}
-use Rattle.archive.proofs.Giving.{unreadable-settles, claim-line}
+use Rattle.answers.specs.declared.Settled.{Settled}
+use Rattle.answers.specs.declared.Settled.the-variants.{Unreadable}
+use Rattle.answers.proofs.Giving.{unreadable-settles, claim-line}
 use Rattle.archive.proofs.KindLaws.{read-settled}
 
 pub complete-asked : (s : Text) (t : Place) (c : Cursor) (f : Form) → f ≡ form.Complete t c → Decoded s f → CompleteAsked s t (c .at)

@@ -25,14 +25,14 @@ use Rattle.unifier.specs.Stack.{pairs-at}
 use Rattle.variants.specs.Soundness as code
 use Rattle.variants.specs.declared.soundness.Claim.{Claim}
 use Rattle.cover.specs.Covered.{Asks}
-use Rattle.archive.specs.Settling.{Settles, claim-text}
-use Rattle.archive.specs.Admission.{Decoded}
+use Rattle.answers.specs.Settling.{Settles, claim-text}
+use Rattle.answers.specs.Admission.{Decoded}
 use Rattle.archive.specs.Answering.{SettlesForm}
-use Rattle.archive.specs.Pairs.{ReadPairs}
+use Rattle.answers.specs.Pairs.{ReadPairs}
 use Rattle.archive.specs.Outcomes.{CoverAsked}
-use Rattle.archive.specs.declared.answers.Settled.{Settled}
-use Rattle.archive.specs.declared.answers.Settled.the-variants.{Unreadable}
-use Rattle.archive.proofs.Giving.{unreadable-settles, claim-line}
+use Rattle.answers.specs.declared.Settled.{Settled}
+use Rattle.answers.specs.declared.Settled.the-variants.{Unreadable}
+use Rattle.answers.proofs.Giving.{unreadable-settles, claim-line}
 use Rattle.archive.proofs.KindLaws.{read-settled}
 use Rattle.archive.proofs.Solves.{read-whole, read-are}
 

@@ -18,16 +18,16 @@ use Rattle.sheet.specs.declared.form.Form.{Form}
 use Rattle.sheet.specs.declared.form.Form.the-variants as form
 use Rattle.sheet.proofs.WordLaws.{words-same}
 use Rattle.sheet.proofs.WalkLaws.{sound-member}
-use Rattle.archive.specs.Clearing.{zeroed}
-use Rattle.archive.specs.Settling.{settles, settled-number, settled-count, Settles}
-use Rattle.archive.specs.Admission.{refusal-code, Decoded, Stands}
+use Rattle.answers.specs.Clearing.{zeroed}
+use Rattle.answers.specs.Settling.{settles, settled-number, settled-count, Settles}
+use Rattle.answers.specs.Admission.{refusal-code, Decoded, Stands}
 use Rattle.archive.specs.Answering.{SettlesForm, reply-number, reply-count, Answers}
 use Rattle.archive.specs.declared.Reply as code
 use Rattle.archive.specs.declared.Reply.the-variants as reply
-use Rattle.archive.specs.declared.admission.Refusal.{Refusal}
-use Rattle.archive.specs.declared.answers.Settled.{Settled}
-use Rattle.archive.specs.declared.answers.Settled.the-variants.{Unreadable}
-use Rattle.archive.proofs.Giving.{settles-as}
+use Rattle.answers.specs.declared.admission.Refusal.{Refusal}
+use Rattle.answers.specs.declared.Settled.{Settled}
+use Rattle.answers.specs.declared.Settled.the-variants.{Unreadable}
+use Rattle.answers.proofs.Giving.{settles-as}
 
 -- a sheet that was read is settled with its answer, and as the form that stands for it
 pub read-settled : (s : Text) (sheet : Sheet) (o : Option Text) {out v : Text} {x : Settled} → read-sheet s ≡ some sheet → answer-of sheet ≡ o → Settles o out v x → SettlesForm (read-sheet s) out v x

@@ -1,15 +1,8 @@
-pub mod Zeroing
-pub mod Giving
-pub mod Screening
-pub mod Admitting
 pub mod Equals
 pub mod Reduces
-pub mod PairReading
-pub mod Reversing
 pub mod RunRooms
 pub mod Solves
 pub mod Covers
 pub mod Completes
 pub mod Sounds
 pub mod KindLaws
-pub mod VerdictLines

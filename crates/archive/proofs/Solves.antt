@@ -28,14 +28,14 @@ use Rattle.unifier.specs.declared.unifying.Outcome.{Outcome}
 use Rattle.unifier.specs.declared.unifying.Outcome.the-variants as outcome
 use Rattle.unifier.proofs.Children.{pairs-flatten}
 use Rattle.unifier.proofs.Fitting.{pairs-fit}
-use Rattle.archive.specs.Settling.{Settles}
-use Rattle.archive.specs.Admission.{Decoded}
+use Rattle.answers.specs.Settling.{Settles}
+use Rattle.answers.specs.Admission.{Decoded}
 use Rattle.archive.specs.Answering.{SettlesForm}
-use Rattle.archive.specs.Pairs.{ReadPairs}
+use Rattle.answers.specs.Pairs.{ReadPairs}
 use Rattle.archive.specs.Outcomes.{asks, solve-by, Asked, told, Listed}
-use Rattle.archive.specs.declared.answers.Settled.{Settled}
-use Rattle.archive.specs.declared.answers.Settled.the-variants.{Unreadable}
-use Rattle.archive.proofs.Giving.{unreadable-settles}
+use Rattle.answers.specs.declared.Settled.{Settled}
+use Rattle.answers.specs.declared.Settled.the-variants.{Unreadable}
+use Rattle.answers.proofs.Giving.{unreadable-settles}
 use Rattle.archive.proofs.KindLaws.{read-settled}
 use Rattle.archive.proofs.RunRooms.{pair-names, run-words, run-cells}
 

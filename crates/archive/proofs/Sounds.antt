@@ -12,8 +12,8 @@ use Rattle.rules.specs.Variants.{sound}
 use Rattle.rules.specs.Answer.{line, claim, answer-of}
 use Rattle.variants.specs.Soundness as code
 use Rattle.variants.specs.declared.soundness.Claim.{Claim}
-use Rattle.archive.specs.Settling.{claim-text}
-use Rattle.archive.proofs.Giving.{claim-line}
+use Rattle.answers.specs.Settling.{claim-text}
+use Rattle.answers.proofs.Giving.{claim-line}
 
 pub sound-unreadable : (t : Text) (m : Member) → parse t ≡ none → answer-of (asks-sound t m) ≡ none
 unfolding answer-of

@@ -8,9 +8,9 @@ use Rattle.rules.specs.Bytes.{Text}
 use Rattle.rules.specs.Sheet.{Sheet}
 use Rattle.rules.specs.Answer.{answer-of}
 use Rattle.rules.specs.Call.{call, refusal-number, written, overwritten, work-after}
-use Rattle.archive.specs.Settling.{Settles}
-use Rattle.archive.specs.Admission.{refusal-code}
-use Rattle.archive.specs.declared.answers.Settled.{Settled}
+use Rattle.answers.specs.Settling.{Settles}
+use Rattle.answers.specs.Admission.{refusal-code}
+use Rattle.answers.specs.declared.Settled.{Settled}
 use Rattle.archive.specs.declared.Reply as code
 use Rattle.archive.specs.declared.Reply.the-variants as reply
 

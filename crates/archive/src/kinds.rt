@@ -1,13 +1,13 @@
 // One function for each kind of sheet. The work area that they are lent is the words that the sheet needs.
-use crate::answers::Settled;
-use crate::answers::give;
-use crate::answers::give_claim;
-use crate::answers::give_term;
-use crate::pairs::Pairs;
-use crate::pairs::read_pairs;
-use crate::verdicts::give_failed;
-use crate::verdicts::give_solved;
-use crate::verdicts::give_unsupported;
+use answers::Settled;
+use answers::give;
+use answers::give_claim;
+use answers::give_term;
+use answers::pairs::Pairs;
+use answers::pairs::read_pairs;
+use answers::verdicts::give_failed;
+use answers::verdicts::give_solved;
+use answers::verdicts::give_unsupported;
 use certificate::Equivalence;
 use certificate::equivalent_texts;
 use complete::completing::complete;
@@ -36,10 +36,10 @@ ghost use Rattle.sheet.specs.Members.{members-at};
 ghost use Rattle.tree.specs.Cells.{trees-at};
 ghost use Rattle.tree.specs.Arena.{Arena};
 ghost use Rattle.sheet.specs.Form.{text-of, Inside, sheet-of, form-words};
-ghost use Rattle.archive.specs.Admission.{Decoded};
+ghost use Rattle.answers.specs.Admission.{Decoded};
 ghost use Rattle.unifier.specs.Stack.{Whole, pairs-at, FitPairs};
 ghost use Rattle.unifier.specs.Running.{Roomy, Answers as Solves};
-ghost use Rattle.archive.specs.Settling.{Settles};
+ghost use Rattle.answers.specs.Settling.{Settles};
 ghost use Rattle.archive.specs.Answering.{SettlesForm};
 ghost use Rattle.archive.specs.Outcomes.{solve-by, Asked, CoverAsked, CompleteAsked, told, Listed};
 

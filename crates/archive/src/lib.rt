@@ -1,26 +1,21 @@
 // The call: a sheet, a work area and an output, all lent.
-pub mod admission; // admission.rt: refusals 1, 2, 3, 11
-pub mod answers; // answers.rt: answers written where they fit
-pub mod clearing; // clearing.rt: the work area set to zero
 mod kinds; // kinds.rt: one function for each kind
-pub mod pairs; // pairs.rt: the pairs of a sheet as trees
-pub mod verdicts; // verdicts.rt: the answers of unify and match
 
-use admission::Admitted;
-use admission::Refusal;
-use admission::admit;
 use answers::Settled;
-use clearing::clear;
+use answers::admission::Admitted;
+use answers::admission::Refusal;
+use answers::admission::admit;
+use answers::clearing::clear;
 use kinds::settle;
 use sheet::form::Form;
 ghost use mathlib.Core.Path.{_≡_};
 ghost use Prim.Native.Nat.{_≤_};
 ghost use lib.ListN.{length};
 ghost use Rattle.sheet.specs.Form.{sheet-of, form-words};
-ghost use Rattle.archive.specs.Settling.{settled-number, settled-count};
-ghost use Rattle.archive.specs.Clearing.{zeroed};
+ghost use Rattle.answers.specs.Settling.{settled-number, settled-count};
+ghost use Rattle.answers.specs.Clearing.{zeroed};
 ghost use Rattle.archive.specs.Answering.{SettlesForm, reply-number, reply-count, Answers, Calls};
-ghost use Rattle.archive.specs.Admission.{refusal-code, Decoded};
+ghost use Rattle.answers.specs.Admission.{refusal-code, Decoded};
 
 // The count of bytes written, or a refusal.
 pub enum Reply {

@@ -1,14 +1,14 @@
 use mathlib.Core.Path.{subst}
 use native.Mathlib.Omega.{arith}
 use lib.ListN.{length}
-use Rattle.archive.specs.Admission.{Admits}
+use Rattle.answers.specs.Admission.{Admits}
 use Rattle.archive.proofs.KindLaws.{refused-answers, enough-words, settled-answers}
 use borrow.Author.Needs.{needs}
 use Rattle.archive.proofs.answer.Statement.{statement}
 use Rattle.archive.proofs.answer.Tie as tie
 use Rattle.archive.proofs.answer.Reads as reads
 use Rattle.archive.proofs.answer.Lts as lts
-use Rattle.archive.proofs.admission.admit.Reads as admit-reads
+use Rattle.answers.proofs.admission.admit.Reads as admit-reads
 use Rattle.archive.proofs.reply_of.Reads as reply-of-reads
 use Rattle.archive.proofs.settle_and_clear.Reads as settle-and-clear-reads
 

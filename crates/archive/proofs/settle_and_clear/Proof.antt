@@ -2,13 +2,13 @@ use mathlib.Core.Path.{_≡_, sym, _∙_}
 use native.Mathlib.Omega.{arith}
 use lib.ListN.{length, take}
 use lib.Seq.{length-take-le}
-use Rattle.archive.proofs.Zeroing.{zeroed-over}
+use Rattle.answers.proofs.Zeroing.{zeroed-over}
 use borrow.Author.Needs.{needs}
 use Rattle.archive.proofs.settle_and_clear.Statement.{statement}
 use Rattle.archive.proofs.settle_and_clear.Tie as tie
 use Rattle.archive.proofs.settle_and_clear.Reads as reads
 use Rattle.archive.proofs.settle_and_clear.Lts as lts
-use Rattle.archive.proofs.clearing.clear.Reads as clear-reads
+use Rattle.answers.proofs.clearing.clear.Reads as clear-reads
 use Rattle.archive.proofs.kinds.settle.Reads as settle-reads
 
 slice-relend-prefix-settle : tie.Need-slice-relend-prefix-settle

@@ -10,7 +10,7 @@ use Rattle.archive.proofs.kinds.complete_of.Statement.{statement}
 use Rattle.archive.proofs.kinds.complete_of.Tie as tie
 use Rattle.archive.proofs.kinds.complete_of.Reads as reads
 use Rattle.archive.proofs.kinds.complete_of.Lts as lts
-use Rattle.archive.proofs.answers.give_claim.Reads as give-claim-reads
+use Rattle.answers.proofs.give_claim.Reads as give-claim-reads
 use Rattle.complete.proofs.completing.complete.Reads as complete-reads
 use Rattle.reading.proofs.parse.Reads as parse-reads
 use Rattle.sheet.proofs.part.Reads as part-reads

@@ -5,8 +5,8 @@ use Rattle.archive.proofs.kinds.cover_of.Statement.{statement}
 use Rattle.archive.proofs.kinds.cover_of.Tie as tie
 use Rattle.archive.proofs.kinds.cover_of.Reads as reads
 use Rattle.archive.proofs.kinds.cover_of.Lts as lts
-use Rattle.archive.proofs.answers.give_claim.Reads as give-claim-reads
-use Rattle.archive.proofs.pairs.read_pairs.Reads as read-pairs-reads
+use Rattle.answers.proofs.give_claim.Reads as give-claim-reads
+use Rattle.answers.proofs.pairs.read_pairs.Reads as read-pairs-reads
 use Rattle.cover.proofs.covered.covered.Reads as covered-reads
 
 read-pairs-requires : tie.Need-read-pairs-requires

@@ -1,11 +1,11 @@
 use Rattle.archive.proofs.Equals.{equal-yes, equal-no, equal-unreadable}
-use Rattle.archive.proofs.Giving.{settles-as, unreadable-settles}
+use Rattle.answers.proofs.Giving.{settles-as, unreadable-settles}
 use borrow.Author.Needs.{needs}
 use Rattle.archive.proofs.kinds.equal.Statement.{statement}
 use Rattle.archive.proofs.kinds.equal.Tie as tie
 use Rattle.archive.proofs.kinds.equal.Reads as reads
 use Rattle.archive.proofs.kinds.equal.Lts as lts
-use Rattle.archive.proofs.answers.give.Reads as give-reads
+use Rattle.answers.proofs.give.Reads as give-reads
 use Rattle.certificate.proofs.equivalent_texts.Reads as equivalent-texts-reads
 
 equivalent-texts-requires : tie.Need-equivalent-texts-requires

@@ -5,9 +5,9 @@ use Rattle.archive.proofs.kinds.give_outcome.Statement.{statement}
 use Rattle.archive.proofs.kinds.give_outcome.Tie as tie
 use Rattle.archive.proofs.kinds.give_outcome.Reads as reads
 use Rattle.archive.proofs.kinds.give_outcome.Lts as lts
-use Rattle.archive.proofs.verdicts.give_failed.Reads as give-failed-reads
-use Rattle.archive.proofs.verdicts.give_solved.Reads as give-solved-reads
-use Rattle.archive.proofs.verdicts.give_unsupported.Reads as give-unsupported-reads
+use Rattle.answers.proofs.verdicts.give_failed.Reads as give-failed-reads
+use Rattle.answers.proofs.verdicts.give_solved.Reads as give-solved-reads
+use Rattle.answers.proofs.verdicts.give_unsupported.Reads as give-unsupported-reads
 
 enum-known-outcome : tie.Need-enum-known-outcome
 enum-known-outcome c = search needs

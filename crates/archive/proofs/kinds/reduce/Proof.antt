@@ -8,13 +8,13 @@ use Rattle.reading.specs.Parsing.{Parses, limit-of}
 use Rattle.laws.proofs.Reading.Builds.{reads-within}
 use Rattle.tree.proofs.Pushing.{arena-none}
 use Rattle.archive.proofs.Reduces.{reduce-unreadable, reduce-line}
-use Rattle.archive.proofs.Giving.{settles-as, unreadable-settles}
+use Rattle.answers.proofs.Giving.{settles-as, unreadable-settles}
 use borrow.Author.Needs.{needs}
 use Rattle.archive.proofs.kinds.reduce.Statement.{statement}
 use Rattle.archive.proofs.kinds.reduce.Tie as tie
 use Rattle.archive.proofs.kinds.reduce.Reads as reads
 use Rattle.archive.proofs.kinds.reduce.Lts as lts
-use Rattle.archive.proofs.answers.give_term.Reads as give-term-reads
+use Rattle.answers.proofs.give_term.Reads as give-term-reads
 use Rattle.reading.proofs.parse.Reads as parse-reads
 use Rattle.reduction.proofs.normalizing.normalize.Reads as normalize-reads
 

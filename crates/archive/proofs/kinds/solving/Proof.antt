@@ -8,7 +8,7 @@ use Rattle.archive.proofs.kinds.solving.Reads as reads
 use Rattle.archive.proofs.kinds.solving.Lts as lts
 use Rattle.archive.proofs.kinds.give_outcome.Reads as give-outcome-reads
 use Rattle.archive.proofs.kinds.solve.Reads as solve-reads
-use Rattle.archive.proofs.pairs.read_pairs.Reads as read-pairs-reads
+use Rattle.answers.proofs.pairs.read_pairs.Reads as read-pairs-reads
 
 read-pairs-requires : tie.Need-read-pairs-requires
 read-pairs-requires c κs = ((c .before .before .before .before .pre .0 .short, omega (arith, c .before .before .before .before .pre .1)), c .before .before .before .before .pre .0 .inside)

@@ -4,13 +4,13 @@ use lib.ListN.{length, take, drop}
 use Prim.Native.Nat.{_-_, _≤_}
 use Rattle.reading.specs.Parsing.{Parses, limit-of}
 use Rattle.archive.proofs.Sounds.{sound-unreadable, sound-line}
-use Rattle.archive.proofs.Giving.{settles-as, unreadable-settles}
+use Rattle.answers.proofs.Giving.{settles-as, unreadable-settles}
 use borrow.Author.Needs.{needs}
 use Rattle.archive.proofs.kinds.sound_of.Statement.{statement}
 use Rattle.archive.proofs.kinds.sound_of.Tie as tie
 use Rattle.archive.proofs.kinds.sound_of.Reads as reads
 use Rattle.archive.proofs.kinds.sound_of.Lts as lts
-use Rattle.archive.proofs.answers.give_claim.Reads as give-claim-reads
+use Rattle.answers.proofs.give_claim.Reads as give-claim-reads
 use Rattle.reading.proofs.parse.Reads as parse-reads
 use Rattle.variants.proofs.soundness.sound.Reads as sound-reads
 

@@ -1,0 +1,48 @@
+-- What the code answers to a sheet before any term is read, and 01's number for each refusal. Definitions only.
+use Prim.Native.Nat.{ℕ, _≤_}
+use mathlib.Core.Path.{_≡_}
+use mathlib.Core.Bool.{true}
+use mathlib.Core.Option.{some}
+use lib.ListN.{length}
+use Rattle.rules.specs.Bytes.{Text}
+use Rattle.rules.specs.Sheet.{Sheet, read-sheet, words-needed}
+use Rattle.rules.specs.Names.{all}
+use Rattle.rules.specs.Call.{refused, passed, plain, admitted}
+use Rattle.sheet.specs.Form.{sheet-of, Within}
+use Rattle.sheet.specs.declared.form.Form.{Form}
+use Rattle.answers.specs.declared.admission.Refusal.{Refusal}
+use Rattle.answers.specs.declared.admission.Refusal.the-variants as refusal
+use Rattle.answers.specs.declared.admission.Admitted as code
+use Rattle.answers.specs.declared.admission.Admitted.the-variants as admission
+
+abbrev pub refusal-code : Refusal → ℕ
+refusal-code refusal.Long = 1
+refusal-code refusal.Foreign = 2
+refusal-code refusal.Lines = 3
+refusal-code refusal.Words = 11
+refusal-code refusal.Unreadable = 4
+refusal-code refusal.Short = 12
+
+-- neither 1 nor 2
+pub record Fine (s : Text) : Type 0 where
+  pub short : length s ≤ 65536
+  pub plain-bytes : all plain s ≡ true
+
+-- the form stands for the sheet that was read
+pub record Decoded (s : Text) (f : Form) : Type 0 where
+  pub sheet : Sheet
+  pub reads : read-sheet s ≡ some sheet
+  pub decodes : sheet-of s f ≡ some sheet
+  pub within : Within s f
+  pub short : length s ≤ 65536
+
+-- the form stands for the sheet that is admitted, and needs that many words
+pub record Stands (s : Text) (words : ℕ) (f : Form) (needed : ℕ) : Type 0 where
+  pub decoded : Decoded s f
+  pub passes : admitted s words ≡ passed (decoded .sheet)
+  pub need : needed ≡ words-needed s (decoded .sheet)
+  pub enough : needed ≤ words
+
+abbrev pub Admits : Text → ℕ → code.Admitted → Type 0
+Admits s words (admission.Sheet f needed) = Stands s words f needed
+Admits s words (admission.Refused x) = admitted s words ≡ refused (refusal-code x)

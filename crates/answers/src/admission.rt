@@ -1,0 +1,51 @@
+// What is refused before any term is read: 1, 2, 3, 11.
+use sheet::form::Form;
+use sheet::form::read_sheet;
+use sheet::form::words_needed;
+use text::Screened;
+use text::screen;
+ghost use Rattle.answers.specs.Admission.{Fine, Admits};
+
+// The six refusals.
+pub enum Refusal {
+    Long,
+    Foreign,
+    Lines,
+    Words,
+    Unreadable,
+    Short,
+}
+
+// A sheet that is admitted, with the words that it needs, or a refusal.
+pub enum Admitted {
+    Sheet { form: Form, needed: usize },
+    Refused(Refusal),
+}
+
+// A sheet without a foreign byte, against the number of words lent.
+fn admit_screened(sheet: &[u8], words: usize) -> Admitted
+    requires { ⌜ Fine (now sheet) ⌝ }
+    ensures { λ r. ⌜ Admits (now (sheet .entry)) words r ⌝ }
+{
+    let form = read_sheet(sheet);
+    if let Form::Three = form {
+        return Admitted::Refused(Refusal::Lines);
+    }
+    let needed = words_needed(sheet, form);
+    if words < needed {
+        return Admitted::Refused(Refusal::Words);
+    }
+    Admitted::Sheet { form, needed }
+}
+
+// A sheet against the number of words lent.
+pub fn admit(sheet: &[u8], words: usize) -> Admitted
+    ensures { λ r. ⌜ Admits (now (sheet .entry)) words r ⌝ }
+{
+    let screened = screen(sheet);
+    match screened {
+        Screened::Long => Admitted::Refused(Refusal::Long),
+        Screened::Foreign => Admitted::Refused(Refusal::Foreign),
+        Screened::Fine => admit_screened(sheet, words),
+    }
+}

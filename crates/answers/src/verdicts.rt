@@ -1,0 +1,238 @@
+// The answers to `unify` and `match` in the output: measured, then written where they fit.
+use crate::Settled;
+use substitution::bindings::rest_of;
+use substitution::bindings::value_of;
+use text::decimal::print;
+use text::decimal::width_of;
+use tree::measuring::Measured;
+use tree::measuring::measure_term;
+use tree::names::name_len;
+use tree::names::print_byte;
+use tree::names::print_name;
+use tree::names::print_text;
+use tree::writing::write_term;
+ghost use mathlib.Core.Path.{_≡_};
+ghost use mathlib.Core.Option.{some};
+ghost use Prim.Native.Nat.{_+_, _<_, _≤_};
+ghost use lib.ListN.{length};
+ghost use Rattle.rules.specs.Solving.{solved, failed, unsupported};
+ghost use Rattle.rules.specs.Answer.{verdict-lines};
+ghost use Rattle.tree.specs.Cells.{name-at, tree-at, trees-at};
+ghost use Rattle.tree.specs.Arena.{Arena};
+ghost use Rattle.tree.specs.Output.{Printed};
+ghost use Rattle.tree.specs.Measure.{measured};
+ghost use Rattle.substitution.specs.Bindings.{Chain, bindings-at};
+ghost use Rattle.answers.specs.Settling.{Settles};
+ghost use Rattle.answers.specs.Verdicts.{head-lines, key-line, value-line, entry-lines, lines-at};
+
+// The length of the verdict's line and the line `spent`.
+fn measure_head(verdict: &[u8], spent: usize, room: usize) -> Measured
+    ensures { λ r. ⌜ r ≡ measured (length (head-lines (now (verdict .entry)) spent)) room ⌝ }
+{
+    let width = width_of(spent);
+    if room < verdict.len() {
+        return Measured::Over;
+    }
+    let left = room - verdict.len();
+    if left < 7 {
+        return Measured::Over;
+    }
+    if left - 7 < width {
+        return Measured::Over;
+    }
+    Measured::Fits(verdict.len() + 7 + width)
+}
+
+// Writes the verdict's line and the line `spent`, and returns where they end.
+fn write_head(output: &mut [u8], verdict: &[u8], spent: usize) -> usize
+    requires { ⌜ length (head-lines (now verdict) spent) ≤ length (now output) ⌝ }
+    ensures { λ r. ⌜ Printed (now (output .entry)) (now (output .exit)) 0 (head-lines (now (verdict .entry)) spent) r ⌝ }
+{
+    let start = print_text(output, 0, verdict);
+    let digits = print_text(output, start, b"spent=");
+    let end = print(spent, output, digits);
+    print_byte(output, end, 10)
+}
+
+// Writes a verdict without bindings as the whole answer, if it fits.
+fn give_head(output: &mut [u8], verdict: &[u8], spent: usize) -> Settled
+    ensures { λ r. ⌜ Settles (some (head-lines (now (verdict .entry)) spent)) (now (output .entry)) (now (output .exit)) r ⌝ }
+{
+    let measured = measure_head(verdict, spent, output.len());
+    let Measured::Fits(_) = measured else {
+        return Settled::Short;
+    };
+    let end = write_head(output, verdict, spent);
+    Settled::Written(end)
+}
+
+// Verdict `failed`.
+pub fn give_failed(output: &mut [u8], spent: usize) -> Settled
+    ensures { λ r. ⌜ Settles (some (verdict-lines (failed, spent))) (now (output .entry)) (now (output .exit)) r ⌝ }
+{
+    give_head(output, b"verdict=failed\n", spent)
+}
+
+// Verdict `unsupported`.
+pub fn give_unsupported(output: &mut [u8], spent: usize) -> Settled
+    ensures { λ r. ⌜ Settles (some (verdict-lines (unsupported, spent))) (now (output .entry)) (now (output .exit)) r ⌝ }
+{
+    give_head(output, b"verdict=unsupported\n", spent)
+}
+
+// The length of the two lines of a binding, by the cells of its key and its value.
+fn measure_entry(
+    sheet: &[u8],
+    work: &[u32],
+    free: usize,
+    key: usize,
+    value: usize,
+    room: usize,
+) -> Measured
+    requires { ⌜ Arena (now sheet) (now work) free ⌝ }
+    requires { ⌜ (0 < key) × (key < free) ⌝ }
+    requires { ⌜ (0 < value) × (value < free) ⌝ }
+    ensures { λ r. ⌜ r ≡ measured (length (entry-lines (name-at (now (sheet .entry)) (now (work .entry)) key) (tree-at (now (sheet .entry)) (now (work .entry)) value))) room ⌝ }
+{
+    let n = name_len(sheet, work, free, key) + 12;
+    if room < n {
+        return Measured::Over;
+    }
+    let term = measure_term(sheet, work, free, value, room - n);
+    let Measured::Fits(m) = term else {
+        return Measured::Over;
+    };
+    Measured::Fits(n + m)
+}
+
+// The length of the lines of the bindings from cell `list` on. The room that is left falls from binding to binding.
+fn measure_bindings(sheet: &[u8], work: &[u32], free: usize, list: usize, room: usize) -> Measured
+    requires { ⌜ Arena (now sheet) (now work) free ⌝ }
+    requires { ⌜ list < free ⌝ }
+    requires { ⌜ Chain (trees-at (now sheet) (now work) list) ⌝ }
+    ensures { λ r. ⌜ r ≡ measured (length (lines-at (now (sheet .entry)) (now (work .entry)) list)) room ⌝ }
+{
+    let mut k = list;
+    let mut left = room;
+    while k != 0 {
+        let value = value_of(work, free, k);
+        let entry = measure_entry(sheet, work, free, k, value, left);
+        let Measured::Fits(n) = entry else {
+            return Measured::Over;
+        };
+        left -= n;
+        k = rest_of(work, free, value);
+    }
+    Measured::Fits(room - left)
+}
+
+// Writes the line `key` with the name of cell i, and returns where it ends.
+fn write_key(
+    sheet: &[u8],
+    work: &[u32],
+    free: usize,
+    i: usize,
+    output: &mut [u8],
+    at: usize,
+) -> usize
+    requires { ⌜ Arena (now sheet) (now work) free ⌝ }
+    requires { ⌜ (0 < i) × (i < free) ⌝ }
+    requires { ⌜ at + length (key-line (name-at (now sheet) (now work) i)) ≤ length (now output) ⌝ }
+    ensures { λ r. ⌜ Printed (now (output .entry)) (now (output .exit)) at (key-line (name-at (now (sheet .entry)) (now (work .entry)) i)) r ⌝ }
+{
+    let start = print_text(output, at, b"key=");
+    let end = print_name(sheet, work, free, i, output, start);
+    print_byte(output, end, 10)
+}
+
+// Writes the line `value` with the term of cell i, and returns where it ends.
+fn write_value(
+    sheet: &[u8],
+    work: &[u32],
+    free: usize,
+    i: usize,
+    output: &mut [u8],
+    at: usize,
+) -> usize
+    requires { ⌜ Arena (now sheet) (now work) free ⌝ }
+    requires { ⌜ (0 < i) × (i < free) ⌝ }
+    requires { ⌜ at + length (value-line (tree-at (now sheet) (now work) i)) ≤ length (now output) ⌝ }
+    ensures { λ r. ⌜ Printed (now (output .entry)) (now (output .exit)) at (value-line (tree-at (now (sheet .entry)) (now (work .entry)) i)) r ⌝ }
+{
+    let start = print_text(output, at, b"value=");
+    let end = write_term(sheet, work, free, i, output, start);
+    print_byte(output, end, 10)
+}
+
+// Writes the two lines of a binding, by the cells of its key and its value, and returns where they end.
+fn write_entry(
+    sheet: &[u8],
+    work: &[u32],
+    free: usize,
+    key: usize,
+    value: usize,
+    output: &mut [u8],
+    at: usize,
+) -> usize
+    requires { ⌜ Arena (now sheet) (now work) free ⌝ }
+    requires { ⌜ (0 < key) × (key < free) ⌝ }
+    requires { ⌜ (0 < value) × (value < free) ⌝ }
+    requires { ⌜ at + length (entry-lines (name-at (now sheet) (now work) key) (tree-at (now sheet) (now work) value)) ≤ length (now output) ⌝ }
+    ensures { λ r. ⌜ Printed (now (output .entry)) (now (output .exit)) at (entry-lines (name-at (now (sheet .entry)) (now (work .entry)) key) (tree-at (now (sheet .entry)) (now (work .entry)) value)) r ⌝ }
+{
+    let end = write_key(sheet, work, free, key, output, at);
+    write_value(sheet, work, free, value, output, end)
+}
+
+// Writes the lines of the bindings from cell `list` on, and returns where they end.
+fn write_bindings(
+    sheet: &[u8],
+    work: &[u32],
+    free: usize,
+    list: usize,
+    output: &mut [u8],
+    at: usize,
+) -> usize
+    requires { ⌜ Arena (now sheet) (now work) free ⌝ }
+    requires { ⌜ list < free ⌝ }
+    requires { ⌜ Chain (trees-at (now sheet) (now work) list) ⌝ }
+    requires { ⌜ at + length (lines-at (now sheet) (now work) list) ≤ length (now output) ⌝ }
+    ensures { λ r. ⌜ Printed (now (output .entry)) (now (output .exit)) at (lines-at (now (sheet .entry)) (now (work .entry)) list) r ⌝ }
+{
+    let mut key = list;
+    let mut end = at;
+    while key != 0 {
+        let value = value_of(work, free, key);
+        end = write_entry(sheet, work, free, key, value, output, end);
+        key = rest_of(work, free, value);
+    }
+    end
+}
+
+// Verdict `solved`, with the bindings from cell `list` on.
+pub fn give_solved(
+    sheet: &[u8],
+    work: &[u32],
+    free: usize,
+    list: usize,
+    spent: usize,
+    output: &mut [u8],
+) -> Settled
+    requires { ⌜ Arena (now sheet) (now work) free ⌝ }
+    requires { ⌜ list < free ⌝ }
+    requires { ⌜ Chain (trees-at (now sheet) (now work) list) ⌝ }
+    ensures { λ r. ⌜ Settles (some (verdict-lines (solved (bindings-at (now (sheet .entry)) (now (work .entry)) list), spent))) (now (output .entry)) (now (output .exit)) r ⌝ }
+{
+    let room = output.len();
+    let head = measure_head(b"verdict=solved\n", spent, room);
+    let Measured::Fits(n) = head else {
+        return Settled::Short;
+    };
+    let lines = measure_bindings(sheet, work, free, list, room - n);
+    let Measured::Fits(_) = lines else {
+        return Settled::Short;
+    };
+    let start = write_head(output, b"verdict=solved\n", spent);
+    let last = write_bindings(sheet, work, free, list, output, start);
+    Settled::Written(last)
+}
