@@ -139,6 +139,10 @@ fn just_enough_words_and_room_serve() {
     assert_eq!(status, 11);
     let (status, ..) = run(&words, "kind=unify\n");
     assert_eq!(status, 3);
+    // The room stays what it is after the length of an answer was found.
+    let file = [("a", UNIFY.as_bytes())];
+    let (status, out, err) = run_in("room", &file, &["--room", "22", "a", "a"]);
+    assert_eq!((status, &*out, err.lines().count()), (12, "", 2));
 }
 
 // A term that fills its sheet, bound twice: an answer that is longer than a sheet.
