@@ -1,9 +1,10 @@
 // The subcommands of the program.
-use std::{collections::BTreeSet, fs, process::ExitCode};
+use std::{collections::BTreeSet, fs, path::PathBuf, process::ExitCode};
 
 use crate::{
     deep, definitions,
     generate::{self, KINDS, Size},
+    hostile,
     linked::Comparison,
     measure, notice,
     reference::{self, Reply},
@@ -25,6 +26,7 @@ host: the reference of the call, generated sheets and the stored list
   host library [--count N] [--seed S] [--kinds equal,unify,..]
                                         the linked library against the reference, on the stored
                                         list and on generated sheets of these kinds
+  host seeds FOLDER                     write the stored sheets as inputs of host/fuzz
   host measure [--bytes B] [--kinds equal,..]
                                         times of the linked library and of the Rust on sheets
                                         of these kinds, of about B bytes
@@ -218,6 +220,26 @@ fn compare_library(words: &[String]) -> Outcome {
     Ok(ExitCode::FAILURE)
 }
 
+// The longest sheet that is a seed: longer ones take each call long.
+const LONGEST_SEED: usize = 8_000;
+
+fn seeds(words: &[String]) -> Outcome {
+    let [folder] = words else {
+        return Err("seeds takes one folder; see host --help".to_owned());
+    };
+    let records = store::stored()?;
+    let short = |record: &&store::Record| record.sheet.len() <= LONGEST_SEED;
+    let mut count = 0;
+    for record in records.iter().filter(short) {
+        let file = PathBuf::from(folder).join(&record.label);
+        fs::write(&file, hostile::seed(record))
+            .map_err(|error| format!("{}: {error}", file.display()))?;
+        count += 1;
+    }
+    println!("{count} inputs of {} sheets", records.len());
+    Ok(ExitCode::SUCCESS)
+}
+
 fn measured(words: &[String]) -> Outcome {
     let options = options(words, &["--bytes", "--kinds"], 0)?;
     if !(1_000..=sheet::LONGEST).contains(&options.bytes) {
@@ -265,6 +287,7 @@ pub fn run(words: &[String]) -> Outcome {
         }
         ("compare", rest) => compare(rest),
         ("library", rest) => compare_library(rest),
+        ("seeds", rest) => seeds(rest),
         ("measure", rest) => measured(rest),
         ("definitions", rest) => write_definitions(rest),
         (name, _) => Err(format!("unknown subcommand '{name}'; see host --help")),

@@ -5,6 +5,7 @@ pub mod deep;
 pub mod definitions;
 pub mod examples;
 pub mod generate;
+pub mod hostile;
 pub mod lent;
 pub mod linked;
 pub mod measure;
