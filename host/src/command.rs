@@ -2,7 +2,7 @@
 use std::{collections::BTreeSet, fs, path::PathBuf, process::ExitCode};
 
 use crate::{
-    deep, definitions,
+    deep, deepest, definitions,
     generate::{self, KINDS, Size},
     hostile,
     linked::Comparison,
@@ -27,6 +27,8 @@ host: the reference of the call, generated sheets and the stored list
                                         the linked library against the reference, on the stored
                                         list and on generated sheets of these kinds
   host seeds FOLDER                     write the stored sheets as inputs of host/fuzz
+  host deepest FILE                     write the deepest sheets of each kind, with the linked
+                                        library's replies, as a list
   host measure [--bytes B] [--kinds equal,..]
                                         times of the linked library and of the Rust on sheets
                                         of these kinds, of about B bytes
@@ -240,6 +242,19 @@ fn seeds(words: &[String]) -> Outcome {
     Ok(ExitCode::SUCCESS)
 }
 
+fn write_deepest(words: &[String]) -> Outcome {
+    let [file] = words else {
+        return Err("deepest takes one file; see host --help".to_owned());
+    };
+    if !library::present() {
+        return Err(format!("{}; nothing was written", library::notice()));
+    }
+    let records = deepest::records();
+    fs::write(file, store::written(&records)).map_err(|error| format!("{file}: {error}"))?;
+    println!("{} sheets in {file}", records.len());
+    Ok(ExitCode::SUCCESS)
+}
+
 fn measured(words: &[String]) -> Outcome {
     let options = options(words, &["--bytes", "--kinds"], 0)?;
     if !(1_000..=sheet::LONGEST).contains(&options.bytes) {
@@ -288,6 +303,7 @@ pub fn run(words: &[String]) -> Outcome {
         ("compare", rest) => compare(rest),
         ("library", rest) => compare_library(rest),
         ("seeds", rest) => seeds(rest),
+        ("deepest", rest) => write_deepest(rest),
         ("measure", rest) => measured(rest),
         ("definitions", rest) => write_definitions(rest),
         (name, _) => Err(format!("unknown subcommand '{name}'; see host --help")),

@@ -2,6 +2,7 @@
 // the stored list, and the linked library against the reference.
 pub mod command;
 pub mod deep;
+pub mod deepest;
 pub mod definitions;
 pub mod examples;
 pub mod generate;

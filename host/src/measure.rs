@@ -44,7 +44,8 @@ fn sum(summands: &[String]) -> String {
     format!("tamtplus({})", summands.join(","))
 }
 
-fn samples(bytes: usize, kinds: &[&str]) -> Vec<Sample> {
+/// The sheets of these kinds, of about so many bytes where their size is free.
+pub fn samples(bytes: usize, kinds: &[&str]) -> Vec<Sample> {
     let of = |kind: &str| match kind {
         "equal" => terms::equalities(bytes),
         "reduce" => terms::reductions(),
