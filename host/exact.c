@@ -1,6 +1,7 @@
 // Calls the library on every record of a list, under valgrind or by itself: the sheet, the work area
 // and the output are blocks of exactly the lent sizes, and the last two are not initialised. Each
-// call has a thread with 2 MiB of stack, of which it tells how much was used (not under valgrind).
+// call has a thread with 2 MiB of stack, of which it tells the most that was used, or with `each` what
+// each call used (not under valgrind).
 // Ends with 1 where a reply is not the list's.
 #define _GNU_SOURCE
 #include <pthread.h>
@@ -39,6 +40,7 @@ static void *called(void *argument) {
 static uint8_t *stack;
 static size_t most_used;
 static char most_by[256];
+static int each;
 
 static void need(int fine, const char *what) {
     if (fine) return;
@@ -60,6 +62,7 @@ static void paint(pthread_attr_t *small) {
 static void note_used(const char *label) {
     size_t left = 0;
     while (left < STACK && stack[left] == PAINT) left++;
+    if (each) printf("%8zu %s\n", STACK - left, label);
     if (STACK - left <= most_used) return;
     most_used = STACK - left;
     snprintf(most_by, sizeof most_by, "%s", label);
@@ -148,14 +151,15 @@ static int right(FILE *list, struct call *c, const char *label, uint32_t refusal
 }
 
 int main(int words, char **word) {
-    FILE *list = words == 2 ? fopen(word[1], "r") : NULL;
+    FILE *list = words == 2 || words == 3 ? fopen(word[1], "r") : NULL;
     char line[512], label[256];
     size_t records = 0, wrong = 0, written;
     uint32_t refusal;
     if (!list) {
-        fprintf(stderr, "usage: exact LIST\n");
+        fprintf(stderr, "usage: exact LIST [each]\n");
         return 2;
     }
+    each = words == 3;
     while (fgets(line, sizeof line, list)) {
         struct call c = {0};
         if (line[0] == '#') continue;

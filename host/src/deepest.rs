@@ -8,29 +8,42 @@ use crate::{
     store::Record,
 };
 
-/// What stands around each level of a term, and its leaf.
-const LEVELS: [(&str, &str, &str, &str); 9] = [
-    ("chain", "h(", ")", "c(0)"),
-    ("first-child", "g(", ",a)", "c(0)"),
-    ("last-child", "g(a,", ")", "c(0)"),
-    ("pairs", "tamXCpair(", ",c(0))", "c(0)"),
-    ("left-sums", "tamtplus(", ",t(0))", "t(1)"),
-    ("right-sums", "tamtplus(t(0),", ")", "t(1)"),
-    ("sums-under", "h(tamtplus(", ",t(0)))", "t(1)"),
-    ("first", "tamXCfst(", ")", "c(0)"),
-    ("decrypted", "tamXCsdec(tamXCsenc(", ",c(1)),c(1))", "c(0)"),
+/// What stands around each level of a term, the nodes of a level, and the leaf.
+const LEVELS: [(&str, &str, &str, usize, &str); 16] = [
+    ("chain", "h(", ")", 1, "c(0)"),
+    ("first-child", "g(", ",a)", 2, "c(0)"),
+    ("last-child", "g(a,", ")", 2, "c(0)"),
+    ("middle-child", "g(a,", ",a)", 3, "c(0)"),
+    ("third-child", "g(a,a,", ")", 3, "c(0)"),
+    ("first-of-pair", "tamXCpair(", ",c(0))", 2, "c(0)"),
+    ("last-of-pair", "tamXCpair(c(0),", ")", 2, "c(0)"),
+    ("left-sums", "tamtplus(", ",t(0))", 2, "t(1)"),
+    ("right-sums", "tamtplus(t(0),", ")", 2, "t(1)"),
+    ("sums-under", "h(tamtplus(", ",t(0)))", 3, "t(1)"),
+    ("sums-under-last", "g(a,tamtplus(t(0),", "))", 4, "t(1)"),
+    ("projected", "tamXCfst(", ")", 1, "c(0)"),
+    ("flipped", "tamXCflip(", ")", 1, "tamXCroleA"),
+    ("decrypted-first", "tamXCsdec(", ",c(1))", 2, "c(0)"),
+    ("decrypted-last", "tamXCsdec(c(1),", ")", 2, "c(0)"),
+    (
+        "decrypted",
+        "tamXCsdec(tamXCsenc(",
+        ",c(1)),c(1))",
+        4,
+        "c(0)",
+    ),
 ];
-const MOST_NODES: usize = 4_000;
+const MOST_NODES: usize = 4_096;
 
 // As many levels as so many bytes and nodes have room for, over a leaf.
-fn nested(front: &str, back: &str, leaf: &str, bytes: usize, nodes: usize) -> String {
-    let of_level = 1 + front.matches('(').count() + back.matches(',').count();
+fn nested(level: (&str, &str, usize), leaf: &str, bytes: usize, nodes: usize) -> String {
+    let (front, back, of_level) = level;
     let most = (bytes - leaf.len()) / (front.len() + back.len());
-    let depth = most.min(nodes / of_level);
+    let depth = most.min((nodes - 1) / of_level);
     format!("{}{leaf}{}", front.repeat(depth), back.repeat(depth))
 }
 
-fn sheet_of(kind: &str, front: &str, back: &str, leaf: &str) -> String {
+fn sheet_of(kind: &str, level: (&str, &str, usize), leaf: &str) -> String {
     let bytes = LONGEST / 2 - 100;
     let sort = if leaf.starts_with('t') {
         "TamNat"
@@ -38,11 +51,11 @@ fn sheet_of(kind: &str, front: &str, back: &str, leaf: &str) -> String {
         "Msg"
     };
     let variable = format!("x0:{sort}");
-    let term = |leaf: &str| nested(front, back, leaf, bytes, MOST_NODES);
+    let term = |leaf: &str| nested(level, leaf, bytes, MOST_NODES);
     let (shut, open) = (term(leaf), term(&variable));
     match kind {
         "equal" => {
-            let loose = nested(front, back, leaf, bytes, usize::MAX);
+            let loose = nested(level, leaf, bytes, usize::MAX);
             format!("kind=equal\nleft={loose}\nright={loose}\n")
         }
         "reduce" => format!("kind=reduce\nterm={shut}\n"),
@@ -60,13 +73,13 @@ fn sheet_of(kind: &str, front: &str, back: &str, leaf: &str) -> String {
 }
 
 // A variable bound to the term, and the leaf's variable bound later.
-fn bound(front: &str, back: &str, leaf: &str) -> String {
+fn bound(level: (&str, &str, usize), leaf: &str) -> String {
     let sort = if leaf.starts_with('t') {
         "TamNat"
     } else {
         "Msg"
     };
-    let open = nested(front, back, &format!("x0:{sort}"), LONGEST / 2, MOST_NODES);
+    let open = nested(level, &format!("x0:{sort}"), LONGEST / 2, MOST_NODES);
     format!("kind=unify\nfuel=9\nleft=x1:{sort}\nright={open}\nleft=x0:{sort}\nright={leaf}\n")
 }
 
@@ -93,12 +106,13 @@ fn record(label: String, text: String) -> Record {
 /// Every kind with each form of level, and the sheets that are timed.
 pub fn records() -> Vec<Record> {
     let mut records = Vec::new();
-    for (name, front, back, leaf) in LEVELS {
+    for (name, front, back, nodes, leaf) in LEVELS {
+        let level = (front, back, nodes);
         for kind in KINDS {
-            let sheet = sheet_of(kind, front, back, leaf);
+            let sheet = sheet_of(kind, level, leaf);
             records.push(record(format!("{kind}-{name}"), sheet));
         }
-        records.push(record(format!("bound-{name}"), bound(front, back, leaf)));
+        records.push(record(format!("bound-{name}"), bound(level, leaf)));
     }
     for (index, sample) in measure::samples(65_000, &KINDS).into_iter().enumerate() {
         let name = sample.name.replace(' ', "-").replace(',', "");

@@ -49,7 +49,7 @@ extern "C" fn target(data: *const u8, size: usize) -> c_int {
     0
 }
 
-/// libFuzzer's own changes of bytes, and those of sheets, in turn by chance.
+/// A change of a sheet, or now and then one of libFuzzer's own changes of bytes.
 #[unsafe(no_mangle)]
 pub extern "C" fn LLVMFuzzerCustomMutator(
     data: *mut u8,
@@ -58,7 +58,7 @@ pub extern "C" fn LLVMFuzzerCustomMutator(
     seed: u32,
 ) -> usize {
     let mut rng = Rng::new(u64::from(seed));
-    if rng.once_in(4) {
+    if rng.once_in(16) {
         // SAFETY: the arguments are libFuzzer's own.
         return unsafe { LLVMFuzzerMutate(data, size, most) };
     }

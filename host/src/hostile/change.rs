@@ -77,9 +77,13 @@ fn end_of(sheet: &[u8], start: usize) -> usize {
     sheet.len()
 }
 
-// A term of the sheet: what follows an equals sign, a bracket or a comma.
+// A term of the sheet: what follows an equals sign, a bracket or a comma, but no kind and no fuel.
 fn term(rng: &mut Rng, sheet: &[u8]) -> Option<Range<usize>> {
-    let starts = |at: &usize| matches!(sheet[*at], b'=' | b'(' | b',');
+    let starts = |at: &usize| match sheet[*at] {
+        b'(' | b',' => true,
+        b'=' => !sheet[..*at].ends_with(b"kind") && !sheet[..*at].ends_with(b"fuel"),
+        _ => false,
+    };
     let from = rng.below(sheet.len().max(1));
     let ahead = (from..sheet.len()).find(starts);
     let start = ahead.or_else(|| (0..sheet.len()).rfind(starts))? + 1;
@@ -108,21 +112,42 @@ fn terms(rng: &mut Rng, sheet: &mut Vec<u8>) -> Option<()> {
     Some(())
 }
 
+fn split(sheet: &[u8]) -> Vec<Vec<u8>> {
+    let lines = sheet.split_inclusive(|byte| *byte == 10);
+    lines.map(<[u8]>::to_vec).collect()
+}
+
 fn lines(rng: &mut Rng, sheet: &mut Vec<u8>) -> Option<()> {
-    let mut lines: Vec<Vec<u8>> = sheet
-        .split_inclusive(|byte| *byte == 10)
-        .map(<[u8]>::to_vec)
-        .collect();
+    let mut lines = split(sheet);
     let (first, second) = (rng.below(lines.len().max(1)), rng.below(lines.len().max(1)));
-    match rng.below(5) {
+    match rng.below(4) {
         0 if first < lines.len() => drop(lines.remove(first)),
         1 => lines.insert(second, lines.get(first)?.clone()),
-        2 if first < lines.len() && second < lines.len() => lines.swap(first, second),
-        3 => {
-            let two: Vec<_> = lines.get(first..first + 2)?.to_vec();
-            lines.splice(first..first, two);
-        }
+        2 if first < lines.len() => lines.swap(first, second),
         _ => lines.insert(second, rng.pick(&LINES).as_bytes().to_vec()),
+    }
+    *sheet = lines.concat();
+    Some(())
+}
+
+// A pair, an entry or a member's first line twice, elsewhere or gone.
+fn groups(rng: &mut Rng, sheet: &mut Vec<u8>) -> Option<()> {
+    let mut lines = split(sheet);
+    let front = rng.pick(&["left=", "key=", "member="]).as_bytes();
+    let is_group = |at: &usize| lines[*at].starts_with(front);
+    let starts: Vec<usize> = (0..lines.len()).filter(is_group).collect();
+    let length = if front == b"member=" { 1 } else { 2 };
+    let of = |rng: &mut Rng| starts.get(rng.below(starts.len().max(1))).copied();
+    let (from, to) = (of(rng)?, of(rng)?);
+    let group = lines.get(from..from + length)?.to_vec();
+    match rng.below(3) {
+        0 => drop(lines.drain(from..from + length)),
+        1 => drop(lines.splice(to..to, group)),
+        _ => {
+            lines.drain(from..from + length);
+            let to = to.min(lines.len());
+            lines.splice(to..to, group);
+        }
     }
     *sheet = lines.concat();
     Some(())
@@ -139,6 +164,20 @@ fn after(rng: &mut Rng, sheet: &[u8], mark: &[u8], of: fn(&u8) -> bool) -> Optio
     Some(start..start + length)
 }
 
+// A kind with the same lines where there is one, now and then any.
+fn other_kind(rng: &mut Rng, kind: &[u8]) -> &'static str {
+    match kind {
+        _ if rng.once_in(8) => rng.pick(&KINDS),
+        b"unify" => "match",
+        b"match" => "unify",
+        b"sound" => "complete",
+        b"complete" => "sound",
+        b"cover" => "cover",
+        b"equal" => "equal",
+        _ => "reduce",
+    }
+}
+
 fn words(rng: &mut Rng, sheet: &mut Vec<u8>) -> Option<()> {
     let (range, word) = match rng.below(4) {
         0 => (
@@ -153,10 +192,11 @@ fn words(rng: &mut Rng, sheet: &mut Vec<u8>) -> Option<()> {
             after(rng, sheet, b"fuel=", u8::is_ascii_digit)?,
             rng.pick(&FUELS),
         ),
-        _ => (
-            after(rng, sheet, b"kind=", u8::is_ascii_alphabetic)?,
-            rng.pick(&KINDS),
-        ),
+        _ => {
+            let range = after(rng, sheet, b"kind=", u8::is_ascii_alphabetic)?;
+            let other = other_kind(rng, &sheet[range.clone()]);
+            (range, other)
+        }
     };
     sheet.splice(range, word.bytes());
     Some(())
@@ -180,11 +220,12 @@ pub fn changed(rng: &mut Rng, input: &[u8], most: usize) -> Vec<u8> {
     choice.resize(CHOICE, 0);
     for _ in 0..rng.between(1, 4) {
         // A change that finds no place leaves the sheet as it is.
-        let _ = match rng.weighted(&[10, 4, 4, 1, 1]) {
+        let _ = match rng.weighted(&[24, 6, 8, 1, 1, 1]) {
             0 => terms(rng, &mut sheet),
-            1 => lines(rng, &mut sheet),
+            1 => groups(rng, &mut sheet),
             2 => words(rng, &mut sheet),
-            3 => bytes(rng, &mut sheet),
+            3 => lines(rng, &mut sheet),
+            4 => bytes(rng, &mut sheet),
             _ => {
                 choice[0] = rng.number() as u8;
                 choice[1] = rng.number() as u8;
