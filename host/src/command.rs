@@ -26,6 +26,9 @@ host: the reference of the call, generated sheets and the stored list
   host library [--count N] [--seed S] [--kinds equal,unify,..]
                                         the linked library against the reference, on the stored
                                         list and on generated sheets of these kinds
+  host list [--count N] [--seed S] --out FILE
+                                        write generated sheets with the reference's replies as a
+                                        list
   host seeds FOLDER                     write the stored sheets as inputs of host/fuzz
   host deepest FILE                     write the deepest sheets of each kind, with the linked
                                         library's replies, as a list
@@ -222,6 +225,16 @@ fn compare_library(words: &[String]) -> Outcome {
     Ok(ExitCode::FAILURE)
 }
 
+fn write_list(words: &[String]) -> Outcome {
+    let options = options(words, &["--count", "--seed", "--out"], 2_000)?;
+    let out = options.out.ok_or("list needs --out FILE")?;
+    notice::absent("the replies are the model's");
+    let records = store::of_any_size(options.count, options.seed);
+    fs::write(&out, store::written(&records)).map_err(|error| format!("{out}: {error}"))?;
+    println!("{} sheets in {out}", records.len());
+    Ok(ExitCode::SUCCESS)
+}
+
 // The longest sheet that is a seed: longer ones take each call long.
 const LONGEST_SEED: usize = 8_000;
 
@@ -302,6 +315,7 @@ pub fn run(words: &[String]) -> Outcome {
         }
         ("compare", rest) => compare(rest),
         ("library", rest) => compare_library(rest),
+        ("list", rest) => write_list(rest),
         ("seeds", rest) => seeds(rest),
         ("deepest", rest) => write_deepest(rest),
         ("measure", rest) => measured(rest),
