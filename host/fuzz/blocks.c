@@ -14,8 +14,8 @@
 
 extern char yukhtsami_answer[];
 
-// libFuzzer counts what is set here as reached by the input at hand.
-__attribute__((section("__libfuzzer_extra_counters"))) static uint8_t now[MOST];
+// libFuzzer reads here what the input at hand reached, and clears it before the next.
+__attribute__((used, section("__libfuzzer_extra_counters"))) volatile uint8_t blocks_now[MOST];
 
 static struct block {
     uint8_t *at;
@@ -42,7 +42,7 @@ static void on_breakpoint(int number, siginfo_t *info, void *context) {
     machine->uc_mcontext.gregs[REG_RIP] -= 1;
     reached += !found->reached;
     found->reached = 1;
-    now[found - blocks] = 1;
+    blocks_now[found - blocks] = 1;
 }
 
 static int make_writable(void) {

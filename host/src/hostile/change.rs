@@ -57,6 +57,14 @@ const AROUND: [(&str, &str); 12] = [
     (" ", " "),
 ];
 const SORTS: [&str; 7] = ["Msg", "Pub", "Fresh", "TamNat", "Node", "Foo", ""];
+const INDICES: [&str; 6] = [
+    "0",
+    "1",
+    "2",
+    "3",
+    "9223372036854775808",
+    "0000000000000000000000000000000000000001",
+];
 const FUELS: [&str; 8] = ["0", "1", "2", "3", "4", "9", "65536", "65537"];
 const BYTES: &[u8] = b" ():,=xt0n#%A_\n\t~";
 
@@ -186,7 +194,7 @@ fn words(rng: &mut Rng, sheet: &mut Vec<u8>) -> Option<()> {
         ),
         1 => (
             after(rng, sheet, b"x", u8::is_ascii_digit)?,
-            rng.pick(&["0", "1", "2", "3", "9223372036854775808"]),
+            rng.pick(&INDICES),
         ),
         2 => (
             after(rng, sheet, b"fuel=", u8::is_ascii_digit)?,
