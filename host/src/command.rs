@@ -1,9 +1,10 @@
 // The subcommands of the program.
-use std::{collections::BTreeSet, fs, process::ExitCode};
+use std::{collections::BTreeSet, fs, path::PathBuf, process::ExitCode};
 
 use crate::{
-    bench, deep, definitions,
+    bench, deep, deepest, definitions,
     generate::{self, KINDS, Size},
+    hostile,
     linked::Comparison,
     notice,
     rng::Rng,
@@ -20,6 +21,12 @@ host: the reference of the call, generated sheets and the stored list
   host library [--count N] [--seed S] [--kinds equal,unify,..]
                                         the linked library against the reference, on the stored
                                         list and on generated sheets of these kinds
+  host list [--count N] [--seed S] --out FILE
+                                        write generated sheets with the reference's replies as a
+                                        list
+  host seeds FOLDER                     write the stored sheets as inputs of host/fuzz
+  host deepest FILE                     write the deepest sheets of each kind, with the linked
+                                        library's replies, as a list
   host bench [--kinds equal,..] [--long] [--write FILE]
                                         times of the linked library and of the Rust on sheets
                                         of these kinds, and how they grow; --long asks the Rust
@@ -178,6 +185,49 @@ fn compare_library(words: &[String]) -> Outcome {
     Ok(ExitCode::FAILURE)
 }
 
+fn write_list(words: &[String]) -> Outcome {
+    let options = options(words, &["--count", "--seed", "--out"], 2_000)?;
+    let out = options.out.ok_or("list needs --out FILE")?;
+    notice::absent("the replies are the model's");
+    let records = store::of_any_size(options.count, options.seed);
+    fs::write(&out, store::written(&records)).map_err(|error| format!("{out}: {error}"))?;
+    println!("{} sheets in {out}", records.len());
+    Ok(ExitCode::SUCCESS)
+}
+
+// The longest sheet that is a seed: longer ones take each call long.
+const LONGEST_SEED: usize = 8_000;
+
+fn seeds(words: &[String]) -> Outcome {
+    let [folder] = words else {
+        return Err("seeds takes one folder; see host --help".to_owned());
+    };
+    let records = store::stored()?;
+    let short = |record: &&store::Record| record.sheet.len() <= LONGEST_SEED;
+    let mut count = 0;
+    for record in records.iter().filter(short) {
+        let file = PathBuf::from(folder).join(&record.label);
+        fs::write(&file, hostile::seed(record))
+            .map_err(|error| format!("{}: {error}", file.display()))?;
+        count += 1;
+    }
+    println!("{count} inputs of {} sheets", records.len());
+    Ok(ExitCode::SUCCESS)
+}
+
+fn write_deepest(words: &[String]) -> Outcome {
+    let [file] = words else {
+        return Err("deepest takes one file; see host --help".to_owned());
+    };
+    if !library::present() {
+        return Err(format!("{}; nothing was written", library::notice()));
+    }
+    let records = deepest::records();
+    fs::write(file, store::written(&records)).map_err(|error| format!("{file}: {error}"))?;
+    println!("{} sheets in {file}", records.len());
+    Ok(ExitCode::SUCCESS)
+}
+
 // Both tables, and the document with them if one is named.
 fn benched(words: &[String]) -> Outcome {
     let options = options(words, &["--kinds", "--long", "--write"], 0)?;
@@ -230,6 +280,9 @@ pub fn run(words: &[String]) -> Outcome {
         ("compare", rest) => compare(rest),
         ("library", rest) => compare_library(rest),
         ("bench", rest) => benched(rest),
+        ("list", rest) => write_list(rest),
+        ("seeds", rest) => seeds(rest),
+        ("deepest", rest) => write_deepest(rest),
         ("definitions", rest) => write_definitions(rest),
         (name, _) => Err(format!("unknown subcommand '{name}'; see host --help")),
     }

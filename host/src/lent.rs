@@ -104,13 +104,45 @@ impl Lent {
         (words, room): (usize, usize),
         reply: &Reply,
     ) -> Vec<String> {
+        let called = self.lend(name, bytes, (words, room));
+        self.left(bytes, (words, room), called, reply)
+    }
+
+    /// The same where the reply is not known: its refusal and its bytes are taken from the call,
+    /// and what it left is held to them.
+    pub fn unjudged(
+        &mut self,
+        name: &str,
+        bytes: &[u8],
+        (words, room): (usize, usize),
+    ) -> (Reply, Vec<String>) {
+        let called = self.lend(name, bytes, (words, room));
+        let reply = match called.refusal {
+            0 => Reply::Answer(self.output[..called.written.min(room)].to_vec()),
+            refusal => Reply::Refused(refusal),
+        };
+        let found = self.left(bytes, (words, room), called, &reply);
+        (reply, found)
+    }
+
+    fn lend(&mut self, name: &str, bytes: &[u8], (words, room): (usize, usize)) -> Called {
         self.grow(words, room);
-        let called = call(
+        call(
             name,
             bytes,
             &mut self.work[..words],
             &mut self.output[..room],
-        );
+        )
+    }
+
+    // What a call said and left that is not as the reply says; the garbage is written again.
+    fn left(
+        &mut self,
+        bytes: &[u8],
+        (words, room): (usize, usize),
+        called: Called,
+        reply: &Reply,
+    ) -> Vec<String> {
         let mut found = said(called, reply);
         if !self.output_right(room, reply) {
             found.push("the output is not as the reply says".to_owned());

@@ -46,6 +46,28 @@ impl Comparison {
         let words = words.min(MOST_WORDS as u64) as usize;
         let reply = with_words(bytes, words, reply);
         let found = self.lent.differences(name, bytes, (words, room), &reply);
+        self.count(name, bytes, (words, room), reply, found);
+    }
+
+    /// One call whose answer is not compared: what it leaves is held to what it gives, which is no
+    /// refusal of the lines or the words.
+    pub fn add_unjudged(&mut self, name: &str, bytes: &[u8], words: u64, room: usize) {
+        let words = words.min(MOST_WORDS as u64) as usize;
+        let (reply, mut found) = self.lent.unjudged(name, bytes, (words, room));
+        if matches!(reply, Reply::Refused(refusal) if ![4, 12].contains(&refusal)) {
+            found.push("a sheet whose lines and words are right is refused".to_owned());
+        }
+        self.count(name, bytes, (words, room), reply, found);
+    }
+
+    fn count(
+        &mut self,
+        name: &str,
+        bytes: &[u8],
+        (words, room): (usize, usize),
+        reply: Reply,
+        found: Vec<String>,
+    ) {
         self.calls += 1;
         self.tally.add(bytes, &reply);
         if found.is_empty() {

@@ -97,6 +97,24 @@ fn generated(seen: &mut BTreeSet<Vec<u8>>) -> Vec<Record> {
     records
 }
 
+/// Generated sheets of any size as records; those that lend more words than this are left out.
+pub fn of_any_size(count: usize, seed: u64) -> Vec<Record> {
+    const MOST_WORDS: u64 = 1 << 23;
+    deep::run(|| {
+        let mut rng = Rng::new(seed);
+        let cases = (1..=count).map(|index| (index, generate::case(&mut rng, Size::Any)));
+        let lent = cases.filter(|(_, case)| case.words <= MOST_WORDS);
+        let record = |(index, case): (usize, Case)| Record {
+            label: format!("generated-{index}"),
+            sheet: case.sheet,
+            words: case.words,
+            room: case.room,
+            reply: case.reply,
+        };
+        lent.map(record).collect()
+    })
+}
+
 /// The records of the list, made anew.
 pub fn made() -> Vec<Record> {
     deep::run(|| {

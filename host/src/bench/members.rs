@@ -1,5 +1,5 @@
 // Sheets to time: of `cover`, `sound` and `complete`.
-use super::{Sample, nested, numbered};
+use super::{Sample, nested, numbered, sum};
 
 fn sample(name: &'static str, sheet: String) -> Sample {
     Sample { name, sheet }
@@ -109,6 +109,13 @@ pub fn complete_levels(depth: usize) -> String {
     general(&nested("h(", &projections(4), ")", depth))
 }
 
+// 256 schemes with fresh variables as summands of two sums.
+fn complete_sums() -> String {
+    let first = |index: usize| format!("tamXCfst(x{index}:Msg)");
+    let summed = |from: usize| sum(&(from..from + 4).map(first).collect::<Vec<_>>());
+    general(&format!("g({},{})", summed(0), summed(4)))
+}
+
 /// Small sheets, many schemes, schemes of a large term, and many members.
 pub fn completes() -> Vec<Sample> {
     vec![
@@ -126,6 +133,7 @@ pub fn completes() -> Vec<Sample> {
         ),
         sample("1,024 schemes", complete_schemes(1_024)),
         sample("4,096 schemes", complete_schemes(4_096)),
+        sample("256 schemes, two sums of four", complete_sums()),
         sample(
             "256 schemes under 500 h",
             general(&nested("h(", &projections(8), ")", 500)),
