@@ -21,7 +21,7 @@ use Rattle.sheet.specs.declared.Cursor.{Cursor}
 use Rattle.sheet.specs.declared.form.Form.{Form}
 use Rattle.sheet.specs.declared.form.Form.the-variants as form
 use Rattle.sheet.proofs.WalkLaws.{pairs-by, two-end, members-later, cover-parts}
-use Rattle.unifier.specs.Stack.{pairs-at}
+use Rattle.steps.specs.Stack.{pairs-at}
 use Rattle.variants.specs.Soundness as code
 use Rattle.variants.specs.declared.soundness.Claim.{Claim}
 use Rattle.cover.specs.Covered.{Asks}

@@ -36,8 +36,8 @@ use Rattle.laws.proofs.Variants.CoverRoom.{keys-within, texts-within}
 use Rattle.laws.proofs.Variants.CompleteRoom.{complete-room}
 use Rattle.tree.specs.Cells.{tree-at}
 use Rattle.sheet.proofs.WordLaws.{count-bound}
-use Rattle.unifier.specs.Stack.{FitPairs}
-use Rattle.unifier.specs.Area.{Room}
+use Rattle.steps.specs.Stack.{FitPairs}
+use Rattle.steps.specs.Area.{Room}
 use Rattle.cover.specs.Covering.{Matched}
 use Rattle.complete.specs.Families.{Family, nil, next}
 use Rattle.complete.specs.Generalizing.{member-pairs, AllMatched}

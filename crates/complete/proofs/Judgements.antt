@@ -35,7 +35,7 @@ use Rattle.reduction.specs.Building.{NewTree}
 use Rattle.reduction.proofs.NormalForms.{normalizes-size}
 use Rattle.schemes.specs.Building.{Systems}
 use Rattle.schemes.specs.declared.systems.System.{System}
-use Rattle.unifier.specs.Stack.{pairs-at, Whole, FitPairs}
+use Rattle.steps.specs.Stack.{pairs-at, Whole, FitPairs}
 use Rattle.unifier.specs.Running.{Roomy, Answers}
 use Rattle.unifier.specs.declared.unifying.Outcome.the-variants as outcome
 use Rattle.unifier.proofs.Tops.{pairs-are, whole-are}

@@ -15,8 +15,8 @@ use Rattle.rules.specs.Schemes.{scheme-at, Judgement, pending, settled, answere
 use Rattle.rules.specs.Memory.{OverPairs}
 use Rattle.tree.specs.Cells.{tree-at, trees-at}
 use Rattle.tree.specs.Arena.{Below}
-use Rattle.unifier.specs.Stack.{FitPairs}
-use Rattle.unifier.specs.Area.{Room}
+use Rattle.steps.specs.Stack.{FitPairs}
+use Rattle.steps.specs.Area.{Room}
 use Rattle.variants.specs.Soundness.{claim}
 use Rattle.variants.specs.declared.soundness.Claim.{Claim}
 use Rattle.schemes.specs.Building.{Fresh}

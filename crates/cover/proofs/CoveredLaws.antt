@@ -12,7 +12,7 @@ use Rattle.text.specs.Places.{text-at}
 use Rattle.tree.specs.Cells.{nodes-of, next-of, tree-at, trees-at}
 use Rattle.tree.specs.Arena.{Arena, Below}
 use Rattle.tree.proofs.Decoding.{trees-none, sizes-more, sizes-is}
-use Rattle.unifier.specs.Stack.{Whole, pairs-at}
+use Rattle.steps.specs.Stack.{Whole, pairs-at}
 use Rattle.cover.specs.Ordered.{ordered}
 use Rattle.cover.specs.Variables.{Ordered}
 use Rattle.cover.specs.Listing.{variable-list, backwards, Lists}

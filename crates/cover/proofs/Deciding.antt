@@ -29,8 +29,8 @@ use Rattle.sheet.specs.declared.Cursor.{Cursor}
 use Rattle.sheet.specs.declared.Line.the-variants.{Whole as a-line, Missing}
 use Rattle.sheet.proofs.LineLaws.{keyed}
 use Rattle.sheet.proofs.WalkLaws.{FirstMember, member-end, member-next, members-later}
-use Rattle.unifier.specs.Stack.{pairs-at, Whole, FitPairs}
-use Rattle.unifier.specs.Area.{Room}
+use Rattle.steps.specs.Stack.{pairs-at, Whole, FitPairs}
+use Rattle.steps.specs.Area.{Room}
 use Rattle.unifier.specs.Running.{Answers}
 use Rattle.unifier.specs.declared.unifying.Outcome.{Outcome}
 use Rattle.unifier.specs.declared.unifying.Outcome.the-variants as outcome

@@ -40,7 +40,7 @@ use Rattle.laws.proofs.Variants.VariableNames.{variables-of-length}
 use Rattle.laws.proofs.Variants.CoverRoom.{texts-within, cover-room}
 use Rattle.tree.specs.Cells.{trees-at}
 use Rattle.sheet.proofs.WordLaws.{count-bound}
-use Rattle.unifier.specs.Stack.{FitPairs, pairs-at}
+use Rattle.steps.specs.Stack.{FitPairs, pairs-at}
 use Rattle.cover.specs.Variables.{Short, SpelledAll}
 use Rattle.cover.specs.Covering.{Matched}
 use Rattle.cover.specs.Covered.{Asks}

@@ -25,7 +25,7 @@ use Rattle.tree.proofs.Decoding.{frame-trees}
 use Rattle.tree.proofs.Areas.{below-then}
 use Rattle.substitution.specs.Bindings.{bindings-of, bindings-at}
 use Rattle.sheet.specs.Members.{members-at}
-use Rattle.unifier.specs.Stack.{pairs-of, pairs-at, Whole, FitPairs}
+use Rattle.steps.specs.Stack.{pairs-of, pairs-at, Whole, FitPairs}
 use Rattle.unifier.specs.Running.{Roomy, Answers}
 use Rattle.unifier.specs.declared.unifying.Outcome.{Outcome}
 use Rattle.unifier.specs.declared.unifying.Outcome.the-variants as outcome

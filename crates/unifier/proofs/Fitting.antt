@@ -24,7 +24,7 @@ use Rattle.laws.proofs.Sheets.BuiltRun.{BuiltBindings, BuiltRest, sums-built, n
 use Rattle.laws.proofs.Sheets.BuiltMatch.{mass, summands-mass, rebuild-mass, cancel-mass}
 use Rattle.laws.proofs.Sheets.NamesRead.{pairs-read-by}
 use Rattle.laws.proofs.Promises.{parse-builds}
-use Rattle.unifier.specs.Stack.{Fit, FitPairs, FitBindings}
+use Rattle.steps.specs.Stack.{Fit, FitPairs, FitBindings}
 
 -- Sums
 

@@ -9,7 +9,7 @@ use Rattle.rules.specs.Memory.{weight}
 use Rattle.tree.specs.Cells.{trees-at}
 use Rattle.tree.specs.Arena.{Below}
 use Rattle.substitution.specs.Bindings.{flatten-bindings}
-use Rattle.unifier.specs.Stepping.{Waits}
+use Rattle.steps.specs.Stepping.{Waits}
 use Rattle.unifier.specs.declared.matching.Moved.{Moved}
 use Rattle.unifier.specs.declared.matching.Moved.the-variants as moved
 
