@@ -14,7 +14,7 @@ use Rattle.rules.specs.Substitution.{Pair, flatten}
 use Rattle.rules.specs.Solving.{Answer}
 use Rattle.rules.specs.Sheet.{Entry, read-sheet}
 use Rattle.rules.specs.Answer.{read-pairs, verdict-lines, answer-of}
-use Rattle.rules.specs.Memory.{weight, sheet-pairs}
+use Rattle.laws.specs.Memory.{weight, sheet-pairs}
 use Rattle.sheet.specs.Form.{sheet-of, Within}
 use Rattle.sheet.specs.declared.Cursor.{Cursor}
 use Rattle.sheet.specs.declared.form.Form.{Form}

@@ -9,15 +9,15 @@ use native.Mathlib.Omega.{arith}
 use Rattle.rules.specs.Bytes.{Text}
 use Rattle.rules.specs.Text.{bytes, count-of}
 use Rattle.rules.specs.Maybe.{every}
-use Rattle.rules.specs.Tree.{Tree, Trees, size}
+use Rattle.rules.specs.Tree.{Tree, Trees, size, variable-names}
 use Rattle.rules.specs.Substitution.{Binding, Pair, instantiate, size-pairs}
 use Rattle.rules.specs.Solving.{solved, unify}
-use Rattle.rules.specs.Sheet.{Sheet, Member, asks-complete}
+use Rattle.rules.specs.Sheet.{Sheet, Member, asks-complete, entry-values}
 use Rattle.rules.specs.Cover.{variables}
 use Rattle.rules.specs.Names.{variable-token}
 use Rattle.rules.specs.Variants.{Variant, read-member, schemes-from, scheme-count}
-use Rattle.rules.specs.Schemes.{scheme-at}
-use Rattle.rules.specs.Memory.{OverPairs, variable-names, entry-keys, entry-values, sheet-texts, sheet-keys, weight, sites}
+use Rattle.laws.specs.Schemes.{scheme-at}
+use Rattle.laws.specs.Memory.{OverPairs, entry-keys, sheet-texts, sheet-keys, weight, sites}
 use Rattle.laws.proofs.Basics.Options.{bound}
 use Rattle.laws.proofs.Reading.Measures.{total}
 use Rattle.laws.proofs.Reading.Colons.{parse-colons, parse-size, parse-brackets}

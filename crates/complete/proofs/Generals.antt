@@ -13,7 +13,7 @@ use Rattle.rules.specs.Tree.{Tree, variable, atom, apply, Trees, none, more, ch
 use Rattle.rules.specs.Substitution.{Binding, Pair, lookup, flatten}
 use Rattle.rules.specs.Solving.{Answer}
 use Rattle.rules.specs.Matching.{matcher}
-use Rattle.rules.specs.Memory.{weight}
+use Rattle.laws.specs.Memory.{weight}
 use Rattle.rules.specs.Cover.{is-failed, covering}
 use Rattle.rules.specs.Variants.{Variant, generalized}
 use Rattle.laws.proofs.Solving.MatchFuel.{matcher-enough}

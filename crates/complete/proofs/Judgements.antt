@@ -16,8 +16,8 @@ use Rattle.rules.specs.Sums.{equivalent}
 use Rattle.rules.specs.Reduction.{normalize}
 use Rattle.rules.specs.Solving.{solved, failed, unsupported, Answer, unify}
 use Rattle.rules.specs.Variants.{Variant, instance-of, generalized}
-use Rattle.rules.specs.Schemes.{scheme-at, Judgement, pending, settled, judge-tests, judge-instance, judge}
-use Rattle.rules.specs.Memory.{OverPairs, weight}
+use Rattle.laws.specs.Schemes.{scheme-at, Judgement, pending, settled, judge-tests, judge-instance, judge}
+use Rattle.laws.specs.Memory.{OverPairs, weight}
 use Rattle.laws.proofs.Basics.Tests.{true-leb, false-leb, leb-true}
 use Rattle.laws.proofs.Solving.Weights.{weight-size}
 use Rattle.laws.proofs.Solving.Budget.{flatten-size}

@@ -6,8 +6,7 @@ use lib.ListN.{length}
 use lib.Seq.{slice, length-slice}
 use native.Mathlib.Omega.{arith}
 use Rattle.rules.specs.Bytes.{Text}
-use Rattle.rules.specs.Tree.{Trees, count, size, sizes}
-use Rattle.rules.specs.Memory.{variable-names-in}
+use Rattle.rules.specs.Tree.{Trees, count, size, sizes, variable-names-in}
 use Rattle.text.specs.Places.{text-at}
 use Rattle.tree.specs.Cells.{nodes-of, next-of, tree-at, trees-at}
 use Rattle.tree.specs.Arena.{Arena, Below}

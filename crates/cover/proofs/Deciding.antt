@@ -14,7 +14,7 @@ use Rattle.rules.specs.Tree.{count}
 use Rattle.rules.specs.Substitution.{Binding, Pair, flatten}
 use Rattle.rules.specs.Solving.{Answer, failed}
 use Rattle.rules.specs.Matching.{matcher}
-use Rattle.rules.specs.Memory.{weight}
+use Rattle.laws.specs.Memory.{weight}
 use Rattle.rules.specs.Sheet.{Entry, Member}
 use Rattle.rules.specs.Cover.{is-failed, covering, covers, any-covers}
 use Rattle.laws.proofs.Solving.MatchFuel.{matcher-enough}

@@ -8,8 +8,7 @@ use lib.Seq.{slice, slice-cons, getD-set-other}
 use native.Mathlib.Omega.{arith}
 use native.Mathlib.Numerals.{add-one}
 use Rattle.rules.specs.Bytes.{Text, same, sort}
-use Rattle.rules.specs.Tree.{Tree, Trees, size, sizes}
-use Rattle.rules.specs.Memory.{variable-names, variable-names-in}
+use Rattle.rules.specs.Tree.{Tree, Trees, size, sizes, variable-names, variable-names-in}
 use Rattle.text.specs.Places.{text-at, places-upto}
 use Rattle.text.specs.Sorting.{sortBy, Sorts}
 use Rattle.text.proofs.Merging.{sort-texts}

@@ -9,9 +9,8 @@ use native.Mathlib.Omega.{arith}
 use native.Mathlib.Decide.{decLt}
 use Rattle.rules.specs.Bytes.{Text}
 use Rattle.rules.specs.Names.{variable-token}
-use Rattle.rules.specs.Tree.{Tree, apply, Trees, more, size, sizes}
+use Rattle.rules.specs.Tree.{Tree, apply, Trees, more, size, sizes, variable-names, variable-names-in}
 use Rattle.rules.specs.Tidy.{Built, a-leaf, a-list, a-sum, Builts, nil, both}
-use Rattle.rules.specs.Memory.{variable-names, variable-names-in}
 use Rattle.laws.proofs.Sheets.BuiltRun.{name-token}
 use Rattle.text.specs.Places.{text-at}
 use Rattle.text.specs.Sorting.{insertBy, sortBy}

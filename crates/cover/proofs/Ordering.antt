@@ -3,9 +3,8 @@ use mathlib.Core.Path.{_≡_, refl, sym, ap, _∙_}
 use mathlib.Core.Bool.{Bool, true, false, true≢false}
 use mathlib.Core.List.{List, [], _∷_, _++_}
 use Rattle.rules.specs.Bytes.{Text, same, upto, insert, sort}
-use Rattle.rules.specs.Tree.{Tree, variable, atom, apply, Trees, none, more}
+use Rattle.rules.specs.Tree.{Tree, variable, atom, apply, Trees, none, more, variable-names, variable-names-in}
 use Rattle.rules.specs.Substitution.{Pair, flatten}
-use Rattle.rules.specs.Memory.{variable-names, variable-names-in}
 use Rattle.rules.specs.Cover.{insert-once, variables, variables-in, variables-of}
 use Rattle.laws.proofs.Basics.Tests.{same-eq, same-of-eq, differ-of-ne, ne-of-differ}
 use Rattle.laws.proofs.Basics.Order.{upto-equal, upto-other, upto-one, upto-trans}

@@ -11,13 +11,13 @@ use native.Mathlib.Decide.{decLt}
 use Rattle.rules.specs.Bytes.{Text}
 use Rattle.rules.specs.Text.{count-of}
 use Rattle.rules.specs.Maybe.{every}
-use Rattle.rules.specs.Tree.{Tree, sizes}
+use Rattle.rules.specs.Tree.{Tree, sizes, variable-names, variable-names-in}
 use Rattle.rules.specs.Reading.{parse}
 use Rattle.rules.specs.Tidy.{Builts, nil, both}
 use Rattle.rules.specs.Substitution.{Binding, Pair, size-pairs, flatten}
 use Rattle.rules.specs.Solving.{solved, unify}
-use Rattle.rules.specs.Memory.{variable-names, variable-names-in, OverPairs, weight, pattern-nodes, side-texts, member-texts, entry-values, entry-keys, sheet-texts}
-use Rattle.rules.specs.Sheet.{Entry, Member, Sheet, asks-cover}
+use Rattle.laws.specs.Memory.{OverPairs, weight, pattern-nodes, side-texts, entry-keys, sheet-texts}
+use Rattle.rules.specs.Sheet.{Entry, Member, Sheet, asks-cover, member-texts, entry-values}
 use Rattle.rules.specs.Answer.{read-pairs}
 use Rattle.rules.specs.Cover.{variables-of, pair-at}
 use Rattle.rules.specs.Families.{Against, nil as no-more, next}

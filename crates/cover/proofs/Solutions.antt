@@ -15,7 +15,7 @@ use Rattle.rules.specs.Maybe.{every}
 use Rattle.rules.specs.Tree.{Trees, count, sizes}
 use Rattle.rules.specs.Substitution.{Pair, size-pairs}
 use Rattle.rules.specs.Solving.{Verdict, solved, failed, unsupported, Answer, unify}
-use Rattle.rules.specs.Memory.{weight}
+use Rattle.laws.specs.Memory.{weight}
 use Rattle.rules.specs.Sheet.{Member}
 use Rattle.rules.specs.Cover.{variables-of, pair-at, any-covers, covered}
 use Rattle.laws.proofs.Solving.Weights.{weight-size}

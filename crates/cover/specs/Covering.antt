@@ -10,7 +10,7 @@ use Rattle.rules.specs.Maybe.{every}
 use Rattle.rules.specs.Substitution.{Pair}
 use Rattle.rules.specs.Sheet.{Entry, Member}
 use Rattle.rules.specs.Cover.{pair-at, covers, any-covers}
-use Rattle.rules.specs.Memory.{weight, pattern-nodes}
+use Rattle.laws.specs.Memory.{weight, pattern-nodes}
 use Rattle.substitution.specs.Bindings.{bindings-at}
 use Rattle.sheet.specs.Lines.{lines-at}
 use Rattle.sheet.specs.Members.{members-at}

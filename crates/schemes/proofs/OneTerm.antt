@@ -9,8 +9,8 @@ use Rattle.rules.specs.Bytes.{Text}
 use Rattle.rules.specs.Tree.{Tree, Trees, none, more, count, size, sizes}
 use Rattle.rules.specs.Substitution.{flatten}
 use Rattle.rules.specs.Variants.{Scheme, scheme-count, scheme-counts}
-use Rattle.rules.specs.Schemes.{scheme-at, joined-at}
-use Rattle.rules.specs.Memory.{sites, sites-in}
+use Rattle.laws.specs.Schemes.{scheme-at, joined-at}
+use Rattle.laws.specs.Memory.{sites, sites-in}
 use Rattle.laws.proofs.Variants.Sites.{sites-few}
 use Rattle.tree.specs.Cells.{tree-at, trees-at}
 use Rattle.tree.specs.Arena.{Links, Arena, Linked}

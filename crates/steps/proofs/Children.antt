@@ -7,7 +7,7 @@ use Rattle.rules.specs.Bytes.{Text}
 use Rattle.rules.specs.Tree.{Trees, none, more, children}
 use Rattle.rules.specs.Substitution.{Pair, flatten}
 use Rattle.rules.specs.Solving.{push-children}
-use Rattle.rules.specs.Memory.{pushed}
+use Rattle.laws.specs.Memory.{pushed}
 use Rattle.tree.specs.Cells.{kind-of, first-of, next-of, tree-at, trees-at}
 use Rattle.tree.specs.Arena.{Links, Arena}
 use Rattle.tree.proofs.Decoding.{Kind, application, a-variable, an-atom, kind, tree-variable, tree-atom, tree-apply, trees-none, trees-more}

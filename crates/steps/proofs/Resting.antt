@@ -12,7 +12,7 @@ use Rattle.rules.specs.Tree.{Tree, size, tamtplus}
 use Rattle.rules.specs.Sums.{summands, rebuild}
 use Rattle.rules.specs.Solving.{cancel, remainder, cancel-sums}
 use Rattle.rules.specs.Solving as rules
-use Rattle.rules.specs.Memory.{kept-summands}
+use Rattle.laws.specs.Memory.{kept-summands}
 use Rattle.laws.proofs.Solving.Weights.{cancel-mass-left}
 use Rattle.laws.proofs.Sheets.BuiltMatch.{mass, summands-mass, cancel-mass}
 use Rattle.tree.specs.Cells.{kind-of, nodes-of, name-at, tree-at}

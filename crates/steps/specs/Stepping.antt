@@ -6,7 +6,7 @@ use Rattle.rules.specs.Bytes.{Text}
 use Rattle.rules.specs.Tree.{Tree, variable}
 use Rattle.rules.specs.Substitution.{Pair, flatten, size-pairs}
 use Rattle.rules.specs.Solving.{Step, goes-on, bind, fails, unknown}
-use Rattle.rules.specs.Memory.{weight}
+use Rattle.laws.specs.Memory.{weight}
 use Rattle.tree.specs.Cells.{tree-at, trees-at}
 use Rattle.tree.specs.Arena.{Arena, Below}
 use Rattle.steps.specs.Differing.{Differing}

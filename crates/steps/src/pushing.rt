@@ -9,7 +9,7 @@ ghost use Prim.Native.Nat.{_+_, _*_, _<_, _≤_, _^_};
 ghost use lib.ListN.{length};
 ghost use Rattle.rules.specs.Bytes.{Text};
 ghost use Rattle.rules.specs.Tree.{children};
-ghost use Rattle.rules.specs.Memory.{pushed};
+ghost use Rattle.laws.specs.Memory.{pushed};
 ghost use Rattle.tree.specs.Cells.{tree-at, trees-at};
 ghost use Rattle.tree.specs.Arena.{Links, Arena};
 ghost use Rattle.substitution.specs.Building.{Made};

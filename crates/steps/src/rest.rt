@@ -15,7 +15,7 @@ ghost use Rattle.rules.specs.Tree.{tamtplus};
 ghost use Rattle.rules.specs.Sums.{equivalent};
 ghost use Rattle.rules.specs.Solving.{cancel-sums};
 ghost use Rattle.rules.specs.Matching.{ground-eq};
-ghost use Rattle.rules.specs.Memory.{kept-summands};
+ghost use Rattle.laws.specs.Memory.{kept-summands};
 ghost use Rattle.tree.specs.Cells.{kind-of, name-at, tree-at};
 ghost use Rattle.tree.specs.Arena.{Arena};
 ghost use Rattle.equivalence.specs.Sums.{test, remaining};

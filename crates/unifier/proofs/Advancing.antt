@@ -8,7 +8,7 @@ use Rattle.rules.specs.Tree.{Tree}
 use Rattle.rules.specs.Substitution.{Binding, Pair, flatten}
 use Rattle.rules.specs.Solving.{solved, failed, unsupported, Answer}
 use Rattle.rules.specs.Matching.{Move, onward, clash, beyond, move, moved, matching, matcher}
-use Rattle.rules.specs.Memory.{load, weight}
+use Rattle.laws.specs.Memory.{load, weight}
 use Rattle.tree.specs.Cells.{next-of, tree-at, trees-at}
 use Rattle.tree.specs.Arena.{Arena, Below}
 use Rattle.tree.proofs.Decoding.{trees-none}

@@ -8,7 +8,7 @@ use Rattle.rules.specs.Bytes.{Text}
 use Rattle.rules.specs.Tree.{Tree, variable, Trees, more}
 use Rattle.rules.specs.Substitution.{Binding, Pair, flatten}
 use Rattle.rules.specs.Solving.{Step, goes-on, bind, fails, unknown, step, Verdict, solved, failed, unsupported, Answer, after, run}
-use Rattle.rules.specs.Memory.{OverPairs, load, weight, without}
+use Rattle.laws.specs.Memory.{OverPairs, load, weight, without}
 use Rattle.laws.proofs.Solving.Names.{StepOver, step-over}
 use Rattle.laws.proofs.Solving.Weights.{weight-size}
 use Rattle.tree.specs.Cells.{next-of, tree-at, trees-at}

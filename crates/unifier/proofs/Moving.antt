@@ -12,7 +12,7 @@ use Rattle.rules.specs.Sums.{equivalent}
 use Rattle.rules.specs.Sorts.{variable-sort, sorted}
 use Rattle.rules.specs.Solving.{Rest, goes-on, cancel-sums, push-children}
 use Rattle.rules.specs.Matching.{Move, onward, clash, bound, agree, bind-new, match-key, match-rest, ground-eq, match-at, match-roots, move}
-use Rattle.rules.specs.Memory.{load, weight, pushed, kept-summands}
+use Rattle.laws.specs.Memory.{load, weight, pushed, kept-summands}
 use Rattle.tree.specs.Cells.{kind-of, name-at, tree-at, trees-at}
 use Rattle.tree.specs.Arena.{Cell, Arena, Below}
 use Rattle.tree.proofs.Decoding.{Kind, application, a-variable, an-atom, kind, tree-variable, tree-atom, tree-apply, frame-trees}

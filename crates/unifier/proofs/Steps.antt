@@ -13,7 +13,7 @@ use Rattle.rules.specs.Substitution.{Pair}
 use Rattle.rules.specs.Sums.{equivalent}
 use Rattle.rules.specs.Sorts.{TamNat, natural, refinable, sort-refuted}
 use Rattle.rules.specs.Solving.{Step, goes-on, fails, cancel-sums, sum-step, push-children, decompose-at, decompose, against, differ, step-at, step, eliminate}
-use Rattle.rules.specs.Memory.{load, weight, pushed}
+use Rattle.laws.specs.Memory.{load, weight, pushed}
 use Rattle.laws.proofs.Basics.Tests.{and-split, and-both}
 use Rattle.laws.proofs.Solving.Weights.{push-weight}
 use Rattle.tree.specs.Cells.{kind-of, name-at, tree-at, trees-at}

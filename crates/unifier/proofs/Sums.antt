@@ -15,7 +15,7 @@ use Rattle.rules.specs.Sums.{equivalent}
 use Rattle.rules.specs.Sorts.{sort-refuted}
 use Rattle.rules.specs.Solving as rules
 use Rattle.rules.specs.Solving.{cancel-sums, if-refuted, sum-step}
-use Rattle.rules.specs.Memory.{load, weight, kept-summands}
+use Rattle.laws.specs.Memory.{load, weight, kept-summands}
 use Rattle.laws.proofs.Basics.Tests.{and-right, and-split, and-both, eqb-true, same-eq, same-of-eq}
 use Rattle.laws.proofs.Solving.Weights.{sum-weight}
 use Rattle.tree.specs.Cells.{kind-of, name-at, tree-at, trees-at}

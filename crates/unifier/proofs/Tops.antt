@@ -7,7 +7,7 @@ use native.Mathlib.Decide.{decLt}
 use Rattle.rules.specs.Bytes.{Text}
 use Rattle.rules.specs.Tree.{Tree, Trees, none, more}
 use Rattle.rules.specs.Substitution.{Pair, flatten}
-use Rattle.rules.specs.Memory.{load, weight}
+use Rattle.laws.specs.Memory.{load, weight}
 use Rattle.tree.specs.Cells.{next-of, tree-at, trees-at}
 use Rattle.tree.specs.Arena.{Links}
 use Rattle.tree.proofs.Decoding.{trees-none, trees-more}

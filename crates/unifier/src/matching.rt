@@ -20,7 +20,7 @@ ghost use Prim.Native.Nat.{_+_, _*_, _<_, _≤_};
 ghost use Rattle.rules.specs.Tree.{tamtplus};
 ghost use Rattle.rules.specs.Solving.{cancel-sums};
 ghost use Rattle.rules.specs.Matching.{bound, match-key, match-rest, ground-eq, match-roots, move, matcher};
-ghost use Rattle.rules.specs.Memory.{load, weight};
+ghost use Rattle.laws.specs.Memory.{load, weight};
 ghost use Rattle.tree.specs.Cells.{kind-of, name-at, tree-at, trees-at};
 ghost use Rattle.tree.specs.Arena.{Arena};
 ghost use Rattle.substitution.specs.Bindings.{bindings-at, Chain};

@@ -23,7 +23,7 @@ ghost use Rattle.rules.specs.Tree.{same-tree, tamtplus};
 ghost use Rattle.rules.specs.Sums.{equivalent};
 ghost use Rattle.rules.specs.Sorts.{sort-refuted};
 ghost use Rattle.rules.specs.Solving.{cancel-sums, sum-step, decompose, step};
-ghost use Rattle.rules.specs.Memory.{load, weight};
+ghost use Rattle.laws.specs.Memory.{load, weight};
 ghost use Rattle.tree.specs.Cells.{kind-of, name-at, tree-at, trees-at};
 ghost use Rattle.tree.specs.Arena.{Arena};
 ghost use Rattle.steps.specs.Stack.{Whole, pairs-at, Fit};

@@ -9,7 +9,7 @@ use lib.ListN.{length, length-map, getD, getElem?}
 use Rattle.rules.specs.Bytes.{Text}
 use Rattle.rules.specs.Tree.{Tree, variable, atom, apply, Trees, none, more}
 use Rattle.rules.specs.Variants.{root-schemes, schemes-from, joined, join-first, scheme-count, scheme-counts}
-use Rattle.rules.specs.Schemes.{root-count, root-at, scheme-at, joined-at, listing}
+use Rattle.laws.specs.Schemes.{root-count, root-at, scheme-at, joined-at, listing}
 use Rattle.laws.proofs.Variants.SchemeCount.{Each, each, children-kept, roots-count, schemes-counted, joined-counted}
 
 -- Elements of lists

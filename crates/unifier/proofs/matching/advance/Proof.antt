@@ -1,6 +1,6 @@
 use mathlib.Core.Logic.{⊎-elim}
 use native.Mathlib.Omega.{arith}
-use Rattle.rules.specs.Memory.{weight}
+use Rattle.laws.specs.Memory.{weight}
 use Rattle.tree.specs.Cells.{tree-at}
 use Rattle.substitution.specs.Bindings.{bindings-at}
 use Rattle.steps.specs.Stack.{pairs-at}

@@ -6,29 +6,18 @@ use mathlib.Core.List.{List, [], _∷_, _++_}
 use mathlib.Core.Option.{Option, some, none as nothing}
 use Prim.Native.Nat.{ℕ, zero, suc, _+_}
 use lib.ListN.{length}
 use Rattle.rules.specs.Bytes.{Text, same}
 use Rattle.rules.specs.Text.{bytes, is-one-of}
-use Rattle.rules.specs.Tree.{Tree, variable, atom, apply, Trees, none, more, size, sizes}
+use Rattle.rules.specs.Tree.{Tree, variable, atom, apply, Trees, none, more, size, sizes, variable-names}
 use Rattle.rules.specs.Substitution.{Binding, Pair}
 use Rattle.rules.specs.Sums.{summands}
 use Rattle.rules.specs.Solving.{cancel}
 use Rattle.rules.specs.Reading.{parse}
 use Rattle.rules.specs.Reduction.{Rule, rule-named}
-use Rattle.rules.specs.Schemes.{root-count}
-use Rattle.rules.specs.Sheet.{Sheet, Entry, Member, asks-equal, asks-unify, asks-match, asks-reduce, asks-cover, asks-sound, asks-complete}
+use Rattle.laws.specs.Schemes.{root-count}
+use Rattle.rules.specs.Sheet.{Sheet, Entry, Member, asks-equal, asks-unify, asks-match, asks-reduce, asks-cover, asks-sound, asks-complete, member-texts}
 
 -- Names
-
--- the variables of a tree, each as often as it occurs
-unfoldable mutual
-  pub variable-names : Tree → List Text
-  variable-names (variable x) = x ∷ []
-  variable-names (atom c d) = []
-  variable-names (apply f ts) = variable-names-in ts
-
-  pub variable-names-in : Trees → List Text
-  variable-names-in none = []
-  variable-names-in (more t ts) = variable-names t ++ variable-names-in ts
 
 unfoldable pub variable-names-of-pairs : List Pair → List Text
 unfolding variable-names
@@ -113,16 +102,6 @@ side-texts (e ∷ es) = e .0 ∷ e .1 ∷ side-texts es
 unfoldable pub entry-keys : List Entry → List Text
 entry-keys [] = []
 entry-keys (e ∷ es) = e .0 ∷ entry-keys es
-
-unfoldable pub entry-values : List Entry → List Text
-entry-values [] = []
-entry-values (e ∷ es) = e .1 ∷ entry-values es
-
--- a member's texts are those of its `member` and `value` lines, not its keys
-unfoldable pub member-texts : List Member → List Text
-unfolding entry-values
-member-texts [] = []
-member-texts (m ∷ ms) = m .0 ∷ (entry-values (m .1) ++ member-texts ms)
 
 unfoldable pub member-keys : List Member → List Text
 unfolding entry-keys
