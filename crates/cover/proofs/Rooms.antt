@@ -65,7 +65,7 @@ flatten-short s l = pairs-read-by (λ es ps. All (PartOf s) (side-texts es) → 
     (λ e es p ps f g ih h. short-append (variable-names (p .0)) (variable-names (p .1) ++ variable-names-in (flatten ps)) (short-read s (e .0) (p .0) l (h .0) f)
     (short-append (variable-names (p .1)) (variable-names-in (flatten ps)) (short-read s (e .1) (p .1) l (h .1 .0) g) (ih (h .1 .1))))
 
-fit-sides : (qs : List Pair) → BuiltPairs qs → Sides (Upto 4096) (Upto 4096) qs → FitPairs qs
+pub fit-sides : (qs : List Pair) → BuiltPairs qs → Sides (Upto 4096) (Upto 4096) qs → FitPairs qs
 fit-sides [] b h = tt
 fit-sides (q ∷ qs) b h = (record { built = b .0; small = h .0 }, record { built = b .1; small = h .1 }, fit-sides qs (b .2) (h .2))
 

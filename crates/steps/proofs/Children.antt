@@ -11,8 +11,9 @@ use Rattle.laws.specs.Memory.{pushed}
 use Rattle.tree.specs.Cells.{kind-of, first-of, next-of, tree-at, trees-at}
 use Rattle.tree.specs.Arena.{Links, Arena}
 use Rattle.tree.proofs.Decoding.{Kind, application, a-variable, an-atom, kind, tree-variable, tree-atom, tree-apply, trees-none, trees-more}
+use Rattle.tree.proofs.Areas.{grown-then}
 use Rattle.substitution.specs.Building.{Made}
-use Rattle.substitution.proofs.Growing.{grown-then, made-same, made-tree}
+use Rattle.substitution.proofs.Growing.{made-same, made-tree}
 use Rattle.steps.specs.Stack.{pairs-of, pushes}
 
 -- pairs read back

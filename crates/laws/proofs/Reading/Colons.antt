@@ -132,7 +132,7 @@ unfolding nested size
 nested-size t none = omega arith
 nested-size t (more u us) = let h = nested-size u us in omega arith
 
-leaf-size : (n : Text) → size (leaf n) ≡ 1
+pub leaf-size : (n : Text) → size (leaf n) ≡ 1
 unfolding leaf size
 leaf-size n = go (eqb (count-of 58 n) 0)
   where
