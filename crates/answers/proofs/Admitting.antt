@@ -1,7 +1,6 @@
 -- What the definition of admission gives on each of its conditions.
 use mathlib.Core.Path.{_≡_, refl, sym, ap, subst, _∙_}
 use mathlib.Core.Option.{Option, some, none}
-use mathlib.Core.Bool.{false}
 use mathlib.Core.List.{[], _∷_}
 use Prim.Native.Nat.{ℕ, _<_, _≤_}
 use native.Mathlib.Omega.{arith}
@@ -10,9 +9,8 @@ use types.Run.{OneOf, miss}
 use lib.ListN.{length}
 use borrow.Author.Tests.{le-leb, lt-leb}
 use Rattle.rules.specs.Bytes.{Text}
-use Rattle.rules.specs.Names.{all}
 use Rattle.rules.specs.Sheet.{Sheet, read-sheet, words-needed}
-use Rattle.rules.specs.Call.{refused, passed, plain, admitted}
+use Rattle.rules.specs.Call.{refused, passed, admitted}
 use Rattle.sheet.specs.Form.{sheet-of, ReadsAs, form-words}
 use Rattle.sheet.specs.declared.form.Form.{Form}
 use Rattle.sheet.specs.declared.form.Form.the-variants as form
@@ -21,14 +19,6 @@ use Rattle.sheet.proofs.WordLaws.{words-same}
 use Rattle.answers.specs.Admission.{Fine, Stands}
 
 module _ (s : Text) (words : ℕ) where
-  pub long : 65536 < length s → admitted s words ≡ refused 1
-  unfolding admitted
-  long h = rw (lt-leb (length s) 65536 h)
-
-  pub foreign : length s ≤ 65536 → all plain s ≡ false → admitted s words ≡ refused 2
-  unfolding admitted
-  foreign h e = rw (le-leb (length s) 65536 h, e)
-
   module _ (fine : Fine s) where
     pub unread : read-sheet s ≡ none → admitted s words ≡ refused 3
     unfolding admitted

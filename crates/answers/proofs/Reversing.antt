@@ -10,10 +10,11 @@ use Rattle.rules.specs.Sheet.{Entry}
 use Rattle.tree.specs.Cells.{next-of, tree-at, trees-at}
 use Rattle.tree.specs.Arena.{Arena, Linked}
 use Rattle.tree.proofs.Decoding.{trees-none, trees-more, same-next}
+use Rattle.tree.proofs.Areas.{grown-same}
 use Rattle.reading.specs.Machine.{back}
 use Rattle.reading.proofs.Ordering.{back-none, count-more}
 use Rattle.substitution.specs.Building.{Made}
-use Rattle.substitution.proofs.Growing.{grown-same, made-linked, made-tree}
+use Rattle.substitution.proofs.Growing.{made-linked, made-tree}
 use Rattle.answers.specs.Pairs.{PairsFrom, Reversed, ReadPairs}
 
 -- the trees before cell k stand in us, the last first

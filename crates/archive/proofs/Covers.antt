@@ -1,8 +1,8 @@
 -- The answer to a sheet of kind `cover`: what its pairs and members are, and what is claimed of them.
-use mathlib.Core.Path.{_≡_, refl, sym, ap, subst, _∙_}
+use mathlib.Core.Path.{_≡_, sym, ap, subst, _∙_}
 use mathlib.Core.Bool.{Bool}
-use mathlib.Core.List.{List, _++_}
-use mathlib.Core.Option.{Option, some, none, Option·some-injective}
+use mathlib.Core.List.{List}
+use mathlib.Core.Option.{Option, some, none}
 use Prim.Native.Nat.{ℕ, _+_, _*_, _≤_}
 use native.Mathlib.Omega.{arith}
 use lib.ListN.{length}
@@ -10,18 +10,16 @@ use Rattle.rules.specs.Bytes.{Text}
 use Rattle.rules.specs.Text.{bytes, count-of}
 use Rattle.rules.specs.Maybe.{_>>=_}
 use Rattle.rules.specs.Substitution.{Pair}
-use Rattle.rules.specs.Sheet.{Entry, Member, asks-cover, pairs, members-from, none-waiting, read-sheet}
+use Rattle.rules.specs.Sheet.{Member, asks-cover, pairs, read-sheet}
 use Rattle.rules.specs.Cover.{covered}
 use Rattle.rules.specs.Answer.{read-pairs, line, claim, answer-of}
-use Rattle.sheet.specs.Lines.{lines-at}
-use Rattle.sheet.specs.Pairs.{entries-by, before}
 use Rattle.sheet.specs.Members.{members-at}
-use Rattle.sheet.specs.Form.{sheet-of, Within, Walked}
+use Rattle.sheet.specs.Form.{sheet-of, Within}
 use Rattle.sheet.specs.declared.Cursor.{Cursor}
 use Rattle.sheet.specs.declared.form.Form.{Form}
 use Rattle.sheet.specs.declared.form.Form.the-variants as form
-use Rattle.sheet.proofs.WalkLaws.{pairs-by, two-end, members-later, cover-parts}
-use Rattle.unifier.specs.Stack.{pairs-at}
+use Rattle.sheet.proofs.WalkLaws.{members-later, cover-parts, walked-rest, lines-members}
+use Rattle.steps.specs.Stack.{pairs-at}
 use Rattle.variants.specs.Soundness as code
 use Rattle.variants.specs.declared.soundness.Claim.{Claim}
 use Rattle.cover.specs.Covered.{Asks}
@@ -35,20 +33,6 @@ use Rattle.answers.specs.declared.Settled.the-variants.{Unreadable}
 use Rattle.answers.proofs.Giving.{unreadable-settles, claim-line}
 use Rattle.archive.proofs.KindLaws.{read-settled}
 use Rattle.archive.proofs.Solves.{read-whole, read-are}
-
--- the lines where all pairs were walked over are those after them
-walked-rest : (s : Text) (at c : ℕ) → Walked s at c → (es : List Entry) (rest : List Text) → (lines-at s at >>= pairs) ≡ some (es, rest) → lines-at s c ≡ some rest
-walked-rest s at c w es rest h = go (lines-at s c >>= entries-by (bytes "left=") (bytes "right=")) refl (sym (w .walk .chain) ∙ sym (pairs-by s at) ∙ h)
-  where
-    go : (o : Option (List Entry × List Text)) → (lines-at s c >>= entries-by (bytes "left=") (bytes "right=")) ≡ o → (o >>= before (w .walk .es)) ≡ some (es, rest) → lines-at s c ≡ some rest
-    go none k g = let z : _≡_ {A = ℕ} 0 1 = cc in absurd (omega arith)
-    go (some (fs, ls)) k g =
-        two-end (bytes "left=") (bytes "right=") s c fs ls k (w .stops) .1
-        ∙ ap (λ (p : List Entry × List Text). some (p .1)) (Option·some-injective (w .walk .es ++ fs, ls) (es, rest) g)
-
-lines-members : (s : Text) (c : ℕ) (rest : List Text) (ms : List Member) → lines-at s c ≡ some rest → members-at s c ≡ some ms → none-waiting (members-from rest) ≡ some ms
-unfolding members-at
-lines-members s c rest ms e h = sym (ap (λ (o : Option (List Text)). o >>= λ ls. none-waiting (members-from ls)) e) ∙ h
 
 -- the members of the form are those after its pairs
 pub cover-asked : (s : Text) (c d : Cursor) (f : Form) → f ≡ form.Cover c d → Decoded s f → CoverAsked s (c .at)

@@ -11,7 +11,7 @@ use Rattle.rules.specs.Maybe.{_>>=_}
 use Rattle.rules.specs.Reading.{canonical-text}
 use Rattle.rules.specs.Sheet.{asks-equal}
 use Rattle.rules.specs.Answer.{line, claim, answer-of}
-use Rattle.sheet.proofs.LineLaws.{drop-take}
+use Rattle.text.proofs.Slices.{drop-take}
 use Rattle.certificate.specs.Comparing.{equivalence-of}
 use Rattle.certificate.specs.declared.Equivalence.{Equivalence}
 use Rattle.certificate.specs.declared.Equivalence.the-variants.{Yes, No, Unreadable}

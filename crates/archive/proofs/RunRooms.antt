@@ -11,7 +11,7 @@ use Rattle.rules.specs.Text.{count-of}
 use Rattle.rules.specs.Sheet.{Sheet, read-sheet}
 use Rattle.rules.specs.Substitution.{Pair}
 use Rattle.rules.specs.Answer.{read-pairs}
-use Rattle.rules.specs.Memory.{OverPairs, weight, sheet-pairs}
+use Rattle.laws.specs.Memory.{OverPairs, weight, sheet-pairs}
 use Rattle.sheet.proofs.WordLaws.{count-bound}
 use Rattle.laws.proofs.Solving.Weights.{weight-size}
 use Rattle.laws.proofs.Sheets.NamesRead.{sheet-names, sides-held, pairs-over, pairs-sizes}

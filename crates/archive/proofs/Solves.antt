@@ -14,19 +14,19 @@ use Rattle.rules.specs.Substitution.{Pair, flatten}
 use Rattle.rules.specs.Solving.{Answer}
 use Rattle.rules.specs.Sheet.{Entry, read-sheet}
 use Rattle.rules.specs.Answer.{read-pairs, verdict-lines, answer-of}
-use Rattle.rules.specs.Memory.{weight, sheet-pairs}
+use Rattle.laws.specs.Memory.{weight, sheet-pairs}
 use Rattle.sheet.specs.Form.{sheet-of, Within}
 use Rattle.sheet.specs.declared.Cursor.{Cursor}
 use Rattle.sheet.specs.declared.form.Form.{Form}
 use Rattle.sheet.specs.declared.form.Form.the-variants as form
 use Rattle.sheet.proofs.WalkLaws.{unify-pairs, match-pairs}
 use Rattle.tree.specs.Cells.{trees-at}
-use Rattle.unifier.specs.Stack.{pairs-of, pairs-at, Whole, FitPairs}
-use Rattle.unifier.specs.Area.{Room}
+use Rattle.steps.specs.Stack.{pairs-of, pairs-at, Whole, FitPairs}
+use Rattle.steps.specs.Area.{Room}
 use Rattle.unifier.specs.Running.{Roomy, Answers}
 use Rattle.unifier.specs.declared.unifying.Outcome.{Outcome}
 use Rattle.unifier.specs.declared.unifying.Outcome.the-variants as outcome
-use Rattle.unifier.proofs.Children.{pairs-flatten}
+use Rattle.steps.proofs.Children.{pairs-flatten}
 use Rattle.unifier.proofs.Fitting.{pairs-fit}
 use Rattle.answers.specs.Settling.{Settles}
 use Rattle.answers.specs.Admission.{Decoded}

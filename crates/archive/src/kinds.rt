@@ -37,7 +37,7 @@ ghost use Rattle.tree.specs.Cells.{trees-at};
 ghost use Rattle.tree.specs.Arena.{Arena};
 ghost use Rattle.sheet.specs.Form.{text-of, Inside, sheet-of, form-words};
 ghost use Rattle.answers.specs.Admission.{Decoded};
-ghost use Rattle.unifier.specs.Stack.{Whole, pairs-at, FitPairs};
+ghost use Rattle.steps.specs.Stack.{Whole, pairs-at, FitPairs};
 ghost use Rattle.unifier.specs.Running.{Roomy, Answers as Solves};
 ghost use Rattle.answers.specs.Settling.{Settles};
 ghost use Rattle.archive.specs.Answering.{SettlesForm};

@@ -11,11 +11,11 @@ use native.Mathlib.Decide.{decLt}
 use native.Mathlib.Numerals.{add-one}
 use borrow.Author.Tests.{eq-eqb, ne-eqb, lt-ltb, le-ltb, eqb-true, eqb-false, ltb-true}
 use Rattle.rules.specs.Text.{bytes}
-use Rattle.laws.specs.Unspelled.{zeros, unspelled}
+use Rattle.laws.specs.Unspelled.{zeros, zeros-name}
+use Rattle.laws.proofs.Renaming.Unspelled.{unspelled-zeros}
 use Rattle.tree.specs.Cells.{fixed-name}
 use Rattle.tree.proofs.FixedNames.{fixed-some, fixed-unspelled}
-use Rattle.certificate.specs.Texts.{code-name, code-text, code-width, word-text, width-of, texts, Token, lex, after, zeros-name, zeros-of, more-zeros}
-use Rattle.certificate.specs.declared.order.Order.{Order}
+use Rattle.certificate.specs.Texts.{code-name, code-text, code-width, word-text, width-of, texts, Token, lex, after, zeros-of, more-zeros}
 use Rattle.certificate.specs.declared.order.Order.the-variants.{Less, Equal, Greater}
 use Rattle.certificate.specs.declared.order.Spot.{Spot}
 
@@ -187,10 +187,6 @@ lex-same [] u v = refl
 lex-same (x ∷ c) u v = rw (le-ltb x x (omega arith)) (lex-same c u v)
 
 -- names that no sheet spells
-unspelled-zeros : (n : ℕ) → unspelled n ≡ zeros-name (65536 + n)
-unfolding unspelled
-unspelled-zeros n = refl
-
 pub zeros-some : (x : ℕ) → x % 65536 ≡ 0 → 262 < x / 65536 → x / 65536 < 512 → zeros-of x ≡ x / 65536 + 65273
 unfolding zeros-of
 zeros-some x e h k = rw (eq-eqb (x % 65536) 0 e, lt-ltb 262 (x / 65536) h, lt-ltb (x / 65536) 512 k)

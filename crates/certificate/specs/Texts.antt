@@ -6,9 +6,7 @@ use mathlib.Core.Bool.{Bool, false, cond}
 use mathlib.Core.List.{List, [], _∷_, _++_}
 use lib.Dec.{eqb, ltb}
 use lib.ListN.{length, getD, take, drop}
-use Rattle.rules.specs.Text.{bytes}
 use Rattle.rules.specs.Tree.{tamtplus}
-use Rattle.laws.specs.Unspelled.{zeros}
 use Rattle.tree.specs.Cells.{fixed-name}
 use Rattle.certificate.specs.declared.order.Order.{Order}
 use Rattle.certificate.specs.declared.order.Order.the-variants.{Less, Equal, Greater}
@@ -59,10 +57,6 @@ lex (x ∷ a) (y ∷ b) = cond (ltb x y) Less (cond (ltb y x) Greater (lex a b))
 -- the spot after a spot, where x is the spot's word
 unfoldable pub after : ℕ → Spot → Spot
 after x p = cond (eqb (p .byte + 1) (width-of x)) (record { word = p .word + 1; byte = 0 }) (record { word = p .word; byte = p .byte + 1 })
-
--- the name of an x, so many zeros, a colon and Msg
-abbrev pub zeros-name : ℕ → List ℕ
-zeros-name n = 120 ∷ (zeros n ++ bytes ":Msg")
 
 -- how many zeros the word x has if its name is one that no sheet spells, and 0 for any other word
 unfoldable pub zeros-of : ℕ → ℕ

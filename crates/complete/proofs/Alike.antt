@@ -17,7 +17,7 @@ use Rattle.rules.specs.Reduction.{normalize}
 use Rattle.rules.specs.Solving.{Verdict, solved, failed, unsupported, unify}
 use Rattle.rules.specs.Cover.{covering}
 use Rattle.rules.specs.Variants.{Variant, instance-of, Scheme, schemes-from, system, generalized}
-use Rattle.rules.specs.Schemes.{Judgement, pending, settled, judge-tests, judge-instance, judge, judge-verdict, judged, judged-from}
+use Rattle.laws.specs.Schemes.{Judgement, pending, settled, judge-tests, judge-instance, judge, judge-verdict, judged, judged-from}
 use Rattle.laws.proofs.Variants.Targets.{All}
 use Rattle.laws.proofs.Variants.VariableOrder.{Token}
 use Rattle.substitution.specs.Bindings.{bindings-of}

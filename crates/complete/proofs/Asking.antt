@@ -3,28 +3,25 @@ use Prim.Native.Nat.{ℕ, _+_, _*_, _<_, _≤_}
 use mathlib.Core.Path.{_≡_, refl, sym, ap, subst, _∙_}
 use mathlib.Core.Bool.{true}
 use mathlib.Core.List.{List, [], _∷_, map, reverse, reverseAux, List·Memᴰ, List·Memᴰ·head, List·Memᴰ·tail, List·Memᴰ·not-nil}
-use mathlib.Core.Option.{Option, some, Option·some-injective}
+use mathlib.Core.Option.{some, Option·some-injective}
 use lib.ListN.{length}
 use native.Mathlib.Omega.{arith}
 use Rattle.rules.specs.Bytes.{Text}
 use Rattle.rules.specs.Text.{bytes, count-of}
 use Rattle.rules.specs.Maybe.{every}
-use Rattle.rules.specs.Tree.{Tree, Trees, size}
+use Rattle.rules.specs.Tree.{Tree, Trees, size, variable-names}
 use Rattle.rules.specs.Substitution.{Binding, Pair, instantiate, size-pairs}
 use Rattle.rules.specs.Solving.{solved, unify}
-use Rattle.rules.specs.Sheet.{Sheet, Member, asks-complete}
+use Rattle.rules.specs.Sheet.{Sheet, Member, asks-complete, entry-values}
 use Rattle.rules.specs.Cover.{variables}
 use Rattle.rules.specs.Names.{variable-token}
 use Rattle.rules.specs.Variants.{Variant, read-member, schemes-from, scheme-count}
-use Rattle.rules.specs.Schemes.{scheme-at}
-use Rattle.rules.specs.Memory.{OverPairs, variable-names, entry-keys, entry-values, sheet-texts, sheet-keys, weight, sites}
+use Rattle.laws.specs.Schemes.{scheme-at}
+use Rattle.laws.specs.Memory.{OverPairs, entry-keys, sheet-texts, sheet-keys, weight, sites}
 use Rattle.laws.proofs.Basics.Options.{bound}
 use Rattle.laws.proofs.Reading.Measures.{total}
 use Rattle.laws.proofs.Reading.Colons.{parse-colons, parse-size, parse-brackets}
 use Rattle.laws.proofs.Reading.Builds.{builds, reads-within}
-use Rattle.laws.proofs.Solving.Keeping.{Sides}
-use Rattle.laws.proofs.Solving.Weights.{Upto}
-use Rattle.laws.proofs.Sheets.BuiltRun.{BuiltPairs}
 use Rattle.laws.proofs.Sheets.NamesRead.{texts-colons, sheet-bytes, names-over, includes-self}
 use Rattle.laws.proofs.Variants.Targets.{All}
 use Rattle.laws.proofs.Variants.VariableNames.{variables-length}
@@ -36,19 +33,16 @@ use Rattle.laws.proofs.Variants.CoverRoom.{keys-within, texts-within}
 use Rattle.laws.proofs.Variants.CompleteRoom.{complete-room}
 use Rattle.tree.specs.Cells.{tree-at}
 use Rattle.sheet.proofs.WordLaws.{count-bound}
-use Rattle.unifier.specs.Stack.{FitPairs}
-use Rattle.unifier.specs.Area.{Room}
+use Rattle.steps.specs.Stack.{FitPairs}
+use Rattle.steps.specs.Area.{Room}
 use Rattle.cover.specs.Covering.{Matched}
+use Rattle.cover.proofs.Rooms.{fit-sides}
 use Rattle.complete.specs.Families.{Family, nil, next}
 use Rattle.complete.specs.Generalizing.{member-pairs, AllMatched}
 use Rattle.complete.specs.Judging.{fuel-for, system-of, solved-end, Judgeable}
 use Rattle.complete.specs.Completing.{Asks}
 use Rattle.complete.proofs.Alike.{stands-alike}
 use Rattle.complete.proofs.Rooms.{fuel-few, match-words, match-room}
-
-fit-sides : (qs : List Pair) → BuiltPairs qs → Sides (Upto 4096) (Upto 4096) qs → FitPairs qs
-fit-sides [] b h = tt
-fit-sides (q ∷ qs) b h = (record { built = b .0; small = h .0 }, record { built = b .1; small = h .1 }, fit-sides qs (b .2) (h .2))
 
 -- ---- members that are read
 

@@ -14,8 +14,8 @@ use Rattle.rules.specs.Tree.{Trees, size}
 use Rattle.rules.specs.Sheet.{Member, asks-complete}
 use Rattle.rules.specs.Cover.{variables}
 use Rattle.rules.specs.Variants.{Variant, read-member, fresh-base, fresh-from, scheme-count, complete}
-use Rattle.rules.specs.Schemes.{pending, judged-from}
-use Rattle.rules.specs.Memory.{sheet-texts}
+use Rattle.laws.specs.Schemes.{pending, judged-from}
+use Rattle.laws.specs.Memory.{sheet-texts}
 use Rattle.laws.proofs.Basics.Tests.{leb-true, leb-false}
 use Rattle.laws.proofs.Reading.Builds.{builds}
 use Rattle.laws.proofs.Sheets.SheetParts.{sheet-parts}

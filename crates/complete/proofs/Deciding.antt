@@ -14,7 +14,7 @@ use Rattle.rules.specs.Tree.{Tree, Trees, size}
 use Rattle.rules.specs.Substitution.{Binding, Pair}
 use Rattle.rules.specs.Solving.{Verdict, solved, failed, unsupported, unify}
 use Rattle.rules.specs.Variants.{Variant, scheme-count}
-use Rattle.rules.specs.Schemes.{scheme-at, Judgement, pending, settled, answered, judge, judge-verdict, judged-from}
+use Rattle.laws.specs.Schemes.{scheme-at, Judgement, pending, settled, answered, judge, judge-verdict, judged-from}
 use Rattle.laws.proofs.Variants.OnePass.{judged-next, judged-end}
 use Rattle.tree.specs.Cells.{tree-at, trees-at}
 use Rattle.tree.specs.Arena.{Arena, Below}

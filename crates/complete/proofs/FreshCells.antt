@@ -24,7 +24,7 @@ use Rattle.tree.specs.Arena.{Arena, Grown, Linked}
 use Rattle.tree.specs.Output.{written, Printed}
 use Rattle.tree.proofs.Decoding.{frame-tree}
 use Rattle.tree.proofs.Printing.{printed-then, printed-number}
-use Rattle.substitution.proofs.Growing.{grown-same, grown-then}
+use Rattle.tree.proofs.Areas.{grown-same, grown-then}
 use Rattle.sheet.specs.Lines.{part-of}
 use Rattle.cover.specs.Variables.{Variable}
 use Rattle.complete.specs.Searching.{spells, SpelledAt}

@@ -14,9 +14,8 @@ use Rattle.rules.specs.Variants.{Variant, read-member}
 use Rattle.tree.specs.Cells.{fixed-name, tree-at, trees-at}
 use Rattle.tree.specs.Arena.{Arena, Wrote, Linked, Below}
 use Rattle.tree.proofs.Decoding.{frame-trees, trees-none}
-use Rattle.tree.proofs.Areas.{below-same, below-grown, below-then}
+use Rattle.tree.proofs.Areas.{below-same, below-grown, below-then, grown-then}
 use Rattle.substitution.specs.Building.{Made}
-use Rattle.substitution.proofs.Growing.{grown-then}
 use Rattle.reduction.proofs.Placing.{linked-fixed-over}
 use Rattle.sheet.specs.Lines.{value-at}
 use Rattle.sheet.specs.Members.{members-at}

@@ -13,7 +13,7 @@ use Rattle.rules.specs.Tree.{Tree, variable, atom, apply, Trees, none, more, ch
 use Rattle.rules.specs.Substitution.{Binding, Pair, lookup, flatten}
 use Rattle.rules.specs.Solving.{Answer}
 use Rattle.rules.specs.Matching.{matcher}
-use Rattle.rules.specs.Memory.{weight}
+use Rattle.laws.specs.Memory.{weight}
 use Rattle.rules.specs.Cover.{is-failed, covering}
 use Rattle.rules.specs.Variants.{Variant, generalized}
 use Rattle.laws.proofs.Solving.MatchFuel.{matcher-enough}
@@ -23,8 +23,8 @@ use Rattle.tree.proofs.Decoding.{Kind, application, a-variable, an-atom, kind, 
 use Rattle.tree.proofs.Areas.{below-same, below-then, below-grown}
 use Rattle.substitution.specs.Bindings.{bindings-of, bindings-at}
 use Rattle.substitution.specs.Building.{Made}
-use Rattle.unifier.specs.Stack.{pairs-at, Whole, FitPairs}
-use Rattle.unifier.specs.Area.{Room}
+use Rattle.steps.specs.Stack.{pairs-at, Whole, FitPairs}
+use Rattle.steps.specs.Area.{Room}
 use Rattle.unifier.specs.Running.{Answers}
 use Rattle.unifier.specs.declared.unifying.Outcome.{Outcome}
 use Rattle.unifier.specs.declared.unifying.Outcome.the-variants as outcome

@@ -16,9 +16,9 @@ use Rattle.rules.specs.Names.{digit}
 use Rattle.rules.specs.Tokens.{run-length}
 use Rattle.rules.specs.Decimal.{value-from, proper, number-up-to}
 use Rattle.rules.specs.Tree as tree
-use Rattle.rules.specs.Memory.{variable-names, variable-names-in}
 use Rattle.rules.specs.Cover.{insert-once}
 use Rattle.rules.specs.Variants.{index-of, fresh-base, fresh-base-in}
+use Rattle.rules.specs.Tree.{variable-names, variable-names-in}
 use Rattle.laws.proofs.Basics.Tests.{same-eq, leb-true}
 use Rattle.text.specs.Places.{text-at}
 use Rattle.text.specs.Numbers.{number-of}

@@ -10,14 +10,14 @@ use lib.Seq.{length-take-le}
 use native.Mathlib.Omega.{arith}
 use Rattle.rules.specs.Bytes.{Text}
 use Rattle.rules.specs.Maybe.{_>>=_, guard}
-use Rattle.rules.specs.Tree.{Tree, Trees, none, more, size, sizes, count}
+use Rattle.rules.specs.Tree.{Tree, Trees, size, sizes, count}
 use Rattle.rules.specs.Substitution.{Binding, Pair, instantiate, flatten, size-pairs}
 use Rattle.rules.specs.Sums.{equivalent}
 use Rattle.rules.specs.Reduction.{normalize}
 use Rattle.rules.specs.Solving.{solved, failed, unsupported, Answer, unify}
 use Rattle.rules.specs.Variants.{Variant, instance-of, generalized}
-use Rattle.rules.specs.Schemes.{scheme-at, Judgement, pending, settled, judge-tests, judge-instance, judge}
-use Rattle.rules.specs.Memory.{OverPairs, weight}
+use Rattle.laws.specs.Schemes.{scheme-at, Judgement, pending, settled, judge-tests, judge-instance, judge}
+use Rattle.laws.specs.Memory.{OverPairs, weight}
 use Rattle.laws.proofs.Basics.Tests.{true-leb, false-leb, leb-true}
 use Rattle.laws.proofs.Solving.Weights.{weight-size}
 use Rattle.laws.proofs.Solving.Budget.{flatten-size}
@@ -32,10 +32,10 @@ use Rattle.substitution.specs.Bindings.{bindings-of, bindings-at}
 use Rattle.substitution.specs.Building.{Placed, instance-at}
 use Rattle.certificate.specs.Writer as writer
 use Rattle.reduction.specs.Building.{NewTree}
-use Rattle.reduction.proofs.NormalForms.{normalizes-size}
+use Rattle.reduction.proofs.NormalForms.{normalize-size}
 use Rattle.schemes.specs.Building.{Systems}
 use Rattle.schemes.specs.declared.systems.System.{System}
-use Rattle.unifier.specs.Stack.{pairs-at, Whole, FitPairs}
+use Rattle.steps.specs.Stack.{pairs-at, Whole, FitPairs}
 use Rattle.unifier.specs.Running.{Roomy, Answers}
 use Rattle.unifier.specs.declared.unifying.Outcome.the-variants as outcome
 use Rattle.unifier.proofs.Tops.{pairs-are, whole-are}
@@ -59,10 +59,6 @@ module _ (xs : List Text) (ms : List Variant) (bs : List Binding) (value : Tree)
       → judge xs ms bs value pending ≡ judge-tests (equivalent (instantiate bs value) (normalize (instantiate bs value))) (generalized xs ms bs (instantiate bs value))
   unfolding judge judge-instance instance-of
   judge-there h = ap (λ (b : Bool). judge-instance xs ms bs (guard b >>= λ _. some (instantiate bs value))) (true-leb (size (instantiate bs value)) 4096 h)
-
-normal-small : (t : Tree) → size (normalize t) ≤ size t
-unfolding normalize size
-normal-small t = let h = normalizes-size (more t none) in omega arith
 
 module _ {s : Text} {w v u : List ℕ} {n index end left i stop : ℕ} (value bindings names members : ℕ) (a : Arena s w n) (bb : bindings < n) (nb : names < n) (mb : members < n)
     (one : Placed s w v n 4096 0 (instance-at s w bindings value) index end left) (two : NewTree s v u end (size (tree-at s v index)) 0 (normalize (tree-at s v index)) i stop) where
@@ -88,7 +84,7 @@ module _ {s : Text} {w v u : List ℕ} {n index end left i stop : ℕ} (value bi
   normal-now = two .tree ∙ ap normalize (one .before .tree)
 
   pub solved-sizes : (size (tree-at s u index) ≤ 4096) × (size (tree-at s u i) ≤ 4096) × (n ≤ end) × (end ≤ stop) × (stop ≤ n + 8192)
-  solved-sizes = omega (arith, made-small, ap size made-now, ap size normal-now, normal-small made-tree, ap size (one .before .tree), one .before .grew, one .used, two .grew, two .used)
+  solved-sizes = omega (arith, made-small, ap size made-now, ap size normal-now, normalize-size made-tree, ap size (one .before .tree), one .before .grew, one .used, two .grew, two .used)
 
   normal-is : (r : Bool) → r ≡ equivalent (tree-at s u index) (tree-at s u i) → equivalent made-tree (normalize made-tree) ≡ r
   normal-is r e = sym (e ∙ ap₂ equivalent made-now normal-now)

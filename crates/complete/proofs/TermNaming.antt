@@ -7,11 +7,10 @@ use lib.ListN.{length}
 use lib.Seq.{slice}
 use native.Mathlib.Omega.{arith}
 use Rattle.rules.specs.Bytes.{Text}
-use Rattle.rules.specs.Tree.{Tree, Trees, none, more, size, sizes}
+use Rattle.rules.specs.Tree.{Tree, Trees, none, more, size, sizes, variable-names, variable-names-in}
 use Rattle.rules.specs.Tidy.{nil, both}
 use Rattle.rules.specs.Cover.{variables}
 use Rattle.rules.specs.Variants.{fresh-base}
-use Rattle.rules.specs.Memory.{variable-names, variable-names-in}
 use Rattle.text.specs.Places.{text-at}
 use Rattle.tree.specs.Cells.{tree-at, trees-at}
 use Rattle.tree.specs.Arena.{Arena, Linked, Below}

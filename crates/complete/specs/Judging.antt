@@ -11,12 +11,12 @@ use Rattle.rules.specs.Tree.{Tree, Trees, size}
 use Rattle.rules.specs.Substitution.{Binding, Pair, instantiate, size-pairs}
 use Rattle.rules.specs.Solving.{solved, unify}
 use Rattle.rules.specs.Variants.{Variant, system}
-use Rattle.rules.specs.Schemes.{scheme-at, Judgement, pending, settled, answered, judge-verdict, judged-from}
-use Rattle.rules.specs.Memory.{OverPairs}
+use Rattle.laws.specs.Schemes.{scheme-at, Judgement, pending, settled, answered, judge-verdict, judged-from}
+use Rattle.laws.specs.Memory.{OverPairs}
 use Rattle.tree.specs.Cells.{tree-at, trees-at}
 use Rattle.tree.specs.Arena.{Below}
-use Rattle.unifier.specs.Stack.{FitPairs}
-use Rattle.unifier.specs.Area.{Room}
+use Rattle.steps.specs.Stack.{FitPairs}
+use Rattle.steps.specs.Area.{Room}
 use Rattle.variants.specs.Soundness.{claim}
 use Rattle.variants.specs.declared.soundness.Claim.{Claim}
 use Rattle.schemes.specs.Building.{Fresh}

@@ -16,7 +16,7 @@ ghost use lib.ListN.{length};
 ghost use Rattle.rules.specs.Tree.{size};
 ghost use Rattle.rules.specs.Substitution.{instantiate};
 ghost use Rattle.rules.specs.Variants.{scheme-count};
-ghost use Rattle.rules.specs.Schemes.{pending, judge};
+ghost use Rattle.laws.specs.Schemes.{pending, judge};
 ghost use Rattle.tree.specs.Cells.{tree-at, trees-at};
 ghost use Rattle.tree.specs.Arena.{Arena, Below};
 ghost use Rattle.substitution.specs.Bindings.{bindings-at};

@@ -38,13 +38,13 @@ unfolding is-one-of backwards
 one-backwards [] l y = refl
 one-backwards (x ∷ xs) l y = one-backwards xs (x ∷ l) y ∙ sym (either (same y x) (is-one-of xs y) (is-one-of l y))
 
-none-more : (a : Bool) → (a || false) ≡ a
-none-more true = refl
-none-more false = refl
+or-false : (a : Bool) → (a || false) ≡ a
+or-false true = refl
+or-false false = refl
 
 pub one-listed : (xs : List Text) (y : Text) → is-one-of (backwards xs []) y ≡ is-one-of xs y
 unfolding is-one-of
-one-listed xs y = one-backwards xs [] y ∙ none-more (is-one-of xs y)
+one-listed xs y = one-backwards xs [] y ∙ or-false (is-one-of xs y)
 
 -- ---- one member
 

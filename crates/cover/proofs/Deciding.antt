@@ -14,7 +14,7 @@ use Rattle.rules.specs.Tree.{count}
 use Rattle.rules.specs.Substitution.{Binding, Pair, flatten}
 use Rattle.rules.specs.Solving.{Answer, failed}
 use Rattle.rules.specs.Matching.{matcher}
-use Rattle.rules.specs.Memory.{weight}
+use Rattle.laws.specs.Memory.{weight}
 use Rattle.rules.specs.Sheet.{Entry, Member}
 use Rattle.rules.specs.Cover.{is-failed, covering, covers, any-covers}
 use Rattle.laws.proofs.Solving.MatchFuel.{matcher-enough}
@@ -29,8 +29,8 @@ use Rattle.sheet.specs.declared.Cursor.{Cursor}
 use Rattle.sheet.specs.declared.Line.the-variants.{Whole as a-line, Missing}
 use Rattle.sheet.proofs.LineLaws.{keyed}
 use Rattle.sheet.proofs.WalkLaws.{FirstMember, member-end, member-next, members-later}
-use Rattle.unifier.specs.Stack.{pairs-at, Whole, FitPairs}
-use Rattle.unifier.specs.Area.{Room}
+use Rattle.steps.specs.Stack.{pairs-at, Whole, FitPairs}
+use Rattle.steps.specs.Area.{Room}
 use Rattle.unifier.specs.Running.{Answers}
 use Rattle.unifier.specs.declared.unifying.Outcome.{Outcome}
 use Rattle.unifier.specs.declared.unifying.Outcome.the-variants as outcome

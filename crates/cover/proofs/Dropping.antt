@@ -8,8 +8,8 @@ use lib.Seq.{slice, slice-cons, getD-set-other}
 use native.Mathlib.Omega.{arith}
 use native.Mathlib.Numerals.{add-one}
 use Rattle.rules.specs.Bytes.{Text, same, sort}
-use Rattle.rules.specs.Tree.{Tree, Trees, size, sizes}
-use Rattle.rules.specs.Memory.{variable-names, variable-names-in}
+use Rattle.rules.specs.Tree.{Tree, Trees, size, sizes, variable-names, variable-names-in}
+use Rattle.equivalence.proofs.Comparing.{kept-none}
 use Rattle.text.specs.Places.{text-at, places-upto}
 use Rattle.text.specs.Sorting.{sortBy, Sorts}
 use Rattle.text.proofs.Merging.{sort-texts}
@@ -21,7 +21,7 @@ use Rattle.certificate.specs.Writer.{Kept}
 use Rattle.cover.specs.Ordered.{unique}
 use Rattle.cover.specs.Variables.{Spelled, SpelledAll, Variable, Variables, Named, repeats, Dropped, Ordered}
 use Rattle.cover.proofs.Ordering.{unique-skip, unique-keep, unique-sort}
-use Rattle.cover.proofs.Naming.{texts-append, variables-append, variables-sort, kept-self, named-append, named-empty, arena-kept, tree-kept, next-kept, parts-spelled, parts-names}
+use Rattle.cover.proofs.Naming.{texts-append, variables-append, variables-sort, named-append, named-empty, arena-kept, tree-kept, next-kept, parts-spelled, parts-names}
 
 -- the texts of the words from i to end
 abbrev texts : Text → ℕ → ℕ → List ℕ → List Text
@@ -63,7 +63,7 @@ unfolding Variables
 dropping-starts s w at end i out p e f =
     let y : slice at out w ≡ [] = slice-none at out w (omega arith) in
     record {
-      kept = kept-self w at end;
+      kept = kept-none w at end;
       low = omega arith;
       mid = omega arith;
       high = omega arith;

@@ -21,10 +21,11 @@ use Rattle.tree.specs.Cells.{named, name-at, variable-kind, made, trees-at}
 use Rattle.tree.specs.Arena.{Arena, Wrote, Linked}
 use Rattle.tree.proofs.Decoding.{made-variable, trees-none}
 use Rattle.tree.proofs.Pushing.{name-push, arena-push, linked}
+use Rattle.tree.proofs.Areas.{grown-same}
 use Rattle.reading.specs.Leaves.{leaf-kind}
 use Rattle.reading.proofs.LeafLaws.{Leaf, plain, sorted, leaf-by, kind-some}
 use Rattle.substitution.specs.Building.{Made}
-use Rattle.substitution.proofs.Growing.{grown-same, made-linked}
+use Rattle.substitution.proofs.Growing.{made-linked}
 use Rattle.text.proofs.Slices.{slice-none}
 use Rattle.cover.specs.Variables.{Variable, Variables}
 use Rattle.cover.specs.Listing.{variable-list, backwards, Lists}

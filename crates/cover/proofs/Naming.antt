@@ -9,10 +9,11 @@ use native.Mathlib.Omega.{arith}
 use native.Mathlib.Decide.{decLt}
 use Rattle.rules.specs.Bytes.{Text}
 use Rattle.rules.specs.Names.{variable-token}
-use Rattle.rules.specs.Tree.{Tree, apply, Trees, more, size, sizes}
-use Rattle.rules.specs.Tidy.{Built, a-leaf, a-list, a-sum, Builts, nil, both}
-use Rattle.rules.specs.Memory.{variable-names, variable-names-in}
+use Rattle.rules.specs.Tree.{Tree, apply, Trees, more, size, sizes, variable-names, variable-names-in}
+use Rattle.rules.specs.Tidy.{Built, Builts, both}
+use Rattle.equivalence.proofs.Comparing.{kept-none}
 use Rattle.laws.proofs.Sheets.BuiltRun.{name-token}
+use Rattle.laws.proofs.Equality.Building.{built-children}
 use Rattle.text.specs.Places.{text-at}
 use Rattle.text.specs.Sorting.{insertBy, sortBy}
 use Rattle.text.proofs.Slices.{slice-same, slice-set, slice-join, slice-none}
@@ -90,17 +91,12 @@ module _ (s : Text) (w : List ℕ) (k : ℕ) (c : Cell s w k) (p : 0 < kind-of w
 
 -- ---- what is read of a sheet, by parts
 
-children-built : {f : Text} {ts : Trees} → Built (apply f ts) → Builts ts
-children-built (a-leaf w) = nil
-children-built (a-list x y z b bs) = both b bs
-children-built (a-sum a b) = both a (both b nil)
-
 first-built : {t : Tree} {ts : Trees} → Builts (more t ts) → Built t × Builts ts
 first-built (both b bs) = (b, bs)
 
 children-spelled : {f : Text} {ts : Trees} → Spelled (apply f ts) → SpelledAll ts
 unfolding variable-names
-children-spelled h = record { built = children-built (h .built); short = h .short }
+children-spelled h = record { built = built-children (h .built); short = h .short }
 
 first-spelled : {t : Tree} {ts : Trees} → SpelledAll (more t ts) → Spelled t × SpelledAll ts
 unfolding variable-names
@@ -111,9 +107,6 @@ first-spelled {t} {ts} h =
     )
 
 -- ---- gathering
-
-pub kept-self : (w : List ℕ) (a e : ℕ) → Kept w w a e
-kept-self w a e = record { len = refl; below = λ x h. refl; above = λ x h. refl }
 
 -- an area of which only words after the cells changed
 module _ (s : Text) {w v : List ℕ} {n : ℕ} (a : Arena s w n) {at mid : ℕ} (l : 4 * n ≤ at) (g : Kept w v at mid) where
@@ -161,7 +154,7 @@ unfolding Variables
 named-empty s w at r most ns e f =
     let y : slice at r w ≡ [] = slice-none at r w (omega arith) in
     record {
-      kept = kept-self w at r;
+      kept = kept-none w at r;
       grew = omega arith;
       most-is = omega arith;
       places = subst (Variables s) (sym y) tt;

@@ -3,12 +3,12 @@ use mathlib.Core.Path.{_≡_, refl, sym, ap, _∙_}
 use mathlib.Core.Bool.{Bool, true, false, true≢false}
 use mathlib.Core.List.{List, [], _∷_, _++_}
 use Rattle.rules.specs.Bytes.{Text, same, upto, insert, sort}
-use Rattle.rules.specs.Tree.{Tree, variable, atom, apply, Trees, none, more}
+use Rattle.rules.specs.Tree.{Tree, variable, atom, apply, Trees, none, more, variable-names, variable-names-in}
 use Rattle.rules.specs.Substitution.{Pair, flatten}
-use Rattle.rules.specs.Memory.{variable-names, variable-names-in}
 use Rattle.rules.specs.Cover.{insert-once, variables, variables-in, variables-of}
 use Rattle.laws.proofs.Basics.Tests.{same-eq, same-of-eq, differ-of-ne, ne-of-differ}
-use Rattle.laws.proofs.Basics.Order.{upto-equal, upto-other, upto-one, upto-trans}
+use Rattle.laws.proofs.Basics.Order.{upto-equal, upto-other, upto-one, upto-after}
+use Rattle.laws.proofs.Solving.Keeping.{other-way}
 use Rattle.cover.specs.Ordered.{inserted, ordered, unique}
 use Rattle.cover.specs.Variables.{repeats}
 
@@ -16,9 +16,6 @@ use Rattle.cover.specs.Variables.{repeats}
 
 differs : (x y : Text) → upto x y ≡ false → same x y ≡ false
 differs x y e = differ-of-ne {x = x} {y = y} (λ p. true≢false (sym (upto-equal p) ∙ e))
-
-differs-back : (x y : Text) → same x y ≡ false → same y x ≡ false
-differs-back x y e = differ-of-ne {x = y} {y = x} (λ p. ne-of-differ e (sym p))
 
 data Order (x y : Text) : Type 0 where
   equal : x ≡ y → Order x y
@@ -33,14 +30,6 @@ order x y = go (same x y) (upto x y) (upto y x) refl refl refl
     go false true true e f g = absurd (ne-of-differ e (upto-one x y f g))
     go false true false e f g = before e f g
     go false false c e f g = after f (upto-other x y f)
-
--- what is after c is after all that is up to c
-past : (x y c : Text) → upto x c ≡ true → upto y c ≡ false → upto y x ≡ false
-past x y c e f = go (upto y x) refl
-  where
-    go : (t : Bool) → upto y x ≡ t → upto y x ≡ false
-    go true g = absurd (true≢false (sym (upto-trans y x c g e) ∙ f))
-    go false g = g
 
 -- ---- insertion, by the order
 
@@ -95,7 +84,7 @@ once-front x y l p q = go (order x y)
     go : Order x y → insert-once x (y ∷ l) ≡ insert-once y (x ∷ l)
     go (equal e) = cc
     go (before e f g) = cc (once-before x y l e f, once-after y x l g)
-    go (after f g) = cc (once-after x y l f, once-before y x l (differs-back x y (differs x y f)) g)
+    go (after f g) = cc (once-after x y l f, once-before y x l (other-way x y (differs x y f)) g)
 
 once-swap : (x y : Text) (l : List Text) → insert-once x (insert-once y l) ≡ insert-once y (insert-once x l)
 unfolding insert-once
@@ -109,8 +98,8 @@ once-swap x y (c ∷ l) = go (order x c) (order y c) (once-swap x y l)
     go (before e f g) (equal q) h = cc (once-same y c l q, once-before x c l e f, once-after c x (c ∷ l) g, once-same c c l refl)
     go (after f g) (equal q) h = cc (once-same y c l q, once-after x c l f, once-same y c (insert-once x l) q)
     go (before e f g) (before e₂ f₂ g₂) h = cc (once-before x c l e f, once-before y c l e₂ f₂, once-front x y (c ∷ l) (once-before x c l e f) (once-before y c l e₂ f₂))
-    go (before e f g) (after f₂ g₂) h = cc (once-before x c l e f, once-after y c l f₂, once-before x c (insert-once y l) e f, once-after y x (c ∷ l) (past x y c f f₂))
-    go (after f g) (before e₂ f₂ g₂) h = cc (once-after x c l f, once-before y c l e₂ f₂, once-before y c (insert-once x l) e₂ f₂, once-after x y (c ∷ l) (past y x c f₂ f))
+    go (before e f g) (after f₂ g₂) h = cc (once-before x c l e f, once-after y c l f₂, once-before x c (insert-once y l) e f, once-after y x (c ∷ l) (upto-after x y c f f₂))
+    go (after f g) (before e₂ f₂ g₂) h = cc (once-after x c l f, once-before y c l e₂ f₂, once-before y c (insert-once x l) e₂ f₂, once-after x y (c ∷ l) (upto-after y x c f₂ f))
     go (after f g) (after f₂ g₂) h = cc (once-after x c l f, once-after y c l f₂, once-after x c (insert-once y l) f, once-after y c (insert-once x l) f₂)
 
 -- ---- many texts
@@ -178,7 +167,7 @@ unique-insert x (a ∷ []) = go (order x a)
     go : Order x a → unique (insert x (a ∷ [])) ≡ insert-once x (a ∷ [])
     go (equal p) = ap unique (plain-before x a [] (upto-equal p)) ∙ unique-same x a [] (same-of-eq p) ∙ sym (once-same x a [] p)
     go (before e f g) = ap unique (plain-before x a [] f) ∙ unique-differ x a [] e ∙ sym (once-before x a [] e f)
-    go (after f g) = ap unique (plain-after x a [] f) ∙ unique-differ a x [] (differs-back x a (differs x a f)) ∙ sym (once-after x a [] f)
+    go (after f g) = ap unique (plain-after x a [] f) ∙ unique-differ a x [] (other-way x a (differs x a f)) ∙ sym (once-after x a [] f)
 unique-insert x (a ∷ b ∷ l) = go (order x a) (unique-head a (b ∷ l)) (unique-insert x (b ∷ l))
   where
     next : (t s : Bool) → same a b ≡ t → upto x b ≡ s → upto x a ≡ false → unique (insert x (b ∷ l)) ≡ insert-once x (unique (b ∷ l))
@@ -187,7 +176,7 @@ unique-insert x (a ∷ b ∷ l) = go (order x a) (unique-head a (b ∷ l)) (uniq
         let q : upto x b ≡ false = ap (upto x) (sym (same-eq a b e)) ∙ f in
         ap (λ (m : List Text). unique (a ∷ m)) (plain-after x b l q) ∙ unique-same a b (insert x l) e ∙ ap unique (sym (plain-after x b l q)) ∙ h ∙ ap (insert-once x) (sym (unique-same a b l e))
     next false true e k f h =
-        ap (λ (m : List Text). unique (a ∷ m)) (plain-before x b l k) ∙ unique-differ a x (b ∷ l) (differs-back x a (differs x a f))
+        ap (λ (m : List Text). unique (a ∷ m)) (plain-before x b l k) ∙ unique-differ a x (b ∷ l) (other-way x a (differs x a f))
         ∙ ap (λ (m : List Text). a ∷ m) (ap unique (sym (plain-before x b l k)) ∙ h)
         ∙ sym (ap (insert-once x) (unique-differ a b l e) ∙ once-after x a (unique (b ∷ l)) f)
     next false false e k f h =

@@ -9,10 +9,10 @@ use Rattle.rules.specs.Substitution.{lookup, Pair, flatten}
 use Rattle.tree.specs.Cells.{kind-of, next-of, name-at, tree-at, trees-at}
 use Rattle.tree.specs.Arena.{Arena}
 use Rattle.tree.proofs.Decoding.{kind, same-next, same-name, trees-none, trees-more, frame-tree, frame-trees}
+use Rattle.tree.proofs.Areas.{grown-same, grown-then}
 use Rattle.substitution.specs.Bindings.{key-of, bindings-of, bindings-at}
 use Rattle.substitution.specs.Building.{Made}
 use Rattle.substitution.proofs.Keys.{key-name}
-use Rattle.substitution.proofs.Growing.{grown-same, grown-then}
 use Rattle.cover.specs.Listing.{variable-list, backwards}
 use Rattle.cover.specs.Generals.{names-of, OfVariables, names-at, paired, flatten-before, PairsUp}
 

@@ -11,13 +11,13 @@ use native.Mathlib.Decide.{decLt}
 use Rattle.rules.specs.Bytes.{Text}
 use Rattle.rules.specs.Text.{count-of}
 use Rattle.rules.specs.Maybe.{every}
-use Rattle.rules.specs.Tree.{Tree, sizes}
+use Rattle.rules.specs.Tree.{Tree, sizes, variable-names, variable-names-in}
 use Rattle.rules.specs.Reading.{parse}
 use Rattle.rules.specs.Tidy.{Builts, nil, both}
 use Rattle.rules.specs.Substitution.{Binding, Pair, size-pairs, flatten}
 use Rattle.rules.specs.Solving.{solved, unify}
-use Rattle.rules.specs.Memory.{variable-names, variable-names-in, OverPairs, weight, pattern-nodes, side-texts, member-texts, entry-values, entry-keys, sheet-texts}
-use Rattle.rules.specs.Sheet.{Entry, Member, Sheet, asks-cover}
+use Rattle.laws.specs.Memory.{OverPairs, weight, pattern-nodes, side-texts, entry-keys, sheet-texts}
+use Rattle.rules.specs.Sheet.{Entry, Member, Sheet, asks-cover, member-texts, entry-values}
 use Rattle.rules.specs.Answer.{read-pairs}
 use Rattle.rules.specs.Cover.{variables-of, pair-at}
 use Rattle.rules.specs.Families.{Against, nil as no-more, next}
@@ -40,7 +40,7 @@ use Rattle.laws.proofs.Variants.VariableNames.{variables-of-length}
 use Rattle.laws.proofs.Variants.CoverRoom.{texts-within, cover-room}
 use Rattle.tree.specs.Cells.{trees-at}
 use Rattle.sheet.proofs.WordLaws.{count-bound}
-use Rattle.unifier.specs.Stack.{FitPairs, pairs-at}
+use Rattle.steps.specs.Stack.{FitPairs, pairs-at}
 use Rattle.cover.specs.Variables.{Short, SpelledAll}
 use Rattle.cover.specs.Covering.{Matched}
 use Rattle.cover.specs.Covered.{Asks}
@@ -65,7 +65,7 @@ flatten-short s l = pairs-read-by (λ es ps. All (PartOf s) (side-texts es) → 
     (λ e es p ps f g ih h. short-append (variable-names (p .0)) (variable-names (p .1) ++ variable-names-in (flatten ps)) (short-read s (e .0) (p .0) l (h .0) f)
     (short-append (variable-names (p .1)) (variable-names-in (flatten ps)) (short-read s (e .1) (p .1) l (h .1 .0) g) (ih (h .1 .1))))
 
-fit-sides : (qs : List Pair) → BuiltPairs qs → Sides (Upto 4096) (Upto 4096) qs → FitPairs qs
+pub fit-sides : (qs : List Pair) → BuiltPairs qs → Sides (Upto 4096) (Upto 4096) qs → FitPairs qs
 fit-sides [] b h = tt
 fit-sides (q ∷ qs) b h = (record { built = b .0; small = h .0 }, record { built = b .1; small = h .1 }, fit-sides qs (b .2) (h .2))
 

@@ -15,7 +15,7 @@ use Rattle.rules.specs.Maybe.{every}
 use Rattle.rules.specs.Tree.{Trees, count, sizes}
 use Rattle.rules.specs.Substitution.{Pair, size-pairs}
 use Rattle.rules.specs.Solving.{Verdict, solved, failed, unsupported, Answer, unify}
-use Rattle.rules.specs.Memory.{weight}
+use Rattle.laws.specs.Memory.{weight}
 use Rattle.rules.specs.Sheet.{Member}
 use Rattle.rules.specs.Cover.{variables-of, pair-at, any-covers, covered}
 use Rattle.laws.proofs.Solving.Weights.{weight-size}
@@ -25,7 +25,7 @@ use Rattle.tree.proofs.Decoding.{frame-trees}
 use Rattle.tree.proofs.Areas.{below-then}
 use Rattle.substitution.specs.Bindings.{bindings-of, bindings-at}
 use Rattle.sheet.specs.Members.{members-at}
-use Rattle.unifier.specs.Stack.{pairs-of, pairs-at, Whole, FitPairs}
+use Rattle.steps.specs.Stack.{pairs-of, pairs-at, Whole, FitPairs}
 use Rattle.unifier.specs.Running.{Roomy, Answers}
 use Rattle.unifier.specs.declared.unifying.Outcome.{Outcome}
 use Rattle.unifier.specs.declared.unifying.Outcome.the-variants as outcome

@@ -13,11 +13,11 @@ use Rattle.rules.specs.Reading.{parse}
 use Rattle.rules.specs.Substitution.{Binding}
 use Rattle.rules.specs.Sheet.{Entry}
 use Rattle.rules.specs.Cover.{entry-at}
+use Rattle.text.proofs.Sameness.{same-swap}
 use Rattle.laws.proofs.Basics.Tests.{same-eq, same-of-eq, or-left}
 use Rattle.tree.specs.Cells.{kind-of, next-of, name-at, tree-at, trees-at}
 use Rattle.tree.specs.Arena.{Arena, Below}
 use Rattle.tree.proofs.Decoding.{kind, trees-none, trees-more, frame-trees, same-name}
-use Rattle.tree.proofs.Naming.{same-swap}
 use Rattle.substitution.specs.Bindings.{bindings-of, bindings-at}
 use Rattle.substitution.specs.Building.{Made}
 use Rattle.substitution.proofs.Keys.{key-name}

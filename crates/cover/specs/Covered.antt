@@ -13,7 +13,7 @@ use Rattle.rules.specs.Cover.{variables-of, covered}
 use Rattle.tree.specs.Cells.{trees-at}
 use Rattle.tree.specs.Arena.{Arena, Below}
 use Rattle.sheet.specs.Members.{members-at}
-use Rattle.unifier.specs.Stack.{Whole, pairs-at}
+use Rattle.steps.specs.Stack.{Whole, pairs-at}
 use Rattle.variants.specs.Soundness.{claim}
 use Rattle.variants.specs.declared.soundness.Claim.{Claim}
 use Rattle.cover.specs.Generals.{names-at, OfVariables}

@@ -10,13 +10,13 @@ use Rattle.rules.specs.Maybe.{every}
 use Rattle.rules.specs.Substitution.{Pair}
 use Rattle.rules.specs.Sheet.{Entry, Member}
 use Rattle.rules.specs.Cover.{pair-at, covers, any-covers}
-use Rattle.rules.specs.Memory.{weight, pattern-nodes}
+use Rattle.laws.specs.Memory.{weight, pattern-nodes}
 use Rattle.substitution.specs.Bindings.{bindings-at}
 use Rattle.sheet.specs.Lines.{lines-at}
 use Rattle.sheet.specs.Members.{members-at}
-use Rattle.unifier.specs.Stack.{FitPairs}
+use Rattle.steps.specs.Stack.{FitPairs}
 use Rattle.tree.specs.Arena.{Below}
-use Rattle.unifier.specs.Area.{Room}
+use Rattle.steps.specs.Area.{Room}
 use Rattle.cover.specs.Generals.{names-at}
 use Rattle.cover.specs.Values.{EntriesThen, EntriesFrom}
 use Rattle.cover.specs.declared.covering.Covering.{Covering}

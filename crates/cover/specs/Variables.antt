@@ -7,9 +7,8 @@ use lib.ListN.{length}
 use lib.Seq.{slice}
 use Rattle.rules.specs.Bytes.{Text, same}
 use Rattle.rules.specs.Names.{variable-token}
-use Rattle.rules.specs.Tree.{Tree, Trees}
+use Rattle.rules.specs.Tree.{Tree, Trees, variable-names, variable-names-in}
 use Rattle.rules.specs.Tidy.{Built, Builts}
-use Rattle.rules.specs.Memory.{variable-names, variable-names-in}
 use Rattle.text.specs.Places.{text-at}
 use Rattle.certificate.specs.Writer.{Kept}
 use Rattle.cover.specs.Ordered.{ordered, unique}

@@ -16,7 +16,7 @@ ghost use lib.ListN.{length};
 ghost use Rattle.rules.specs.Tree.{sizes};
 ghost use Rattle.tree.specs.Cells.{trees-at};
 ghost use Rattle.tree.specs.Arena.{Arena};
-ghost use Rattle.unifier.specs.Stack.{Whole};
+ghost use Rattle.steps.specs.Stack.{Whole};
 ghost use Rattle.cover.specs.Variables.{SpelledAll};
 ghost use Rattle.cover.specs.Covered.{Names, Asks, ClaimsCovered};
 

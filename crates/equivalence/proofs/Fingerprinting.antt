@@ -9,9 +9,9 @@ use native.Mathlib.Numerals.{add-one}
 use borrow.Author.Tests.{eq-eqb, ne-eqb}
 use Rattle.rules.specs.Text.{bytes}
 use Rattle.rules.specs.Tree.{Tree}
-use Rattle.laws.specs.Unspelled.{zeros}
+use Rattle.laws.specs.Unspelled.{zeros, zeros-name}
 use Rattle.text.proofs.Slices.{slice-none}
-use Rattle.certificate.specs.Texts.{word-text, width-of, texts, Token, Tokens, zeros-name}
+use Rattle.certificate.specs.Texts.{word-text, width-of, texts, Token, Tokens}
 use Rattle.certificate.proofs.WordTexts.{width-text, width-pos, rest-split}
 use Rattle.equivalence.specs.Words.{Canon}
 use Rattle.equivalence.specs.Fingerprints.{mixed-byte, mixed, fingerprint, Marked}

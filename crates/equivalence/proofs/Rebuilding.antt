@@ -14,7 +14,7 @@ use Rattle.tree.specs.Cells.{start-of, length-of, kind-of, nodes-of, next-of, n
 use Rattle.tree.specs.Arena.{Arena, Wrote, Linked}
 use Rattle.tree.proofs.Decoding.{Agree, made-apply, same-kind, same-name, trees-none, trees-more, frame-tree}
 use Rattle.tree.proofs.Pushing.{linked-like}
-use Rattle.substitution.proofs.Growing.{grown-same, grown-then}
+use Rattle.tree.proofs.Areas.{grown-same, grown-then}
 use Rattle.equivalence.specs.Sums.{remaining, heavy, Added, Rebuilt}
 use Rattle.equivalence.proofs.Gathering.{remaining-some, remaining-zero, remaining-append}
 

@@ -1,14 +1,14 @@
 -- Words after the cells: what is written there leaves the cells as they are, and one after another the words of two writers are one
 -- list. Assumes nothing.
-use Prim.Native.Nat.{ℕ, _+_, _*_, _<_, _≤_}
+use Prim.Native.Nat.{ℕ, _+_, _*_, _≤_}
 use mathlib.Core.Path.{_≡_, sym, ap, ap₂, _∙_}
-use mathlib.Core.List.{List, [], _∷_, _++_}
-use lib.ListN.{length, set, length-append, length-set}
-use lib.Seq.{slice, getD-set-other}
+use mathlib.Core.List.{List, _++_}
+use lib.ListN.{length, length-append}
+use lib.Seq.{slice}
 use native.Mathlib.Omega.{arith}
 use Rattle.rules.specs.Bytes.{Text}
 use Rattle.text.specs.Sorting.{Wrote}
-use Rattle.text.proofs.Slices.{slice-same, slice-set, slice-join, slice-none}
+use Rattle.text.proofs.Slices.{slice-same, slice-join}
 use Rattle.tree.specs.Arena.{Arena, Below}
 use Rattle.tree.proofs.Decoding.{Agree}
 use Rattle.tree.proofs.Areas.{arena-frame}
@@ -38,11 +38,3 @@ module _ {w v : List ℕ} {to : ℕ} {l : List ℕ} (g : Wrote w v to l) where
         above = λ p q. h .above p (omega arith) ∙ g .above p (omega arith);
         words = ap (λ (t : ℕ). slice to t u) f ∙ sym (slice-join to at (at + length m) u (omega arith) (omega arith) (omega arith)) ∙ ap₂ (λ (x y : List ℕ). x ++ y) z (h .words);
       }
-
-pub wrote-one : (w : List ℕ) (to x : ℕ) → to < length w → Wrote w (set w to x) to (x ∷ [])
-wrote-one w to x h = record {
-  len = length-set w to x;
-  below = λ p q. getD-set-other w to p x 0 (λ e. omega arith);
-  above = λ p q. getD-set-other w to p x 0 (λ e. omega arith);
-  words = slice-set to to w x (omega arith) h ∙ ap (λ (l : List ℕ). l ++ (x ∷ [])) (slice-none to to w (omega arith));
-}

@@ -21,8 +21,9 @@ use Rattle.certificate.specs.Spelling.{Word, Spells, as-variable, as-atom, as-a
 use Rattle.certificate.proofs.WordTexts.{name-fixed, code-named, code-byte, text-mark, text-place}
 use Rattle.certificate.proofs.Flattening.{atom-adds}
 use Rattle.certificate.proofs.ItemWords.{leaf-words, one-words, more-words, node-words}
+use Rattle.certificate.proofs.WriterSteps.{opening-short, wrote-one}
 use Rattle.equivalence.specs.Words.{Spelled, SpelledAll}
-use Rattle.equivalence.proofs.Scratch.{wrote-agree, wrote-arena, wrote-append, wrote-one}
+use Rattle.equivalence.proofs.Scratch.{wrote-agree, wrote-arena, wrote-append}
 
 -- ---- the word of a name
 
@@ -125,11 +126,6 @@ module _ (s w : List ℕ) (n i out x : ℕ) (a : Arena s w n) (p : 0 < i) (q : i
       }
 
 -- ---- a name with its list
-
-opening-short : (a b : Bool) (x : ℕ) → length (opening a b x) ≤ 2
-opening-short true true x = omega arith
-opening-short true false x = omega arith
-opening-short false b x = omega arith
 
 closing-short : (c : ℕ) → length (closing c) ≤ 1
 closing-short c = go (eqb c 2)

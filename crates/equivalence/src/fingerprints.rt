@@ -9,9 +9,10 @@ ghost use Prim.Native.Nat.{_+_, _*_, _<_, _≤_};
 ghost use lib.ListN.{length};
 ghost use lib.Seq.{slice};
 ghost use Rattle.rules.specs.Tree.{size};
+ghost use Rattle.laws.specs.Unspelled.{zeros-name};
 ghost use Rattle.tree.specs.Cells.{tree-at};
 ghost use Rattle.tree.specs.Arena.{Arena};
-ghost use Rattle.certificate.specs.Texts.{word-text, texts, Token, Tokens, zeros-name};
+ghost use Rattle.certificate.specs.Texts.{word-text, texts, Token, Tokens};
 ghost use Rattle.equivalence.specs.Fingerprints.{mixed-byte, mixed, fingerprint, Marked};
 
 // The fingerprint h, carried on through the byte b.

@@ -11,10 +11,13 @@ unfoldable pub zeros : ℕ → Text
 zeros zero = []
 zeros (suc n) = 48 ∷ zeros n
 
--- the n-th of them
+-- x, so many zeros, a colon and Msg
+abbrev pub zeros-name : ℕ → Text
+zeros-name n = 120 ∷ (zeros n ++ bytes ":Msg")
+
+-- the n-th name that no sheet spells
 unfoldable pub unspelled : ℕ → Text
-unfolding zeros
-unspelled n = 120 ∷ (zeros (65536 + n) ++ bytes ":Msg")
+unspelled n = zeros-name (65536 + n)
 
 -- the names of the fresh variables from a base on, where each that is not spelled is replaced by one that no sheet spells
 unfoldable pub chosen : ℕ → (ℕ → Bool) → ℕ → Text

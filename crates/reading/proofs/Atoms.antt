@@ -21,10 +21,10 @@ use Rattle.tree.specs.Arena.{Place, Arena, Wrote, Linked}
 use Rattle.tree.proofs.Bounded.{every-below, below-holds}
 use Rattle.tree.proofs.FixedNames.{fixed-unspelled}
 use Rattle.tree.proofs.Decoding.{Kind, application, a-variable, an-atom, kind, tree-variable, tree-atom, tree-apply, trees-none, trees-more, made-atom}
+use Rattle.tree.proofs.Areas.{grown-same}
 use Rattle.reading.specs.Machine.{back}
 use Rattle.reading.specs.Closing.{Alone, Done, NoTree}
 use Rattle.reading.proofs.LeafLaws.{other-letter}
-use Rattle.reading.proofs.Ordering.{grown-same}
 use Rattle.reading.proofs.Making.{linked-at, made-on}
 
 -- the order of the trees does not make one of several
@@ -144,7 +144,7 @@ atom-done s {w} {v} {free} {limit} {letter} {chain} {next} {r} {x} {y} a q g o r
       tree = atom letter (name-at s w chain);
       is = atom-back (letter ∷ []) (trees-at s w chain) ∙ rw (h .1, h .2);
       small = omega arith;
-      made = made-on s (a .links) g (omega arith) (grown-same w free) i (subst (Linked s w v free next) t b);
+      made = made-on s (a .links) g (omega arith) (grown-same w free free) i (subst (Linked s w v free next) t b);
       room = omega arith;
     }
 

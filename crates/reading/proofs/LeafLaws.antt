@@ -14,7 +14,7 @@ use borrow.Author.Tests.{eq-eqb, ne-eqb}
 use Rattle.rules.specs.Bytes.{Text}
 use Rattle.rules.specs.Text.{count-of}
 use Rattle.rules.specs.Names.{letter, letter-name}
-use Rattle.rules.specs.Tree.{variable, apply, none, size}
+use Rattle.rules.specs.Tree.{variable, apply, none}
 use Rattle.rules.specs.Sorts.{Sort, Pub, Fresh, Msg, TamNat, Node, sort-named, variable-sort}
 use Rattle.rules.specs.Reading.{leaf}
 use Rattle.text.proofs.Loops.{drop-next}
@@ -80,14 +80,6 @@ leaf-sorted n h = go (leaf-by n)
     go : Leaf n → leaf-kind n ≡ variable-kind n
     go (plain p q) = absurd (omega arith)
     go (sorted p q) = q
-
-pub leaf-size : (n : Text) → size (leaf n) ≡ 1
-unfolding leaf size
-leaf-size n = go (eqb (count-of 58 n) 0)
-  where
-    go : (b : Bool) → size (cond b (apply n none) (variable n)) ≡ 1
-    go true = refl
-    go false = refl
 
 -- one byte
 pub no-letter : (n : Text) → (length n ≡ 1 → ⊥) → false ≡ letter-name n

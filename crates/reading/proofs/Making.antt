@@ -12,13 +12,13 @@ use Rattle.tree.specs.Cells.{named, part, variable-kind, made, trees-at}
 use Rattle.tree.specs.Arena.{Links, Place, Arena, Grown, Wrote, Linked}
 use Rattle.tree.proofs.Decoding.{frame-trees, made-apply}
 use Rattle.tree.proofs.Pushing.{name-push, arena-push, linked}
+use Rattle.tree.proofs.Areas.{grown-on}
 use Rattle.reading.specs.Machine.{back}
 use Rattle.reading.specs.Words.{Placed, Made}
 use Rattle.reading.specs.declared.closing.Ordered.{Ordered}
 use Rattle.reading.specs.declared.closing.Closed.{Closed}
 use Rattle.reading.specs.Closing.{InOrder, Orders, Done, NoTree, Closes}
 use Rattle.reading.proofs.Turns.{back-sizes}
-use Rattle.reading.proofs.Ordering.{grown-on}
 
 pub named-part : {s : Text} {a n : ℕ} → Placed s a n → named s a n ≡ part s a n
 unfolding named

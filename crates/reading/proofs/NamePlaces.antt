@@ -7,12 +7,13 @@ use mathlib.Core.Option.{some}
 use mathlib.Core.Bool.{Bool, true, false, cond, _&&_, _||_, false≢true}
 use lib.Dec.{eqb}
 use lib.ListN.{length, getD, take, drop}
-use lib.Seq.{take-take, take-add, drop-at, length-take-le}
+use lib.Seq.{take-take, length-take-le}
 use Rattle.rules.specs.Bytes.{Text}
 use Rattle.rules.specs.Text.{bytes}
 use Rattle.rules.specs.Names.{digit, alphabetic, alphanumeric, all, identifier, number, word, variable-token}
 use Rattle.laws.proofs.Reading.TokenKinds.{is-mark, is-token, rest-kind}
 use Rattle.text.proofs.Loops.{drop-next}
+use Rattle.text.proofs.Slices.{drop-take}
 use Rattle.tree.specs.Cells.{part}
 use Rattle.syntax.specs.Next.{next-at}
 use Rattle.syntax.specs.Symbols.{symbol-of, symbol-at}
@@ -24,14 +25,8 @@ use Rattle.syntax.proofs.TokenList.{placed}
 use Rattle.syntax.proofs.SymbolLaws.{means-is}
 use Rattle.reading.specs.Words.{Placed}
 
--- a part of a text that ends at `to`
-pub drop-take : (s : Text) (a to : ℕ) → a ≤ to → to ≤ length s → drop a (take to s) ≡ take (to - a) (drop a s)
-drop-take s a to p q =
-    let z : to ≡ a + (to - a) = omega arith in
-    ap (λ (k : ℕ). drop a (take k s)) z ∙ ap (drop a) (take-add a (to - a) s) ∙ drop-at (take a s) (take (to - a) (drop a s)) a (length-take-le a s (omega arith))
-
 pub part-within : (s : Text) (a e to : ℕ) → a ≤ e → e ≤ to → to ≤ length s → take (e - a) (drop a (take to s)) ≡ part s a (e - a)
-part-within s a e to p q r = ap (take (e - a)) (drop-take s a to (omega arith) r) ∙ take-take (e - a) (to - a) (drop a s) (omega arith)
+part-within s a e to p q r = ap (take (e - a)) (drop-take a to s) ∙ take-take (e - a) (to - a) (drop a s) (omega arith)
 
 -- the second byte of a name
 plain-name : (n : Text) → (word n || variable-token n) ≡ true → getD n 1 0 ≡ 40 → ⊥

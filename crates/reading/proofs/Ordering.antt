@@ -8,23 +8,10 @@ use Rattle.rules.specs.Tree.{Tree, Trees, none, more, size, sizes, count}
 use Rattle.tree.specs.Cells.{nodes-of, next-of, tree-at, trees-at}
 use Rattle.tree.specs.Arena.{Links, Arena, Grown, Linked}
 use Rattle.tree.proofs.Decoding.{frame-tree, trees-none, trees-more, same-next}
+use Rattle.tree.proofs.Areas.{grown-same, grown-on}
 use Rattle.reading.specs.Machine.{back}
 use Rattle.reading.specs.Closing.{InOrder}
 use Rattle.reading.proofs.Turns.{back-sizes}
-
--- one part of new cells after another
-pub grown-same : (w : List ℕ) (n : ℕ) → Grown w w n n
-grown-same w n = record { len = refl; below = λ p h. refl; above = λ p h. refl }
-
-pub grown-on : {w v u : List ℕ} {n m l : ℕ} → n ≤ m → m ≤ l → Grown w v n m → Grown v u m l → Grown w u n l
-grown-on a b g h = record {
-  len = h .len ∙ g .len;
-  below = λ p q. g .below p q ∙ h .below p (omega arith);
-  above = λ p q. g .above p (omega arith) ∙ h .above p q;
-}
-
-pub grown-more : {w v : List ℕ} {n m l : ℕ} → m ≤ l → Grown w v n m → Grown w v n l
-grown-more b g = record { len = g .len; below = g .below; above = λ p q. g .above p (omega arith) }
 
 -- the cells of a chain, as numbers and as trees
 pub count-more : (s : Text) {w : List ℕ} {n : ℕ} → Links w n → (k : ℕ) → 0 < k → k < n → count (trees-at s w k) ≡ suc (count (trees-at s w (next-of w k)))
@@ -50,7 +37,7 @@ module _ (s : Text) (w₀ : List ℕ) (start chain : ℕ) (a : Arena s w₀ star
   unfolding size
   ordering-starts = record {
     arena = a;
-    grown = grown-same w₀ start;
+    grown = grown-same w₀ start start;
     from = omega arith;
     at = at;
     placed = a .links .some;

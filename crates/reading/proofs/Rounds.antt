@@ -11,6 +11,8 @@ use lib.Seq.{getD-set-same, getD-set-other}
 use Rattle.rules.specs.Bytes.{Text}
 use Rattle.rules.specs.Tree.{Tree, Trees, none, more, size}
 use Rattle.rules.specs.Reading.{leaf, single, parse}
+use Rattle.text.proofs.Slices.{drop-take}
+use Rattle.laws.proofs.Reading.Colons.{leaf-size}
 use Rattle.syntax.specs.Symbols.{symbol-at}
 use Rattle.syntax.specs.declared.Symbol.{Symbol}
 use Rattle.syntax.specs.declared.Symbol.the-variants.{Begin, Shut, Comma, Name, Stop}
@@ -28,9 +30,8 @@ use Rattle.reading.specs.declared.Parsed.the-variants.{Tree as Parsed-tr
 use Rattle.reading.specs.Parsing.{ended-at, limit-of, stack-end, Read, Parses}
 use Rattle.reading.proofs.Grammar.{reads}
 use Rattle.reading.proofs.Turns.{limited, name-turn, open-turn, comma-turn, shut-turn, comma-bare, shut-bare, stop-turn, not-name, no-delimiter, leaf-turn, shut-out, small-enough, parse-limited}
-use Rattle.reading.proofs.LeafLaws.{leaf-size}
 use Rattle.reading.proofs.Stacks.{stack-top}
-use Rattle.reading.proofs.NamePlaces.{drop-take, NameAt, mark-past}
+use Rattle.reading.proofs.NamePlaces.{NameAt, mark-past}
 
 -- On stacks
 
@@ -120,7 +121,7 @@ module _ {s : Text} {start limit from to : ℕ} (k : Task s start limit from to)
             ap (λ (ts : Trees). limited (reading (take to s) from (wants (bottom ts)))) b
             ∙ ap limited (reads (drop from (take to s)))
             ∙ sym (parse-limited (drop from (take to s)))
-            ∙ ap parse (drop-take s from to o (k .within));
+            ∙ ap parse (drop-take from to s);
       }
 
   module _ {v w : List ℕ} {free depth at : ℕ} (h : Wants s v start limit from to w free depth at) where

@@ -11,16 +11,16 @@ use lib.Seq.{getD-set-same, getD-set-other}
 use Rattle.rules.specs.Bytes.{Text}
 use Rattle.rules.specs.Tree.{Tree, Trees, none, more, size}
 use Rattle.rules.specs.Reading.{leaf, close}
+use Rattle.laws.proofs.Reading.Colons.{leaf-size}
 use Rattle.tree.specs.Cells.{named, part, variable-kind, made, trees-at}
 use Rattle.tree.specs.Arena.{Links, Arena, Grown, Wrote, Linked}
 use Rattle.tree.proofs.Decoding.{Agree, frame-trees, trees-none}
-use Rattle.tree.proofs.Areas.{arena-frame}
+use Rattle.tree.proofs.Areas.{arena-frame, grown-same}
 use Rattle.reading.specs.Machine.{Stack, bottom, level, add, back}
 use Rattle.reading.specs.Leaves.{leaf-kind}
 use Rattle.reading.specs.Words.{stack-at, Placed, Held, Outside, Made, Added, Opened}
 use Rattle.reading.specs.Closing.{most, Done, NoTree, closed-level, Popped}
-use Rattle.reading.proofs.LeafLaws.{leaf-made, leaf-sorted, leaf-size}
-use Rattle.reading.proofs.Ordering.{grown-same}
+use Rattle.reading.proofs.LeafLaws.{leaf-made, leaf-sorted}
 use Rattle.reading.proofs.Making.{named-part, place-of, linked-at, made-on}
 
 level-path : {a b : Text} {ts us : Trees} {k l : Stack} → a ≡ b → ts ≡ us → k ≡ l → level a ts k ≡ level b us l
@@ -137,7 +137,7 @@ leaf-added {s} {w} {v} {n} {limit} {d} {r} {a} {l} {kind} {next} h b p e f small
     let q = h .trees d (omega arith) in
     let o = h .room in
     let y = subst (λ (k : ℕ). Linked s w v n k (leaf (part s a l))) e (leaf-linked x (h .arena) (omega arith) (omega arith) p f small) in
-    added n h (omega arith) (made-on s (h .arena .links) q (omega arith) (grown-same w n) g y) (sym g)
+    added n h (omega arith) (made-on s (h .arena .links) q (omega arith) (grown-same w n n) g y) (sym g)
 
 -- a level opened
 module _ {s : Text} {w : List ℕ} {n limit d a l : ℕ} (h : Held s w n limit d) (room : 4 * limit + 3 * d + 3 < length w) (p : Placed s a l) where

@@ -4,7 +4,7 @@ use native.Mathlib.Omega.{arith}
 use mathlib.Core.Path.{_≡_, refl, sym, ap, ap₂, _∙_, subst}
 use mathlib.Core.Logic.{_⊎_, inl, inr, ⊎-elim}
 use mathlib.Core.List.{List}
-use mathlib.Core.Option.{Option, some, Option·some-injective, Option·none-ne-some}
+use mathlib.Core.Option.{some, Option·some-injective, Option·none-ne-some}
 use lib.ListN.{length}
 use Rattle.rules.specs.Bytes.{Text}
 use Rattle.rules.specs.Tree.{Tree, Trees, apply, none, more, size, sizes, count, tamtplus, plus}
@@ -12,10 +12,11 @@ use Rattle.rules.specs.Reading.{nested, sum-of}
 use Rattle.tree.specs.Cells.{part, nodes-of, next-of, tree-at, trees-at}
 use Rattle.tree.specs.Arena.{Links, Arena, Grown, Wrote, Linked}
 use Rattle.tree.proofs.Decoding.{frame-tree, frame-trees, trees-none, trees-more, same-next}
+use Rattle.tree.proofs.Areas.{grown-same, grown-on}
 use Rattle.reading.specs.Machine.{back}
 use Rattle.reading.specs.Words.{Placed}
 use Rattle.reading.specs.Closing.{summed, Done, NoTree}
-use Rattle.reading.proofs.Ordering.{grown-same, grown-on, count-more}
+use Rattle.reading.proofs.Ordering.{count-more}
 use Rattle.reading.proofs.Making.{linked-apply, made-on}
 
 -- On trees
@@ -65,7 +66,7 @@ module _ (s : Text) (w₀ : List ℕ) (tail chain : ℕ) (a : Arena s w₀ (tail
   pub summing-starts : next-of w₀ tail ≡ 0 → 0 < chain → Summing s w₀ tail chain w₀ tail chain
   summing-starts e p = record {
     arena = a;
-    grown = grown-same w₀ (tail + 1);
+    grown = grown-same w₀ (tail + 1) (tail + 1);
     from = omega arith;
     at = at;
     tree = tree-at s w₀ tail;

@@ -88,7 +88,7 @@ root-size f ts = go (rooted f ts)
 mutual
   unfolding size normalize
 
-  normalize-size : (t : Tree) → size (normalize t) ≤ size t
+  pub normalize-size : (t : Tree) → size (normalize t) ≤ size t
   normalize-size (variable x) = omega arith
   normalize-size (atom c d) = omega arith
   normalize-size (apply f ts) =

@@ -7,18 +7,17 @@ use mathlib.Core.Option.{Option, some, none as nothing}
 use Prim.Native.Nat.{ℕ, _≤_, _<_}
 use Rattle.rules.specs.Bytes.{Text}
 use Rattle.rules.specs.Maybe.{every}
-use Rattle.rules.specs.Tree.{Tree, size}
+use Rattle.rules.specs.Tree.{Tree, size, variable-names}
 use Rattle.rules.specs.Substitution.{Binding, Pair, lookup, instantiate}
 use Rattle.rules.specs.Equality.{AC}
 use Rattle.rules.specs.Reading.{parse}
-use Rattle.rules.specs.Sheet.{Member}
+use Rattle.rules.specs.Sheet.{Member, member-texts}
 use Rattle.rules.specs.Solving.{solved, failed, unsupported, unify}
 use Rattle.rules.specs.Matching.{matcher}
 use Rattle.rules.specs.Reduction.{normalize}
 use Rattle.rules.specs.Rewriting.{NormalModulo}
 use Rattle.rules.specs.Cover.{variables, variables-of, entry-at, general}
 use Rattle.rules.specs.Variants.{Variant, read-member, index-of, fresh-base, fresh-from, Scheme, schemes-from, scheme-count, system}
-use Rattle.rules.specs.Memory.{member-texts, variable-names}
 
 -- some text does not read
 pub data Unreadable : List Text → Type 0 where

@@ -10,8 +10,8 @@ use Rattle.rules.specs.Tree.{Tree, variable, atom, apply, Trees, none, more, si
 use Rattle.rules.specs.Substitution.{Pair}
 use Rattle.rules.specs.Reduction.{Rule, fst, snd, flip, sdec, kdec, rule-named}
 use Rattle.rules.specs.Variants.{Scheme, scheme, Joined, only, before, firings, firing-count, root-schemes, scheme-counts}
-use Rattle.rules.specs.Schemes.{root-count, root-at, scheme-at, joined-at}
-use Rattle.rules.specs.Memory.{site, sites, sites-in}
+use Rattle.laws.specs.Schemes.{root-count, root-at, scheme-at, joined-at}
+use Rattle.laws.specs.Memory.{site, sites, sites-in}
 use Rattle.schemes.proofs.ByChildren.{count-alike, joined-count}
 
 -- at most v nodes, the next fresh variable at most n, at most e equations

@@ -6,8 +6,8 @@ use Rattle.rules.specs.Bytes.{Text}
 use Rattle.rules.specs.Tree.{Tree, variable, atom, apply, Trees, none, more, children, count, size, sizes}
 use Rattle.rules.specs.Reduction.{rule-named}
 use Rattle.rules.specs.Variants.{Joined, scheme-count, scheme-counts}
-use Rattle.rules.specs.Schemes.{root-count, scheme-at, joined-at}
-use Rattle.rules.specs.Memory.{site, sites, sites-in}
+use Rattle.laws.specs.Schemes.{root-count, scheme-at, joined-at}
+use Rattle.laws.specs.Memory.{site, sites, sites-in}
 use Rattle.laws.proofs.Variants.SchemeCount.{alike}
 use Rattle.schemes.specs.Choices.{over, ways-of, root-of, Shared}
 use Rattle.schemes.proofs.Dividing.{Split, split}

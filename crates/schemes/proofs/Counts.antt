@@ -12,7 +12,7 @@ use Rattle.rules.specs.Bytes.{Text}
 use Rattle.rules.specs.Tree.{Tree, variable, atom, apply, Trees, none, more, children}
 use Rattle.rules.specs.Reduction.{Rule, fst, snd, flip, sdec, kdec, rule-named, arguments1, arguments2}
 use Rattle.rules.specs.Variants.{firing-count, with-one, with-two, scheme-count, scheme-counts}
-use Rattle.rules.specs.Schemes.{root-count}
+use Rattle.laws.specs.Schemes.{root-count}
 use Rattle.tree.specs.Cells.{kind-of, name-at, first-of, tree-at, trees-at}
 use Rattle.tree.proofs.Decoding.{Kind, application, a-variable, an-atom, kind, tree-variable, tree-atom, tree-apply, trees-none}
 use Rattle.schemes.specs.Choices.{over, ways-of}

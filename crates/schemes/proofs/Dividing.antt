@@ -4,15 +4,12 @@ use native.Mathlib.Nat.{mul-comm, mul-assoc, zero-mul, mod-lt, mod-eq-of-lt, div
 use native.Mathlib.Omega.{arith}
 use mathlib.Core.Path.{_≡_, sym, ap, _∙_, subst}
 use Rattle.schemes.specs.Choices.{Shared}
+use Rattle.laws.proofs.Variants.SchemeAt.{right-positive}
 
 -- the factors of a number above another are positive
 pub left-positive : (i a b : ℕ) → i < a * b → 0 < a
 left-positive i zero b h = absurd (omega (arith, zero-mul b))
 left-positive i (suc a) b h = omega arith
-
-pub right-positive : (i a b : ℕ) → i < a * b → 0 < b
-right-positive i a zero h = absurd (omega arith)
-right-positive i a (suc b) h = omega arith
 
 -- dividing by b * q
 quotient-twice : (i b q : ℕ) → i / (b * q) ≡ i / q / b

@@ -10,7 +10,7 @@ use Rattle.rules.specs.Tree.{Tree, variable, Trees, none, more}
 use Rattle.rules.specs.Substitution.{Pair}
 use Rattle.rules.specs.Reduction.{Rule, fst, snd, flip, sdec, kdec, rule-named, pair, constant}
 use Rattle.rules.specs.Variants.{scheme, firings, firing-count, with-one, with-two, root-schemes}
-use Rattle.rules.specs.Schemes.{root-count, root-at}
+use Rattle.laws.specs.Schemes.{root-count, root-at}
 use Rattle.tree.specs.Cells.{next-of, fixed-name, tree-at, trees-at}
 use Rattle.tree.specs.Arena.{Links}
 use Rattle.tree.proofs.Decoding.{trees-none, trees-more}

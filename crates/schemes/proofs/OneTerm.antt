@@ -9,14 +9,15 @@ use Rattle.rules.specs.Bytes.{Text}
 use Rattle.rules.specs.Tree.{Tree, Trees, none, more, count, size, sizes}
 use Rattle.rules.specs.Substitution.{flatten}
 use Rattle.rules.specs.Variants.{Scheme, scheme-count, scheme-counts}
-use Rattle.rules.specs.Schemes.{scheme-at, joined-at}
-use Rattle.rules.specs.Memory.{sites, sites-in}
+use Rattle.laws.specs.Schemes.{scheme-at, joined-at}
+use Rattle.laws.specs.Memory.{sites, sites-in}
 use Rattle.laws.proofs.Variants.Sites.{sites-few}
 use Rattle.tree.specs.Cells.{tree-at, trees-at}
 use Rattle.tree.specs.Arena.{Links, Arena, Linked}
 use Rattle.tree.proofs.Decoding.{trees-none, trees-more, frame-tree}
 use Rattle.tree.proofs.Areas.{below-grown}
 use Rattle.substitution.specs.Building.{Made}
+use Rattle.substitution.proofs.Chains.{head-more, none-more}
 use Rattle.schemes.specs.Choices.{appended, Shared}
 use Rattle.schemes.specs.Building.{Fresh, Named, Written, Holds, Lists, Ready, Chooses, Appends, Systems}
 use Rattle.schemes.specs.declared.choosing.Chosen.{Chosen}
@@ -28,12 +29,6 @@ use Rattle.schemes.proofs.Patterns.{cell-written, alone, pair-written, 
 append-none : {A : Type 0} (l : List A) → l ++ [] ≡ l
 append-none [] = refl
 append-none (a ∷ l) = ap (λ r. a ∷ r) (append-none l)
-
-head-more : {t u : Tree} {ts us : Trees} → more t ts ≡ more u us → t ≡ u
-head-more e = cc
-
-none-more : {t : Tree} {ts : Trees} → none ≡ more t ts → ⊥
-none-more e = let z : _≡_ {A = ℕ} 0 1 = cc in omega arith
 
 -- the first tree of a list that has one
 first-holds : {w : List ℕ} {n : ℕ} (s : Text) → Links w n → (k : ℕ) {t : Tree} {ts : Trees} → Lists s w n k (more t ts) → Holds s w n k t

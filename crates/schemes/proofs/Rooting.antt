@@ -10,7 +10,7 @@ use Rattle.rules.specs.Bytes.{Text}
 use Rattle.rules.specs.Tree.{Tree, variable, atom, apply, Trees, children}
 use Rattle.rules.specs.Substitution.{Pair, flatten}
 use Rattle.rules.specs.Variants.{Scheme, scheme, root-schemes}
-use Rattle.rules.specs.Schemes.{root-count, root-at}
+use Rattle.laws.specs.Schemes.{root-count, root-at}
 use Rattle.tree.specs.Cells.{kind-of, name-at, tree-at, trees-at}
 use Rattle.tree.proofs.Decoding.{frame-trees}
 use Rattle.schemes.specs.Choices.{over, ways-of, root-of, Shared}

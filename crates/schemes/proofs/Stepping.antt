@@ -10,8 +10,8 @@ use Rattle.rules.specs.Bytes.{Text}
 use Rattle.rules.specs.Tree.{Tree, Trees, none, more, children, count, size, sizes}
 use Rattle.rules.specs.Substitution.{Pair, flatten}
 use Rattle.rules.specs.Variants.{Scheme, Joined, scheme-count, scheme-counts}
-use Rattle.rules.specs.Schemes.{scheme-at, joined-at}
-use Rattle.rules.specs.Memory.{site, sites, sites-in}
+use Rattle.laws.specs.Schemes.{scheme-at, joined-at}
+use Rattle.laws.specs.Memory.{site, sites, sites-in}
 use Rattle.tree.specs.Cells.{next-of, tree-at, trees-at}
 use Rattle.tree.specs.Arena.{Arena}
 use Rattle.tree.proofs.Decoding.{same-next, trees-none, trees-more, frame-tree, frame-trees, size-pos}

@@ -8,8 +8,8 @@ use Rattle.rules.specs.Bytes.{Text}
 use Rattle.rules.specs.Tree.{Tree, variable, Trees, more, children, count, size, sizes}
 use Rattle.rules.specs.Substitution.{Pair, flatten}
 use Rattle.rules.specs.Variants.{Scheme, Joined, scheme-counts, system}
-use Rattle.rules.specs.Schemes.{joined-at, scheme-at}
-use Rattle.rules.specs.Memory.{site, sites-in}
+use Rattle.laws.specs.Schemes.{joined-at, scheme-at}
+use Rattle.laws.specs.Memory.{site, sites-in}
 use Rattle.tree.specs.Cells.{tree-at, trees-at}
 use Rattle.tree.specs.Arena.{Arena, Below}
 use Rattle.schemes.specs.Choices.{over, appended, ways-of, root-of, Shared}

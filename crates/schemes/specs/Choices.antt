@@ -7,7 +7,7 @@ use Rattle.rules.specs.Bytes.{Text}
 use Rattle.rules.specs.Tree.{Tree, variable, atom, apply, Trees, none, more}
 use Rattle.rules.specs.Reduction.{senc, kem}
 use Rattle.rules.specs.Variants.{Scheme, scheme, Joined}
-use Rattle.rules.specs.Schemes.{root-count, root-at}
+use Rattle.laws.specs.Schemes.{root-count, root-at}
 
 -- a tree with other children
 abbrev pub over : Tree → Trees → Tree

@@ -10,7 +10,7 @@ ghost use mathlib.Core.Path.{_≡_};
 ghost use Prim.Native.Nat.{_+_, _*_, _<_, _≤_};
 ghost use Rattle.rules.specs.Tree.{children};
 ghost use Rattle.rules.specs.Variants.{with-one, with-two, scheme-count, scheme-counts};
-ghost use Rattle.rules.specs.Schemes.{root-count};
+ghost use Rattle.laws.specs.Schemes.{root-count};
 ghost use Rattle.tree.specs.Cells.{name-at, tree-at, trees-at};
 ghost use Rattle.tree.specs.Arena.{Arena};
 ghost use Rattle.schemes.specs.Choices.{over, ways-of};

@@ -15,7 +15,7 @@ ghost use Rattle.rules.specs.Tree.{apply, sizes};
 ghost use Rattle.rules.specs.Substitution.{Pair, pick, flatten};
 ghost use Rattle.rules.specs.Reduction.{two, kem, constant};
 ghost use Rattle.rules.specs.Variants.{scheme};
-ghost use Rattle.rules.specs.Schemes.{root-count, root-at};
+ghost use Rattle.laws.specs.Schemes.{root-count, root-at};
 ghost use Rattle.tree.specs.Cells.{name-at, fixed-name, tree-at, trees-at};
 ghost use Rattle.tree.specs.Arena.{Arena, Linked};
 ghost use Rattle.schemes.specs.Choices.{cipher};

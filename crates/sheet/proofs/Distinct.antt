@@ -5,18 +5,10 @@ use mathlib.Core.List.{List, [], _∷_}
 use Rattle.rules.specs.Bytes.{Text, same, upto, insert, sort}
 use Rattle.rules.specs.Text.{is-one-of}
 use Rattle.rules.specs.Sheet.{Entry, distinct-keys}
+use Rattle.text.proofs.Sameness.{same-swap}
 use Rattle.laws.proofs.Basics.Tests.{same-eq, same-of-eq, neither}
 use Rattle.laws.proofs.Basics.Order.{upto-other, upto-one, upto-trans}
 use Rattle.sheet.specs.Members.{keys-of, distinct, apart}
-
-same-swap : (a b : Text) → same a b ≡ same b a
-same-swap a b = go (same a b) (same b a) refl refl
-  where
-    go : (p q : Bool) → same a b ≡ p → same b a ≡ q → p ≡ q
-    go true true e f = refl
-    go false false e f = refl
-    go true false e f = absurd (true≢false (sym (same-of-eq (sym (same-eq a b e))) ∙ f))
-    go false true e f = absurd (true≢false (sym (same-of-eq (sym (same-eq b a f))) ∙ e))
 
 -- ---- insertion
 

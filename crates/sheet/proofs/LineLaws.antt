@@ -3,10 +3,10 @@ use mathlib.Core.Path.{_≡_, refl, ap, ap₂, sym, _∙_}
 use mathlib.Core.List.{List, [], _∷_}
 use mathlib.Core.Option.{Option, some, none, Option·map}
 use mathlib.Core.Bool.{Bool, true, false, cond}
-use Prim.Native.Nat.{ℕ, zero, suc, _+_, _-_, _<_, _≤_}
+use Prim.Native.Nat.{ℕ, suc, _+_, _-_, _<_, _≤_}
 use native.Mathlib.Omega.{arith}
 use native.Mathlib.Nat.{add-zero, add-sub-cancel-left}
-use lib.Seq.{drop-drop, take-nil}
+use lib.Seq.{drop-drop}
 use lib.ListN.{length, getD, take, drop, drop-of-length-le, length-take, length-drop}
 use lib.Dec.{eqb}
 use borrow.Author.Tests.{eq-eqb, ne-eqb}
@@ -17,6 +17,7 @@ use Rattle.laws.proofs.Basics.Tests.{and-right}
 use Rattle.text.specs.Prefix.{begins-with}
 use Rattle.text.proofs.Loops.{drop-next}
 use Rattle.text.proofs.Prefixes.{after-key-is}
+use Rattle.text.proofs.Slices.{drop-take}
 use Rattle.sheet.specs.Lines.{up-to, line-of, line-at, lines-at, value-of, value-at, part-of}
 use Rattle.sheet.specs.declared.Cursor.{Cursor}
 use Rattle.sheet.specs.declared.Line.{Line}
@@ -160,12 +161,6 @@ abbrev pub Unkeyed : Text → Option (List Text) → Type 0
 Unkeyed key none = Unit
 Unkeyed key (some []) = Unit
 Unkeyed key (some (l ∷ ls)) = after-key key l ≡ none
-
-pub drop-take : (n m : ℕ) (l : Text) → drop n (take m l) ≡ take (m - n) (drop n l)
-drop-take zero m l = let e : m ≡ m - 0 = omega arith in ap (λ (i : ℕ). take i l) e
-drop-take (suc n) zero l = let e : 0 - suc n ≡ 0 = omega arith in sym (ap (λ (i : ℕ). take i (drop (suc n) l)) e)
-drop-take (suc n) (suc m) [] = sym (take-nil (suc m - suc n))
-drop-take (suc n) (suc m) (x ∷ l) = let e : m - n ≡ suc m - suc n = omega arith in drop-take n m l ∙ ap (λ (i : ℕ). take i (drop n l)) e
 
 part-later : (s : Text) (f t n : ℕ) → drop n (part-of f t s) ≡ part-of (f + n) t s
 part-later s f t n =

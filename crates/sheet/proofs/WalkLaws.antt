@@ -12,6 +12,7 @@ use Rattle.rules.specs.Maybe.{_>>=_, guard}
 use Rattle.rules.specs.Lines.{after-key}
 use Rattle.rules.specs.Sheet.{Entry, Member, Sheet, asks-unify, asks-match, asks-cover, asks-sound, asks-complete, with-entry, pairs, distinct-keys, members-from, none-waiting, at-end, one-member}
 use Rattle.laws.proofs.Basics.Options.{bound, guarded}
+use Rattle.laws.proofs.Sheets.SheetTexts.{the-member}
 use Rattle.sheet.specs.Lines.{part-of, lines-at, value-at}
 use Rattle.sheet.specs.Pairs.{pair-at, entries-by, before}
 use Rattle.sheet.specs.Members.{members-at}
@@ -185,18 +186,13 @@ cover-parts s c d sheet e =
     let (ms, i, j) = bound (members-at s (d .at)) (λ ms. some (asks-cover (p .0) ms)) sheet h in
     (p .0, p .1, ms, (let z : sheet ≡ asks-cover (p .0) ms = cc in z), ap (λ (o : Option (List Text)). o >>= pairs) a ∙ g, i)
 
-one-as : (ms : List Member) (m : Member) → one-member ms ≡ some m → ms ≡ m ∷ []
-one-as [] m e = let z : _≡_ {A = ℕ} 0 1 = cc in absurd (omega arith)
-one-as (n ∷ []) m e = let z : n ≡ m = cc in ap (λ (m : Member). m ∷ []) z
-one-as (n ∷ o ∷ ms) m e = let z : _≡_ {A = ℕ} 0 1 = cc in absurd (omega arith)
-
 pub sound-member : (s : Text) (t : Place) (c : Cursor) (sheet : Sheet) → sheet-of s (form.Sound t c) ≡ some sheet
     → (m : Member) × (sheet ≡ asks-sound (text-of s t) m) × (members-at s (c .at) ≡ some (m ∷ []))
 unfolding sheet-of
 sound-member s t c sheet e =
     let (ms, a, b) = bound (members-at s (c .at)) (λ ms. one-member ms >>= λ m. some (asks-sound (text-of s t) m)) sheet e in
     let (m, g, h) = bound (one-member ms) (λ m. some (asks-sound (text-of s t) m)) sheet b in
-    (m, (let z : sheet ≡ asks-sound (text-of s t) m = cc in z), a ∙ ap some (one-as ms m g))
+    (m, (let z : sheet ≡ asks-sound (text-of s t) m = cc in z), a ∙ ap some (the-member ms m g))
 
 pub complete-members : (s : Text) (t : Place) (c : Cursor) (sheet : Sheet) → sheet-of s (form.Complete t c) ≡ some sheet
     → (ms : List Member) × (sheet ≡ asks-complete (text-of s t) ms) × (members-at s (c .at) ≡ some ms)

@@ -13,12 +13,12 @@ use Rattle.laws.proofs.Solving.Budget.{flatten-instance, flatten-size}
 use Rattle.tree.specs.Cells.{name-at, tree-at, trees-at}
 use Rattle.tree.specs.Arena.{Arena, Grown}
 use Rattle.tree.proofs.Decoding.{frame-trees}
+use Rattle.tree.proofs.Areas.{grown-then}
 use Rattle.substitution.specs.Bindings.{bindings-at}
 use Rattle.substitution.specs.Building.{Made, Listed, instances-at}
 use Rattle.substitution.specs.Composing.{put-pairs, Put}
 use Rattle.substitution.proofs.Keys.{bindings-none}
 use Rattle.substitution.proofs.Chains.{bindings-pair}
-use Rattle.substitution.proofs.Growing.{grown-then}
 
 -- a list of one binding
 bindings-one : {s : Text} {w v : List ℕ} {n m b : ℕ} (key value : ℕ) → Made s w v n m b (more (tree-at s w key) (more (tree-at s w value) (trees-at s w 0)))

@@ -31,13 +31,13 @@ pub chain-more : (x : Text) (t : Tree) (ts : Trees) → Chain ts → Chain (more
 unfolding bindings-of flatten-bindings
 chain-more x t ts c = ap (λ (us : Trees). more (variable x) (more t us)) c
 
-head-more : {t u : Tree} {ts us : Trees} → more t ts ≡ more u us → t ≡ u
+pub head-more : {t u : Tree} {ts us : Trees} → more t ts ≡ more u us → t ≡ u
 head-more e = cc
 
 tail-more : {t u : Tree} {ts us : Trees} → more t ts ≡ more u us → ts ≡ us
 tail-more e = cc
 
-none-more : {t : Tree} {ts : Trees} → none ≡ more t ts → ⊥
+pub none-more : {t : Tree} {ts : Trees} → none ≡ more t ts → ⊥
 none-more e = let z : _≡_ {A = ℕ} 0 1 = cc in omega arith
 
 chain-odd : (t : Tree) → Chain (more t none) → ⊥

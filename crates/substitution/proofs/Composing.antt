@@ -14,11 +14,11 @@ use Rattle.laws.proofs.Basics.Tests.{true-leb, false-leb}
 use Rattle.tree.specs.Cells.{name-at, next-of, tree-at, trees-at}
 use Rattle.tree.specs.Arena.{Arena, Grown, Linked}
 use Rattle.tree.proofs.Decoding.{same-next, trees-none, frame-tree}
+use Rattle.tree.proofs.Areas.{grown-same, grown-then}
 use Rattle.substitution.specs.Bindings.{bindings-of, bindings-at, Chain}
 use Rattle.substitution.specs.Building.{Placed, instance-at}
 use Rattle.substitution.specs.Composing.{Joined}
 use Rattle.substitution.proofs.Keys.{bindings-none}
-use Rattle.substitution.proofs.Growing.{grown-same, grown-then}
 use Rattle.substitution.proofs.Chains.{chain-none, chain-more, Entry, value-some, entry}
 
 -- the bindings composed one after the other, over those composed before

@@ -10,10 +10,10 @@ use Rattle.tree.specs.Cells.{start-of, length-of, kind-of, name-at, first-of, n
 use Rattle.tree.specs.Arena.{Arena, Wrote, Linked}
 use Rattle.tree.proofs.Decoding.{same-kind, same-name, same-first, made-apply, tree-apply, trees-none, trees-more, frame-trees, size-pos}
 use Rattle.tree.proofs.Pushing.{linked-like}
+use Rattle.tree.proofs.Areas.{grown-same, grown-then}
 use Rattle.substitution.specs.Building.{Made, Before, Placed, Listed, BuildsTree, BuildsList}
 use Rattle.substitution.specs.declared.instances.Built.{Built}
 use Rattle.substitution.specs.declared.instances.Built.the-variants.{Done, Over}
-use Rattle.substitution.proofs.Growing.{grown-same, grown-then}
 
 -- a cell that has the link already
 pub before-same : {s : Text} {w : List ℕ} {n : ℕ} (k next : ℕ) → Arena s w n → 0 < k → k < n → next-of w k ≡ next → Before s w w n next (tree-at s w k) k n

@@ -15,6 +15,7 @@ use Rattle.laws.proofs.Basics.Tests.{and-left, and-right, leb-true}
 use Rattle.text.specs.Numbers.{number-of}
 use Rattle.text.specs.declared.decimal.Number.the-variants.{Is, Not}
 use Rattle.text.proofs.Loops.{drop-next}
+use Rattle.text.proofs.Sameness.{and-false}
 
 -- ---- reading
 
@@ -34,10 +35,6 @@ value-end n s i h = rw (drop-of-length-le s h)
 pub digit-bounds : (b : ℕ) → digit b ≡ true → (48 ≤ b) × (b ≤ 57)
 unfolding digit
 digit-bounds b e = (leb-true 48 b (and-left (leb 48 b) (leb b 57) e), leb-true b 57 (and-right (leb 48 b) (leb b 57) e))
-
-and-false : (a : Bool) → (a && false) ≡ false
-and-false true = refl
-and-false false = refl
 
 -- no digits, or a zero before others
 abbrev pub led : List ℕ → Bool

@@ -1,6 +1,6 @@
 -- The test whether two texts are one, at a position of both. Assumes nothing.
 use Prim.Native.Nat.{ℕ, suc, _+_, _<_, _≤_}
-use mathlib.Core.Path.{_≡_, refl, ap, _∙_}
+use mathlib.Core.Path.{_≡_, refl, ap, _∙_, sym, ap₂}
 use mathlib.Core.Bool.{Bool, true, false, _&&_}
 use mathlib.Core.List.{List, [], _∷_}
 use lib.Dec.{eqb}
@@ -8,10 +8,10 @@ use lib.ListN.{length, getD, drop}
 use lib.Seq.{drop-cons, drop-length}
 use native.Mathlib.Omega.{arith}
 use native.Mathlib.Numerals.{add-one}
-use borrow.Author.Tests.{eq-eqb, ne-eqb}
-use Rattle.rules.specs.Bytes.{same}
+use borrow.Author.Tests.{eq-eqb, ne-eqb, eqb-true, eqb-false}
+use Rattle.rules.specs.Bytes.{same, Text}
 
-and-false : (b : Bool) → b && false ≡ false
+pub and-false : (b : Bool) → b && false ≡ false
 and-false true = refl
 and-false false = refl
 
@@ -36,3 +36,16 @@ same-end a b i p q l =
     let e : i ≡ length a = omega arith in
     let f : length a ≡ length b = q in
     rw (e, drop-length) (rw (f, drop-length))
+
+pub same-swap : (a b : Text) → same a b ≡ same b a
+unfolding same
+same-swap [] [] = refl
+same-swap [] (y ∷ b) = refl
+same-swap (x ∷ a) [] = refl
+same-swap (x ∷ a) (y ∷ b) = ap₂ _&&_ (eqb-swap (eqb x y) (eqb y x) refl refl) (same-swap a b)
+  where
+    eqb-swap : (p q : Bool) → eqb x y ≡ p → eqb y x ≡ q → p ≡ q
+    eqb-swap true true e f = refl
+    eqb-swap true false e f = absurd (eqb-false y x f (sym (eqb-true x y e)))
+    eqb-swap false true e f = absurd (eqb-false x y e (sym (eqb-true y x f)))
+    eqb-swap false false e f = refl

@@ -1,9 +1,9 @@
--- Parts of lists: two lists that agree, one word more, a part and the part after it. Assumes nothing.
-use Prim.Native.Nat.{ℕ, _+_, _<_, _≤_}
+-- Parts of lists: two lists that agree, one word more, a part and the part after it, what is left of a front. Assumes nothing.
+use Prim.Native.Nat.{ℕ, _+_, _<_, _≤_, zero, suc, _-_}
 use mathlib.Core.Path.{_≡_, sym, ap, _∙_}
 use mathlib.Core.List.{List, [], _∷_, _++_}
 use lib.ListN.{length, getD, take, drop, set, length-take, drop-of-length-le}
-use lib.Seq.{slice, length-slice, getD-take, getD-drop, ext-getD, take-suc-set, drop-append-le, take-take, length-take-le}
+use lib.Seq.{slice, length-slice, getD-take, getD-drop, ext-getD, take-suc-set, drop-append-le, take-take, length-take-le, take-nil}
 use native.Mathlib.Omega.{arith}
 use native.Mathlib.Numerals.{add-one}
 
@@ -31,3 +31,9 @@ slice-join f m t w p q r =
 -- no part
 pub slice-none : (f t : ℕ) (w : List ℕ) → t ≤ f → slice f t w ≡ []
 slice-none f t w p = drop-of-length-le (take t w) {i = f} (let k = length-take t w in omega arith)
+
+pub drop-take : (n m : ℕ) (l : List ℕ) → drop n (take m l) ≡ take (m - n) (drop n l)
+drop-take zero m l = let e : m ≡ m - 0 = omega arith in ap (λ (i : ℕ). take i l) e
+drop-take (suc n) zero l = let e : 0 - suc n ≡ 0 = omega arith in sym (ap (λ (i : ℕ). take i (drop (suc n) l)) e)
+drop-take (suc n) (suc m) [] = sym (take-nil (suc m - suc n))
+drop-take (suc n) (suc m) (x ∷ l) = let e : m - n ≡ suc m - suc n = omega arith in drop-take n m l ∙ ap (λ (i : ℕ). take i (drop n l)) e

@@ -1,4 +1,4 @@
--- Areas that keep the cells below one. Assumes nothing.
+-- Areas that keep the cells below one, and growth of an area. Assumes nothing.
 use Prim.Native.Nat.{ℕ, _*_, _≤_}
 use mathlib.Core.Path.{_≡_, refl, _∙_}
 use mathlib.Core.List.{List}
@@ -39,3 +39,28 @@ below-then g h p = record { len = h .len ∙ g .len; words = λ k l. g .words k 
 
 pub below-grown : {w v : List ℕ} {n m : ℕ} → Grown w v n m → Below w v n
 below-grown g = record { len = g .len; words = g .below }
+
+-- no growth
+pub grown-same : (w : List ℕ) (n m : ℕ) → Grown w w n m
+grown-same w n m = record { len = refl; below = λ p h. refl; above = λ p h. refl }
+
+pub grown-within : {w v : List ℕ} {n m n₁ m₁ : ℕ} → Grown w v n₁ m₁ → n ≤ n₁ → m₁ ≤ m → Grown w v n m
+grown-within h p q = record {
+  len = h .len;
+  below = λ k l. h .below k (omega arith);
+  above = λ k l. h .above k (omega arith);
+}
+
+-- one growth after another, within the bounds of both
+pub grown-then : {w v u : List ℕ} {n m n₁ m₁ m₂ : ℕ} → Grown w v n m → Grown v u n₁ m₁ → n ≤ n₁ → m ≤ m₂ → m₁ ≤ m₂ → Grown w u n m₂
+grown-then g h p q r = record {
+  len = h .len ∙ g .len;
+  below = λ k l. g .below k l ∙ h .below k (omega arith);
+  above = λ k l. g .above k (omega arith) ∙ h .above k (omega arith);
+}
+
+pub grown-on : {w v u : List ℕ} {n m l : ℕ} → n ≤ m → m ≤ l → Grown w v n m → Grown v u m l → Grown w u n l
+grown-on a b g h = grown-then g h a b (omega arith)
+
+pub grown-more : {w v : List ℕ} {n m l : ℕ} → m ≤ l → Grown w v n m → Grown w v n l
+grown-more b g = grown-within g (omega arith) b

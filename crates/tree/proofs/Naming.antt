@@ -1,14 +1,14 @@
 -- The names of cells: parts of the sheet and fixed names, and the heads of trees. Assumes nothing.
 use Prim.Native.Nat.{ℕ, _+_, _-_, _<_, _≤_}
 use mathlib.Core.Path.{_≡_, refl, sym, ap, ap₂, _∙_}
-use mathlib.Core.Bool.{Bool, true, false, _&&_, true≢false}
+use mathlib.Core.Bool.{Bool, true, false, true≢false}
 use mathlib.Core.List.{List, [], _∷_, head-eq-of-cons-eq, tail-eq-of-cons-eq, append-cancel-right}
 use mathlib.Core.Logic.{_⊎_, inl, inr}
 use lib.Dec.{eqb}
 use lib.ListN.{length, getD, take, drop, length-take, length-drop}
 use native.Mathlib.Omega.{arith}
 use native.Mathlib.Decide.{decLt}
-use borrow.Author.Tests.{eq-eqb, ne-eqb, eqb-true, eqb-false}
+use borrow.Author.Tests.{eq-eqb, ne-eqb}
 use Rattle.rules.specs.Bytes.{Text, same}
 use Rattle.rules.specs.Tree.{atom-text, head}
 use Rattle.laws.proofs.Basics.Tests.{same-eq, same-of-eq, differ-of-ne}
@@ -49,19 +49,6 @@ module _ (s : Text) (w : List ℕ) (k : ℕ) where
 pub length-small : (w : List ℕ) (k : ℕ) → length-of w k < 65536
 unfolding length-of
 length-small w k = omega arith
-
-pub same-swap : (a b : Text) → same a b ≡ same b a
-unfolding same
-same-swap [] [] = refl
-same-swap [] (y ∷ b) = refl
-same-swap (x ∷ a) [] = refl
-same-swap (x ∷ a) (y ∷ b) = ap₂ _&&_ (eqb-swap (eqb x y) (eqb y x) refl refl) (same-swap a b)
-  where
-    eqb-swap : (p q : Bool) → eqb x y ≡ p → eqb y x ≡ q → p ≡ q
-    eqb-swap true true e f = refl
-    eqb-swap true false e f = absurd (eqb-false y x f (sym (eqb-true x y e)))
-    eqb-swap false true e f = absurd (eqb-false x y e (sym (eqb-true y x f)))
-    eqb-swap false false e f = refl
 
 same-by : {a b c d : Text} → (a ≡ b → c ≡ d) → (c ≡ d → a ≡ b) → same a b ≡ same c d
 same-by {a} {b} {c} {d} f g = go (same c d) refl

@@ -8,15 +8,15 @@ use Rattle.rules.specs.Tree.{Tree}
 use Rattle.rules.specs.Substitution.{Binding, Pair, flatten}
 use Rattle.rules.specs.Solving.{solved, failed, unsupported, Answer}
 use Rattle.rules.specs.Matching.{Move, onward, clash, beyond, move, moved, matching, matcher}
-use Rattle.rules.specs.Memory.{load, weight}
+use Rattle.laws.specs.Memory.{load, weight}
 use Rattle.tree.specs.Cells.{next-of, tree-at, trees-at}
 use Rattle.tree.specs.Arena.{Arena, Below}
 use Rattle.tree.proofs.Decoding.{trees-none}
 use Rattle.tree.proofs.Areas.{below-same, below-then}
 use Rattle.substitution.specs.Bindings.{bindings-of, bindings-at, flatten-bindings, Chain}
 use Rattle.substitution.proofs.Chains.{bindings-flatten, chain-flatten}
-use Rattle.unifier.specs.Stack.{pairs-at, Whole, Fit, FitPairs, FitBindings}
-use Rattle.unifier.specs.Area.{Room}
+use Rattle.steps.specs.Stack.{pairs-at, Whole, Fit, FitPairs, FitBindings}
+use Rattle.steps.specs.Area.{Room}
 use Rattle.unifier.specs.Running.{Bound}
 use Rattle.unifier.specs.Matching.{Moves}
 use Rattle.unifier.specs.declared.matching.Moved.{Moved}

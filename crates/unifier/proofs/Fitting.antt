@@ -13,18 +13,19 @@ use Rattle.rules.specs.Sums.{summands, equivalent}
 use Rattle.rules.specs.Sorts.{Sort, variable-sort, sorted, refinable, sort-refuted}
 use Rattle.rules.specs.Solving.{Step, goes-on, bind, fails, unknown, Rest, emptied, mismatch, stuck, equation, cancel, remainder, cancel-sums, fits, bind-into, unless-refinable, swap-at, swap-for, swap-key, sort-check, occurs-check, eliminate-at, eliminate, push-children, if-refuted, sum-step, decompose-at, decompose, against, differ, step-at, step}
 use Rattle.rules.specs.Matching.{Move, onward, clash, beyond, bound, or-else, agree, bind-new, sort-new, match-key, match-rest, ground-eq, match-at, match-roots, move}
-use Rattle.rules.specs.Tidy.{Built, Builts, both, a-sum}
+use Rattle.rules.specs.Tidy.{Built, Builts, both}
 use Rattle.rules.specs.Reading.{parse}
 use Rattle.rules.specs.Sheet.{Entry}
 use Rattle.rules.specs.Answer.{read-pairs}
 use Rattle.laws.proofs.Equality.Building.{built-children}
-use Rattle.laws.proofs.Solving.Keeping.{AllIn, Sides, Kept, KeptStep, step-keep}
+use Rattle.laws.proofs.Solving.Keeping.{AllIn, Sides, KeptStep, step-keep}
 use Rattle.laws.proofs.Solving.Weights.{cancel-mass-left}
 use Rattle.laws.proofs.Sheets.BuiltRun.{BuiltBindings, BuiltRest, sums-built, name-token, instance-built}
 use Rattle.laws.proofs.Sheets.BuiltMatch.{mass, summands-mass, rebuild-mass, cancel-mass}
 use Rattle.laws.proofs.Sheets.NamesRead.{pairs-read-by}
 use Rattle.laws.proofs.Promises.{parse-builds}
-use Rattle.unifier.specs.Stack.{Fit, FitPairs, FitBindings}
+use Rattle.laws.proofs.Renaming.Matching.{built-kept}
+use Rattle.steps.specs.Stack.{Fit, FitPairs, FitBindings}
 
 -- Sums
 
@@ -187,13 +188,6 @@ module _ (ps : List Pair) (waiting : FitPairs ps) where
       go false = differ-on l r p q
 
 -- the pairs after a binding: within the limit in all, so each of them
-builts-all : (ts : Trees) → Builts ts → AllIn Built ts
-builts-all none b = tt
-builts-all (more t ts) (both b bs) = (b, builts-all ts bs)
-
-built-kept : Kept Built
-built-kept = record { parts = λ f ts h. builts-all ts (built-children h); sums = λ a b p q. a-sum p q }
-
 pairs-sides : (ps : List Pair) → FitPairs ps → Sides Built Built ps
 pairs-sides [] h = tt
 pairs-sides (p ∷ ps) h = (h .0 .built, h .1 .built, pairs-sides ps (h .2))

@@ -8,7 +8,7 @@ use Rattle.rules.specs.Bytes.{Text}
 use Rattle.rules.specs.Tree.{Tree, variable, Trees, more}
 use Rattle.rules.specs.Substitution.{Binding, Pair, flatten}
 use Rattle.rules.specs.Solving.{Step, goes-on, bind, fails, unknown, step, Verdict, solved, failed, unsupported, Answer, after, run}
-use Rattle.rules.specs.Memory.{OverPairs, load, weight, without}
+use Rattle.laws.specs.Memory.{OverPairs, load, weight, without}
 use Rattle.laws.proofs.Solving.Names.{StepOver, step-over}
 use Rattle.laws.proofs.Solving.Weights.{weight-size}
 use Rattle.tree.specs.Cells.{next-of, tree-at, trees-at}
@@ -18,14 +18,14 @@ use Rattle.tree.proofs.Areas.{below-same, below-then, below-grown}
 use Rattle.substitution.specs.Bindings.{bindings-of, bindings-at, flatten-bindings, Chain}
 use Rattle.substitution.specs.Building.{Made}
 use Rattle.substitution.proofs.Chains.{bindings-flatten, chain-flatten}
-use Rattle.unifier.specs.Stack.{pairs-at, Whole, FitPairs}
-use Rattle.unifier.specs.Area.{Room}
-use Rattle.unifier.specs.Differing.{Differing}
-use Rattle.unifier.specs.Stepping.{Steps}
+use Rattle.steps.specs.Stack.{pairs-at, Whole, FitPairs}
+use Rattle.steps.specs.Area.{Room}
+use Rattle.steps.specs.Differing.{Differing}
+use Rattle.steps.specs.Stepping.{Steps}
+use Rattle.steps.specs.declared.elimination.Taken.{Taken}
+use Rattle.steps.specs.declared.elimination.Taken.the-variants as taken
+use Rattle.steps.proofs.Differing.{differing-none}
 use Rattle.unifier.specs.Running.{Roomy, Ran}
-use Rattle.unifier.specs.declared.elimination.Taken.{Taken}
-use Rattle.unifier.specs.declared.elimination.Taken.the-variants as taken
-use Rattle.unifier.proofs.Differing.{differing-none}
 use Rattle.unifier.proofs.Fitting.{FitStep, step-fit}
 use Rattle.unifier.proofs.Tops.{stack-empty, Top, right-some, top, top-pairs, top-weight, top-fit}
 use Rattle.unifier.proofs.Resuming.{with-bindings, resumed, with-none, with-more, run-end, run-step, run-spent}

@@ -1,14 +1,8 @@
-pub mod Waiting
-pub mod Differing
-pub mod Children
-pub mod Keys
 pub mod Fitting
 pub mod Tops
 pub mod Resuming
 pub mod Invariant
 pub mod Finishing
-pub mod Leaving
-pub mod Resting
 pub mod Sums
 pub mod Steps
 pub mod Moving

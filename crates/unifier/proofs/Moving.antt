@@ -12,7 +12,7 @@ use Rattle.rules.specs.Sums.{equivalent}
 use Rattle.rules.specs.Sorts.{variable-sort, sorted}
 use Rattle.rules.specs.Solving.{Rest, goes-on, cancel-sums, push-children}
 use Rattle.rules.specs.Matching.{Move, onward, clash, bound, agree, bind-new, match-key, match-rest, ground-eq, match-at, match-roots, move}
-use Rattle.rules.specs.Memory.{load, weight, pushed, kept-summands}
+use Rattle.laws.specs.Memory.{load, weight, pushed, kept-summands}
 use Rattle.tree.specs.Cells.{kind-of, name-at, tree-at, trees-at}
 use Rattle.tree.specs.Arena.{Cell, Arena, Below}
 use Rattle.tree.proofs.Decoding.{Kind, application, a-variable, an-atom, kind, tree-variable, tree-atom, tree-apply, frame-trees}
@@ -21,12 +21,12 @@ use Rattle.sorts.specs.Numbers.{numbered}
 use Rattle.sorts.proofs.Coding.{kind-known, kind-unknown}
 use Rattle.substitution.specs.Bindings.{bindings-at, flatten-bindings, Chain}
 use Rattle.substitution.specs.Building.{Made}
-use Rattle.unifier.specs.Stack.{pairs-at, Whole, pushes, Fit}
-use Rattle.unifier.specs.Resting.{Equates}
-use Rattle.unifier.specs.Stepping.{Waits, GoesOn}
+use Rattle.steps.specs.Stack.{pairs-at, Whole, pushes, Fit}
+use Rattle.steps.specs.Resting.{Equates}
+use Rattle.steps.specs.Stepping.{Waits, GoesOn}
+use Rattle.steps.proofs.Differing.{differing-none}
+use Rattle.steps.proofs.Waiting.{stack-below, waits-below}
 use Rattle.unifier.specs.Matching.{Onwards}
-use Rattle.unifier.proofs.Differing.{differing-none}
-use Rattle.unifier.proofs.Waiting.{stack-below, waits-below}
 use Rattle.unifier.proofs.Sums.{pair-waits, pair-used}
 use Rattle.unifier.proofs.Steps.{children-pushed}
 

@@ -13,7 +13,7 @@ use Rattle.rules.specs.Substitution.{Pair}
 use Rattle.rules.specs.Sums.{equivalent}
 use Rattle.rules.specs.Sorts.{TamNat, natural, refinable, sort-refuted}
 use Rattle.rules.specs.Solving.{Step, goes-on, fails, cancel-sums, sum-step, push-children, decompose-at, decompose, against, differ, step-at, step, eliminate}
-use Rattle.rules.specs.Memory.{load, weight, pushed}
+use Rattle.laws.specs.Memory.{load, weight, pushed}
 use Rattle.laws.proofs.Basics.Tests.{and-split, and-both}
 use Rattle.laws.proofs.Solving.Weights.{push-weight}
 use Rattle.tree.specs.Cells.{kind-of, name-at, tree-at, trees-at}
@@ -21,13 +21,13 @@ use Rattle.tree.specs.Arena.{Arena}
 use Rattle.tree.proofs.Decoding.{Kind, application, a-variable, an-atom, kind, tree-variable, tree-atom, tree-apply}
 use Rattle.tree.proofs.Areas.{below-same}
 use Rattle.substitution.specs.Building.{Made}
-use Rattle.unifier.specs.Area.{Room}
-use Rattle.unifier.specs.Stack.{Whole, pairs-at, pushes}
-use Rattle.unifier.specs.Differing.{Differing}
-use Rattle.unifier.specs.Stepping.{GoesOn, Steps}
-use Rattle.unifier.specs.declared.elimination.Taken.{Taken}
-use Rattle.unifier.proofs.Children.{flatten-pushes}
-use Rattle.unifier.proofs.Waiting.{waits-below, steps-more, waits-made}
+use Rattle.steps.specs.Area.{Room}
+use Rattle.steps.specs.Stack.{Whole, pairs-at, pushes}
+use Rattle.steps.specs.Differing.{Differing}
+use Rattle.steps.specs.Stepping.{GoesOn, Steps}
+use Rattle.steps.specs.declared.elimination.Taken.{Taken}
+use Rattle.steps.proofs.Children.{flatten-pushes}
+use Rattle.steps.proofs.Waiting.{waits-below, steps-more, waits-made}
 
 -- Refuted by sorts
 

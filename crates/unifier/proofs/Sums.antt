@@ -15,7 +15,7 @@ use Rattle.rules.specs.Sums.{equivalent}
 use Rattle.rules.specs.Sorts.{sort-refuted}
 use Rattle.rules.specs.Solving as rules
 use Rattle.rules.specs.Solving.{cancel-sums, if-refuted, sum-step}
-use Rattle.rules.specs.Memory.{load, weight, kept-summands}
+use Rattle.laws.specs.Memory.{load, weight, kept-summands}
 use Rattle.laws.proofs.Basics.Tests.{and-right, and-split, and-both, eqb-true, same-eq, same-of-eq}
 use Rattle.laws.proofs.Solving.Weights.{sum-weight}
 use Rattle.tree.specs.Cells.{kind-of, name-at, tree-at, trees-at}
@@ -24,16 +24,16 @@ use Rattle.tree.proofs.Decoding.{Kind, application, a-variable as of-variable, 
 use Rattle.tree.proofs.Areas.{below-then, below-grown}
 use Rattle.substitution.specs.Building.{Made}
 use borrow.Author.Tests.{eq-eqb}
-use Rattle.unifier.specs.Area.{Room}
-use Rattle.unifier.specs.Stack.{Whole, pairs-at, Fit}
-use Rattle.unifier.specs.Resting.{Equates, RestIs}
-use Rattle.unifier.specs.Stepping.{Waits, Steps}
-use Rattle.unifier.specs.declared.rest.Rest.{Rest}
-use Rattle.unifier.specs.declared.rest.Rest.the-variants as rest
-use Rattle.unifier.specs.declared.elimination.Taken.{Taken}
-use Rattle.unifier.specs.declared.elimination.Taken.the-variants as taken
-use Rattle.unifier.proofs.Differing.{differing-none}
-use Rattle.unifier.proofs.Waiting.{tree-below, stack-below, waits-below}
+use Rattle.steps.specs.Area.{Room}
+use Rattle.steps.specs.Stack.{Whole, pairs-at, Fit}
+use Rattle.steps.specs.Resting.{Equates, RestIs}
+use Rattle.steps.specs.Stepping.{Waits, Steps}
+use Rattle.steps.specs.declared.rest.Rest.{Rest}
+use Rattle.steps.specs.declared.rest.Rest.the-variants as rest
+use Rattle.steps.specs.declared.elimination.Taken.{Taken}
+use Rattle.steps.specs.declared.elimination.Taken.the-variants as taken
+use Rattle.steps.proofs.Differing.{differing-none}
+use Rattle.steps.proofs.Waiting.{tree-below, stack-below, waits-below}
 
 -- Cells
 

@@ -7,12 +7,12 @@ use native.Mathlib.Decide.{decLt}
 use Rattle.rules.specs.Bytes.{Text}
 use Rattle.rules.specs.Tree.{Tree, Trees, none, more}
 use Rattle.rules.specs.Substitution.{Pair, flatten}
-use Rattle.rules.specs.Memory.{load, weight}
+use Rattle.laws.specs.Memory.{load, weight}
 use Rattle.tree.specs.Cells.{next-of, tree-at, trees-at}
 use Rattle.tree.specs.Arena.{Links}
 use Rattle.tree.proofs.Decoding.{trees-none, trees-more}
-use Rattle.unifier.specs.Stack.{pairs-of, pairs-at, Whole, Fit, FitPairs}
-use Rattle.unifier.proofs.Children.{pairs-flatten}
+use Rattle.steps.specs.Stack.{pairs-of, pairs-at, Whole, Fit, FitPairs}
+use Rattle.steps.proofs.Children.{pairs-flatten}
 
 -- a list of trees that is that of pairs
 pub pairs-are : {ts : Trees} (ps : List Pair) → ts ≡ flatten ps → pairs-of ts ≡ ps

@@ -1,7 +1,2 @@
-pub mod Stack
-pub mod Differing
-pub mod Area
-pub mod Resting
-pub mod Stepping
 pub mod Running
 pub mod Matching

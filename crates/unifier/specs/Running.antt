@@ -6,11 +6,11 @@ use lib.ListN.{length}
 use Rattle.rules.specs.Bytes.{Text}
 use Rattle.rules.specs.Substitution.{Pair}
 use Rattle.rules.specs.Solving.{solved, failed, unsupported, Answer}
-use Rattle.rules.specs.Memory.{OverPairs, weight}
+use Rattle.laws.specs.Memory.{OverPairs, weight}
 use Rattle.tree.specs.Cells.{trees-at}
 use Rattle.tree.specs.Arena.{Arena, Below}
 use Rattle.substitution.specs.Bindings.{bindings-at, Chain}
-use Rattle.unifier.specs.Area.{Room}
+use Rattle.steps.specs.Area.{Room}
 use Rattle.unifier.specs.declared.unifying.Outcome.{Outcome}
 use Rattle.unifier.specs.declared.unifying.Outcome.the-variants as outcome
 

@@ -1,12 +1,12 @@
 // `matcher`: pattern variables are bound, subject variables are constants.
-use crate::pushing::child_of;
-use crate::pushing::push_children;
-use crate::rest::Rest;
-use crate::rest::match_rest;
 use crate::unifying::Outcome;
 use equivalence::equivalent;
 use equivalence::sums::is_sum;
 use sorts::sorted;
+use steps::pushing::child_of;
+use steps::pushing::push_children;
+use steps::rest::Rest;
+use steps::rest::match_rest;
 use substitution::bindings::Found;
 use substitution::bindings::lookup;
 use substitution::bindings::push_pair;
@@ -20,12 +20,12 @@ ghost use Prim.Native.Nat.{_+_, _*_, _<_, _≤_};
 ghost use Rattle.rules.specs.Tree.{tamtplus};
 ghost use Rattle.rules.specs.Solving.{cancel-sums};
 ghost use Rattle.rules.specs.Matching.{bound, match-key, match-rest, ground-eq, match-roots, move, matcher};
-ghost use Rattle.rules.specs.Memory.{load, weight};
+ghost use Rattle.laws.specs.Memory.{load, weight};
 ghost use Rattle.tree.specs.Cells.{kind-of, name-at, tree-at, trees-at};
 ghost use Rattle.tree.specs.Arena.{Arena};
 ghost use Rattle.substitution.specs.Bindings.{bindings-at, Chain};
-ghost use Rattle.unifier.specs.Stack.{Whole, pairs-at, Fit, FitPairs, FitBindings};
-ghost use Rattle.unifier.specs.Area.{Room};
+ghost use Rattle.steps.specs.Stack.{Whole, pairs-at, Fit, FitPairs, FitBindings};
+ghost use Rattle.steps.specs.Area.{Room};
 ghost use Rattle.unifier.specs.Matching.{Moves};
 ghost use Rattle.unifier.specs.Running.{Answers};
 

@@ -1,14 +1,14 @@
 // One pair of `unify`, taken from the stack.
-use crate::elimination::Taken;
-use crate::elimination::eliminate;
-use crate::pushing::child_of;
-use crate::pushing::paired;
-use crate::pushing::push_children;
-use crate::rest::Rest;
-use crate::rest::unify_rest;
 use equivalence::sums::is_sum;
 use sorts::natural;
 use sorts::refinable;
+use steps::elimination::Taken;
+use steps::elimination::eliminate;
+use steps::pushing::child_of;
+use steps::pushing::paired;
+use steps::pushing::push_children;
+use steps::rest::Rest;
+use steps::rest::unify_rest;
 use substitution::bindings::push_pair;
 use tree::cells::kind_of;
 use tree::equality::same_tree;
@@ -23,13 +23,13 @@ ghost use Rattle.rules.specs.Tree.{same-tree, tamtplus};
 ghost use Rattle.rules.specs.Sums.{equivalent};
 ghost use Rattle.rules.specs.Sorts.{sort-refuted};
 ghost use Rattle.rules.specs.Solving.{cancel-sums, sum-step, decompose, step};
-ghost use Rattle.rules.specs.Memory.{load, weight};
+ghost use Rattle.laws.specs.Memory.{load, weight};
 ghost use Rattle.tree.specs.Cells.{kind-of, name-at, tree-at, trees-at};
 ghost use Rattle.tree.specs.Arena.{Arena};
-ghost use Rattle.unifier.specs.Stack.{Whole, pairs-at, Fit};
-ghost use Rattle.unifier.specs.Area.{Room};
-ghost use Rattle.unifier.specs.Differing.{Differing};
-ghost use Rattle.unifier.specs.Stepping.{Steps};
+ghost use Rattle.steps.specs.Stack.{Whole, pairs-at, Fit};
+ghost use Rattle.steps.specs.Area.{Room};
+ghost use Rattle.steps.specs.Differing.{Differing};
+ghost use Rattle.steps.specs.Stepping.{Steps};
 
 // Whether one of the trees of cells left and right is always natural and the other can never be.
 fn refuted(sheet: &[u8], work: &[u32], free: usize, left: usize, right: usize) -> bool

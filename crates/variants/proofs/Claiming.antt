@@ -8,7 +8,7 @@ use mathlib.Core.Option.{Option, some, none as nothing}
 use lib.Dec.{leb}
 use Rattle.rules.specs.Bytes.{Text}
 use Rattle.rules.specs.Maybe.{_>>=_, guard}
-use Rattle.rules.specs.Tree.{Tree, apply, Trees, none, more, size}
+use Rattle.rules.specs.Tree.{Tree, apply, Trees, more, size}
 use Rattle.rules.specs.Sums.{equivalent}
 use Rattle.rules.specs.Reduction.{normalize}
 use Rattle.rules.specs.Substitution.{Substitution, substitute, substitutes, Binding, lookup, instantiate}
@@ -24,7 +24,7 @@ use Rattle.substitution.specs.Bindings.{bindings-at}
 use Rattle.substitution.specs.Building.{Placed, instance-at}
 use Rattle.certificate.specs.Writer as words
 use Rattle.reduction.specs.Building.{NewTree}
-use Rattle.reduction.proofs.NormalForms.{normalizes-size}
+use Rattle.reduction.proofs.NormalForms.{normalize-size}
 use Rattle.sheet.specs.Members.{members-at}
 use Rattle.variants.specs.Members.{nameable, Alike, ReadMember, ReadsMember}
 use Rattle.variants.specs.Soundness.{claim, reduces-to, ClaimsInstance, ClaimsSound}
@@ -81,10 +81,6 @@ instance-there : (bs : List Binding) (term t : Tree) → size (instantiate bs te
 instance-there bs term t h =
     reduces-is bs term t ∙ ap (λ (b : Bool). (guard b >>= λ _. some (instantiate bs term)) >>= λ i. some (equivalent (normalize i) t)) (true-leb (size (instantiate bs term)) 4096 h)
 
-normal-small : (t : Tree) → size (normalize t) ≤ size t
-unfolding normalize size
-normal-small t = let h = normalizes-size (more t none) in omega arith
-
 -- ---- the instance built, and reduced
 
 pub built-small : {s : Text} {w v : List ℕ} {n next i m c : ℕ} {t : Tree} → Placed s w v n 4096 next t i m c → (size (tree-at s v i) ≤ 4096) × (size t ≤ 4096)
@@ -98,7 +94,7 @@ module _ {s : Text} {w v u : List ℕ} {n index end left i stop : ℕ} (term lis
 
   pub reduced-sizes : size (tree-at s w value) ≤ 4096 → (size (tree-at s u i) ≤ 4096) × (size (tree-at s u value) ≤ 4096) × (n ≤ stop) × (stop ≤ n + 8192)
   reduced-sizes h =
-      omega (arith, built-small one, normal-small (tree-at s v index), ap size (two .tree), ap size same-value, one .before .grew, one .used, two .grew, two .used)
+      omega (arith, built-small one, normalize-size (tree-at s v index), ap size (two .tree), ap size same-value, one .before .grew, one .used, two .grew, two .used)
 
   pub reduced-claim : (r : Bool) → r ≡ equivalent (tree-at s u i) (tree-at s u value) → reduces-to (bindings-at s w list) (tree-at s w term) (tree-at s w value) ≡ some r
   reduced-claim r e =

@@ -13,8 +13,8 @@ use Rattle.rules.specs.Reading.{parse}
 use Rattle.rules.specs.Substitution.{Binding, pick, lookup}
 use Rattle.rules.specs.Sheet.{Entry, distinct-keys}
 use Rattle.rules.specs.Variants.{read-entry}
+use Rattle.text.proofs.Sameness.{same-swap}
 use Rattle.laws.proofs.Basics.Tests.{and-split, and-both, neither, neither-left, neither-right, same-eq, same-self, differ-of-ne}
-use Rattle.tree.proofs.Naming.{same-swap}
 use Rattle.substitution.specs.Bindings.{bindings-of, Chain}
 use Rattle.substitution.proofs.Chains.{chain-more}
 use Rattle.sheet.specs.Members.{keys-of, distinct}

@@ -12,9 +12,9 @@ use Rattle.rules.specs.Bytes.{Text, same}
 use Rattle.rules.specs.Text.{count-of}
 use Rattle.rules.specs.Maybe.{guard}
 use Rattle.rules.specs.Names.{digit, all, letter-name}
-use Rattle.rules.specs.Tree.{Tree, variable, atom, apply, Trees, none, more, count, size, sizes, tamtplus}
+use Rattle.rules.specs.Tree.{Tree, variable, atom, apply, Trees, none, more, count, size, sizes, tamtplus, variable-names, variable-names-in}
 use Rattle.rules.specs.Reduction.{Rule, rule-named}
-use Rattle.rules.specs.Memory.{variable-names, variable-names-in, rule-node, rule-nodes, rule-nodes-in}
+use Rattle.laws.specs.Memory.{rule-node, rule-nodes, rule-nodes-in}
 use Rattle.rules.specs.Reading.{leaf, single, constant-name, atom-of, nested, sum-of, close, parse}
 use Rattle.laws.proofs.Basics.Tests.{same-eq}
 use Rattle.laws.proofs.Basics.Options.{bound}
@@ -132,7 +132,7 @@ unfolding nested size
 nested-size t none = omega arith
 nested-size t (more u us) = let h = nested-size u us in omega arith
 
-leaf-size : (n : Text) → size (leaf n) ≡ 1
+pub leaf-size : (n : Text) → size (leaf n) ≡ 1
 unfolding leaf size
 leaf-size n = go (eqb (count-of 58 n) 0)
   where

@@ -11,10 +11,9 @@ use lib.Seq.{take-append-seam, drop-append-seam, take-length}
 use Rattle.rules.specs.Bytes.{Text, same}
 use Rattle.rules.specs.Text.{bytes, count-of}
 use Rattle.rules.specs.Maybe.{_>>=_, guard}
-use Rattle.rules.specs.Tree.{Tree, variable, atom, apply, Trees, none, more, size, tamtplus}
+use Rattle.rules.specs.Tree.{Tree, variable, atom, apply, Trees, none, more, size, tamtplus, variable-names, variable-names-in}
 use Rattle.rules.specs.Tokens.{rest-length, tokens-after, tokens}
 use Rattle.rules.specs.Reading.{leaf, nested, close, after-token, wholly, read-term, read-list, read-text, parse}
-use Rattle.rules.specs.Memory.{variable-names, variable-names-in}
 use Rattle.laws.specs.Parts.{PartOf}
 use Rattle.laws.proofs.Basics.Options.{bound}
 use Rattle.laws.proofs.Reading.TokenKinds.{is-mark}

@@ -10,13 +10,13 @@ use lib.ListN.{length}
 use Rattle.rules.specs.Bytes.{Text}
 use Rattle.rules.specs.Names.{variable-token}
 use Rattle.rules.specs.Maybe.{_>>=_, every}
-use Rattle.rules.specs.Tree.{Tree, variable, atom, apply, Trees, none, more}
+use Rattle.rules.specs.Tree.{Tree, variable, atom, apply, Trees, none, more, variable-names, variable-names-in}
 use Rattle.rules.specs.Reading.{parse}
-use Rattle.rules.specs.Sheet.{Member, asks-complete, read-sheet}
+use Rattle.rules.specs.Sheet.{Member, asks-complete, read-sheet, member-texts}
 use Rattle.rules.specs.Cover.{variables}
 use Rattle.rules.specs.Variants.{Variant, read-member, index-of, fresh-base, fresh-base-in, fresh-from, Scheme, schemes-from, scheme-count, solved-schemes, all-generalized, complete}
-use Rattle.rules.specs.Schemes.{pending, judged-from}
-use Rattle.rules.specs.Memory.{variable-names, variable-names-in, member-texts, sheet-texts}
+use Rattle.laws.specs.Schemes.{pending, judged-from}
+use Rattle.laws.specs.Memory.{sheet-texts}
 use Rattle.rules.specs.Substitution.{Binding}
 use Rattle.rules.specs.Tidy.{Built}
 use Rattle.laws.specs.Parts.{PartOf}

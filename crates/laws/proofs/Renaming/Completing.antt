@@ -9,14 +9,13 @@ use lib.Dec.{leb}
 use Rattle.rules.specs.Bytes.{Text, same, upto}
 use Rattle.rules.specs.Names.{variable-token}
 use Rattle.rules.specs.Maybe.{_>>=_, guard}
-use Rattle.rules.specs.Tree.{Tree, variable, atom, apply, Trees, none, more, size}
+use Rattle.rules.specs.Tree.{Tree, variable, atom, apply, Trees, none, more, size, variable-names, variable-names-in}
 use Rattle.rules.specs.Substitution.{substitute, Binding, Pair, pick, lookup, instantiate}
 use Rattle.rules.specs.Sums.{equivalent}
 use Rattle.rules.specs.Solving.{Verdict, solved, failed, unsupported, Answer, unify}
 use Rattle.rules.specs.Reduction.{normalize}
 use Rattle.rules.specs.Cover.{insert-once, variables, variables-in, covering}
 use Rattle.rules.specs.Variants.{Variant, instance-of, Scheme, system, solved-schemes, generalized, all-generalized}
-use Rattle.rules.specs.Memory.{variable-names, variable-names-in}
 use Rattle.rules.specs.Tidy.{Built, a-variable, Builts}
 use Rattle.laws.proofs.Equality.Building.{built-first, built-rest, built-children}
 use Rattle.laws.proofs.Solving.Keeping.{Sides}

@@ -72,7 +72,7 @@ all-built : {ts : Trees} → Builts ts → AllIn Built ts
 all-built Builts.nil = tt
 all-built (Builts.both b bs) = (b, all-built bs)
 
-built-kept : Kept Built
+pub built-kept : Kept Built
 built-kept = record { parts = λ f ts b. all-built (built-children b); sums = λ a b p q. a-sum p q }
 
 module _ (r : Text → Text) where

@@ -12,14 +12,10 @@ use Rattle.rules.specs.Names.{indexed, variable-token}
 use Rattle.rules.specs.Sorts.{Msg, variable-sort}
 use Rattle.rules.specs.Variants.{index-of}
 use Rattle.laws.specs.Parts.{PartOf}
-use Rattle.laws.specs.Unspelled.{zeros, unspelled}
+use Rattle.laws.specs.Unspelled.{zeros, unspelled, zeros-name}
 use Rattle.laws.proofs.Reading.Spelled.{part-length}
 
--- x, so many zeros, a colon and Msg
-abbrev zeros-name : ℕ → Text
-zeros-name k = 120 ∷ (zeros k ++ bytes ":Msg")
-
-unspelled-zeros : (n : ℕ) → unspelled n ≡ zeros-name (65536 + n)
+pub unspelled-zeros : (n : ℕ) → unspelled n ≡ zeros-name (65536 + n)
 unfolding unspelled
 unspelled-zeros n = refl
 

@@ -10,12 +10,12 @@ use lib.ListN.{length, length-append}
 use Rattle.rules.specs.Bytes.{Text, same}
 use Rattle.rules.specs.Text.{bytes, is-one-of, count-of}
 use Rattle.rules.specs.Maybe.{every}
-use Rattle.rules.specs.Tree.{Tree, variable, atom, apply, Trees, none, more, size}
+use Rattle.rules.specs.Tree.{Tree, variable, atom, apply, Trees, none, more, size, variable-names, variable-names-in}
 use Rattle.rules.specs.Substitution.{Pair, size-pairs}
 use Rattle.rules.specs.Reading.{parse}
-use Rattle.rules.specs.Sheet.{Entry, Sheet, asks-equal, asks-unify, asks-match, asks-reduce, asks-cover, asks-sound, asks-complete, read-sheet}
+use Rattle.rules.specs.Sheet.{Entry, Sheet, asks-equal, asks-unify, asks-match, asks-reduce, asks-cover, asks-sound, asks-complete, read-sheet, member-texts}
 use Rattle.rules.specs.Answer.{read-pair, read-pairs}
-use Rattle.rules.specs.Memory.{variable-names, variable-names-in, variable-names-of-pairs, Over, Overs, OverPairs, side-texts, member-texts, sheet-texts, sheet-keys, sheet-pairs, names-read}
+use Rattle.laws.specs.Memory.{variable-names-of-pairs, Over, Overs, OverPairs, side-texts, sheet-texts, sheet-keys, sheet-pairs, names-read}
 use Rattle.laws.proofs.Basics.Tests.{or-left, or-right, same-self}
 use Rattle.laws.proofs.Basics.Options.{bound}
 use Rattle.laws.proofs.Reading.Measures.{total}

@@ -68,11 +68,11 @@ not-plain s p h k = go (all plain s) refl
 -- What the relation says is what the call gives
 
 module _ (s : Text) (words : ℕ) where
-  refuses-1 : 65536 < length s → admitted s words ≡ refused 1
+  pub refuses-1 : 65536 < length s → admitted s words ≡ refused 1
   unfolding admitted
   refuses-1 h = rw (false-leb (length s) 65536 h)
 
-  refuses-2 : length s ≤ 65536 → all plain s ≡ false → admitted s words ≡ refused 2
+  pub refuses-2 : length s ≤ 65536 → all plain s ≡ false → admitted s words ≡ refused 2
   unfolding admitted
   refuses-2 h e = rw (true-leb (length s) 65536 h, e)
 

@@ -14,9 +14,9 @@ use Rattle.rules.specs.Lines.{on-first, lines, after-key, value}
 use Rattle.rules.specs.Tree.{Tree}
 use Rattle.rules.specs.Substitution.{Binding}
 use Rattle.rules.specs.Reading.{parse}
-use Rattle.rules.specs.Sheet.{Entry, Member, Members, Sheet, asks-equal, asks-unify, asks-match, asks-reduce, asks-cover, asks-sound, asks-complete, with-entry, pairs, entry-before, distinct-keys, member-before, members-from, none-waiting, at-end, one-member, Kind, Equal, Unify, Match, Reduce, Cover, Sound, Complete, kind-in, kinds, read-kind, read-sheet}
+use Rattle.rules.specs.Sheet.{Entry, Member, Members, Sheet, asks-equal, asks-unify, asks-match, asks-reduce, asks-cover, asks-sound, asks-complete, with-entry, pairs, entry-before, distinct-keys, member-before, members-from, none-waiting, at-end, one-member, Kind, Equal, Unify, Match, Reduce, Cover, Sound, Complete, kind-in, kinds, read-kind, read-sheet, entry-values, member-texts}
 use Rattle.rules.specs.Variants.{Variant, read-entry, read-member}
-use Rattle.rules.specs.Memory.{side-texts, entry-values, member-texts, sheet-texts}
+use Rattle.laws.specs.Memory.{side-texts, sheet-texts}
 use Rattle.laws.specs.Parts.{PartOf}
 use Rattle.laws.proofs.Basics.Options.{bound}
 use Rattle.laws.proofs.Reading.Spelled.{part-self, part-later, later-parts, part-of-part}

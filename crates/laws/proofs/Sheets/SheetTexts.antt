@@ -11,8 +11,8 @@ use Rattle.rules.specs.Text.{bytes}
 use Rattle.rules.specs.Maybe.{_>>=_, guard}
 use Rattle.rules.specs.Decimal.{number-up-to}
 use Rattle.rules.specs.Lines.{on-first, lines, after-key, value}
-use Rattle.rules.specs.Sheet.{Entry, Member, Members, Sheet, asks-equal, asks-unify, asks-match, asks-reduce, asks-cover, asks-sound, asks-complete, with-entry, pairs, entry-before, distinct-keys, member-before, members-from, none-waiting, at-end, one-member, Kind, Equal, Unify, Match, Reduce, Cover, Sound, Complete, kind-in, kinds, read-kind, read-sheet}
-use Rattle.rules.specs.Memory.{side-texts, entry-keys, entry-values, member-texts, member-keys, sheet-texts, sheet-keys}
+use Rattle.rules.specs.Sheet.{Entry, Member, Members, Sheet, asks-equal, asks-unify, asks-match, asks-reduce, asks-cover, asks-sound, asks-complete, with-entry, pairs, entry-before, distinct-keys, member-before, members-from, none-waiting, at-end, one-member, Kind, Equal, Unify, Match, Reduce, Cover, Sound, Complete, kind-in, kinds, read-kind, read-sheet, entry-values, member-texts}
+use Rattle.laws.specs.Memory.{side-texts, entry-keys, member-keys, sheet-texts, sheet-keys}
 use Rattle.laws.proofs.Basics.Tests.{eqb-true}
 use Rattle.laws.proofs.Basics.Options.{bound}
 use Rattle.laws.proofs.Reading.Measures.{total}

@@ -13,7 +13,7 @@ use Rattle.rules.specs.Sums.{unless-sum, summands, summands-of, equivalent}
 use Rattle.rules.specs.Sorts.{Sort, variable-sort, sorted}
 use Rattle.rules.specs.Solving.{Answer, Rest, emptied, mismatch, stuck, equation, cancel, remainder, cancel-sums, push-children}
 use Rattle.rules.specs.Matching.{Move, onward, clash, beyond, bound, agree, bind-new, sort-new, match-key, match-rest, ground-eq, match-at, match-roots, move, moved, matching, matcher}
-use Rattle.rules.specs.Memory.{pattern-nodes}
+use Rattle.laws.specs.Memory.{pattern-nodes}
 use Rattle.laws.proofs.Basics.Tests.{and-right}
 use Rattle.laws.proofs.Equality.Summands.{AllOf}
 use Rattle.laws.proofs.Solving.Keeping.{cancel-keep}

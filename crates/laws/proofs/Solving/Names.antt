@@ -11,7 +11,7 @@ use Rattle.rules.specs.Text.{is-one-of}
 use Rattle.rules.specs.Tree.{Tree, variable, atom, apply, Trees, none, more, occurs, occurs-in}
 use Rattle.rules.specs.Substitution.{substitute, substitutes, Pair, pick, lookup, instantiate, instantiate-pairs, size-pairs}
 use Rattle.rules.specs.Solving.{Step, goes-on, bind, fails, unknown, step}
-use Rattle.rules.specs.Memory.{without, Over, Overs, OverPairs}
+use Rattle.laws.specs.Memory.{without, Over, Overs, OverPairs}
 use Rattle.laws.proofs.Basics.Tests.{or-left, or-right, neither-left, neither-right, same-eq, ne-of-differ}
 use Rattle.laws.proofs.Solving.Keeping.{other-way, AllIn, Sides, Kept, KeptStep, step-keep}
 

@@ -13,7 +13,7 @@ use Rattle.rules.specs.Sums.{rebuild, equivalent}
 use Rattle.rules.specs.Solving.{equation, remainder, cancel-sums, push-children, Step, goes-on, bind, fails, unknown, step, Answer, with-binding, after, run, finish, unify}
 use Rattle.rules.specs.Inference.{Applies, of-atom, of-apply, SumsLeave, sums, Infers}
 use Rattle.rules.specs.Tidy.{Built}
-use Rattle.rules.specs.Memory.{without, OverPairs}
+use Rattle.laws.specs.Memory.{without, OverPairs}
 use Rattle.laws.proofs.Basics.Tests.{same-of-eq}
 use Rattle.laws.proofs.Equality.Summands.{summands-built}
 use Rattle.laws.proofs.Solving.Rules.{step-infers}

@@ -15,7 +15,7 @@ use Rattle.rules.specs.Substitution.{Pair, size-pairs}
 use Rattle.rules.specs.Sums.{unless-sum, summands, summands-of, rebuild}
 use Rattle.rules.specs.Solving.{Rest, emptied, mismatch, stuck, equation, remove, cancel-at, cancel, remainder, cancel-sums, push-children}
 use Rattle.rules.specs.Tidy.{Built, a-variable, an-atom, a-leaf, a-list, a-sum}
-use Rattle.rules.specs.Memory.{load, weight, pushed, kept-summands}
+use Rattle.laws.specs.Memory.{load, weight, pushed, kept-summands}
 use Rattle.laws.proofs.Basics.Tests.{and-right, same-eq}
 use Rattle.laws.proofs.Equality.Summands.{AllOf, all-append, all-unless}
 use Rattle.laws.proofs.Sheets.BuiltMatch.{mass, summands-mass, rebuild-mass, cancel-mass}

@@ -9,7 +9,7 @@ use mathlib.Core.Option.{Option, some, none as nothing, Option·some-injective, 
 use lib.Dec.{leb}
 use Rattle.rules.specs.Bytes.{Text}
 use Rattle.rules.specs.Maybe.{_>>=_, guard, every}
-use Rattle.rules.specs.Tree.{Tree, variable, atom, apply, Trees, none, more, size}
+use Rattle.rules.specs.Tree.{Tree, variable, atom, apply, Trees, none, more, size, variable-names, variable-names-in}
 use Rattle.rules.specs.Substitution.{Binding, Pair, lookup, instantiate}
 use Rattle.rules.specs.Sums.{equivalent}
 use Rattle.rules.specs.Equality.{reflexive, symmetric, transitive}
@@ -20,7 +20,6 @@ use Rattle.rules.specs.Rewriting.{NormalModulo}
 use Rattle.rules.specs.Cover.{variables, covering}
 use Rattle.rules.specs.Variants.{Variant, read-member, instance-of, index-of, fresh-base, fresh-base-in, fresh-from, Scheme, schemes-from, scheme-count, schemes, system, solved-schemes, generalized, all-generalized, complete}
 use Rattle.rules.specs.Tidy.{Built}
-use Rattle.rules.specs.Memory.{variable-names, variable-names-in}
 use Rattle.rules.specs.Families.{Unclaimed, member-unreadable, index-missing, schemes-over, scheme-unsupported, Claim, Target, Generalizes, CompleteMeans, no-claim, is-complete, is-missing}
 use Rattle.laws.proofs.Basics.Tests.{leb-true, leb-false, true-leb}
 use Rattle.laws.proofs.Equality.Canonical.{equivalent-sound, equivalent-complete}

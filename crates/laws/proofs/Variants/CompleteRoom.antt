@@ -10,15 +10,15 @@ use Rattle.rules.specs.Bytes.{Text, same}
 use Rattle.rules.specs.Text.{count-of}
 use Rattle.rules.specs.Names.{variable-token}
 use Rattle.rules.specs.Maybe.{_>>=_, every}
-use Rattle.rules.specs.Tree.{Tree, size}
+use Rattle.rules.specs.Tree.{Tree, size, variable-names}
 use Rattle.rules.specs.Substitution.{Binding, Pair, pick, lookup, instantiate}
 use Rattle.rules.specs.Solving.{solved, unify}
 use Rattle.rules.specs.Reading.{parse}
-use Rattle.rules.specs.Sheet.{Entry, Member, asks-complete, read-sheet}
+use Rattle.rules.specs.Sheet.{Entry, Member, asks-complete, read-sheet, entry-values, member-texts}
 use Rattle.rules.specs.Cover.{variables, entry-at}
 use Rattle.rules.specs.Variants.{Variant, read-entry, read-member, Scheme, schemes-from, system}
 use Rattle.rules.specs.Families.{Against, nil, next}
-use Rattle.rules.specs.Memory.{variable-names, entry-keys, entry-values, member-texts, sheet-texts, sheet-keys, names-read, load, weight, pattern-nodes}
+use Rattle.laws.specs.Memory.{entry-keys, sheet-texts, sheet-keys, names-read, load, weight, pattern-nodes}
 use Rattle.laws.proofs.Basics.Options.{bound}
 use Rattle.laws.proofs.Reading.Measures.{total}
 use Rattle.laws.proofs.Reading.Colons.{parse-colons, parse-size, colons-upto}

@@ -14,12 +14,12 @@ use Rattle.rules.specs.Tree.{Tree, variable, size}
 use Rattle.rules.specs.Substitution.{Binding, Pair, lookup, pick}
 use Rattle.rules.specs.Solving.{solved, unify}
 use Rattle.rules.specs.Reading.{parse}
-use Rattle.rules.specs.Sheet.{Entry, Member, asks-cover, read-sheet}
+use Rattle.rules.specs.Sheet.{Entry, Member, asks-cover, read-sheet, entry-values, member-texts}
 use Rattle.rules.specs.Answer.{read-pairs}
 use Rattle.rules.specs.Cover.{entry-at, general, variables-of, pair-at}
 use Rattle.rules.specs.Families.{Against, nil, next}
 use Rattle.rules.specs.Tidy.{Built, a-variable}
-use Rattle.rules.specs.Memory.{entry-keys, entry-values, load, weight, pattern-nodes, side-texts, member-texts, member-keys, sheet-texts, sheet-keys}
+use Rattle.laws.specs.Memory.{entry-keys, load, weight, pattern-nodes, side-texts, member-keys, sheet-texts, sheet-keys}
 use Rattle.laws.proofs.Basics.Tests.{same-eq, leb-true}
 use Rattle.laws.proofs.Reading.Measures.{total}
 use Rattle.laws.proofs.Reading.Colons.{parse-size}

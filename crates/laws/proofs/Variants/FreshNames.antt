@@ -13,8 +13,8 @@ use Rattle.rules.specs.Substitution.{Pair}
 use Rattle.rules.specs.Reading.{parse}
 use Rattle.rules.specs.Reduction.{Rule, fst, snd, flip, sdec, kdec, rule-named, arguments1, arguments2}
 use Rattle.rules.specs.Variants.{Scheme, Joined, only, fresh, firings, before, root-schemes, join-first, schemes-from, joined, with-one, with-two, firing-count, system}
-use Rattle.rules.specs.Schemes.{root-count, listing}
-use Rattle.rules.specs.Memory.{Over, Overs, OverPairs, site, sites, sites-in}
+use Rattle.laws.specs.Schemes.{root-count, listing}
+use Rattle.laws.specs.Memory.{Over, Overs, OverPairs, site, sites, sites-in}
 use Rattle.laws.proofs.Basics.Tests.{or-left, or-right, same-self}
 use Rattle.laws.proofs.Reading.Colons.{parse-brackets}
 use Rattle.laws.proofs.Variants.Sites.{one-fires, two-fires, site-alike, sites-nodes}

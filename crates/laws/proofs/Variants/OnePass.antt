@@ -17,7 +17,7 @@ use Rattle.rules.specs.Sheet.{Member}
 use Rattle.rules.specs.Reduction.{normalize}
 use Rattle.rules.specs.Cover.{variables}
 use Rattle.rules.specs.Variants.{Variant, read-member, instance-of, fresh-base, fresh-from, Scheme, schemes-from, scheme-count, schemes, system, solved-schemes, generalized, all-generalized, complete}
-use Rattle.rules.specs.Schemes.{scheme-at, Judgement, pending, settled, answered, judge-tests, judge-instance, judge, judge-verdict, judged, judged-from}
+use Rattle.laws.specs.Schemes.{scheme-at, Judgement, pending, settled, answered, judge-tests, judge-instance, judge, judge-verdict, judged, judged-from}
 use Rattle.laws.proofs.Basics.Tests.{true-leb, false-leb}
 use Rattle.laws.proofs.Variants.SchemeCount.{schemes-counted}
 use Rattle.laws.proofs.Variants.SchemeAt.{scheme-found}

@@ -9,10 +9,9 @@ use Rattle.rules.specs.Names.{variable-token}
 use Rattle.rules.specs.Tree.{Tree}
 use Rattle.rules.specs.Substitution.{Binding, pick, lookup, instantiate}
 use Rattle.rules.specs.Reading.{parse}
-use Rattle.rules.specs.Sheet.{Entry, Member}
+use Rattle.rules.specs.Sheet.{Entry, Member, entry-values, member-texts}
 use Rattle.rules.specs.Variants.{Variant, read-entry, read-member}
 use Rattle.rules.specs.Tidy.{Built, a-variable}
-use Rattle.rules.specs.Memory.{entry-values, member-texts}
 use Rattle.rules.specs.Families.{Unreadable, this, later}
 use Rattle.laws.proofs.Basics.Options.{bound}
 use Rattle.laws.proofs.Reading.Builds.{builds}

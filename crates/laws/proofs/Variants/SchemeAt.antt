@@ -9,7 +9,7 @@ use lib.ListN.{length, length-map, getD, getElem?}
 use Rattle.rules.specs.Bytes.{Text}
 use Rattle.rules.specs.Tree.{Tree, variable, atom, apply, Trees, none, more}
 use Rattle.rules.specs.Variants.{root-schemes, schemes-from, joined, join-first, scheme-count, scheme-counts}
-use Rattle.rules.specs.Schemes.{root-count, root-at, scheme-at, joined-at, listing}
+use Rattle.laws.specs.Schemes.{root-count, root-at, scheme-at, joined-at, listing}
 use Rattle.laws.proofs.Variants.SchemeCount.{Each, each, children-kept, roots-count, schemes-counted, joined-counted}
 
 -- Elements of lists
@@ -67,12 +67,12 @@ module _ {A B : Type 0} where
   at-divided f k l e i a b g h = subst (λ (j : ℕ). getElem? (flatMap f l) j ≡ some b) (div-add-mod' i k) (at-flat f k l e (i / k) (i % k) a b g h)
 
 -- an index below a product is divided into indices below its factors
-positive : (i m k : ℕ) → i < m * k → 0 < k
-positive i m zero h = absurd (omega arith)
-positive i m (suc k) h = omega arith
+pub right-positive : (i m k : ℕ) → i < m * k → 0 < k
+right-positive i m zero h = absurd (omega arith)
+right-positive i m (suc k) h = omega arith
 
 quotient : (i m k : ℕ) → i < m * k → i / k < m
-quotient i m k h = div-lt-iff-lt-mul (positive i m k h) .1 h
+quotient i m k h = div-lt-iff-lt-mul (right-positive i m k h) .1 h
 
 -- The schemes, by the names of their fresh variables
 
@@ -91,7 +91,7 @@ module _ (name : ℕ → Text) where
         let q = joined-found ts n (i / k) (quotient i (scheme-counts ts) k h) in
         let e = roots-count name f ts (joined name ts n) (children-kept name ts n) in
         let l = each-at (λ x. length (root-schemes name f x)) k (joined name ts n) e (i / k) j q in
-        let p : i % k < length (root-schemes name f j) = subst (λ (m : ℕ). i % k < m) (sym l) (mod-lt i (positive i (scheme-counts ts) k h)) in
+        let p : i % k < length (root-schemes name f j) = subst (λ (m : ℕ). i % k < m) (sym l) (mod-lt i (right-positive i (scheme-counts ts) k h)) in
         at-divided (root-schemes name f) k (joined name ts n) e i j (scheme-at name (apply f ts) n i) q (at-inside (root-schemes name f j) (i % k) _ p)
 
     joined-found : (ts : Trees) (n i : ℕ) → i < scheme-counts ts → getElem? (joined name ts n) i ≡ some (joined-at name ts n i)
@@ -100,7 +100,7 @@ module _ (name : ℕ → Text) where
     joined-found (more t ts) n i h =
         let k = scheme-counts ts in
         let s = scheme-at name t n (i / k) in
-        let p = positive i (scheme-count t) k h in
+        let p = right-positive i (scheme-count t) k h in
         at-divided (λ r. map (join-first r) (joined name ts (r .next))) k (schemes-from name t n)
         (each (λ r. length (map (join-first r) (joined name ts (r .next)))) k (λ r. length-map (joined name ts (r .next)) (join-first r) ∙ joined-counted name ts (r .next)) (schemes-from name t n))
         i s (joined-at name (more t ts) n i) (scheme-found t n (i / k) (quotient i (scheme-count t) k h))

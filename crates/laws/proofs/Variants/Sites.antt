@@ -10,8 +10,8 @@ use lib.Pow.{pow-add, pow-mono}
 use Rattle.rules.specs.Tree.{Tree, variable, atom, apply, Trees, none, more, count}
 use Rattle.rules.specs.Reduction.{Rule, fst, snd, flip, sdec, kdec, rule-named}
 use Rattle.rules.specs.Variants.{with-one, with-two, firing-count, scheme-count, scheme-counts}
-use Rattle.rules.specs.Schemes.{root-count}
-use Rattle.rules.specs.Memory.{some-children, rule-node, rule-nodes, rule-nodes-in, site, sites, sites-in}
+use Rattle.laws.specs.Schemes.{root-count}
+use Rattle.laws.specs.Memory.{some-children, rule-node, rule-nodes, rule-nodes-in, site, sites, sites-in}
 use Rattle.laws.proofs.Basics.Tests.{leb-true, leb-false}
 use Rattle.laws.proofs.Variants.SchemeCount.{alike}
 

@@ -14,9 +14,9 @@ use Rattle.rules.specs.Tree.{Tree, variable, atom, apply, Trees, none, more, co
 use Rattle.rules.specs.Substitution.{Pair, size-pairs}
 use Rattle.rules.specs.Reduction.{Rule, fst, snd, flip, sdec, kdec, rule-named, pair, senc, kem, role-a, role-b, arguments1, arguments2}
 use Rattle.rules.specs.Variants.{Scheme, Joined, only, fresh, firings, before, root-schemes, join-first, schemes-from, joined, with-one, with-two, firing-count, scheme-count, system}
-use Rattle.rules.specs.Schemes.{root-count, scheme-at}
+use Rattle.laws.specs.Schemes.{root-count, scheme-at}
 use Rattle.rules.specs.Tidy.{Built}
-use Rattle.rules.specs.Memory.{site, sites, sites-in, weight}
+use Rattle.laws.specs.Memory.{site, sites, sites-in, weight}
 use Rattle.laws.proofs.Solving.Keeping.{Sides}
 use Rattle.laws.proofs.Solving.Weights.{size-some, weight-size, Upto}
 use Rattle.laws.proofs.Sheets.BuiltRun.{BuiltPairs}

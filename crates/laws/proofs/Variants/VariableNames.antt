@@ -5,10 +5,10 @@ use mathlib.Core.Bool.{Bool, true, false}
 use mathlib.Core.List.{List, [], _∷_, _++_}
 use lib.ListN.{length, length-append}
 use Rattle.rules.specs.Bytes.{Text, same, upto}
-use Rattle.rules.specs.Tree.{Tree, variable, atom, apply, Trees, none, more}
+use Rattle.rules.specs.Tree.{Tree, variable, atom, apply, Trees, none, more, variable-names, variable-names-in}
 use Rattle.rules.specs.Substitution.{Pair}
 use Rattle.rules.specs.Cover.{insert-once, variables, variables-in, variables-of}
-use Rattle.rules.specs.Memory.{variable-names, variable-names-in, variable-names-of-pairs}
+use Rattle.laws.specs.Memory.{variable-names-of-pairs}
 
 insert-length : (x : Text) (xs : List Text) → length (insert-once x xs) ≤ suc (length xs)
 unfolding insert-once

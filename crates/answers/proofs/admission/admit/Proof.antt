@@ -1,6 +1,6 @@
 use borrow.Author.Needs.{needs}
 use Rattle.answers.proofs.Screening.{screened-long, screened-foreign, screened-fine}
-use Rattle.answers.proofs.Admitting.{long, foreign}
+use Rattle.laws.proofs.Sheets.Refusals.{refuses-1, refuses-2}
 use Rattle.answers.proofs.admission.admit.Statement.{statement}
 use Rattle.answers.proofs.admission.admit.Tie as tie
 use Rattle.answers.proofs.admission.admit.Reads as reads
@@ -27,13 +27,13 @@ admit-screened-requires c κs =
 returns : tie.Need-returns
 returns c =
     let a = c .before .before .before .before .args in
-    long (a .sheet .now) (a .words) (screened-long (a .sheet .now) (c .before .before .screen .ensures) (c .enum-told .given .1))
+    refuses-1 (a .sheet .now) (a .words) (screened-long (a .sheet .now) (c .before .before .screen .ensures) (c .enum-told .given .1))
 
 returns-2 : tie.Need-returns-2
 returns-2 c =
     let a = c .before .before .before .before .args in
     let h = screened-foreign (a .sheet .now) (c .before .before .screen .ensures) (c .enum-told2 .given .1) in
-    foreign (a .sheet .now) (a .words) (h .0) (h .1)
+    refuses-2 (a .sheet .now) (a .words) (h .0) (h .1)
 
 returns-3 : tie.Need-returns-3
 returns-3 c = search needs

@@ -1,6 +1,5 @@
 use native.Mathlib.Omega.{arith}
-use Rattle.rules.specs.Tree.{sizes}
-use Rattle.rules.specs.Memory.{variable-names-in}
+use Rattle.rules.specs.Tree.{sizes, variable-names-in}
 use Rattle.tree.specs.Cells.{trees-at}
 use Rattle.cover.proofs.Dropping.{in-order}
 use borrow.Author.Needs.{needs}

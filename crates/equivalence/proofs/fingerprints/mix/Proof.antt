@@ -2,7 +2,6 @@ use borrow.Author.Needs.{needs}
 use native.Mathlib.Omega.{arith}
 use Prim.Native.Nat.{ℕ, _-_}
 use mathlib.Core.Path.{_≡_, sym, ap, _∙_}
-use Rattle.certificate.specs.Texts.{zeros-name}
 use Rattle.certificate.proofs.WordTexts.{zeros-small, text-zeros}
 use Rattle.equivalence.specs.Fingerprints.{mixed}
 use Rattle.equivalence.proofs.Fingerprinting.{Mixing, mixing-starts, mixing-next, mixing-ends}
@@ -15,6 +14,7 @@ use Rattle.equivalence.proofs.fingerprints.mix_zeros.Reads as mix-zeros
 use Rattle.certificate.proofs.order.byte_of.Reads as byte-of-reads
 use Rattle.certificate.proofs.order.width_of.Reads as width-of-reads
 use Rattle.certificate.proofs.order.zeros_of.Reads as zeros-of-reads
+use Rattle.laws.specs.Unspelled.{zeros-name}
 
 abbrev Inv-loop : tie.InvT-loop
 Inv-loop sheet x h zeros width a₀ r₀ a r = Mixing sheet x h a r

@@ -5,7 +5,6 @@ use mathlib.Core.Path.{_≡_, refl, sym, _∙_, subst}
 use mathlib.Core.List.{[], _∷_}
 use borrow.Author.Tests.{not-true, not-false}
 use Rattle.tree.specs.Cells.{start-of, length-of}
-use Rattle.reading.proofs.Ordering.{grown-same, grown-more}
 use Rattle.reading.proofs.Atoms.{no-atom, atom-done, alone-is}
 use borrow.Author.Needs.{needs}
 use Rattle.reading.proofs.closing.atom.Statement.{statement}
@@ -16,6 +15,7 @@ use Rattle.reading.proofs.closing.is_number.Reads as is-number-reads
 use Rattle.tree.proofs.cells.length_of.Reads as length-of-reads
 use Rattle.tree.proofs.cells.push_cell.Reads as push-cell-reads
 use Rattle.tree.proofs.cells.start_of.Reads as start-of-reads
+use Rattle.tree.proofs.Areas.{grown-same}
 
 is-number-requires : tie.Need-is-number-requires
 is-number-requires c κs = search needs
@@ -26,7 +26,7 @@ same-length c = search needs
 returns : tie.Need-returns
 returns c =
     let a = c .before .before .before .before .before .args in
-    (no-atom (a .letter ∷ []) _ (alone-is (a .sheet .now) (a .work .now) (a .chain) (c .before .is-number .result) (c .before .is-number .ensures) (not-true _ (c .if1 .taken)) (a .letter ∷ [])), grown-more (omega arith) (grown-same _ _))
+    (no-atom (a .letter ∷ []) _ (alone-is (a .sheet .now) (a .work .now) (a .chain) (c .before .is-number .result) (c .before .is-number .ensures) (not-true _ (c .if1 .taken)) (a .letter ∷ [])), grown-same _ _ _)
 
 start-of-requires : tie.Need-start-of-requires
 start-of-requires c κs = search needs

@@ -1,6 +1,6 @@
 use mathlib.Core.Path.{_≡_, refl, sym}
 use native.Mathlib.Omega.{arith}
-use Rattle.reading.proofs.Ordering.{Ordering, ordering-starts, ordering-ends, ordering-over, ordering-turn, node-count, room-for, grown-more}
+use Rattle.reading.proofs.Ordering.{Ordering, ordering-starts, ordering-ends, ordering-over, ordering-turn, node-count, room-for}
 use Rattle.reading.proofs.closing.in_order.Statement.{statement}
 use Rattle.reading.proofs.closing.in_order.Tie as tie
 use Rattle.reading.proofs.closing.in_order.Reads as reads
@@ -8,6 +8,7 @@ use Rattle.reading.proofs.closing.in_order.Lts as lts
 use Rattle.tree.proofs.cells.count_of.Reads as count-of-reads
 use Rattle.tree.proofs.cells.next_of.Reads as next-of-reads
 use Rattle.tree.proofs.cells.share.Reads as share-reads
+use Rattle.tree.proofs.Areas.{grown-more}
 
 abbrev Inv-loop : tie.InvT-loop
 Inv-loop sheet work₀ start chain free₀ k₀ first₀ nodes₀ work free k first nodes = Ordering sheet work₀ start chain work free k first nodes

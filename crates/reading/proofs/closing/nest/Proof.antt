@@ -1,7 +1,6 @@
 use native.Mathlib.Omega.{arith}
 use Prim.Native.Nat.{_+_}
 use mathlib.Core.Path.{_≡_, refl, sym, _∙_}
-use Rattle.reading.proofs.Ordering.{grown-same, grown-more}
 use Rattle.reading.proofs.Summing.{Summing, summing-starts, summing-ends, summing-over, summing-turn, summing-room}
 use Rattle.reading.proofs.closing.nest.Statement.{statement}
 use Rattle.reading.proofs.closing.nest.Tie as tie
@@ -11,6 +10,7 @@ use Rattle.tree.proofs.cells.count_of.Reads as count-of-reads
 use Rattle.tree.proofs.cells.next_of.Reads as next-of-reads
 use Rattle.tree.proofs.cells.push_cell.Reads as push-cell-reads
 use Rattle.tree.proofs.cells.share.Reads as share-reads
+use Rattle.tree.proofs.Areas.{grown-same, grown-more}
 
 abbrev Inv-loop : tie.InvT-loop
 Inv-loop sheet work₀ tail at len chain last₀ k₀ work last k = Summing sheet work₀ tail chain work last k

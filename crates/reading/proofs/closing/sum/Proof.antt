@@ -6,7 +6,6 @@ use mathlib.Core.Option.{some}
 use Rattle.rules.specs.Tree.{count}
 use Rattle.tree.specs.Cells.{tree-at, trees-at}
 use Rattle.reading.specs.Closing.{summed}
-use Rattle.reading.proofs.Ordering.{grown-same, grown-more, grown-on}
 use Rattle.reading.proofs.Making.{closes-is}
 use Rattle.reading.proofs.Summing.{sum-none, sum-one, front-count, sum-over, sum-done}
 use borrow.Author.Needs.{needs}
@@ -17,11 +16,12 @@ use Rattle.reading.proofs.closing.sum.Lts as lts
 use Rattle.reading.proofs.closing.nest.Reads as nest-reads
 use Rattle.tree.proofs.cells.next_of.Reads as next-of-reads
 use Rattle.tree.proofs.cells.share.Reads as share-reads
+use Rattle.tree.proofs.Areas.{grown-same, grown-more, grown-on}
 
 returns : tie.Need-returns
 returns c =
     let p = c .before .before .before .pre in
-    (sum-none _ _ _ (c .if1 .taken), grown-more (omega arith) (grown-same _ _))
+    (sum-none _ _ _ (c .if1 .taken), grown-same _ _ _)
 
 next-of-requires : tie.Need-next-of-requires
 next-of-requires c κs = search needs
@@ -32,7 +32,7 @@ same-length c = search needs
 returns-2 : tie.Need-returns-2
 returns-2 c =
     let p = c .before .before .before .before .before .before .pre in
-    (sum-one _ (p .0 .links) (c .before .before .before .before .before .before .args .chain) (omega arith) (p .1 .0 .0) (c .before .next-of .ensures .0) (c .if2 .taken), grown-more (omega arith) (grown-same _ _))
+    (sum-one _ (p .0 .links) (c .before .before .before .before .before .before .args .chain) (omega arith) (p .1 .0 .0) (c .before .next-of .ensures .0) (c .if2 .taken), grown-same _ _ _)
 
 share-requires : tie.Need-share-requires
 share-requires c κs = search needs

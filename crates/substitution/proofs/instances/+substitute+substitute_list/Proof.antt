@@ -8,7 +8,6 @@ use Rattle.tree.specs.Cells.{kind-of, next-of}
 use Rattle.tree.proofs.Decoding.{size-pos}
 use Rattle.substitution.specs.Bindings.{bindings-at}
 use Rattle.substitution.specs.Building.{instance-at}
-use Rattle.substitution.proofs.Growing.{grown-same, grown-within}
 use Rattle.substitution.proofs.Substituting.{instance-apply, instances-none, instances-more, instance-frame}
 use Rattle.substitution.proofs.Placing.{listed-none, placed-unchanged, placed-apply, builds-more}
 use Prim.Native.Nat.{ℕ, _<_}
@@ -27,6 +26,7 @@ use Rattle.tree.proofs.cells.first_of.Reads as first-of-reads
 use Rattle.tree.proofs.cells.kind_of.Reads as kind-of-reads
 use Rattle.tree.proofs.cells.next_of.Reads as next-of-reads
 use Rattle.tree.proofs.cells.push_like.Reads as push-like-reads
+use Rattle.tree.proofs.Areas.{grown-same, grown-within}
 use Rattle.substitution.proofs.instances.+substitute+substitute_list.{statement}
 use Rattle.substitution.proofs.instances.+substitute+substitute_list.Tie.{close}
 

@@ -1,7 +1,7 @@
 use native.Mathlib.Omega.{arith}
 use Rattle.tree.specs.Cells.{tree-at}
 use Rattle.tree.proofs.Decoding.{size-pos}
-use Rattle.substitution.proofs.Growing.{grown-same}
+use Rattle.tree.proofs.Areas.{grown-same}
 use Rattle.substitution.proofs.Placing.{placed-kept}
 use borrow.Author.Needs.{needs}
 use Rattle.substitution.proofs.instances.place.Statement.{statement}

@@ -3,8 +3,9 @@ use native.Mathlib.Omega.{arith}
 use mathlib.Core.List.{List}
 use Prim.Native.Nat.{ℕ}
 use Rattle.rules.specs.Bytes.{same}
+use Rattle.text.proofs.Sameness.{same-swap}
 use Rattle.tree.specs.Cells.{name-at}
-use Rattle.tree.proofs.Naming.{same-swap, same-places, same-codes}
+use Rattle.tree.proofs.Naming.{same-places, same-codes}
 use borrow.Author.Needs.{needs}
 use Rattle.tree.proofs.names.same_name.Statement.{statement}
 use Rattle.tree.proofs.names.same_name.Tie as tie

@@ -1,9 +1,9 @@
 use mathlib.Core.Logic.{⊎-elim}
 use native.Mathlib.Omega.{arith}
-use Rattle.rules.specs.Memory.{weight}
+use Rattle.laws.specs.Memory.{weight}
 use Rattle.tree.specs.Cells.{tree-at}
 use Rattle.substitution.specs.Bindings.{bindings-at}
-use Rattle.unifier.specs.Stack.{pairs-at}
+use Rattle.steps.specs.Stack.{pairs-at}
 use Rattle.unifier.proofs.Moving.{key-load, move-key, move-roots}
 use borrow.Author.Needs.{needs}
 use Rattle.unifier.proofs.matching.advance.Statement.{statement}

@@ -5,7 +5,7 @@ use Rattle.laws.proofs.Basics.Tests.{same-of-eq}
 use Rattle.tree.specs.Cells.{tree-at}
 use Rattle.tree.proofs.Areas.{below-same}
 use Rattle.substitution.specs.Bindings.{bindings-at}
-use Rattle.unifier.specs.Stack.{pairs-at}
+use Rattle.steps.specs.Stack.{pairs-at}
 use Rattle.unifier.proofs.Sums.{sum-told, no-sum-told, sum-cell, cell-head}
 use Rattle.unifier.proofs.Steps.{held, children-room}
 use Rattle.unifier.proofs.Moving.{roots-differ, roots-sums, onwards-children}

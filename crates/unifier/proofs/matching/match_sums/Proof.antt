@@ -4,7 +4,7 @@ use native.Mathlib.Omega.{arith}
 use Rattle.rules.specs.Matching.{ground-eq, match-rest}
 use Rattle.rules.specs.Solving.{Rest}
 use Rattle.substitution.specs.Bindings.{bindings-at}
-use Rattle.unifier.specs.Stack.{pairs-at}
+use Rattle.steps.specs.Stack.{pairs-at}
 use Rattle.unifier.proofs.Sums.{pair-room}
 use Rattle.unifier.proofs.Moving.{onwards-same, onwards-sums}
 use borrow.Author.Needs.{needs}

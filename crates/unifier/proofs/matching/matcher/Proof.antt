@@ -1,6 +1,6 @@
 use Prim.Native.Nat.{_<_}
 use native.Mathlib.Omega.{arith}
-use Rattle.unifier.specs.Stack.{pairs-at}
+use Rattle.steps.specs.Stack.{pairs-at}
 use Rattle.unifier.proofs.Advancing.{Holds, holds-start, holds-solved, holds-spent, holds-right, holds-top, move-fits, move-room, holds-clash, holds-beyond, holds-onward}
 use borrow.Author.Needs.{needs}
 use Rattle.unifier.proofs.matching.matcher.Statement.{statement}

@@ -7,10 +7,10 @@ use Rattle.rules.specs.Tree.{head, tamtplus}
 use Rattle.laws.proofs.Basics.Tests.{same-of-eq}
 use Rattle.tree.specs.Cells.{tree-at}
 use Rattle.tree.proofs.Areas.{below-same}
-use Rattle.unifier.specs.Stack.{pairs-at}
+use Rattle.steps.specs.Stack.{pairs-at}
+use Rattle.steps.proofs.Differing.{differing-pushed, common-both}
 use Rattle.unifier.proofs.Sums.{cell-head, sum-told, no-sum-told, sum-cell}
 use Rattle.unifier.proofs.Steps.{held, heads-differ, decompose-sums, decompose-children, children-room, children-pushed}
-use Rattle.unifier.proofs.Differing.{differing-pushed, common-both}
 use borrow.Author.Needs.{needs}
 use Rattle.unifier.proofs.stepping.decompose.Statement.{statement}
 use Rattle.unifier.proofs.stepping.decompose.Tie as tie

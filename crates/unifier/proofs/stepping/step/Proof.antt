@@ -1,9 +1,9 @@
 use native.Mathlib.Omega.{arith}
 use mathlib.Core.Path.{sym, _∙_}
 use Rattle.tree.specs.Cells.{tree-at}
-use Rattle.unifier.specs.Stack.{pairs-at}
+use Rattle.steps.specs.Stack.{pairs-at}
+use Rattle.steps.proofs.Differing.{differing-none, top-differs, differing-rest}
 use Rattle.unifier.proofs.Steps.{is-key, no-key, step-same, step-left, step-right, step-decompose, step-dropped, steps-as}
-use Rattle.unifier.proofs.Differing.{differing-none, top-differs, differing-rest}
 use borrow.Author.Needs.{needs}
 use Rattle.unifier.proofs.stepping.step.Statement.{statement}
 use Rattle.unifier.proofs.stepping.step.Tie as tie

@@ -1,0 +1,5 @@
+pub mod Stack
+pub mod Differing
+pub mod Area
+pub mod Resting
+pub mod Stepping
