@@ -85,13 +85,15 @@ fn a_long_run_shows_progress_on_a_terminal_and_leaves_answers_alone() {
     if absent("no long run was made") {
         return;
     }
-    let files = "a ".repeat(MANY);
-    if let Some(seen) = on_a_terminal("progress", &format!("yukhtsami {files} > out")) {
+    // The second file is a pipe that is filled after half a second.
+    let slow = "mkfifo p && { { sleep 0.5; cat a > p; } & yukhtsami a p a > out; }";
+    if let Some(seen) = on_a_terminal("progress", slow) {
         assert!(
-            seen.contains(" of 3000 files") && seen.ends_with(" \r"),
-            "{seen}"
+            seen.contains("\r2 of 3 files") && seen.ends_with(" \r"),
+            "{seen:?}"
         );
     }
+    let files = "a ".repeat(MANY);
     if let Some(seen) = on_a_terminal("answers", &format!("yukhtsami {files}")) {
         assert!(
             seen == "equal=yes\r\n\r\n".repeat(MANY),
