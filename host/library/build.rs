@@ -12,7 +12,7 @@ fn file() -> PathBuf {
     let root = Path::new(&package).join("../..");
     match env::var_os(VARIABLE) {
         Some(file) => root.join(file),
-        None => root.join("target/staticlib/libarchive.a"),
+        None => root.join("target/staticlib/libyukhtsami.a"),
     }
 }
 

@@ -1,4 +1,4 @@
--- Pairs of lines read into cells: one pair, and the walk over all of them, whose list is backwards. Assumes nothing.
+-- Pairs of lines read into cells: one pair, and the walk over all of them, whose list is backwards.
 use Prim.Native.Nat.{ℕ, _+_, _*_, _-_, _<_, _≤_}
 use native.Mathlib.Omega.{arith}
 use mathlib.Core.Path.{_≡_, refl, sym, ap, ap₂, _∙_}

@@ -10,18 +10,18 @@ use Rattle.rules.specs.Names.{all}
 use Rattle.rules.specs.Call.{refused, passed, plain, admitted}
 use Rattle.sheet.specs.Form.{sheet-of, Within}
 use Rattle.sheet.specs.declared.form.Form.{Form}
-use Rattle.answers.specs.declared.admission.Refusal.{Refusal}
-use Rattle.answers.specs.declared.admission.Refusal.the-variants as refusal
+use Rattle.answers.specs.declared.refusal.Refusal.{Refusal}
+use Rattle.answers.specs.declared.refusal.Refusal.the-variants as refusal
 use Rattle.answers.specs.declared.admission.Admitted as code
 use Rattle.answers.specs.declared.admission.Admitted.the-variants as admission
 
 abbrev pub refusal-code : Refusal → ℕ
-refusal-code refusal.Long = 1
-refusal-code refusal.Foreign = 2
-refusal-code refusal.Lines = 3
-refusal-code refusal.Words = 11
-refusal-code refusal.Unreadable = 4
-refusal-code refusal.Short = 12
+refusal-code refusal.TooLong = 1
+refusal-code refusal.ForeignByte = 2
+refusal-code refusal.LineOutOfPlace = 3
+refusal-code refusal.ShortWorkArea = 11
+refusal-code refusal.UnreadableTerm = 4
+refusal-code refusal.ShortOutput = 12
 
 -- neither 1 nor 2
 pub record Fine (s : Text) : Type 0 where

@@ -3,6 +3,7 @@
 pub mod admission; // admission.rt: refusals 1, 2, 3, 11
 pub mod clearing; // clearing.rt: the work area set to zero
 pub mod pairs; // pairs.rt: the pairs of a sheet as trees
+pub mod refusal; // refusal.rt: the refusals
 pub mod verdicts; // verdicts.rt: the answers of unify and match
 
 use tree::measuring::Measured;

@@ -1,4 +1,4 @@
--- The text of canonical words is the canonical text. Assumes nothing.
+-- The text of canonical words is the canonical text.
 use Prim.Native.Nat.{ℕ, _<_}
 use mathlib.Core.Path.{_≡_, refl, sym, ap, ap₂, _∙_}
 use mathlib.Core.Bool.{Bool, true, false, cond}

@@ -1,6 +1,5 @@
 -- Terms with their sums flattened: a sum inside a sum gives its summands. Their canonical texts are those of the trees that they
 -- spell.
--- Assumes nothing.
 use Prim.Native.Nat.{ℕ}
 use mathlib.Core.Path.{_≡_, refl, sym, ap, ap₂, subst, _∙_}
 use mathlib.Core.Bool.{Bool, true, false, cond, _&&_}

@@ -1,5 +1,5 @@
 -- Items read as terms: a term of items is the tree that reading gives, and the words that are written are those of the term with
--- its sums flattened. Assumes nothing.
+-- its sums flattened.
 use Prim.Native.Nat.{ℕ, zero, suc, _<_}
 use mathlib.Core.Path.{_≡_, refl, sym, ap, _∙_}
 use mathlib.Core.Bool.{Bool, true, false, not, _||_}

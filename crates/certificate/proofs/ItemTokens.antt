@@ -1,4 +1,4 @@
--- The items of a text are its tokens. Assumes nothing.
+-- The items of a text are its tokens.
 use Prim.Native.Nat.{ℕ, zero, suc, _+_, _-_, _<_, _≤_, _/_, _%_}
 use mathlib.Core.Path.{_≡_, refl, sym, ap, ap₂, subst, _∙_}
 use mathlib.Core.Bool.{false}

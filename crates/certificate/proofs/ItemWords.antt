@@ -1,4 +1,4 @@
--- The words that are written for items are those of the flattened term that they are read as. Assumes nothing.
+-- The words that are written for items are those of the flattened term that they are read as.
 use Prim.Native.Nat.{ℕ, zero, suc, _+_, _<_, _≤_}
 use mathlib.Core.Path.{_≡_, refl, sym, ap, _∙_}
 use mathlib.Core.Bool.{Bool, true, false, not}

@@ -1,5 +1,5 @@
 -- A property of every name of a term: flattening keeps it, and the words of the term have it where the marks do. So the words of a
--- flattened term, once its sums are sorted, have the canonical text of the tree that it spells. Assumes nothing.
+-- flattened term, once its sums are sorted, have the canonical text of the tree that it spells.
 use Prim.Native.Nat.{ℕ, _<_, _%_}
 use mathlib.Core.Path.{_≡_, _∙_}
 use mathlib.Core.Bool.{Bool, true, false}

@@ -1,4 +1,4 @@
--- A part of a part of a list. Assumes nothing.
+-- A part of a part of a list.
 use Prim.Native.Nat.{ℕ, _+_, _<_, _≤_}
 use mathlib.Core.Path.{_≡_, sym, ap, _∙_}
 use mathlib.Core.List.{List}

@@ -1,4 +1,4 @@
--- Texts as runs of words, byte by byte. Assumes nothing.
+-- Texts as runs of words, byte by byte.
 use Prim.Native.Nat.{ℕ, zero, suc, _+_, _-_, _<_, _≤_, _/_, _%_}
 use mathlib.Core.Path.{_≡_, refl, sym, ap, ap₂, _∙_}
 use mathlib.Core.Bool.{Bool, true, false, cond, false≢true}

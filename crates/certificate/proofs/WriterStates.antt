@@ -1,4 +1,4 @@
--- The state of the writer of words, and what each turn makes of it. Assumes nothing.
+-- The state of the writer of words, and what each turn makes of it.
 use Prim.Native.Nat.{ℕ, _+_, _-_, _<_, _≤_}
 use mathlib.Core.Path.{_≡_, refl, sym, ap, ap₂, subst, _∙_}
 use mathlib.Core.Bool.{Bool, true, false, cond}

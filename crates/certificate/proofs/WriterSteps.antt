@@ -1,4 +1,4 @@
--- The steps of the writer of words: one or two words written, a bracket looked up, a name tested. Assumes nothing.
+-- The steps of the writer of words: one or two words written, a bracket looked up, a name tested.
 use Prim.Native.Nat.{ℕ, zero, suc, _+_, _-_, _<_, _≤_}
 use mathlib.Core.Path.{_≡_, refl, sym, ap, ap₂, subst, _∙_}
 use mathlib.Core.Bool.{Bool, true, false}

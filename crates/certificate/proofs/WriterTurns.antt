@@ -1,4 +1,4 @@
--- The turns of the writer of words, by the symbol that is read. Assumes nothing.
+-- The turns of the writer of words, by the symbol that is read.
 use Prim.Native.Nat.{ℕ}
 use mathlib.Core.Path.{_≡_, refl}
 use mathlib.Core.List.{List, [], _∷_}

@@ -1,4 +1,4 @@
--- What is written for a text, once its sums are sorted, has the canonical text of the tree that is read. Assumes nothing.
+-- What is written for a text, once its sums are sorted, has the canonical text of the tree that is read.
 use Prim.Native.Nat.{ℕ, suc, _<_, _≤_}
 use mathlib.Core.Path.{_≡_, refl, sym, ap, subst, _∙_}
 use mathlib.Core.List.{List, [], _∷_, map, append-nil}

@@ -16,7 +16,7 @@ pub enum Order {
 }
 
 // A word of a run, and a byte of its text.
-pub struct Spot {
+struct Spot {
     pub word: usize,
     pub byte: usize,
 }
@@ -97,7 +97,7 @@ pub fn byte_of(sheet: &[u8], x: usize, a: usize) -> u8
 }
 
 // The spot after a spot, where x is the spot's word.
-pub fn after(x: usize, at: Spot) -> Spot
+fn after(x: usize, at: Spot) -> Spot
     requires { ⌜ (at .word) + (at .byte) < 9223372036854775808 ⌝ }
     ensures { λ r. ⌜ r ≡ after x at ⌝ }
 {

@@ -8,7 +8,7 @@ ghost use Rattle.certificate.specs.Writer.{Opened, Closed, Kept, Outcome
 use syntax::Symbol;
 
 // What became of a text: its words, up to the one that is answered, or no term.
-pub enum Written {
+pub(crate) enum Written {
     Words(usize),
     Unreadable,
 }
@@ -124,7 +124,7 @@ fn finished(next: Symbol, out: usize) -> Written
 
 // Writes the words of the text from `from` to `to` into the words from `base` on. The words from `stack` on, as many as the text has
 // bytes, hold the open brackets.
-pub fn write_text(
+pub(crate) fn write_text(
     sheet: &[u8],
     work: &mut [u32],
     from: usize,

@@ -1,5 +1,5 @@
 -- Members in another order, and members whose bindings give the variables the same values, generalize alike; so the schemes are judged
--- alike. Assumes nothing.
+-- alike.
 use Prim.Native.Nat.{ℕ}
 use mathlib.Core.Path.{_≡_, refl, sym, ap, ap₂, _∙_}
 use mathlib.Core.Bool.{Bool, true, false, not, false≢true}

@@ -1,4 +1,4 @@
--- Whether some member generalizes does not depend on the order of the members. Assumes nothing.
+-- Whether some member generalizes does not depend on the order of the members.
 use mathlib.Core.Path.{_≡_, refl, sym, ap, _∙_}
 use mathlib.Core.Bool.{Bool, true, false, _||_}
 use mathlib.Core.List.{List, [], _∷_, _++_, map, reverse, reverseAux}

@@ -1,4 +1,4 @@
--- The words of a sheet of kind `complete` are enough for each of its schemes. Assumes nothing.
+-- The words of a sheet of kind `complete` are enough for each of its schemes.
 use Prim.Native.Nat.{ℕ, _+_, _*_, _<_, _≤_}
 use mathlib.Core.Path.{_≡_, refl, sym, ap, subst, _∙_}
 use mathlib.Core.Bool.{true}

@@ -1,4 +1,4 @@
--- The term's variables, the fresh ones and the members in cells, and what judging the schemes over them says. Assumes nothing.
+-- The term's variables, the fresh ones and the members in cells, and what judging the schemes over them says.
 use Prim.Native.Nat.{ℕ, _+_, _*_, _<_, _≤_, _^_}
 use mathlib.Core.Path.{_≡_, refl, sym, ap, subst, _∙_}
 use mathlib.Core.Bool.{Bool, true, false, cond}

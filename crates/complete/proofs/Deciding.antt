@@ -1,4 +1,4 @@
--- The schemes one after the other: what each makes of what was decided before it. Assumes nothing.
+-- The schemes one after the other: what each makes of what was decided before it.
 use Prim.Native.Nat.{ℕ, _+_, _<_, _≤_}
 use mathlib.Core.Path.{_≡_, refl, sym, ap, ap₂, subst, _∙_}
 use mathlib.Core.Bool.{Bool, false}

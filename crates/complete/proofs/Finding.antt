@@ -1,4 +1,4 @@
--- The search for a text in a sheet: the turns of the loop, and what is spelled is a part of the sheet. Assumes nothing.
+-- The search for a text in a sheet: the turns of the loop, and what is spelled is a part of the sheet.
 use Prim.Native.Nat.{ℕ, zero, suc, _+_, _<_, _≤_}
 use mathlib.Core.Path.{_≡_, refl, sym, ap, ap₂, _∙_}
 use mathlib.Core.Bool.{Bool, true, false, _&&_, _||_, false≢true}

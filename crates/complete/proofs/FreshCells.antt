@@ -1,4 +1,4 @@
--- The names of fresh variables as bytes, and the cells of the fresh variables. Assumes nothing.
+-- The names of fresh variables as bytes, and the cells of the fresh variables.
 use Prim.Native.Nat.{ℕ, zero, suc, _+_, _*_, _-_, _/_, _%_, _<_, _≤_, _^_}
 use mathlib.Core.Path.{_≡_, sym, ap, subst, _∙_}
 use mathlib.Core.Bool.{true, false}

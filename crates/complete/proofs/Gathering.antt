@@ -1,4 +1,4 @@
--- Members read into cells, one before the other: one member as a tree, and the walk over all of them. Assumes nothing.
+-- Members read into cells, one before the other: one member as a tree, and the walk over all of them.
 use Prim.Native.Nat.{ℕ, _+_, _*_, _-_, _<_, _≤_}
 use native.Mathlib.Omega.{arith}
 use mathlib.Core.Path.{_≡_, refl, sym, ap, ap₂, _∙_}

@@ -1,4 +1,4 @@
--- A member's pairs in cells, and what their match says; the loop over the members. Assumes nothing.
+-- A member's pairs in cells, and what their match says; the loop over the members.
 use Prim.Native.Nat.{ℕ, _+_, _*_, _<_, _≤_}
 use mathlib.Core.Path.{_≡_, refl, sym, ap, ap₂, subst, _∙_}
 use mathlib.Core.Bool.{Bool, true, false, not}

@@ -1,4 +1,4 @@
--- The indices of variables and the base above them: one name, the names at places, and the names of a tree in byte order. Assumes nothing.
+-- The indices of variables and the base above them: one name, the names at places, and the names of a tree in byte order.
 use Prim.Native.Nat.{ℕ, suc, _+_, _-_, _<_, _≤_, max}
 use mathlib.Core.Path.{_≡_, refl, sym, ap, _∙_}
 use mathlib.Core.Bool.{Bool, true, false, cond, _&&_}

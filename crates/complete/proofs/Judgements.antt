@@ -1,4 +1,4 @@
--- What one scheme decides: its instance once it is solved, and its run in a part of the work area. Assumes nothing.
+-- What one scheme decides: its instance once it is solved, and its run in a part of the work area.
 use Prim.Native.Nat.{ℕ, _+_, _*_, _<_, _≤_, _^_}
 use mathlib.Core.Path.{_≡_, refl, sym, ap, ap₂, subst, _∙_}
 use mathlib.Core.Bool.{Bool, true, false, cond}

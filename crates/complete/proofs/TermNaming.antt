@@ -1,4 +1,4 @@
--- The variables of a term as a list of cells, and one above their indices. Assumes nothing.
+-- The variables of a term as a list of cells, and one above their indices.
 use Prim.Native.Nat.{ℕ, _+_, _*_, _-_, _≤_}
 use mathlib.Core.Path.{_≡_, refl, sym, ap, subst, _∙_}
 use mathlib.Core.List.{List, [], map, append-nil}

@@ -22,7 +22,7 @@ ghost use Rattle.complete.specs.TermNames.{NamesTerm};
 ghost use Rattle.complete.specs.Completing.{Asks, ClaimsComplete};
 
 // The variables of a term as a list of cells, one above their indices, and the free end; or one of them has no index.
-pub enum Named {
+enum Named {
     Names {
         index: usize,
         base: usize,

@@ -19,7 +19,7 @@ ghost use Rattle.variants.specs.Members.{TextsRoom};
 ghost use Rattle.complete.specs.Families.{member-tree, ReadsMembers};
 
 // A list of trees and the free end after it, or a member's text that cannot be read.
-pub enum Members {
+pub(crate) enum Members {
     List { index: usize, free: usize },
     Unreadable,
 }
@@ -49,7 +49,7 @@ fn push_member(
 }
 
 // Every member from a cursor on.
-pub fn read_members(sheet: &[u8], work: &mut [u32], free: usize, start: Cursor) -> Members
+pub(crate) fn read_members(sheet: &[u8], work: &mut [u32], free: usize, start: Cursor) -> Members
     requires { ⌜ Arena (now sheet) (now work) free ⌝ }
     requires { ⌜ TextsRoom (now sheet) (now work) free (start .at) ⌝ }
     ensures { λ r. ⌜ ReadsMembers (now (sheet .entry)) (now (work .entry)) (now (work .exit)) free (start .at) r ⌝ }

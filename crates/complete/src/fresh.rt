@@ -69,7 +69,7 @@ fn push_fresh(sheet: &[u8], work: &mut [u32], free: usize, base: usize, n: usize
 }
 
 // Writes the 24 fresh variables as the cells from `free` on, and returns the free end after them.
-pub fn fresh_cells(sheet: &[u8], work: &mut [u32], free: usize, base: usize) -> usize
+pub(crate) fn fresh_cells(sheet: &[u8], work: &mut [u32], free: usize, base: usize) -> usize
     requires { ⌜ Arena (now sheet) (now work) free × (length (now sheet) ≤ 65536) × (base ≤ 2 ^ 63) ⌝ }
     requires { ⌜ (4 * (free + 24) ≤ length (now work)) × (free + 24 < 2 ^ 32) ⌝ }
     ensures { λ r. ⌜ WritesFresh (now (sheet .entry)) (now (work .entry)) (now (work .exit)) free base r ⌝ }

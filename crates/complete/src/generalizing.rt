@@ -47,7 +47,7 @@ fn generalizes(
 }
 
 // Whether one of the members of the list from cell `members` on does.
-pub fn generalized(
+pub(crate) fn generalized(
     sheet: &[u8],
     work: &mut [u32],
     free: usize,

@@ -16,7 +16,7 @@ ghost use Rattle.text.specs.Places.{text-at};
 ghost use Rattle.complete.specs.Indices.{names-base, base-found};
 
 // One above every index, or nothing where a variable has none.
-pub enum Base {
+pub(crate) enum Base {
     From(usize),
     Nothing,
 }
@@ -46,7 +46,7 @@ fn larger(a: usize, b: usize) -> usize
 }
 
 // One above every index of the variables whose places stand in the words from `at` to `end`.
-pub fn base_of(sheet: &[u8], work: &[u32], at: usize, end: usize) -> Base
+pub(crate) fn base_of(sheet: &[u8], work: &[u32], at: usize, end: usize) -> Base
     requires { ⌜ (at ≤ end) × (end ≤ length (now work)) ⌝ }
     ensures { λ r. ⌜ r ≡ base-found (names-base (map (text-at (now (sheet .entry))) (slice at end (now (work .entry))))) ⌝ }
 {

@@ -27,7 +27,7 @@ ghost use Rattle.complete.specs.Judging.{judgement, fuel-for, CanJudge, 
 
 // What the schemes so far decide: nothing yet, that one has no member, that the instance of one is over 4,096 nodes, or that one is not
 // supported, which ends the judging.
-pub enum Judged {
+enum Judged {
     Pending,
     Missing,
     Over,
@@ -138,7 +138,7 @@ fn claim_of(state: Judged) -> Claim
 }
 
 // All schemes of the tree of cell term, the first to the last; their fresh variables are the cells from `fresh` on.
-pub fn judge(
+pub(crate) fn judge(
     sheet: &[u8],
     work: &mut [u32],
     free: usize,

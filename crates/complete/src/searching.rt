@@ -6,13 +6,13 @@ ghost use lib.ListN.{length};
 ghost use Rattle.complete.specs.Searching.{Finds};
 
 // Where a text is spelled in the sheet.
-pub enum Found {
+pub(crate) enum Found {
     At(usize),
     Nowhere,
 }
 
 // The first place in the sheet where a text is spelled.
-pub fn find_text(sheet: &[u8], text: &[u8]) -> Found
+pub(crate) fn find_text(sheet: &[u8], text: &[u8]) -> Found
     requires { ⌜ 0 < length (now text) ⌝ }
     ensures { λ r. ⌜ Finds (now (sheet .entry)) (now (text .entry)) r ⌝ }
 {

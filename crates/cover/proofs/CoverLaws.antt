@@ -1,4 +1,4 @@
--- Whether a member covers, from the trees that its entries give the variables. Assumes nothing.
+-- Whether a member covers, from the trees that its entries give the variables.
 use mathlib.Core.Path.{_≡_, refl, sym, ap, _∙_}
 use mathlib.Core.Bool.{Bool, true, false, _||_, true≢false}
 use mathlib.Core.List.{List, [], _∷_, map}

@@ -1,4 +1,4 @@
--- The nodes of a list of trees, counted in a loop, and the variables of the pairs as a list of cells. Assumes nothing.
+-- The nodes of a list of trees, counted in a loop, and the variables of the pairs as a list of cells.
 use Prim.Native.Nat.{ℕ, suc, _+_, _*_, _-_, _<_, _≤_}
 use mathlib.Core.Path.{_≡_, refl, sym, ap, subst, _∙_}
 use mathlib.Core.List.{List, [], _∷_, map}

@@ -1,4 +1,4 @@
--- Whether a member covers, from the match of its pairs; and the loop over all members. Assumes nothing.
+-- Whether a member covers, from the match of its pairs; and the loop over all members.
 use Prim.Native.Nat.{ℕ, _+_, _*_, _-_, _<_, _≤_}
 use mathlib.Core.Path.{_≡_, refl, sym, ap, subst, _∙_}
 use mathlib.Core.Bool.{Bool, true, false, not}

@@ -1,4 +1,4 @@
--- Repeats dropped from sorted places, in a loop; and the places of a list of trees, gathered, sorted and without repeats. Assumes nothing.
+-- Repeats dropped from sorted places, in a loop; and the places of a list of trees, gathered, sorted and without repeats.
 use Prim.Native.Nat.{ℕ, _+_, _*_, _<_, _≤_}
 use mathlib.Core.Path.{_≡_, refl, sym, ap, ap₂, subst, _∙_}
 use mathlib.Core.Bool.{true, false}

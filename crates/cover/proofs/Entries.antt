@@ -1,4 +1,4 @@
--- The walk over a member's entries: the values up to a position stand in bindings. Assumes nothing.
+-- The walk over a member's entries: the values up to a position stand in bindings.
 use Prim.Native.Nat.{ℕ, _+_, _*_, _-_, _<_, _≤_}
 use mathlib.Core.Path.{_≡_, refl, sym, ap, subst, _∙_}
 use mathlib.Core.Bool.{Bool, true, false}

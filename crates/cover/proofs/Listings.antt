@@ -1,4 +1,4 @@
--- A variable written as a cell, and the list of all variables. Assumes nothing.
+-- A variable written as a cell, and the list of all variables.
 use Prim.Native.Nat.{ℕ, _+_, _*_, _-_, _/_, _%_, _<_, _≤_}
 use mathlib.Core.Path.{_≡_, refl, sym, ap, subst, _∙_}
 use mathlib.Core.Bool.{true, false, _&&_, _||_, false≢true}

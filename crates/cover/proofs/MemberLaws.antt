@@ -1,4 +1,4 @@
--- The pairs of one member, from its values and the variables. Assumes nothing.
+-- The pairs of one member, from its values and the variables.
 use Prim.Native.Nat.{ℕ, _<_}
 use mathlib.Core.Path.{_≡_, refl, sym, ap, _∙_}
 use mathlib.Core.List.{List}

@@ -1,4 +1,4 @@
--- The places of variables, gathered, sorted and without repeats. Assumes nothing.
+-- The places of variables, gathered, sorted and without repeats.
 use Prim.Native.Nat.{ℕ, zero, suc, _+_, _*_, _<_, _≤_}
 use mathlib.Core.Path.{_≡_, refl, sym, ap, ap₂, subst, _∙_}
 use mathlib.Core.Bool.{Bool, true, false, cond, false≢true}

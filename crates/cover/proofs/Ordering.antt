@@ -1,4 +1,4 @@
--- Inserting texts once: in any order, and by sorting and dropping repeats; and the variables of trees as texts inserted. Assumes nothing.
+-- Inserting texts once: in any order, and by sorting and dropping repeats; and the variables of trees as texts inserted.
 use mathlib.Core.Path.{_≡_, refl, sym, ap, _∙_}
 use mathlib.Core.Bool.{Bool, true, false, true≢false}
 use mathlib.Core.List.{List, [], _∷_, _++_}

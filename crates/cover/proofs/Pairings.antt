@@ -1,4 +1,4 @@
--- The loop that pairs, at each variable, the member's tree with the answer's. Assumes nothing.
+-- The loop that pairs, at each variable, the member's tree with the answer's.
 use Prim.Native.Nat.{ℕ, _+_, _*_, _<_, _≤_}
 use mathlib.Core.Path.{_≡_, refl, sym, ap, ap₂, subst, _∙_}
 use mathlib.Core.List.{List, [], _∷_}

@@ -1,4 +1,4 @@
--- A work area of which the first words were lent, before and after: cells below the end of the part agree. Assumes nothing.
+-- A work area of which the first words were lent, before and after: cells below the end of the part agree.
 use Prim.Native.Nat.{ℕ, _*_, _≤_}
 use mathlib.Core.Path.{_≡_, sym, _∙_}
 use mathlib.Core.List.{List, _++_}

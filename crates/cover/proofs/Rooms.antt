@@ -1,5 +1,5 @@
 -- The words that a sheet of kind `cover` needs are enough for the variables of its pairs, for the run over them, and after it for the
--- match of each member. Assumes nothing.
+-- match of each member.
 use Prim.Native.Nat.{ℕ, suc, _+_, _*_, _-_, _<_, _≤_, _^_}
 use mathlib.Core.Path.{_≡_, refl, sym, ap, subst, _∙_}
 use mathlib.Core.List.{List, [], _∷_, _++_, map, List·Memᴰ, List·Memᴰ·not-nil, List·Memᴰ·append-cases}

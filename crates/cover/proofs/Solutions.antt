@@ -1,4 +1,4 @@
--- The pairs of a sheet unified in a part of the work area, and the members matched in all of it. Assumes nothing.
+-- The pairs of a sheet unified in a part of the work area, and the members matched in all of it.
 use Prim.Native.Nat.{ℕ, _+_, _*_, _-_, _<_, _≤_, _^_}
 use mathlib.Core.Path.{_≡_, sym, ap, subst, _∙_}
 use mathlib.Core.Bool.{Bool}

@@ -1,4 +1,4 @@
--- A variable found by its name, and the value of an entry read or passed over. Assumes nothing.
+-- A variable found by its name, and the value of an entry read or passed over.
 use Prim.Native.Nat.{ℕ, _+_, _<_}
 use mathlib.Core.Path.{_≡_, refl, sym, ap, ap₂, subst, _∙_}
 use mathlib.Core.Bool.{Bool, true, false, _||_, true≢false}

@@ -16,7 +16,7 @@ ghost use Rattle.cover.specs.Generals.{OfVariables};
 ghost use Rattle.cover.specs.Covering.{Matchable, AllMatchable, CoversMember, CoversAny};
 
 // A member covers, or it does not and the lines after it begin at a cursor.
-pub enum Covering {
+enum Covering {
     Yes,
     No { next: Cursor },
 }
@@ -55,7 +55,7 @@ fn covers(
 }
 
 // Whether one of the members from a cursor on covers.
-pub fn any_covers(
+pub(crate) fn any_covers(
     sheet: &[u8],
     work: &mut [u32],
     free: usize,

@@ -13,7 +13,7 @@ ghost use Rattle.cover.specs.Generals.{OfVariables};
 ghost use Rattle.cover.specs.Members.{PairsMember};
 
 // A list of sides, the free end after it and where the member ends, or a value that cannot be read.
-pub enum Sides {
+pub(crate) enum Sides {
     Stack {
         index: usize,
         free: usize,
@@ -23,7 +23,7 @@ pub enum Sides {
 }
 
 // At each variable of the list from cell `names` on: the tree that the entries from a cursor on give it, and that of the bindings.
-pub fn member_pairs(
+pub(crate) fn member_pairs(
     sheet: &[u8],
     work: &mut [u32],
     free: usize,

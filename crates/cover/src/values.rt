@@ -46,7 +46,7 @@ fn find_variable(
 }
 
 // Bindings and the free end after them, or a value that cannot be read.
-pub enum Values {
+enum Values {
     Bound { bindings: usize, free: usize },
     Unreadable,
 }
@@ -99,7 +99,7 @@ fn read_value(
 }
 
 // The bindings of a member's values, the free end after them and where its entries end, or a value that cannot be read.
-pub enum Read {
+pub(crate) enum Read {
     Bound {
         bindings: usize,
         free: usize,
@@ -109,7 +109,13 @@ pub enum Read {
 }
 
 // The values of the entries from a cursor on, those whose keys are variables of the list from cell `names` on, as bindings.
-pub fn read_values(sheet: &[u8], work: &mut [u32], free: usize, names: usize, start: Cursor) -> Read
+pub(crate) fn read_values(
+    sheet: &[u8],
+    work: &mut [u32],
+    free: usize,
+    names: usize,
+    start: Cursor,
+) -> Read
     requires { ⌜ Arena (now sheet) (now work) free ⌝ }
     requires { ⌜ (names < free) × OfVariables (trees-at (now sheet) (now work) names) ⌝ }
     requires { ⌜ (start .at ≤ length (now sheet)) × (length (now sheet) ≤ 65536) ⌝ }

@@ -1,4 +1,4 @@
--- Cancelling of the cells of two sums. Assumes nothing.
+-- Cancelling of the cells of two sums.
 use Prim.Native.Nat.{ℕ, suc, _+_, _-_, _*_, _<_, _≤_}
 use mathlib.Core.Path.{_≡_, refl, sym, ap, ap₂, subst, _∙_}
 use mathlib.Core.Bool.{Bool, true, false, not, _&&_, _||_}

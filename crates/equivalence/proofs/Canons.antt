@@ -1,4 +1,4 @@
--- The words of a tree, once its sums are sorted, have its canonical text. Assumes nothing.
+-- The words of a tree, once its sums are sorted, have its canonical text.
 use Prim.Native.Nat.{ℕ, _+_, _-_, _*_, _<_, _≤_}
 use mathlib.Core.Path.{_≡_, sym, ap, _∙_}
 use mathlib.Core.Bool.{false}

@@ -1,4 +1,4 @@
--- Two trees are equivalent where the texts of their canonical words are one. Assumes nothing.
+-- Two trees are equivalent where the texts of their canonical words are one.
 use Prim.Native.Nat.{ℕ, _+_, _*_, _<_, _≤_}
 use mathlib.Core.Path.{_≡_, refl, sym, ap, ap₂, _∙_}
 use mathlib.Core.Bool.{Bool, true, false}

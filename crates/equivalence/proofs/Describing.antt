@@ -1,4 +1,4 @@
--- The runs of canonical words of summands: how they are written, compared and searched. Assumes nothing.
+-- The runs of canonical words of summands: how they are written, compared and searched.
 use Prim.Native.Nat.{ℕ, zero, suc, _+_, _-_, _*_, _<_, _≤_}
 use mathlib.Core.Path.{_≡_, refl, sym, ap, ap₂, subst, _∙_}
 use mathlib.Core.Bool.{Bool, true, false, cond, not, _&&_}

@@ -1,4 +1,4 @@
--- Fingerprints, carried on through a text byte by byte and word by word. Assumes nothing.
+-- Fingerprints, carried on through a text byte by byte and word by word.
 use Prim.Native.Nat.{ℕ, zero, suc, _+_, _*_, _<_, _≤_, _%_}
 use mathlib.Core.Path.{_≡_, refl, sym, ap, _∙_}
 use mathlib.Core.List.{List, [], _∷_, _++_}

@@ -1,4 +1,4 @@
--- The summands of a sum, gathered as the numbers of their cells. Assumes nothing.
+-- The summands of a sum, gathered as the numbers of their cells.
 use Prim.Native.Nat.{ℕ, zero, suc, _+_, _-_, _*_, _<_, _≤_}
 use mathlib.Core.Path.{_≡_, refl, sym, ap, ap₂, _∙_}
 use mathlib.Core.Bool.{Bool, true, false, cond, _&&_}

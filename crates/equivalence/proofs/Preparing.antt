@@ -1,4 +1,4 @@
--- Two sums, gathered, described and cancelled one after the other. Assumes nothing.
+-- Two sums, gathered, described and cancelled one after the other.
 use Prim.Native.Nat.{ℕ, _+_, _-_, _*_, _<_, _≤_}
 use mathlib.Core.Path.{_≡_, sym, ap, ap₂, _∙_}
 use mathlib.Core.Bool.{Bool}

@@ -1,4 +1,4 @@
--- The right-nested sum of cells that are not taken out. Assumes nothing.
+-- The right-nested sum of cells that are not taken out.
 use Prim.Native.Nat.{ℕ, suc, _+_, _-_, _*_, _<_, _≤_}
 use mathlib.Core.Path.{_≡_, sym, ap, ap₂, subst, _∙_}
 use mathlib.Core.Bool.{Bool, true, false, cond}

@@ -1,5 +1,5 @@
 -- Words after the cells: what is written there leaves the cells as they are, and one after another the words of two writers are one
--- list. Assumes nothing.
+-- list.
 use Prim.Native.Nat.{ℕ, _+_, _*_, _≤_}
 use mathlib.Core.Path.{_≡_, sym, ap, ap₂, _∙_}
 use mathlib.Core.List.{List, _++_}

@@ -1,4 +1,4 @@
--- The words of a tree by its cells. Assumes nothing.
+-- The words of a tree by its cells.
 use Prim.Native.Nat.{ℕ, _+_, _-_, _*_, _<_, _≤_, _/_, _%_}
 use mathlib.Core.Path.{_≡_, refl, sym, ap, ap₂, subst, _∙_}
 use mathlib.Core.Bool.{Bool, true, false, cond, not}

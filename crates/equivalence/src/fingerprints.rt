@@ -77,7 +77,7 @@ fn fingerprint(sheet: &[u8], work: &[u32], from: usize, to: usize) -> u32
 }
 
 // Writes the canonical words of the tree of cell i from `base` on and their fingerprint into the word k, and answers where they end.
-pub fn marked_words(
+pub(crate) fn marked_words(
     sheet: &[u8],
     work: &mut [u32],
     free: usize,

@@ -36,7 +36,7 @@ pub fn is_sum(sheet: &[u8], work: &[u32], free: usize, i: usize) -> bool
 }
 
 // Writes the cells of the summands of cell i from `at` on, and answers where they end.
-pub fn gather(sheet: &[u8], work: &mut [u32], free: usize, i: usize, at: usize) -> usize
+fn gather(sheet: &[u8], work: &mut [u32], free: usize, i: usize, at: usize) -> usize
     requires { ⌜ Arena (now sheet) (now work) free ⌝ }
     requires { ⌜ (0 < i) × (i < free) × (free < 2 ^ 32) ⌝ }
     requires { ⌜ (4 * free ≤ at) × (at + size (tree-at (now sheet) (now work) i) ≤ length (now work)) ⌝ }
@@ -69,7 +69,7 @@ fn gather_list(sheet: &[u8], work: &mut [u32], free: usize, i: usize, at: usize)
 // start is in the word at p + d, and where they end in the word after it, both from `base` on; the first of these words is 0. Their
 // fingerprint is in the word at p + 2 * d + 1. From `base` on, fifteen words for each node, less one for each cell after the first, are
 // scratch.
-pub fn describe(
+fn describe(
     sheet: &[u8],
     work: &mut [u32],
     free: usize,
@@ -187,7 +187,7 @@ fn take_one(
 }
 
 // The same of each cell from `at` to mid.
-pub fn cancel(
+fn cancel(
     sheet: &[u8],
     work: &mut [u32],
     free: usize,

@@ -1,4 +1,4 @@
--- Atoms: a letter around one application of digits. Assumes nothing.
+-- Atoms: a letter around one application of digits.
 use Prim.Native.Nat.{ℕ, zero, suc, _+_, _*_, _-_, _<_, _≤_}
 use native.Mathlib.Omega.{arith}
 use mathlib.Core.Path.{_≡_, refl, sym, ap, ap₂, _∙_, subst}

@@ -1,4 +1,4 @@
--- New cells: with a name's place, and after other new cells; and an application of trees in their order. Assumes nothing.
+-- New cells: with a name's place, and after other new cells; and an application of trees in their order.
 use Prim.Native.Nat.{ℕ, _+_, _*_, _<_, _≤_}
 use native.Mathlib.Omega.{arith}
 use mathlib.Core.Path.{_≡_, refl, sym, ap, _∙_, subst}

@@ -1,4 +1,4 @@
--- A name among the symbols of a text is a place in the sheet, and its second byte is no bracket. Assumes nothing.
+-- A name among the symbols of a text is a place in the sheet, and its second byte is no bracket.
 use Prim.Native.Nat.{ℕ, suc, _+_, _-_, _<_, _≤_}
 use native.Mathlib.Omega.{arith}
 use mathlib.Core.Path.{_≡_, sym, ap, _∙_, subst}

@@ -1,4 +1,4 @@
--- The two nested rounds of the term reader: their invariants and turns. Assumes nothing.
+-- The two nested rounds of the term reader: their invariants and turns.
 use Prim.Native.Nat.{ℕ, zero, suc, _+_, _*_, _-_, _<_, _≤_}
 use native.Mathlib.Omega.{arith}
 use mathlib.Core.Path.{_≡_, refl, sym, ap, _∙_, subst}

@@ -1,4 +1,4 @@
--- What a closed list is, by its name. Assumes nothing.
+-- What a closed list is, by its name.
 use Prim.Native.Nat.{ℕ, _+_, _-_, _≤_}
 use native.Mathlib.Omega.{arith}
 use mathlib.Core.Path.{_≡_, refl, sym, ap, ap₂, _∙_}

@@ -1,4 +1,4 @@
--- The stack in words: words that stay, a tree put on the top, a level opened. Assumes nothing.
+-- The stack in words: words that stay, a tree put on the top, a level opened.
 use Prim.Native.Nat.{ℕ, zero, suc, _+_, _*_, _<_, _≤_}
 use native.Mathlib.Omega.{arith}
 use native.Mathlib.Numerals.{add-one}

@@ -1,4 +1,4 @@
--- A sum of trees that stand last first: the loop's invariant and its turns. Assumes nothing.
+-- A sum of trees that stand last first: the loop's invariant and its turns.
 use Prim.Native.Nat.{ℕ, _+_, _*_, _<_, _≤_}
 use native.Mathlib.Omega.{arith}
 use mathlib.Core.Path.{_≡_, refl, sym, ap, ap₂, _∙_, subst}

@@ -25,13 +25,13 @@ ghost use Rattle.reading.specs.Words.{Placed};
 ghost use Rattle.reading.specs.Closing.{most, Orders, Closes, Alone, summed};
 
 // The first of the new cells, the free end after them and their count of nodes.
-pub enum Ordered {
+enum Ordered {
     Upto(usize, usize, usize),
     Over,
 }
 
 // The free end after the closed list's cell, which is the last.
-pub enum Closed {
+pub(crate) enum Closed {
     At(usize),
     Refused,
 }
@@ -197,7 +197,7 @@ fn wide(b: u8) -> usize
 }
 
 // What a name and its list are (unifier.rs, `close`), before the list at a link.
-pub fn shut(
+pub(crate) fn shut(
     sheet: &[u8],
     work: &mut [u32],
     free: usize,

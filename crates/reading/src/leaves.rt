@@ -53,7 +53,7 @@ fn is_letter(b: u8) -> bool
 }
 
 // Whether a name is one of the letters of atoms.
-pub fn is_letter_name(name: &[u8]) -> bool
+pub(crate) fn is_letter_name(name: &[u8]) -> bool
     ensures { λ r. ⌜ r ≡ letter-name (now (name .entry)) ⌝ }
 {
     if name.len() != 1 {
@@ -62,7 +62,7 @@ pub fn is_letter_name(name: &[u8]) -> bool
     is_letter(name[0])
 }
 
-pub fn all_digits(name: &[u8]) -> bool
+pub(crate) fn all_digits(name: &[u8]) -> bool
     ensures { λ r. ⌜ r ≡ all digit (now (name .entry)) ⌝ }
 {
     let mut i = 0;

@@ -21,7 +21,7 @@ fn wide(x: u32) -> usize
 }
 
 // The cell of the last tree of the bottom.
-pub fn top_of(work: &[u32], limit: usize) -> usize
+pub(crate) fn top_of(work: &[u32], limit: usize) -> usize
     requires { ⌜ 4 * limit < length (now work) ⌝ }
     ensures { λ r. ⌜ r ≡ getD (now (work .entry)) (4 * limit) 0 ⌝ }
 {
@@ -29,7 +29,7 @@ pub fn top_of(work: &[u32], limit: usize) -> usize
 }
 
 // A leaf, put on the level `depth`, which is the top.
-pub fn leaf(
+pub(crate) fn leaf(
     sheet: &[u8],
     work: &mut [u32],
     free: usize,
@@ -52,7 +52,7 @@ pub fn leaf(
 }
 
 // A list opened: the level `depth + 1`.
-pub fn begin(
+pub(crate) fn begin(
     sheet: &[u8],
     work: &mut [u32],
     free: usize,
@@ -73,7 +73,13 @@ pub fn begin(
 }
 
 // The list of the level `depth + 1` closed, and its tree put on the level `depth`.
-pub fn close(sheet: &[u8], work: &mut [u32], free: usize, limit: usize, depth: usize) -> Closed
+pub(crate) fn close(
+    sheet: &[u8],
+    work: &mut [u32],
+    free: usize,
+    limit: usize,
+    depth: usize,
+) -> Closed
     requires { ⌜ Held (now sheet) (now work) free limit (depth + 1) ⌝ }
     requires { ⌜ (most (now sheet) (now work) free (getD (now work) (4 * limit + 3 * depth + 3) 0) ≤ limit) × (limit < 2 ^ 32) ⌝ }
     requires { ⌜ length (now sheet) ≤ 65536 ⌝ }

@@ -1,4 +1,4 @@
--- One step at the root, and normal forms, over cells; normal forms have no more nodes. Assumes nothing.
+-- One step at the root, and normal forms, over cells; normal forms have no more nodes.
 use Prim.Native.Nat.{ℕ, zero, suc, _+_, _<_, _≤_}
 use mathlib.Core.Path.{_≡_, refl, sym, ap, ap₂, _∙_}
 use mathlib.Core.List.{List}

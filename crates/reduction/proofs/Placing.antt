@@ -1,4 +1,4 @@
--- Trees and lists at the free end, before others. Assumes nothing.
+-- Trees and lists at the free end, before others.
 use Prim.Native.Nat.{ℕ, _+_, _*_, _<_, _≤_}
 use mathlib.Core.Path.{_≡_, refl, sym, ap, _∙_}
 use mathlib.Core.List.{List}

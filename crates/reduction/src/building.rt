@@ -73,7 +73,7 @@ pub fn stay(
 }
 
 // The tree of cell k, or, where k is 0, the name of cell i over the list from cell first on.
-pub fn becomes(
+pub(crate) fn becomes(
     sheet: &[u8],
     work: &mut [u32],
     free: usize,

@@ -80,7 +80,7 @@ pub fn two_arguments(sheet: &[u8], work: &[u32], free: usize, i: usize) -> usize
 }
 
 // Whether cell k is an application with a name.
-pub fn applies(sheet: &[u8], work: &[u32], free: usize, k: usize, text: &[u8]) -> bool
+fn applies(sheet: &[u8], work: &[u32], free: usize, k: usize, text: &[u8]) -> bool
     requires { ⌜ Arena (now sheet) (now work) free ⌝ }
     requires { ⌜ (0 < k) × (k < free) ⌝ }
     ensures { λ r. ⌜ arguments-of (now (text .entry)) (tree-at (now (sheet .entry)) (now (work .entry)) k) ≡ given-if r (trees-at (now (sheet .entry)) (now (work .entry)) (first-of (now (work .entry)) k)) ⌝ }
@@ -92,7 +92,7 @@ pub fn applies(sheet: &[u8], work: &[u32], free: usize, k: usize, text: &[u8]) -
 }
 
 // Whether the tree of cell k is a name without arguments.
-pub fn is_constant(sheet: &[u8], work: &[u32], free: usize, k: usize, text: &[u8]) -> bool
+pub(crate) fn is_constant(sheet: &[u8], work: &[u32], free: usize, k: usize, text: &[u8]) -> bool
     requires { ⌜ Arena (now sheet) (now work) free ⌝ }
     requires { ⌜ (0 < k) × (k < free) ⌝ }
     ensures { λ r. ⌜ is-constant (now (text .entry)) (tree-at (now (sheet .entry)) (now (work .entry)) k) ≡ guard r ⌝ }
@@ -104,7 +104,7 @@ pub fn is_constant(sheet: &[u8], work: &[u32], free: usize, k: usize, text: &[u8
 }
 
 // The cell of the one argument under a name at cell k, 0 for none.
-pub fn is_one(sheet: &[u8], work: &[u32], free: usize, k: usize, text: &[u8]) -> usize
+pub(crate) fn is_one(sheet: &[u8], work: &[u32], free: usize, k: usize, text: &[u8]) -> usize
     requires { ⌜ Arena (now sheet) (now work) free ⌝ }
     requires { ⌜ (0 < k) × (k < free) ⌝ }
     ensures { λ r. ⌜ (r < free) × (is-one (now (text .entry)) (tree-at (now (sheet .entry)) (now (work .entry)) k) ≡ held (now (sheet .entry)) (now (work .entry)) r) ⌝ }
@@ -116,7 +116,7 @@ pub fn is_one(sheet: &[u8], work: &[u32], free: usize, k: usize, text: &[u8]) ->
 }
 
 // The cell of the second of the two arguments under a name at cell k, 0 for none.
-pub fn is_two(sheet: &[u8], work: &[u32], free: usize, k: usize, text: &[u8]) -> usize
+pub(crate) fn is_two(sheet: &[u8], work: &[u32], free: usize, k: usize, text: &[u8]) -> usize
     requires { ⌜ Arena (now sheet) (now work) free ⌝ }
     requires { ⌜ (0 < k) × (k < free) ⌝ }
     ensures { λ r. ⌜ (r < free) × (0 < r → 0 < first-of (now (work .entry)) k) × (is-two (now (text .entry)) (tree-at (now (sheet .entry)) (now (work .entry)) k) ≡ held-two (now (sheet .entry)) (now (work .entry)) (first-of (now (work .entry)) k) r) ⌝ }

@@ -1,4 +1,4 @@
--- Lists one after the other, a tree with its children, and a value before later ones. Assumes nothing.
+-- Lists one after the other, a tree with its children, and a value before later ones.
 use Prim.Native.Nat.{ℕ, suc, _+_, _<_, _≤_}
 use native.Mathlib.Omega.{arith}
 use mathlib.Core.Path.{_≡_, refl, sym, ap, ap₂, _∙_}

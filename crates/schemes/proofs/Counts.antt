@@ -1,4 +1,4 @@
--- The choices at the root of a cell, and counts up to 4,096. Assumes nothing.
+-- The choices at the root of a cell, and counts up to 4,096.
 use Prim.Native.Nat.{ℕ, _*_, _<_, _≤_}
 use native.Mathlib.Nat.{mul-assoc, mul-pos, le-mul-of-pos-right, mul-le-mul}
 use native.Mathlib.Omega.{arith}

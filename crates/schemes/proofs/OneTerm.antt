@@ -1,4 +1,4 @@
--- The scheme of one term and its system. Assumes nothing.
+-- The scheme of one term and its system.
 use Prim.Native.Nat.{ℕ, zero, suc, _+_, _*_, _/_, _<_, _≤_, _^_}
 use native.Mathlib.Nat.{mul-one, div-one, div-eq-of-eq-mul-right}
 use native.Mathlib.Omega.{arith}

@@ -1,4 +1,4 @@
--- Patterns over leaves, and equations before others. Assumes nothing.
+-- Patterns over leaves, and equations before others.
 use Prim.Native.Nat.{ℕ, _+_, _<_, _≤_}
 use native.Mathlib.Omega.{arith}
 use mathlib.Core.Path.{_≡_, refl, sym, ap, _∙_, subst}

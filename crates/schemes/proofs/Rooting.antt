@@ -1,4 +1,4 @@
--- The choice at the root of a cell, after those of its children. Assumes nothing.
+-- The choice at the root of a cell, after those of its children.
 use Prim.Native.Nat.{ℕ, _+_, _/_, _%_, _<_}
 use native.Mathlib.Nat.{div-lt-iff-lt-mul}
 use native.Mathlib.Omega.{arith}

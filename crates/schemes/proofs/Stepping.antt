@@ -1,4 +1,4 @@
--- The choices for a list of cells: for the first tree's children, for its root, for the later trees. Assumes nothing.
+-- The choices for a list of cells: for the first tree's children, for its root, for the later trees.
 use Prim.Native.Nat.{ℕ, _+_, _*_, _/_, _%_, _<_, _≤_, _^_}
 use native.Mathlib.Nat.{div-one, mod-eq-of-lt}
 use native.Mathlib.Omega.{arith}

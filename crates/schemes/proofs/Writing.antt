@@ -1,4 +1,4 @@
--- What was written stays, and lists of equations one after the other. Assumes nothing.
+-- What was written stays, and lists of equations one after the other.
 use Prim.Native.Nat.{ℕ, _+_, _*_, _<_, _≤_}
 use native.Mathlib.Omega.{arith}
 use mathlib.Core.Path.{_≡_, refl, sym, ap, _∙_}

@@ -21,7 +21,7 @@ ghost use Rattle.schemes.specs.Choices.{over};
 ghost use Rattle.schemes.specs.Building.{Fresh, Appends, Keeps, RootReady, Roots, Follows, Ready, Chooses};
 
 // Values, equations, the next fresh variable, what is left of the index and of the number of ways, and the free end.
-pub struct Chosen {
+pub(crate) struct Chosen {
     pub values: usize,
     pub equations: usize,
     pub next: usize,
@@ -31,7 +31,7 @@ pub struct Chosen {
 }
 
 // The list from cell a on before the list from cell b on.
-pub fn append(sheet: &[u8], work: &mut [u32], free: usize, a: usize, b: usize) -> Pushed
+pub(crate) fn append(sheet: &[u8], work: &mut [u32], free: usize, a: usize, b: usize) -> Pushed
     requires { ⌜ Arena (now sheet) (now work) free ⌝ }
     requires { ⌜ (a < free) × (b < free) ⌝ }
     requires { ⌜ (4 * (free + count (trees-at (now sheet) (now work) a)) ≤ length (now work)) × (free + count (trees-at (now sheet) (now work) a) < 2 ^ 32) ⌝ }
@@ -135,7 +135,7 @@ fn join(sheet: &[u8], work: &mut [u32], value: usize, equations: usize, rest: Ch
 }
 
 // The choices for the trees of the list from cell i on. One frame for each node: a term may be 4,096 deep.
-pub fn choose(
+pub(crate) fn choose(
     sheet: &[u8],
     work: &mut [u32],
     free: usize,

@@ -17,7 +17,7 @@ ghost use Rattle.schemes.specs.Choices.{over, ways-of};
 ghost use Rattle.schemes.specs.Counting.{capped, counted};
 
 // The first child of cell i, 0 for none and for a leaf.
-pub fn children_of(sheet: &[u8], work: &[u32], free: usize, i: usize) -> usize
+pub(crate) fn children_of(sheet: &[u8], work: &[u32], free: usize, i: usize) -> usize
     requires { ⌜ Arena (now sheet) (now work) free ⌝ }
     requires { ⌜ (0 < i) × (i < free) ⌝ }
     ensures { λ r. ⌜ (r < i) × (trees-at (now (sheet .entry)) (now (work .entry)) r ≡ children (tree-at (now (sheet .entry)) (now (work .entry)) i)) ⌝ }
@@ -70,7 +70,7 @@ fn name_ways(sheet: &[u8], work: &[u32], free: usize, i: usize, first: usize) ->
 }
 
 // How many choices there are at the root of cell i with the children from cell first on.
-pub fn ways_of(sheet: &[u8], work: &[u32], free: usize, i: usize, first: usize) -> usize
+pub(crate) fn ways_of(sheet: &[u8], work: &[u32], free: usize, i: usize, first: usize) -> usize
     requires { ⌜ Arena (now sheet) (now work) free ⌝ }
     requires { ⌜ (0 < i) × (i < free) × (first < free) ⌝ }
     ensures { λ r. ⌜ r ≡ ways-of (over (tree-at (now (sheet .entry)) (now (work .entry)) i) (trees-at (now (sheet .entry)) (now (work .entry)) first)) ⌝ }

@@ -22,7 +22,7 @@ ghost use Rattle.schemes.specs.Choices.{cipher};
 ghost use Rattle.schemes.specs.Building.{Fresh, Named, Single, Opens, Fires, joined-as};
 
 // A tree over two fresh variables, and their cells.
-pub struct Pattern {
+struct Pattern {
     pub tree: usize,
     pub left: usize,
     pub right: usize,
@@ -86,7 +86,7 @@ fn boxed(sheet: &[u8], work: &mut [u32], free: usize, x: usize, y: usize) -> Pat
 }
 
 // What a rule makes of a root: the value, the equations and the next fresh variable.
-pub struct Fired {
+pub(crate) struct Fired {
     pub value: usize,
     pub equations: usize,
     pub next: usize,
@@ -195,7 +195,7 @@ fn take_payload(
 }
 
 // The choice, other than the first, at the root: the name of cell i over the list from cell first on, whose equations are `list`.
-pub fn fire(
+pub(crate) fn fire(
     sheet: &[u8],
     work: &mut [u32],
     free: usize,

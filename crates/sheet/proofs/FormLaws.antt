@@ -1,4 +1,4 @@
--- The kinds of sheet: what each reading gives from the lines that were found. Assumes nothing.
+-- The kinds of sheet: what each reading gives from the lines that were found.
 use mathlib.Core.Path.{_≡_, refl, ap, sym, subst, _∙_}
 use mathlib.Core.Logic.{⊎-elim}
 use mathlib.Core.Bool.{Bool, true, false, cond, _&&_}

@@ -1,4 +1,4 @@
--- Pairs of lines: two lines at a position, and a walk over as many as there are. Assumes nothing.
+-- Pairs of lines: two lines at a position, and a walk over as many as there are.
 use mathlib.Core.Path.{_≡_, refl, ap, sym, subst, _∙_}
 use mathlib.Core.Logic.{_⊎_, inl, inr}
 use mathlib.Core.List.{List, [], _∷_, _++_, append-assoc}

@@ -1,4 +1,4 @@
--- What the reading of each kind of sheet answers. Assumes nothing.
+-- What the reading of each kind of sheet answers.
 use mathlib.Core.Path.{_≡_, refl, ap, sym, subst, _∙_}
 use mathlib.Core.Logic.{⊎-elim}
 use mathlib.Core.Bool.{Bool, true, false}

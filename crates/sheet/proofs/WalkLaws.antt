@@ -1,4 +1,4 @@
--- What the walk over pairs, members and entries finds, told from the lists that a sheet holds. Assumes nothing.
+-- What the walk over pairs, members and entries finds, told from the lists that a sheet holds.
 use mathlib.Core.Path.{_≡_, refl, ap, sym, subst, _∙_}
 use mathlib.Core.Logic.{⊎-elim}
 use mathlib.Core.Bool.{true}

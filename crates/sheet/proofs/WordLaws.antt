@@ -1,4 +1,4 @@
--- The words of the work area that a form needs are those of its sheet. Assumes nothing.
+-- The words of the work area that a form needs are those of its sheet.
 use mathlib.Core.Path.{_≡_, refl, ap, sym}
 use mathlib.Core.Bool.{Bool, true, false, cond}
 use mathlib.Core.List.{[], _∷_}

@@ -29,7 +29,7 @@ pub enum Form {
 }
 
 // The kinds by their names.
-pub enum Kind {
+enum Kind {
     Equal,
     Unify,
     Match,

@@ -18,7 +18,7 @@ ghost use Rattle.text.specs.Places.{text-at};
 ghost use Rattle.sheet.specs.Members.{members-at, counted, distinct, apart, Gathered};
 
 // A place as one word: start * 65536 + length.
-pub fn word_of(place: Place) -> u32
+fn word_of(place: Place) -> u32
     requires { ⌜ (place .from < 65536) × (place .from ≤ place .to) × (place .to < place .from + 65536) ⌝ }
     ensures { λ r. ⌜ r ≡ place .from * 65536 + (place .to - place .from) ⌝ }
 {
@@ -28,7 +28,7 @@ pub fn word_of(place: Place) -> u32
 }
 
 // How many keys one member has, and where its entries end.
-pub struct Keys {
+struct Keys {
     count: usize,
     next: Cursor,
 }
@@ -129,7 +129,7 @@ fn key_words() -> [u32; 16384]
 }
 
 // How many members stand from a cursor to the sheet's end, if nothing else does and none repeats a key.
-pub fn members(sheet: &[u8], start: Cursor) -> Number
+pub(crate) fn members(sheet: &[u8], start: Cursor) -> Number
     requires { ⌜ length (now sheet) ≤ 65536 ⌝ }
     ensures { λ r. ⌜ r ≡ counted 0 (members-at (now (sheet .entry)) (start .at)) ⌝ }
 {

@@ -1,4 +1,4 @@
--- Sorts by their numbers, the kinds of variables, and symbols. Assumes nothing.
+-- Sorts by their numbers, the kinds of variables, and symbols.
 use Prim.Native.Nat.{ℕ, zero, suc, _+_, _-_, _<_}
 use mathlib.Core.Path.{_≡_, refl, sym, ap, _∙_}
 use mathlib.Core.Bool.{Bool, true, false, cond}

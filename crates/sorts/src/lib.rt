@@ -26,7 +26,7 @@ const MSG: usize = 2;
 const TAM_NAT: usize = 3;
 
 // Whether two sorts meet.
-pub fn meets(a: usize, b: usize) -> bool
+fn meets(a: usize, b: usize) -> bool
     requires { ⌜ (a < 5) × (b < 5) ⌝ }
     ensures { λ r. ⌜ r ≡ intersects (numbered a) (numbered b) ⌝ }
 {
@@ -34,7 +34,7 @@ pub fn meets(a: usize, b: usize) -> bool
 }
 
 // What a name stands for.
-pub enum Symbol {
+enum Symbol {
     Addition,
     Unit,
     Frame,
@@ -79,7 +79,7 @@ fn plain(sheet: &[u8], work: &[u32], free: usize, k: usize) -> bool
 }
 
 // What the name of cell k stands for. Most names are told apart by their length.
-pub fn symbol_of(sheet: &[u8], work: &[u32], free: usize, k: usize) -> Symbol
+fn symbol_of(sheet: &[u8], work: &[u32], free: usize, k: usize) -> Symbol
     requires { ⌜ Arena (now sheet) (now work) free ⌝ }
     requires { ⌜ (0 < k) × (k < free) ⌝ }
     ensures { λ r. ⌜ r ≡ coded (symbol (name-at (now (sheet .entry)) (now (work .entry)) k)) ⌝ }
@@ -104,7 +104,7 @@ fn leaf_natural(sheet: &[u8], work: &[u32], free: usize, i: usize, kind: usize) 
 }
 
 // Whether every tree of the list from cell `list` on is natural. The summands of a list's last tree take the list's place.
-pub fn naturals(sheet: &[u8], work: &[u32], free: usize, list: usize) -> bool
+fn naturals(sheet: &[u8], work: &[u32], free: usize, list: usize) -> bool
     requires { ⌜ Arena (now sheet) (now work) free ⌝ }
     requires { ⌜ list < free ⌝ }
     ensures { λ r. ⌜ r ≡ naturals (trees-at (now (sheet .entry)) (now (work .entry)) list) ⌝ }
@@ -179,7 +179,7 @@ fn leaf_message(sheet: &[u8], work: &[u32], free: usize, i: usize, kind: usize) 
 }
 
 // Whether every tree of the list from cell `list` on is a message. The children of a list's last tree take the list's place.
-pub fn messages(sheet: &[u8], work: &[u32], free: usize, list: usize) -> bool
+fn messages(sheet: &[u8], work: &[u32], free: usize, list: usize) -> bool
     requires { ⌜ Arena (now sheet) (now work) free ⌝ }
     requires { ⌜ list < free ⌝ }
     ensures { λ r. ⌜ r ≡ messages (trees-at (now (sheet .entry)) (now (work .entry)) list) ⌝ }
@@ -318,7 +318,7 @@ pub fn refinable(sheet: &[u8], work: &[u32], free: usize, sort: usize, i: usize)
 }
 
 // Whether every tree of the list from cell i on may have an instance of the sort.
-pub fn refinables(sheet: &[u8], work: &[u32], free: usize, sort: usize, i: usize) -> bool
+fn refinables(sheet: &[u8], work: &[u32], free: usize, sort: usize, i: usize) -> bool
     requires { ⌜ Arena (now sheet) (now work) free ⌝ }
     requires { ⌜ i < free ⌝ }
     requires { ⌜ sort < 5 ⌝ }

@@ -1,4 +1,4 @@
--- The children of a cell, and of two cells pairwise on the stack. Assumes nothing.
+-- The children of a cell, and of two cells pairwise on the stack.
 use Prim.Native.Nat.{ℕ, suc, _+_, _*_, _<_}
 use mathlib.Core.Path.{_≡_, refl, sym, ap, ap₂, _∙_}
 use mathlib.Core.List.{List, [], _∷_}

@@ -1,4 +1,4 @@
--- What two sums leave, from the cells that are left of them. Assumes nothing.
+-- What two sums leave, from the cells that are left of them.
 use Prim.Native.Nat.{ℕ, _+_, _-_, _*_, _<_, _≤_, _^_}
 use mathlib.Core.Path.{_≡_, refl, sym, ap, ap₂, subst, _∙_}
 use mathlib.Core.Bool.{Bool, true, false}

@@ -1,4 +1,4 @@
--- The waiting pairs where the cells below the free end are kept, and a step at a larger weight. Assumes nothing.
+-- The waiting pairs where the cells below the free end are kept, and a step at a larger weight.
 use Prim.Native.Nat.{ℕ, _<_}
 use mathlib.Core.Path.{_≡_, sym, _∙_}
 use mathlib.Core.List.{List}

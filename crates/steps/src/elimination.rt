@@ -33,14 +33,7 @@ pub enum Taken {
 }
 
 // Binds the variable of cell key to the tree of cell value.
-pub fn bind(
-    sheet: &[u8],
-    work: &mut [u32],
-    free: usize,
-    key: usize,
-    value: usize,
-    rest: usize,
-) -> Taken
+fn bind(sheet: &[u8], work: &mut [u32], free: usize, key: usize, value: usize, rest: usize) -> Taken
     requires { ⌜ Arena (now sheet) (now work) free ⌝ }
     requires { ⌜ (0 < key) × (key < free) × (0 < value) × (value < free) × (rest < free) ⌝ }
     requires { ⌜ (0 < kind-of (now work) key) × (kind-of (now work) key < 7) × Whole (trees-at (now sheet) (now work) rest) ⌝ }

@@ -1,4 +1,4 @@
--- The loop that composes the bindings. Assumes nothing.
+-- The loop that composes the bindings.
 use Prim.Native.Nat.{ℕ, _+_, _*_, _<_, _≤_}
 use mathlib.Core.Path.{_≡_, refl, sym, ap, ap₂, _∙_}
 use mathlib.Core.Bool.{Bool}

@@ -1,4 +1,4 @@
--- Trees and lists built at the free end within a budget of nodes. Assumes nothing.
+-- Trees and lists built at the free end within a budget of nodes.
 use Prim.Native.Nat.{ℕ, _+_, _-_, _*_, _<_, _≤_}
 use mathlib.Core.Path.{_≡_, refl, sym, ap, ap₂, _∙_}
 use mathlib.Core.List.{List}

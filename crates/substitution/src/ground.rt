@@ -22,7 +22,7 @@ pub fn ground(sheet: &[u8], work: &[u32], free: usize, i: usize) -> bool
 }
 
 // Whether no variable occurs in the list from cell i on.
-pub fn grounds(sheet: &[u8], work: &[u32], free: usize, i: usize) -> bool
+fn grounds(sheet: &[u8], work: &[u32], free: usize, i: usize) -> bool
     requires { ⌜ Arena (now sheet) (now work) free ⌝ }
     requires { ⌜ i < free ⌝ }
     ensures { λ r. ⌜ r ≡ grounds (trees-at (now (sheet .entry)) (now (work .entry)) i) ⌝ }

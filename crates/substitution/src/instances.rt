@@ -16,7 +16,7 @@ ghost use Rattle.tree.specs.Arena.{Arena};
 ghost use Rattle.substitution.specs.Building.{Before, BuildsTree, BuildsList, instance-at, instances-at};
 
 // The cell of the instance of a leaf under the bindings from cell b on.
-pub fn image(sheet: &[u8], work: &[u32], free: usize, i: usize, b: usize) -> usize
+fn image(sheet: &[u8], work: &[u32], free: usize, i: usize, b: usize) -> usize
     requires { ⌜ Arena (now sheet) (now work) free ⌝ }
     requires { ⌜ (0 < i) × (i < free) × (b < free) ⌝ }
     requires { ⌜ 0 < kind-of (now work) i ⌝ }
@@ -63,14 +63,7 @@ pub enum Built {
 }
 
 // The same within a budget of nodes.
-pub fn place(
-    sheet: &[u8],
-    work: &mut [u32],
-    free: usize,
-    i: usize,
-    next: usize,
-    budget: usize,
-) -> Built
+fn place(sheet: &[u8], work: &mut [u32], free: usize, i: usize, next: usize, budget: usize) -> Built
     requires { ⌜ Arena (now sheet) (now work) free ⌝ }
     requires { ⌜ (0 < i) × (i < free) × (next < free) ⌝ }
     requires { ⌜ (4 * (free + budget) ≤ length (now work)) × (free + budget < 2 ^ 32) ⌝ }
@@ -137,7 +130,7 @@ pub fn substitute(
 }
 
 // The instances of the trees of the list from cell i on. Each has a node, so the rest has one less.
-pub fn substitute_list(
+pub(crate) fn substitute_list(
     sheet: &[u8],
     work: &mut [u32],
     free: usize,

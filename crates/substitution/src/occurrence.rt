@@ -27,7 +27,7 @@ pub fn occurs(sheet: &[u8], work: &[u32], free: usize, key: usize, i: usize) -> 
 }
 
 // Whether it occurs in the list from cell i on.
-pub fn occurs_in(sheet: &[u8], work: &[u32], free: usize, key: usize, i: usize) -> bool
+fn occurs_in(sheet: &[u8], work: &[u32], free: usize, key: usize, i: usize) -> bool
     requires { ⌜ Arena (now sheet) (now work) free ⌝ }
     requires { ⌜ (0 < key) × (key < free) ⌝ }
     requires { ⌜ i < free ⌝ }

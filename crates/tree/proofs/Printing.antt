@@ -1,4 +1,4 @@
--- Bytes written into an output, one after another. Assumes nothing.
+-- Bytes written into an output, one after another.
 use Prim.Native.Nat.{ℕ, _+_, _<_, _≤_}
 use mathlib.Core.Path.{_≡_, sym, ap, ap₂, _∙_}
 use mathlib.Core.List.{List, [], _∷_, _++_, append-assoc}

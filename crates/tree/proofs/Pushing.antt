@@ -1,4 +1,4 @@
--- The cell that is written at the free end. Assumes nothing.
+-- The cell that is written at the free end.
 use Prim.Native.Nat.{ℕ, _+_, _-_, _*_, _/_, _%_, _<_, _≤_}
 use mathlib.Core.Path.{_≡_, refl, sym, ap, ap₂, _∙_}
 use mathlib.Core.Logic.{_⊎_, inl, inr}

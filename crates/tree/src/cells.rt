@@ -137,7 +137,7 @@ pub fn push_unspelled(sheet: &[u8], work: &mut [u32], free: usize, n: usize, nex
 }
 
 // The number of nodes of the tree of cell i.
-pub fn size(sheet: &[u8], work: &[u32], free: usize, i: usize) -> usize
+fn size(sheet: &[u8], work: &[u32], free: usize, i: usize) -> usize
     requires { ⌜ Arena (now sheet) (now work) free ⌝ }
     requires { ⌜ (0 < i) × (i < free) ⌝ }
     ensures { λ r. ⌜ r ≡ size (tree-at (now (sheet .entry)) (now (work .entry)) i) ⌝ }
@@ -149,7 +149,7 @@ pub fn size(sheet: &[u8], work: &[u32], free: usize, i: usize) -> usize
 }
 
 // The number of nodes of the list from cell i on.
-pub fn sizes(sheet: &[u8], work: &[u32], free: usize, i: usize) -> usize
+fn sizes(sheet: &[u8], work: &[u32], free: usize, i: usize) -> usize
     requires { ⌜ Arena (now sheet) (now work) free ⌝ }
     requires { ⌜ i < free ⌝ }
     requires { ⌜ sizes (trees-at (now sheet) (now work) i) < 65536 ⌝ }

@@ -36,7 +36,7 @@ pub fn same_tree(sheet: &[u8], work: &[u32], free: usize, i: usize, j: usize) ->
 }
 
 // Whether the lists from cells i and j on are one.
-pub fn same_trees(sheet: &[u8], work: &[u32], free: usize, i: usize, j: usize) -> bool
+fn same_trees(sheet: &[u8], work: &[u32], free: usize, i: usize, j: usize) -> bool
     requires { ⌜ Arena (now sheet) (now work) free ⌝ }
     requires { ⌜ (i < free) × (j < free) ⌝ }
     ensures { λ r. ⌜ r ≡ same-trees (trees-at (now (sheet .entry)) (now (work .entry)) i) (trees-at (now (sheet .entry)) (now (work .entry)) j) ⌝ }

@@ -70,7 +70,7 @@ pub fn fixed_byte(code: usize, a: usize) -> u8
 }
 
 // Whether the fixed name of a code is a text.
-pub fn fixed_is(code: usize, text: &[u8]) -> bool
+pub(crate) fn fixed_is(code: usize, text: &[u8]) -> bool
     requires { ⌜ (0 < code) × (code < 65536) ⌝ }
     ensures { λ r. ⌜ r ≡ same (fixed-name code) (now (text .entry)) ⌝ }
 {
@@ -89,7 +89,7 @@ pub fn fixed_is(code: usize, text: &[u8]) -> bool
 }
 
 // Writes the fixed name of a code, and returns where it ends.
-pub fn print_fixed(out: &mut [u8], at: usize, code: usize) -> usize
+pub(crate) fn print_fixed(out: &mut [u8], at: usize, code: usize) -> usize
     requires { ⌜ (0 < code) × (code < 65536) ⌝ }
     requires { ⌜ at + length (fixed-name code) ≤ length (now out) ⌝ }
     ensures { λ r. ⌜ Printed (now (out .entry)) (now (out .exit)) at (fixed-name code) r ⌝ }

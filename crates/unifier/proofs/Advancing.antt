@@ -1,4 +1,4 @@
--- The invariant of the loop of `matcher`: the answer is that of the waiting pairs and the bindings made so far. Assumes nothing.
+-- The invariant of the loop of `matcher`: the answer is that of the waiting pairs and the bindings made so far.
 use Prim.Native.Nat.{ℕ, zero, suc, _+_, _-_, _*_, _<_, _≤_}
 use mathlib.Core.Path.{_≡_, refl, sym, ap, ap₂, subst, _∙_}
 use mathlib.Core.List.{List, [], _∷_}

@@ -1,4 +1,4 @@
--- The answer after the run: its bindings composed. Assumes nothing.
+-- The answer after the run: its bindings composed.
 use Prim.Native.Nat.{ℕ}
 use mathlib.Core.Path.{_≡_, ap, _∙_}
 use mathlib.Core.List.{List}

@@ -1,4 +1,4 @@
--- What taking a pair of `match` leaves, arm by arm. Assumes nothing.
+-- What taking a pair of `match` leaves, arm by arm.
 use Prim.Native.Nat.{ℕ, _+_, _-_, _*_, _<_, _≤_}
 use mathlib.Core.Path.{_≡_, refl, sym, ap, ap₂, _∙_}
 use mathlib.Core.Bool.{Bool, true, false}

@@ -1,4 +1,4 @@
--- A step by the answers of its tests. Assumes nothing.
+-- A step by the answers of its tests.
 use Prim.Native.Nat.{ℕ, _+_, _*_, _<_, _≤_, _^_}
 use mathlib.Core.Path.{_≡_, refl, sym, ap, ap₂, subst, _∙_}
 use mathlib.Core.Bool.{Bool, true, false, not, _&&_, true≢false}

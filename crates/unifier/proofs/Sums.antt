@@ -1,4 +1,4 @@
--- The cells of sums, and the step at two of them by what is left. Assumes nothing.
+-- The cells of sums, and the step at two of them by what is left.
 use Prim.Native.Nat.{ℕ, _+_, _*_, _<_, _≤_, _^_}
 use mathlib.Core.Path.{_≡_, refl, sym, ap, ap₂, subst, _∙_}
 use mathlib.Core.Bool.{Bool, true, false, _&&_, true≢false, false≢true}

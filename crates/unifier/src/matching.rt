@@ -30,7 +30,7 @@ ghost use Rattle.unifier.specs.Matching.{Moves};
 ghost use Rattle.unifier.specs.Running.{Answers};
 
 // What a pair taken gives: the next stack and the bindings, the newest first, or the end of the run.
-pub enum Moved {
+enum Moved {
     Onward {
         stack: usize,
         bindings: usize,

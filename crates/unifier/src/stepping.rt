@@ -164,7 +164,7 @@ fn same_pair(
 
 // Takes the pair of cells left and right. If `apart` is not 0, one of the first `apart` pairs has two different trees; this pair is the
 // first.
-pub fn step(
+pub(crate) fn step(
     sheet: &[u8],
     work: &mut [u32],
     free: usize,

@@ -1,4 +1,4 @@
--- What is claimed of a member: instances under bindings that give every variable the same value. Assumes nothing.
+-- What is claimed of a member: instances under bindings that give every variable the same value.
 use Prim.Native.Nat.{ℕ, zero, suc, _+_, _*_, _<_, _≤_}
 use native.Mathlib.Omega.{arith}
 use mathlib.Core.Path.{_≡_, refl, sym, ap, ap₂, _∙_}

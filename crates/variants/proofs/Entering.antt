@@ -1,4 +1,4 @@
--- Entries read into cells: one, and the walk over all of a member's. Assumes nothing.
+-- Entries read into cells: one, and the walk over all of a member's.
 use Prim.Native.Nat.{ℕ, _+_, _*_, _-_, _<_, _≤_}
 use native.Mathlib.Omega.{arith}
 use mathlib.Core.Path.{_≡_, refl, sym, ap, _∙_}

@@ -1,4 +1,4 @@
--- A member read into cells. Assumes nothing.
+-- A member read into cells.
 use Prim.Native.Nat.{ℕ, _+_, _-_, _<_, _≤_}
 use native.Mathlib.Omega.{arith}
 use mathlib.Core.Path.{_≡_, refl, sym, ap, ap₂, _∙_}

@@ -1,4 +1,4 @@
--- The texts that a variable's cell may have for its name, and the cell of a key. Assumes nothing.
+-- The texts that a variable's cell may have for its name, and the cell of a key.
 use Prim.Native.Nat.{ℕ, zero, suc, _+_, _*_, _<_, _≤_}
 use mathlib.Core.Path.{_≡_, refl, sym, ap, _∙_, subst}
 use mathlib.Core.Bool.{Bool, true, false, cond, not, true≢false}

@@ -24,13 +24,13 @@ ghost use Rattle.substitution.specs.Building.{Made};
 ghost use Rattle.variants.specs.Members.{nameable, binding-before, entry-end, ReadsEntry, TextsRoom, ReadsEntries, ReadsMember};
 
 // A list of bindings and the free end after it, or a value that cannot be read.
-pub enum Bindings {
+enum Bindings {
     Stack { index: usize, free: usize },
     Unreadable,
 }
 
 // The bindings of a member and where its entries end, or a value that cannot be read.
-pub enum Entries {
+enum Entries {
     Stack {
         index: usize,
         free: usize,

@@ -186,7 +186,7 @@ pub const fn logic() -> &'static str {
 /// What to tell the user where it was not found.
 pub fn notice() -> String {
     format!(
-        "library absent: no {} (write it by `rt staticlib archive`, or set YUKHTSAMI_LIBRARY to its path)",
+        "library absent: no {} (write it by `rt staticlib yukhtsami`, or set YUKHTSAMI_LIBRARY to its path)",
         file()
     )
 }

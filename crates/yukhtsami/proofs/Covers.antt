@@ -1,0 +1,87 @@
+-- The answer to a sheet of kind `cover`: what its pairs and members are, and what is claimed of them.
+use mathlib.Core.Path.{_≡_, sym, ap, subst, _∙_}
+use mathlib.Core.Bool.{Bool}
+use mathlib.Core.List.{List}
+use mathlib.Core.Option.{Option, some, none}
+use Prim.Native.Nat.{ℕ, _+_, _*_, _≤_}
+use native.Mathlib.Omega.{arith}
+use lib.ListN.{length}
+use Rattle.rules.specs.Bytes.{Text}
+use Rattle.rules.specs.Text.{bytes, count-of}
+use Rattle.rules.specs.Maybe.{_>>=_}
+use Rattle.rules.specs.Substitution.{Pair}
+use Rattle.rules.specs.Sheet.{Member, asks-cover, pairs, read-sheet}
+use Rattle.rules.specs.Cover.{covered}
+use Rattle.rules.specs.Answer.{read-pairs, line, claim, answer-of}
+use Rattle.sheet.specs.Members.{members-at}
+use Rattle.sheet.specs.Form.{sheet-of, Within}
+use Rattle.sheet.specs.declared.Cursor.{Cursor}
+use Rattle.sheet.specs.declared.form.Form.{Form}
+use Rattle.sheet.specs.declared.form.Form.the-variants as form
+use Rattle.sheet.proofs.WalkLaws.{members-later, cover-parts, walked-rest, lines-members}
+use Rattle.steps.specs.Stack.{pairs-at}
+use Rattle.variants.specs.Soundness as code
+use Rattle.variants.specs.declared.soundness.Claim.{Claim}
+use Rattle.cover.specs.Covered.{Asks}
+use Rattle.answers.specs.Settling.{Settles, claim-text}
+use Rattle.answers.specs.Admission.{Decoded}
+use Rattle.yukhtsami.specs.Answering.{SettlesForm}
+use Rattle.answers.specs.Pairs.{ReadPairs}
+use Rattle.yukhtsami.specs.Outcomes.{CoverAsked}
+use Rattle.answers.specs.declared.Settled.{Settled}
+use Rattle.answers.specs.declared.Settled.the-variants.{Unreadable}
+use Rattle.answers.proofs.Giving.{unreadable-settles, claim-line}
+use Rattle.yukhtsami.proofs.KindLaws.{read-settled}
+use Rattle.yukhtsami.proofs.Solves.{read-whole, read-are}
+
+-- the members of the form are those after its pairs
+pub cover-asked : (s : Text) (c d : Cursor) (f : Form) → f ≡ form.Cover c d → Decoded s f → CoverAsked s (c .at)
+cover-asked s c d f e h =
+    let (es, rest, ms, g, lines, there) = cover-parts s c d (h .sheet) (ap (sheet-of s) (sym e) ∙ h .decodes) in
+    let w = subst (Within s) e (h .within) in
+    record {
+      entries = es;
+      rest = rest;
+      members = ms;
+      lines = lines;
+      later = lines-members s (d .at) rest ms (walked-rest s (c .at) (d .at) (w .2) es rest lines) there;
+      reads = h .reads ∙ ap some g;
+      short = h .short;
+      inside = w .0;
+    }
+
+module _ (s : Text) (at : ℕ) (a : CoverAsked s at) where
+  -- the answer, by what the pairs read as
+  cover-answer : (o : Option (List Pair)) → read-pairs (a .entries) ≡ o
+      → answer-of (asks-cover (a .entries) (a .members)) ≡ (o >>= λ ps. some (line (bytes "covered=") (claim (covered ps (a .members)))))
+  unfolding answer-of
+  cover-answer o e = ap (λ (o : Option (List Pair)). o >>= λ ps. some (line (bytes "covered=") (claim (covered ps (a .members))))) e
+
+  pub cover-unread : (out : Text) → read-pairs (a .entries) ≡ none → SettlesForm (read-sheet s) out out Unreadable
+  cover-unread out e = read-settled s (asks-cover (a .entries) (a .members)) none (a .reads) (cover-answer none e) (unreadable-settles out)
+
+  module _ {w v : List ℕ} {i m d : ℕ} (r : ReadPairs s w v (a .entries) (a .rest) i m d) where
+    members-there : members-at s d ≡ some (a .members)
+    members-there = members-later s d (a .rest) (a .members) (r .lines) (a .later)
+
+    pub cover-asks : 65536 * (count-of 58 s + 16) + 16 * length s ≤ length w → Asks s v m i d
+    cover-asks enough = record {
+      entries = a .entries;
+      members = a .members;
+      reads = a .reads;
+      short = a .short;
+      pairs = r .read ∙ ap some (sym (read-are r));
+      whole = read-whole r;
+      later = members-there;
+      inside = r .within;
+      used = r .used;
+      words = omega (arith, r .len);
+    }
+
+    pub cover-settled : (c : Claim) {out after : Text} {y : Settled} → ((ms : List Member) → members-at s d ≡ some ms → code.claim c ≡ covered (pairs-at s v i) ms)
+        → Settles (some (claim-text c (bytes "covered=yes\n") (bytes "covered=no\n") (bytes "covered=none\n"))) out after y → SettlesForm (read-sheet s) out after y
+    cover-settled c h k =
+        read-settled s (asks-cover (a .entries) (a .members)) (some (claim-text c (bytes "covered=yes\n") (bytes "covered=no\n") (bytes "covered=none\n"))) (a .reads)
+        (cover-answer (some (r .ps)) (r .read) ∙ ap (λ (ps : List Pair). some (line (bytes "covered=") (claim (covered ps (a .members))))) (sym (read-are r))
+        ∙ ap (λ (o : Option Bool). some (line (bytes "covered=") (claim o))) (sym (h (a .members) members-there)) ∙ ap some (sym (claim-line (bytes "covered=") c)))
+        k
