@@ -11,9 +11,9 @@ use Rattle.rules.specs.Bytes.{Text}
 use Rattle.rules.specs.Call.{Reply, refused, passed, refusal-number, written, overwritten}
 use Rattle.rules.specs.Text.{bytes}
 use Rattle.rules.specs.Answer.{line, claim}
-use Rattle.variants.specs.Soundness as code
-use Rattle.variants.specs.declared.soundness.Claim.{Claim}
-use Rattle.variants.specs.declared.soundness.Claim.the-variants as claims
+use Rattle.sheet.specs.Claims as code
+use Rattle.sheet.specs.declared.claims.Claim.{Claim}
+use Rattle.sheet.specs.declared.claims.Claim.the-variants as claims
 use Rattle.tree.proofs.Printing.{printed-then}
 use Rattle.tree.specs.Output as Output
 use Rattle.tree.specs.Output.{Printed}
@@ -69,7 +69,7 @@ line-settles key v out a b c {n = n} h p q r =
     written-settles (line key v) out c n (omega arith) (line-printed key v (omega arith) p q r)
 
 -- what is claimed, as a line
-pub claim-line : (key : Text) (c : Claim) → claim-text c (line key (bytes "yes")) (line key (bytes "no")) (line key (bytes "none")) ≡ line key (claim (code.claim c))
+pub claim-line : (key : Text) (c : Claim) → claim-text c (line key (bytes "yes")) (line key (bytes "no")) (line key (bytes "none")) ≡ line key (claim (code.truth c))
 claim-line key claims.Yes = refl
 claim-line key claims.No = refl
 claim-line key claims.Nothing = refl

@@ -6,8 +6,8 @@ use lib.Dec.{leb}
 use lib.ListN.{length}
 use Rattle.rules.specs.Bytes.{Text}
 use Rattle.rules.specs.Call.{Reply, passed, _>>=_, given, need, refusal-number, written, overwritten}
-use Rattle.variants.specs.declared.soundness.Claim.{Claim}
-use Rattle.variants.specs.declared.soundness.Claim.the-variants as claims
+use Rattle.sheet.specs.declared.claims.Claim.{Claim}
+use Rattle.sheet.specs.declared.claims.Claim.the-variants as claims
 use Rattle.answers.specs.declared.Settled.{Settled}
 use Rattle.answers.specs.declared.Settled.the-variants.{Written, Unreadable, Short}
 

@@ -6,12 +6,12 @@ pub mod pairs; // pairs.rt: the pairs of a sheet as trees
 pub mod refusal; // refusal.rt: the refusals
 pub mod verdicts; // verdicts.rt: the answers of unify and match
 
+use sheet::claims::Claim;
 use tree::measuring::Measured;
 use tree::measuring::measure_term;
 use tree::names::print_byte;
 use tree::names::print_text;
 use tree::writing::write_term;
-use variants::soundness::Claim;
 ghost use mathlib.Core.Option.{some};
 ghost use Prim.Native.Nat.{_<_};
 ghost use Rattle.rules.specs.Writing.{render};

@@ -28,26 +28,26 @@ use Rattle.tree.proofs.Areas.{below-then, below-grown}
 use Rattle.sheet.specs.Members.{members-at}
 use Rattle.sheet.proofs.WordLaws.{count-bound}
 use Rattle.variants.specs.Members.{TextsRoom}
-use Rattle.variants.specs.Soundness.{claim}
-use Rattle.variants.specs.declared.soundness.Claim.{Claim}
-use Rattle.variants.specs.declared.soundness.Claim.the-variants.{Nothing}
+use Rattle.sheet.specs.Claims.{truth}
+use Rattle.sheet.specs.declared.claims.Claim.{Claim}
+use Rattle.sheet.specs.declared.claims.Claim.the-variants.{Nothing}
 use Rattle.schemes.specs.Counting.{counted}
 use Rattle.schemes.specs.declared.counting.Counted.the-variants.{Schemes, Over}
 use Rattle.schemes.specs.Building.{Fresh}
-use Rattle.cover.specs.Variables.{Spelled}
-use Rattle.cover.proofs.Rooms.{short-read}
-use Rattle.cover.specs.Listing.{backwards}
-use Rattle.cover.specs.Generals.{names-of, names-at, OfVariables}
-use Rattle.complete.specs.Families.{ReadAll, ReadMembers, ReadsMembers}
-use Rattle.complete.specs.declared.families.Members.the-variants.{Unreadable}
-use Rattle.complete.specs.Searching.{spells}
-use Rattle.complete.specs.Fresh.{chosen-in, WritesFresh}
-use Rattle.complete.specs.Generalizing.{variants-at}
+use Rattle.variables.specs.Variables.{Readable}
+use Rattle.variables.proofs.Shortness.{short-read}
+use Rattle.variables.specs.Listing.{backwards}
+use Rattle.variables.specs.Pairing.{names-of, names-at, OfVariables}
+use Rattle.families.specs.Families.{ReadAll, ReadMembers, ReadsMembers}
+use Rattle.families.specs.declared.members.Members.the-variants.{Unreadable}
+use Rattle.fresh.specs.Searching.{spells}
+use Rattle.fresh.specs.Fresh.{chosen-in, WritesFresh}
+use Rattle.families.specs.Generalizing.{variants-at}
 use Rattle.complete.specs.Judging.{CanJudgeAll, JudgesAll}
-use Rattle.complete.specs.TermNames.{TermNames}
-use Rattle.complete.specs.Completing.{Asks, ClaimsComplete}
-use Rattle.complete.proofs.Finding.{part-is-spelled}
-use Rattle.complete.proofs.Alike.{family-judges}
+use Rattle.fresh.specs.TermNames.{TermNames}
+use Rattle.complete.specs.Completing.{CompleteInput, ClaimsComplete}
+use Rattle.fresh.proofs.Finding.{part-is-spelled}
+use Rattle.families.proofs.Alike.{family-judges}
 use Rattle.complete.proofs.Asking.{asked-names, asked-tokens, asked-bytes, asked-colons, asked-judgeable}
 
 -- the count of schemes
@@ -67,8 +67,8 @@ counted-over n e = go (leb n 4096) refl e
     go true f e = let z : _≡_ {A = ℕ} 0 1 = cc in absurd (omega arith)
     go false f e = omega (arith, leb-false n 4096 f)
 
-module _ {s : Text} {w : List ℕ} {free term named at : ℕ} (k : Asks s w free term named at) where
-  pub term-spelled : Spelled (tree-at s w term)
+module _ {s : Text} {w : List ℕ} {free term named at : ℕ} (k : CompleteInput s w free term named at) where
+  pub term-spelled : Readable (tree-at s w term)
   unfolding sheet-texts
   term-spelled = record {
     built = builds (k .text) (tree-at s w term) (k .parsed);
@@ -78,7 +78,7 @@ module _ {s : Text} {w : List ℕ} {free term named at : ℕ} (k : Asks s w free
   pub term-fits : size (tree-at s w term) ≤ length s
   term-fits = omega (arith, asked-bytes k)
 
-  claims : {z : List ℕ} (r : Claim) → claim r ≡ complete (tree-at s w term) (k .members) → Below w z free → ClaimsComplete s w z free term at r
+  claims : {z : List ℕ} (r : Claim) → truth r ≡ complete (tree-at s w term) (k .members) → Below w z free → ClaimsComplete s w z free term at r
   claims r e b = ((λ ms f. e ∙ ap (complete (tree-at s w term)) (Option·some-injective (k .members) ms (sym (k .later) ∙ f))), b)
 
   -- no claim: a variable has no index, there are too many schemes, or a member is unreadable
@@ -168,7 +168,7 @@ module _ {s : Text} {w : List ℕ} {free term named at : ℕ} (k : Asks s w free
         judged-complete : Arena s u end → ((ms : List Variant) → every (map read-member (k .members)) ≡ some ms → complete (tree-at s w term) (k .members) ≡ judged-from name (tree-at s w term) (variables (tree-at s w term) []) ms 0 pending)
             → {z : List ℕ} (r : Claim) → JudgesAll s x z stop top names index term r → ClaimsComplete s w z free term at r
         judged-complete b by r j =
-            let g : claim r ≡ judged-from name (tree-at s w term) (variables (tree-at s w term) []) (variants-at s x index) 0 pending = j .0 name (fresh-kept b) ∙ rw (names-are, sym term-kept) refl in
+            let g : truth r ≡ judged-from name (tree-at s w term) (variables (tree-at s w term) []) (variants-at s x index) 0 pending = j .0 name (fresh-kept b) ∙ rw (names-are, sym term-kept) refl in
             let h =
             g ∙ family-judges name (tree-at s w term) (variables (tree-at s w term) []) (asked-tokens k) (members-read .vs) (members-read .family) 0 pending
             ∙ sym (by (reverse (members-read .vs)) (members-read .read)) in

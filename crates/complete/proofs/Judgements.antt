@@ -39,13 +39,13 @@ use Rattle.steps.specs.Stack.{pairs-at, Whole, FitPairs}
 use Rattle.unifier.specs.Running.{Roomy, Answers}
 use Rattle.unifier.specs.declared.unifying.Outcome.the-variants as outcome
 use Rattle.unifier.proofs.Tops.{pairs-are, whole-are}
-use Rattle.cover.specs.Listing.{backwards}
-use Rattle.cover.specs.Generals.{names-of, names-at, OfVariables}
-use Rattle.cover.proofs.CoveredLaws.{names-count}
-use Rattle.cover.proofs.Parts.{part-agrees, part-arena, back-agrees, back-arena, back-below}
-use Rattle.complete.specs.Generalizing.{variants-of, variants-at, AllMatched}
+use Rattle.variables.specs.Listing.{backwards}
+use Rattle.variables.specs.Pairing.{names-of, names-at, OfVariables}
+use Rattle.variables.proofs.Listed.{names-count}
+use Rattle.unifier.proofs.Parts.{part-agrees, part-arena, back-agrees, back-arena, back-below}
+use Rattle.families.specs.Generalizing.{variants-of, variants-at, AllMatched}
 use Rattle.complete.specs.Judging.{fuel-for, system-of, solved-end, Judgeable}
-use Rattle.complete.proofs.Generals.{all-matched-same}
+use Rattle.families.proofs.Generals.{all-matched-same}
 use Rattle.complete.proofs.Rooms.{fuel-few}
 
 -- ---- the instance of a solved scheme

@@ -27,7 +27,7 @@ use Rattle.sheet.proofs.WalkLaws.{two-there, two-end}
 use Rattle.reading.specs.Parsing.{stack-end}
 use Rattle.substitution.specs.Bindings.{bindings-at}
 use Rattle.substitution.proofs.Keys.{bindings-none}
-use Rattle.cover.specs.Generals.{names-of, OfVariables}
+use Rattle.variables.specs.Pairing.{names-of, OfVariables}
 use Rattle.cover.specs.Values.{value-in, resumed, entry-of, Valued, Unread, EntriesThen, ValuesRead, OneUnread}
 
 -- what is found, or else the variable itself, is what is looked up

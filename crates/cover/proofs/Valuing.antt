@@ -25,9 +25,9 @@ use Rattle.substitution.proofs.Chains.{bindings-pair}
 use Rattle.reading.specs.Parsing.{Read}
 use Rattle.sheet.specs.Form.{text-of}
 use Rattle.sheet.specs.declared.Place.{Place}
-use Rattle.cover.specs.Generals.{names-of, OfVariables}
-use Rattle.cover.specs.Values.{Finds, value-in, resumed, entry-of, Valued, Unread}
-use Rattle.cover.proofs.Pairings.{first-variable}
+use Rattle.variables.specs.Pairing.{names-of, OfVariables}
+use Rattle.cover.specs.Values.{FindsVariable, value-in, resumed, entry-of, Valued, Unread}
+use Rattle.variables.proofs.Pairings.{first-variable}
 
 -- ---- the loop over the variables
 
@@ -38,7 +38,7 @@ pub record Finding (s : Text) (w : List ℕ) (n names : ℕ) (x : Text) (k : ℕ
   pub are : is-one-of (names-of (trees-at s w names)) x ≡ is-one-of (names-of (trees-at s w k)) x
 
 module _ (s : Text) (w : List ℕ) (n names : ℕ) (x : Text) (a : Arena s w n) {k : ℕ} (h : Finding s w n names x k) where
-  pub finding-ends : k ≡ 0 → Finds s w n (names-of (trees-at s w names)) x 0
+  pub finding-ends : k ≡ 0 → FindsVariable s w n (names-of (trees-at s w names)) x 0
   unfolding names-of is-one-of
   finding-ends e = record {
     absent = λ z. h .are ∙ ap (λ (ts : Trees). is-one-of (names-of ts) x) (trees-none s w k e);
@@ -55,7 +55,7 @@ module _ (s : Text) (w : List ℕ) (n names : ℕ) (x : Text) (a : Arena s w n) 
     unfolding names-of is-one-of
     by-first = ap (λ (ts : Trees). is-one-of (names-of ts) x) parts ∙ ap (λ (y : Text). same x y || is-one-of (names-of (trees-at s w (next-of w k))) x) (key-name s w k (kind (kind-of w k)))
 
-    pub finding-found : same (name-at s w k) x ≡ true → Finds s w n (names-of (trees-at s w names)) x k
+    pub finding-found : same (name-at s w k) x ≡ true → FindsVariable s w n (names-of (trees-at s w names)) x k
     finding-found e = record {
       absent = λ z. absurd (omega arith);
       inside = h .left;

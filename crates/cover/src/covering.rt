@@ -12,7 +12,7 @@ ghost use lib.ListN.{length};
 ghost use Rattle.rules.specs.Tree.{count};
 ghost use Rattle.tree.specs.Cells.{trees-at};
 ghost use Rattle.tree.specs.Arena.{Arena};
-ghost use Rattle.cover.specs.Generals.{OfVariables};
+ghost use Rattle.variables.specs.Pairing.{OfVariables};
 ghost use Rattle.cover.specs.Covering.{Matchable, AllMatchable, CoversMember, CoversAny};
 
 // A member covers, or it does not and the lines after it begin at a cursor.

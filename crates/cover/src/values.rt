@@ -19,8 +19,8 @@ ghost use Rattle.tree.specs.Arena.{Arena};
 ghost use Rattle.reading.specs.Parsing.{stack-end};
 ghost use Rattle.sheet.specs.Lines.{part-of};
 ghost use Rattle.sheet.specs.Form.{Inside};
-ghost use Rattle.cover.specs.Generals.{names-of, OfVariables};
-ghost use Rattle.cover.specs.Values.{Finds, ReadsValue, ReadsValues};
+ghost use Rattle.variables.specs.Pairing.{names-of, OfVariables};
+ghost use Rattle.cover.specs.Values.{FindsVariable, ReadsValue, ReadsValues};
 
 // The cell of the variable of the list from cell `names` on whose name is the text from `from` to `to`, 0 for none.
 fn find_variable(
@@ -33,7 +33,7 @@ fn find_variable(
 ) -> usize
     requires { ⌜ Arena (now sheet) (now work) free ⌝ }
     requires { ⌜ (names < free) × (from ≤ to) × (to ≤ length (now sheet)) × OfVariables (trees-at (now sheet) (now work) names) ⌝ }
-    ensures { λ r. ⌜ Finds (now (sheet .entry)) (now (work .entry)) free (names-of (trees-at (now (sheet .entry)) (now (work .entry)) names)) (part-of from to (now (sheet .entry))) r ⌝ }
+    ensures { λ r. ⌜ FindsVariable (now (sheet .entry)) (now (work .entry)) free (names-of (trees-at (now (sheet .entry)) (now (work .entry)) names)) (part-of from to (now (sheet .entry))) r ⌝ }
 {
     let mut k = names;
     while k != 0 {

@@ -32,9 +32,9 @@ pub fn leaf(sheet: &[u8], work: &mut [u32], free: usize, code: usize, next: usiz
 }
 
 // The number of nodes of the list from cell i on, by the counts of its cells.
-pub fn nodes(sheet: &[u8], work: &[u32], free: usize, i: usize) -> usize
+pub fn nodes_in(sheet: &[u8], work: &[u32], free: usize, i: usize) -> usize
     requires { ⌜ Arena (now sheet) (now work) free ⌝ }
-    requires { ⌜ (i < free) × (sizes (trees-at (now sheet) (now work) i) < 65536) ⌝ }
+    requires { ⌜ (i < free) × (sizes (trees-at (now sheet) (now work) i) < 2 ^ 32) ⌝ }
     ensures { λ r. ⌜ r ≡ sizes (trees-at (now (sheet .entry)) (now (work .entry)) i) ⌝ }
 {
     let mut sum: usize = 0;
@@ -64,7 +64,7 @@ pub fn stay(
     if first_of(work, free, i) == first {
         return keep(sheet, work, free, i, next);
     }
-    let count = nodes(sheet, work, free, first);
+    let count = nodes_in(sheet, work, free, first);
     let end = push_like(work, free, i, first, next, 1 + count);
     Pushed {
         index: free,

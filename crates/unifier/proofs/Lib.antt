@@ -7,3 +7,4 @@ pub mod Sums
 pub mod Steps
 pub mod Moving
 pub mod Advancing
+pub mod Parts

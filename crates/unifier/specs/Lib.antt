@@ -1,2 +1,3 @@
 pub mod Running
 pub mod Matching
+pub mod Matched

@@ -2,3 +2,4 @@
 pub mod matching; // matching.rt: `matcher`
 pub mod stepping; // stepping.rt: one pair of `unify`
 pub mod unifying; // unifying.rt: `unify`
+pub mod room; // room.rt: the room that a run needs

@@ -27,10 +27,11 @@ use Rattle.reduction.specs.Building.{NewTree}
 use Rattle.reduction.proofs.NormalForms.{normalize-size}
 use Rattle.sheet.specs.Members.{members-at}
 use Rattle.variants.specs.Members.{nameable, Alike, ReadMember, ReadsMember}
-use Rattle.variants.specs.Soundness.{claim, reduces-to, ClaimsInstance, ClaimsSound}
+use Rattle.sheet.specs.Claims.{truth}
+use Rattle.variants.specs.Soundness.{reduces-to, ClaimsInstance, ClaimsSound}
 use Rattle.variants.specs.declared.members.Variant.the-variants as variant
-use Rattle.variants.specs.declared.soundness.Claim.{Claim}
-use Rattle.variants.specs.declared.soundness.Claim.the-variants.{Nothing}
+use Rattle.sheet.specs.declared.claims.Claim.{Claim}
+use Rattle.sheet.specs.declared.claims.Claim.the-variants.{Nothing}
 use Rattle.variants.proofs.NameLaws.{cell-nameable}
 
 -- ---- trees in cells, under substitutions that are the same on names of variables
@@ -124,7 +125,7 @@ pub sound-claims : {s : Text} {w v u : List ℕ} {n at value list end c : ℕ} (
     → ClaimsInstance s v u end term list value r → ClaimsSound s w u n term at r
 sound-claims {s} {w} {v} {u} {n} {at} {value} {list} {end} term r a p q x y = (go, below-then (x .kept) (y .1) (x .grew))
   where
-    go : (m : Member) → members-at s at ≡ some (m ∷ []) → claim r ≡ sound (tree-at s w term) m
+    go : (m : Member) → members-at s at ≡ some (m ∷ []) → truth r ≡ sound (tree-at s w term) m
     go m h =
         let z = x .reads m [] h in
         y .0 ∙ sound-read (x .arena) term p (omega (arith, x .grew)) m (tree-at s v value) (bindings-at s v list) (z .bs) (z .read) (z .alike)

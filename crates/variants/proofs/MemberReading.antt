@@ -27,7 +27,7 @@ use Rattle.sheet.specs.declared.Cursor.{Cursor}
 use Rattle.sheet.specs.declared.Line.the-variants.{Whole, Missing}
 use Rattle.sheet.proofs.LineLaws.{keyed}
 use Rattle.sheet.proofs.WalkLaws.{two-end, member-end, member-next, members-later}
-use Rattle.variants.specs.Members.{ReadEntries, ReadsEntries, ReadAs, ReadMember, ReadsMember}
+use Rattle.variants.specs.Members.{ReadEntries, ReadsEntries, MemberReads, ReadMember, ReadsMember}
 use Rattle.variants.specs.declared.members.Entries.the-variants as entries
 use Rattle.variants.specs.declared.members.Variant.the-variants as variant
 use Rattle.variants.proofs.Entering.{below-outside, part-size, parts-before}
@@ -89,7 +89,7 @@ module _ (s : Text) (at f t : ℕ) (c : Cursor) (e : Whole f t c ≡ value-at s 
       same-tree : tree-at s w₁ index ≡ tree-at s v index
       same-tree = frame-tree s v (one .arena .links) (x .kept .words) index (one .placed .0) (one .placed .1)
 
-      member-reads : (m : Member) (ms : List Member) → members-at s at ≡ some (m ∷ ms) → ReadAs s v index i d m ms
+      member-reads : (m : Member) (ms : List Member) → members-at s at ≡ some (m ∷ ms) → MemberReads s v index i d m ms
       member-reads m ms h =
           let y = member-next s at (m ∷ ms) h f t c e in
           let z = first-of (y .members) in

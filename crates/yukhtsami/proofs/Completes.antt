@@ -23,9 +23,9 @@ use Rattle.sheet.specs.declared.form.Form.the-variants as form
 use Rattle.sheet.proofs.WalkLaws.{complete-members}
 use Rattle.tree.specs.Cells.{tree-at}
 use Rattle.reading.specs.Parsing.{Read}
-use Rattle.variants.specs.Soundness as code
-use Rattle.variants.specs.declared.soundness.Claim.{Claim}
-use Rattle.complete.specs.Completing.{Asks}
+use Rattle.sheet.specs.Claims as code
+use Rattle.sheet.specs.declared.claims.Claim.{Claim}
+use Rattle.complete.specs.Completing.{CompleteInput}
 use Rattle.answers.specs.Settling.{Settles, claim-text}
 use Rattle.answers.specs.Admission.{Decoded}
 use Rattle.yukhtsami.specs.Answering.{SettlesForm}
@@ -53,7 +53,7 @@ module _ (s : Text) (t : Place) (at : ℕ) (a : CompleteAsked s t at) where
 
   module _ {w v : List ℕ} {i m : ℕ} (r : Read s w v 1 (t .from) (t .to) i m) where
     pub complete-asks : {colons brackets named : ℕ} → colons ≡ count-of 58 (text-of s t) → brackets ≡ count-of 40 (text-of s t) → named ≡ colons + 2 * brackets
-        → 65536 * (count-of 58 s + 2 * count-of 40 (text-of s t) + 16) + 16 * length s ≤ length w → Asks s v m i named at
+        → 65536 * (count-of 58 s + 2 * count-of 40 (text-of s t) + 16) + 16 * length s ≤ length w → CompleteInput s v m i named at
     complete-asks x y z enough = record {
       text = text-of s t;
       members = a .members;
@@ -67,7 +67,7 @@ module _ (s : Text) (t : Place) (at : ℕ) (a : CompleteAsked s t at) where
       words = omega (arith, r .outside .len);
     }
 
-    pub complete-settled : (c : Claim) {out after : Text} {y : Settled} → ((ms : List Member) → members-at s at ≡ some ms → code.claim c ≡ complete (tree-at s v i) ms)
+    pub complete-settled : (c : Claim) {out after : Text} {y : Settled} → ((ms : List Member) → members-at s at ≡ some ms → code.truth c ≡ complete (tree-at s v i) ms)
         → Settles (some (claim-text c (bytes "complete=yes\n") (bytes "complete=no\n") (bytes "complete=none\n"))) out after y → SettlesForm (read-sheet s) out after y
     complete-settled c h k =
         read-settled s (asks-complete (text-of s t) (a .members)) (some (claim-text c (bytes "complete=yes\n") (bytes "complete=no\n") (bytes "complete=none\n"))) (a .reads)

@@ -20,9 +20,9 @@ use Rattle.sheet.specs.declared.form.Form.{Form}
 use Rattle.sheet.specs.declared.form.Form.the-variants as form
 use Rattle.sheet.proofs.WalkLaws.{members-later, cover-parts, walked-rest, lines-members}
 use Rattle.steps.specs.Stack.{pairs-at}
-use Rattle.variants.specs.Soundness as code
-use Rattle.variants.specs.declared.soundness.Claim.{Claim}
-use Rattle.cover.specs.Covered.{Asks}
+use Rattle.sheet.specs.Claims as code
+use Rattle.sheet.specs.declared.claims.Claim.{Claim}
+use Rattle.cover.specs.Covered.{CoverInput}
 use Rattle.answers.specs.Settling.{Settles, claim-text}
 use Rattle.answers.specs.Admission.{Decoded}
 use Rattle.yukhtsami.specs.Answering.{SettlesForm}
@@ -64,7 +64,7 @@ module _ (s : Text) (at : ℕ) (a : CoverAsked s at) where
     members-there : members-at s d ≡ some (a .members)
     members-there = members-later s d (a .rest) (a .members) (r .lines) (a .later)
 
-    pub cover-asks : 65536 * (count-of 58 s + 16) + 16 * length s ≤ length w → Asks s v m i d
+    pub cover-asks : 65536 * (count-of 58 s + 16) + 16 * length s ≤ length w → CoverInput s v m i d
     cover-asks enough = record {
       entries = a .entries;
       members = a .members;
@@ -78,7 +78,7 @@ module _ (s : Text) (at : ℕ) (a : CoverAsked s at) where
       words = omega (arith, r .len);
     }
 
-    pub cover-settled : (c : Claim) {out after : Text} {y : Settled} → ((ms : List Member) → members-at s d ≡ some ms → code.claim c ≡ covered (pairs-at s v i) ms)
+    pub cover-settled : (c : Claim) {out after : Text} {y : Settled} → ((ms : List Member) → members-at s d ≡ some ms → code.truth c ≡ covered (pairs-at s v i) ms)
         → Settles (some (claim-text c (bytes "covered=yes\n") (bytes "covered=no\n") (bytes "covered=none\n"))) out after y → SettlesForm (read-sheet s) out after y
     cover-settled c h k =
         read-settled s (asks-cover (a .entries) (a .members)) (some (claim-text c (bytes "covered=yes\n") (bytes "covered=no\n") (bytes "covered=none\n"))) (a .reads)

@@ -10,8 +10,8 @@ use Rattle.rules.specs.Reading.{parse}
 use Rattle.rules.specs.Sheet.{Member, asks-sound}
 use Rattle.rules.specs.Variants.{sound}
 use Rattle.rules.specs.Answer.{line, claim, answer-of}
-use Rattle.variants.specs.Soundness as code
-use Rattle.variants.specs.declared.soundness.Claim.{Claim}
+use Rattle.sheet.specs.Claims as code
+use Rattle.sheet.specs.declared.claims.Claim.{Claim}
 use Rattle.answers.specs.Settling.{claim-text}
 use Rattle.answers.proofs.Giving.{claim-line}
 
@@ -19,7 +19,7 @@ pub sound-unreadable : (t : Text) (m : Member) → parse t ≡ none → answer-o
 unfolding answer-of
 sound-unreadable t m e = ap (λ (o : Option Tree). o >>= λ u. some (line (bytes "sound=") (claim (sound u m)))) e
 
-pub sound-line : (t : Text) (m : Member) (u : Tree) (c : Claim) → parse t ≡ some u → code.claim c ≡ sound u m
+pub sound-line : (t : Text) (m : Member) (u : Tree) (c : Claim) → parse t ≡ some u → code.truth c ≡ sound u m
     → answer-of (asks-sound t m) ≡ some (claim-text c (bytes "sound=yes\n") (bytes "sound=no\n") (bytes "sound=none\n"))
 unfolding answer-of
 sound-line t m u c e f =

@@ -1,7 +1,7 @@
 use mathlib.Core.Path.{sym, ap}
 use mathlib.Core.Option.{some}
 use Rattle.answers.specs.Settling.{claim-text}
-use Rattle.variants.specs.declared.soundness.Claim.{Claim}
+use Rattle.sheet.specs.declared.claims.Claim.{Claim}
 use Rattle.answers.proofs.Giving.{settles-as}
 use borrow.Author.Needs.{needs}
 use Rattle.answers.proofs.give_claim.Statement.{statement}

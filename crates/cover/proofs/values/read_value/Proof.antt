@@ -5,7 +5,7 @@ use Rattle.rules.specs.Bytes.{Text}
 use Rattle.rules.specs.Matching.{bound}
 use Rattle.tree.specs.Cells.{trees-at}
 use Rattle.substitution.specs.Bindings.{bindings-at}
-use Rattle.cover.specs.Generals.{names-of}
+use Rattle.variables.specs.Pairing.{names-of}
 use Rattle.cover.proofs.Valuing.{value-passed, value-kept, value-unread, value-read}
 use borrow.Author.Needs.{needs}
 use Rattle.cover.proofs.values.read_value.Statement.{statement}
