@@ -128,7 +128,7 @@ fn token_end(text: &[u8], at: usize) -> Ends
 }
 
 // The next token of a text.
-enum Next {
+pub enum Next {
     Token { from: usize, to: usize },
     End,
     Unsupported,
