@@ -16,19 +16,20 @@ use borrow.Author.Tests.{eq-eqb, ne-eqb, lt-ltb, le-ltb}
 use Rattle.rules.specs.Bytes.{Text, same}
 use Rattle.rules.specs.Reading.{canonical-text}
 use Rattle.text.proofs.Slices.{slice-same}
-use Rattle.certificate.specs.Texts.{texts, Tokens, lex}
-use Rattle.certificate.specs.Settle.{settled, Arranges}
-use Rattle.certificate.specs.Writer as writer
-use Rattle.certificate.specs.Writer.{Kept, Done}
+use Rattle.runs.specs.Texts.{texts, Tokens, lex}
+use Rattle.settling.specs.Settle.{settled, Arranges}
+use Rattle.flattening.specs.Writer as writer
+use Rattle.runs.specs.Areas.{Kept}
+use Rattle.flattening.specs.Writer.{Done}
 use Rattle.certificate.specs.Comparing.{Settled, Outcome, ordered-as, order-of, equivalence-of}
-use Rattle.certificate.specs.declared.order.Order.{Order}
-use Rattle.certificate.specs.declared.order.Order.the-variants.{Less, Equal, Greater}
+use Rattle.runs.specs.declared.order.Order.{Order}
+use Rattle.runs.specs.declared.order.Order.the-variants.{Less, Equal, Greater}
 use Rattle.certificate.specs.declared.Ordered.{Ordered}
 use Rattle.certificate.specs.declared.Ordered.the-variants as ordered
 use Rattle.certificate.specs.declared.Equivalence.{Equivalence}
 use Rattle.certificate.specs.declared.Equivalence.the-variants.{Yes, No, Unreadable}
-use Rattle.certificate.specs.declared.writer.Written.{Written}
-use Rattle.certificate.specs.declared.writer.Written.the-variants as ways
+use Rattle.flattening.specs.declared.Written.{Written}
+use Rattle.flattening.specs.declared.Written.the-variants as ways
 use Rattle.certificate.proofs.Ordered.{the-type}
 use Rattle.certificate.proofs.WrittenTexts.{readable, unreadable}
 
@@ -150,23 +151,6 @@ module _ (s w v₁ : List ℕ) (base from to start end : ℕ) (a₁ : from ≤ t
             (ap ordered-as (sym d ∙ c) ∙ sym (ap₂ order-of y (two .text)), both-kept)
 
 -- ---- equal or not
-
-abbrev pub equal-as : Order → Bool
-equal-as Less = false
-equal-as Equal = true
-equal-as Greater = false
-
-pub same-lex : (a b : Text) → same a b ≡ equal-as (lex a b)
-unfolding same lex
-same-lex [] [] = refl
-same-lex [] (y ∷ b) = refl
-same-lex (x ∷ a) [] = refl
-same-lex (x ∷ a) (y ∷ b) = go (decLt x y) (decLt y x) (same-lex a b)
-  where
-    go : Dec (x < y) → Dec (y < x) → same a b ≡ equal-as (lex a b) → eqb x y && same a b ≡ equal-as (cond (ltb x y) Less (cond (ltb y x) Greater (lex a b)))
-    go (yes p) d e = rw (lt-ltb x y p, ne-eqb x y (omega arith))
-    go (no p) (yes q) e = rw (le-ltb x y (omega arith), lt-ltb y x q, ne-eqb x y (omega arith))
-    go (no p) (no q) e = rw (le-ltb x y (omega arith), le-ltb y x (omega arith), eq-eqb x y (omega arith)) e
 
 abbrev equivalence-as : Ordered → Equivalence
 equivalence-as ordered.Less = No

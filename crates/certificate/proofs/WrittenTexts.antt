@@ -10,16 +10,16 @@ use Rattle.rules.specs.Maybe.{_>>=_}
 use Rattle.rules.specs.Tree.{Tree}
 use Rattle.rules.specs.Reading.{as-written, read-term, read-text, wholly, canonical-text}
 use Rattle.rules.specs.Sums.{canonical}
-use Rattle.certificate.specs.Texts.{texts}
-use Rattle.certificate.specs.Settle.{settled}
-use Rattle.certificate.specs.Terms.{Term, words}
-use Rattle.certificate.specs.Items.{Item, begin, shut, comma, name, wanting, write, writes, items-at, written}
-use Rattle.certificate.proofs.ItemTokens.{item-text, Proper, tokens-items, items-proper}
-use Rattle.certificate.proofs.ItemTerms.{Read, item-term, tree-of, term-read, good-term, GoodTerm, NamedTerm}
-use Rattle.certificate.specs.Spelling.{flatten}
-use Rattle.certificate.proofs.Flattening.{named-spells}
-use Rattle.certificate.proofs.NameWords.{spelled-settled}
-use Rattle.certificate.proofs.ItemWords.{term-written, after-term}
+use Rattle.runs.specs.Texts.{texts}
+use Rattle.settling.specs.Settle.{settled}
+use Rattle.flattening.specs.Terms.{Term, words}
+use Rattle.flattening.specs.Items.{Item, begin, shut, comma, name, wanting, write, writes, items-at, written}
+use Rattle.flattening.proofs.ItemTokens.{item-text, Proper, tokens-items, items-proper}
+use Rattle.flattening.proofs.ItemTerms.{Read, item-term, tree-of, term-read, good-term, GoodTerm, NamedTerm}
+use Rattle.flattening.specs.Spelling.{flatten}
+use Rattle.flattening.proofs.Flattening.{named-spells}
+use Rattle.settling.proofs.NameWords.{spelled-settled}
+use Rattle.flattening.proofs.ItemWords.{term-written, after-term}
 
 module _ (s : Text) where
   -- ---- a whole text

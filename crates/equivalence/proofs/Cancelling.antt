@@ -20,7 +20,7 @@ use Rattle.tree.specs.Cells.{tree-at}
 use Rattle.tree.specs.Arena.{Arena}
 use Rattle.tree.proofs.Decoding.{Agree}
 use Rattle.tree.proofs.Areas.{arena-frame}
-use Rattle.certificate.proofs.Settling.{slice-at}
+use Rattle.runs.proofs.Each.{slice-at}
 use Rattle.equivalence.specs.Sums.{remaining, Cells, Run, Lasting, index, test, ahead, Zeroed, TookOne, Cancelled}
 use Rattle.equivalence.proofs.Gathering.{remaining-some, remaining-zero, remaining-append, remaining-frame}
 use Rattle.equivalence.proofs.Describing.{run-frame}

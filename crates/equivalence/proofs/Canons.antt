@@ -7,12 +7,12 @@ use lib.ListN.{length, getD}
 use lib.Seq.{slice}
 use native.Mathlib.Omega.{arith}
 use Rattle.rules.specs.Tree.{Tree, size}
-use Rattle.certificate.specs.Texts.{texts, Token, Tokens}
-use Rattle.certificate.specs.Settle.{Arranges, settled}
-use Rattle.certificate.specs.Terms.{words}
-use Rattle.certificate.specs.Spelling.{flatten}
-use Rattle.certificate.proofs.Settling.{each-at, slice-at}
-use Rattle.certificate.proofs.NameWords.{spelled-tokens, spelled-settled}
+use Rattle.runs.specs.Texts.{texts, Token, Tokens}
+use Rattle.settling.specs.Settle.{Arranges, settled}
+use Rattle.flattening.specs.Terms.{words}
+use Rattle.flattening.specs.Spelling.{flatten}
+use Rattle.runs.proofs.Each.{each-at, slice-at}
+use Rattle.settling.proofs.NameWords.{spelled-tokens, spelled-settled}
 use Rattle.equivalence.specs.Words.{Spelled, Canon}
 
 module _ (s w v : List ℕ) (t : Tree) (base end : ℕ) (g : Spelled s w v false t base end) (small : 5 * size t < 65536) (room : base + 15 * size t ≤ length w) where

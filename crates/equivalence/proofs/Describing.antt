@@ -19,8 +19,8 @@ use Rattle.tree.specs.Cells.{tree-at}
 use Rattle.tree.specs.Arena.{Links, Arena}
 use Rattle.tree.proofs.Decoding.{Agree, frame-tree, size-pos}
 use Rattle.tree.proofs.Areas.{arena-frame}
-use Rattle.certificate.specs.Texts.{texts, Tokens}
-use Rattle.certificate.specs.Writer.{Kept}
+use Rattle.runs.specs.Texts.{texts, Tokens}
+use Rattle.runs.specs.Areas.{Kept}
 use Rattle.equivalence.specs.Fingerprints.{fingerprint, Marked}
 use Rattle.equivalence.specs.Sums.{heft, Cells, Run, Described, index}
 

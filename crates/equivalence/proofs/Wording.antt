@@ -14,14 +14,14 @@ use Rattle.text.specs.Sorting.{Wrote}
 use Rattle.tree.specs.Cells.{start-of, length-of, kind-of, first-of, next-of, fixed-name, named, name-at, tree-at, trees-at}
 use Rattle.tree.specs.Arena.{Cell, Arena}
 use Rattle.tree.proofs.Decoding.{Kind, application, a-variable, an-atom, kind, same-next, trees-none, trees-more, tree-variable, tree-atom, tree-apply, size-pos, size-apply, sizes-more, frame-trees}
-use Rattle.certificate.specs.Texts.{word-text}
-use Rattle.certificate.specs.Terms.{node, none, more}
-use Rattle.certificate.specs.Items.{adds, opening, bracket, closing}
-use Rattle.certificate.specs.Spelling.{Word, Spells, as-variable, as-atom, as-apply, SpellsAll, spell-none, spell-more, term-words, list-words}
-use Rattle.certificate.proofs.WordTexts.{name-fixed, code-named, code-byte, text-mark, text-place}
-use Rattle.certificate.proofs.Flattening.{atom-adds}
-use Rattle.certificate.proofs.ItemWords.{leaf-words, one-words, more-words, node-words}
-use Rattle.certificate.proofs.WriterSteps.{opening-short, wrote-one}
+use Rattle.runs.specs.Texts.{word-text}
+use Rattle.flattening.specs.Terms.{node, none, more}
+use Rattle.flattening.specs.Items.{adds, opening, bracket, closing}
+use Rattle.flattening.specs.Spelling.{Word, Spells, as-variable, as-atom, as-apply, SpellsAll, spell-none, spell-more, term-words, list-words}
+use Rattle.runs.proofs.WordTexts.{name-fixed, code-named, code-byte, text-mark, text-place}
+use Rattle.flattening.proofs.Flattening.{atom-adds}
+use Rattle.flattening.proofs.ItemWords.{leaf-words, one-words, more-words, node-words}
+use Rattle.flattening.proofs.WriterSteps.{opening-short, wrote-one}
 use Rattle.equivalence.specs.Words.{Spelled, SpelledAll}
 use Rattle.equivalence.proofs.Scratch.{wrote-agree, wrote-arena, wrote-append}
 

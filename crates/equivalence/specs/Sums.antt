@@ -12,8 +12,8 @@ use Rattle.rules.specs.Sums.{canonical, equivalent, summands, rebuild}
 use Rattle.rules.specs.Solving.{cancel}
 use Rattle.tree.specs.Cells.{next-of, tree-at}
 use Rattle.tree.specs.Arena.{Arena, Grown}
-use Rattle.certificate.specs.Texts.{texts, Tokens}
-use Rattle.certificate.specs.Writer.{Kept}
+use Rattle.runs.specs.Texts.{texts, Tokens}
+use Rattle.runs.specs.Areas.{Kept}
 use Rattle.equivalence.specs.Fingerprints.{fingerprint}
 
 -- the trees of the cells with these numbers, but 0

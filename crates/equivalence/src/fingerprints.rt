@@ -1,8 +1,8 @@
 // Fingerprints of texts: texts that are one have one fingerprint.
 use crate::words::tree_words;
-use certificate::order::byte_of;
-use certificate::order::width_of;
-use certificate::order::zeros_of;
+use runs::order::byte_of;
+use runs::order::width_of;
+use runs::order::zeros_of;
 use text::places::wide;
 ghost use mathlib.Core.Path.{_≡_};
 ghost use Prim.Native.Nat.{_+_, _*_, _<_, _≤_};
@@ -12,7 +12,7 @@ ghost use Rattle.rules.specs.Tree.{size};
 ghost use Rattle.laws.specs.Unspelled.{zeros-name};
 ghost use Rattle.tree.specs.Cells.{tree-at};
 ghost use Rattle.tree.specs.Arena.{Arena};
-ghost use Rattle.certificate.specs.Texts.{word-text, texts, Token, Tokens};
+ghost use Rattle.runs.specs.Texts.{word-text, texts, Token, Tokens};
 ghost use Rattle.equivalence.specs.Fingerprints.{mixed-byte, mixed, fingerprint, Marked};
 
 // The fingerprint h, carried on through the byte b.

@@ -1,10 +1,10 @@
 // The words of a tree: the tokens of its text, in which a sum inside a sum loses its name and brackets, and its canonical words.
-use certificate::order::Order;
-use certificate::order::compare;
-use certificate::sums::settle;
-use certificate::writer::bracket_of;
-use certificate::writer::put_closing;
-use certificate::writer::put_opening;
+use runs::order::Order;
+use runs::order::compare;
+use settling::settle;
+use flattening::bracket_of;
+use flattening::put_closing;
+use flattening::put_opening;
 use tree::cells::first_of;
 use tree::cells::kind_of;
 use tree::cells::next_of;
@@ -18,8 +18,8 @@ ghost use Rattle.rules.specs.Bytes.{same};
 ghost use Rattle.rules.specs.Tree.{size, sizes};
 ghost use Rattle.tree.specs.Cells.{kind-of, first-of, name-at, tree-at, trees-at};
 ghost use Rattle.tree.specs.Arena.{Links, Arena};
-ghost use Rattle.certificate.specs.Texts.{word-text, texts, Tokens};
-ghost use Rattle.certificate.specs.Spelling.{Word};
+ghost use Rattle.runs.specs.Texts.{word-text, texts, Tokens};
+ghost use Rattle.flattening.specs.Spelling.{Word};
 ghost use Rattle.equivalence.specs.Words.{Spelled, SpelledAll, Canon};
 
 // The word of the name of cell k: its place, or the code of a fixed name.
