@@ -17,19 +17,19 @@ use Rattle.syntax.specs.declared.Symbol.the-variants.{Begin, Shut, Comma, Name,
 use Rattle.syntax.proofs.TokenList.{joined as joined-token}
 use Rattle.syntax.proofs.SymbolLaws.{Names, Means, means}
 use Rattle.runs.specs.Texts.{word-text}
-use Rattle.flattening.specs.Items.{Item, begin, shut, comma, name, place, before, items-by, items, items-at}
+use Rattle.flattening.specs.Items.{Item, begin, shut, comma, name, place-word, item-before, items-by, items, items-at}
 use Rattle.runs.proofs.WordTexts.{text-place}
 
 -- ---- more room for items changes nothing
 
 items-enough-by : (s : Text) (at k m : ℕ) → ((to : ℕ) → at < to → to ≤ length s → items k s to ≡ items m s to) → (q : Symbol) → Means s at q → items-by q (items k s) ≡ items-by q (items m s)
-items-enough-by s at k m h (Begin to) e = ap (before begin) (h to (e .past) (e .within))
-items-enough-by s at k m h (Shut to) e = ap (before shut) (h to (e .past) (e .within))
-items-enough-by s at k m h (Comma to) e = ap (before comma) (h to (e .past) (e .within))
+items-enough-by s at k m h (Begin to) e = ap (item-before begin) (h to (e .past) (e .within))
+items-enough-by s at k m h (Shut to) e = ap (item-before shut) (h to (e .past) (e .within))
+items-enough-by s at k m h (Comma to) e = ap (item-before comma) (h to (e .past) (e .within))
 items-enough-by s at k m h (Name from to) e =
     let p = e .past in
     let q = e .some-bytes in
-    ap (before (name (place from to))) (h to (omega arith) (e .within))
+    ap (item-before (name (place-word from to))) (h to (omega arith) (e .within))
 items-enough-by s at k m h Stop e = refl
 items-enough-by s at k m h Bad e = refl
 
@@ -48,13 +48,13 @@ items-next s at = go (symbol-at s at) (means s at)
     from to u v = items-enough s (length s - at) (suc (length s - to)) to (omega arith) (omega arith)
 
     go : (q : Symbol) → Means s at q → items-by q (items (length s - at) s) ≡ items-by q (items-at s)
-    go (Begin to) e = ap (before begin) (from to (e .past) (e .within))
-    go (Shut to) e = ap (before shut) (from to (e .past) (e .within))
-    go (Comma to) e = ap (before comma) (from to (e .past) (e .within))
+    go (Begin to) e = ap (item-before begin) (from to (e .past) (e .within))
+    go (Shut to) e = ap (item-before shut) (from to (e .past) (e .within))
+    go (Comma to) e = ap (item-before comma) (from to (e .past) (e .within))
     go (Name f to) e =
         let p = e .past in
         let q = e .some-bytes in
-        ap (before (name (place f to))) (from to (omega arith) (e .within))
+        ap (item-before (name (place-word f to))) (from to (omega arith) (e .within))
     go Stop e = refl
     go Bad e = refl
 
@@ -83,11 +83,11 @@ pub data Proper (s : Text) : List Item → Type 0 where
   names : {x : ℕ} {is : List Item} → Named s x → Proper s is → Proper s (name x ∷ is)
 
 -- the text of a place
-pub place-text : (s : Text) (f t : ℕ) → f < t → t < 65536 → word-text s (place f t) ≡ take (t - f) (drop f s)
+pub place-text : (s : Text) (f t : ℕ) → f < t → t < 65536 → word-text s (place-word f t) ≡ take (t - f) (drop f s)
 place-text s f t a b =
-    let m : place f t % 65536 ≡ t - f = omega arith in
-    let d : place f t / 65536 ≡ f = omega arith in
-    text-place s (place f t) (λ e. omega arith) ∙ rw (m, d)
+    let m : place-word f t % 65536 ≡ t - f = omega arith in
+    let d : place-word f t / 65536 ≡ f = omega arith in
+    text-place s (place-word f t) (λ e. omega arith) ∙ rw (m, d)
 
 -- a place of the front of a text is one of the text
 part-of-front : (to f n : ℕ) (s : Text) → f + n ≤ to → to ≤ length s → take n (drop f (take to s)) ≡ take n (drop f s)
@@ -104,10 +104,10 @@ part-of-front to f n s p q =
     ∙ sym (getD-take n (drop f s) i 0 y ∙ getD-drop f s i 0)))
 
 module _ (s : Text) (to : ℕ) (fits : to ≤ length s) (small : to < 65536) where
-  name-text : (f t : ℕ) → f < t → t ≤ to → word-text s (place f t) ≡ take (t - f) (drop f (take to s))
+  name-text : (f t : ℕ) → f < t → t ≤ to → word-text s (place-word f t) ≡ take (t - f) (drop f (take to s))
   name-text f t a b = place-text s f t a (omega arith) ∙ sym (part-of-front to f (t - f) s (omega arith) fits)
 
-  pub name-named : (at f t : ℕ) → Names (take to s) at f t → Named s (place f t)
+  pub name-named : (at f t : ℕ) → Names (take to s) at f t → Named s (place-word f t)
   name-named at f t e =
       let lt = length-take-le to s fits in
       let a = e .some-bytes in
@@ -120,14 +120,14 @@ module _ (s : Text) (to : ℕ) (fits : to ≤ length s) (small : to < 65536) whe
     proper : (is : List Item) → o ≡ some is → Proper s is
 
   lexed-before : (i : Item) (m : Text) {o : Option (List Item)} {ts : Option (List Text)} → item-text s i ≡ m → ((is : List Item) → Proper s is → Proper s (i ∷ is)) → Lexed o ts
-      → Lexed (before i o) (joined-token m ts)
+      → Lexed (item-before i o) (joined-token m ts)
   lexed-before i m {o} {ts} e h l = record { same = ap₂ joined-token (sym e) (l .same) ∙ go o; proper = λ is f. which o (l .proper) is f }
     where
-      go : (o : Option (List Item)) → joined-token (item-text s i) (o >>= λ is. some (map (item-text s) is)) ≡ (before i o >>= λ is. some (map (item-text s) is))
+      go : (o : Option (List Item)) → joined-token (item-text s i) (o >>= λ is. some (map (item-text s) is)) ≡ (item-before i o >>= λ is. some (map (item-text s) is))
       go none = refl
       go (some is) = refl
 
-      which : (o : Option (List Item)) → ((is : List Item) → o ≡ some is → Proper s is) → (is : List Item) → before i o ≡ some is → Proper s is
+      which : (o : Option (List Item)) → ((is : List Item) → o ≡ some is → Proper s is) → (is : List Item) → item-before i o ≡ some is → Proper s is
       which none g is f = let z : _≡_ {A = ℕ} 0 1 = cc in absurd (omega arith)
       which (some js) g is f = let z : i ∷ js ≡ is = cc in subst (Proper s) z (h js (g js refl))
 
@@ -141,7 +141,7 @@ module _ (s : Text) (to : ℕ) (fits : to ≤ length s) (small : to < 65536) whe
       let a = e .past in
       let b = e .some-bytes in
       let c = e .within in
-      rw (e .first) (lexed-before (name (place f t)) (take (t - f) (drop f (take to s))) (name-text f t b (omega arith)) (λ is p. names (name-named at f t e) p) (h t (omega arith) c))
+      rw (e .first) (lexed-before (name (place-word f t)) (take (t - f) (drop f (take to s))) (name-text f t b (omega arith)) (λ is p. names (name-named at f t e) p) (h t (omega arith) c))
   lexed-by at k h Stop e = rw e (record { same = refl; proper = λ is f. (let z : [] ≡ is = cc in subst (Proper s) z nothing) })
   lexed-by at k h Bad e = rw e (record { same = refl; proper = λ is f. (let z : _≡_ {A = ℕ} 0 1 = cc in absurd (omega arith)) })
 

@@ -10,7 +10,7 @@ use native.Mathlib.Omega.{arith}
 use Rattle.rules.specs.Bytes.{Text}
 use Rattle.rules.specs.Maybe.{_>>=_}
 use Rattle.flattening.specs.Terms.{Term, node, Terms, none, more, inner, headed, words, words-each}
-use Rattle.flattening.specs.Items.{Item, begin, shut, comma, name, wanting, naming, having, emits, adds, in-sum, opening, bracket, closing, finish, write}
+use Rattle.flattening.specs.Items.{Item, begin, shut, comma, name, wanting, naming, having, emits, adds, in-sum, opening, bracket, closing, all-closed, write}
 use Rattle.flattening.proofs.ItemTokens.{Proper, begins, commas, names}
 use Rattle.flattening.proofs.ItemTerms.{Read, opened, delimited, item-term, item-list, GoodTerm, good-term}
 use Rattle.flattening.specs.Spelling.{flat-by, splice-by, flatten, flattens, splice, splices, term-words, list-words}
@@ -137,7 +137,7 @@ module _ (s : Text) where
       → ((js : List Item) (c : ℕ) → Proper s js → length js < length is → write s js wanting (c ∷ cs) ≡ after-list (go js) c cs)
       → write s is (naming x) cs ≡ after-term (opened is (λ ks. go ks >>= λ ((t, ts), ls). some (node x (more t ts), ls)) (some (node x none, is))) cs
   unfolding write
-  name-written x [] cs go p f = leaf-written x cs (finish s cs)
+  name-written x [] cs go p f = leaf-written x cs (all-closed s cs)
   name-written x (begin ∷ is) cs go (begins p) f =
       ap (emits (opening (adds s x) (in-sum cs) x)) (f is (bracket (adds s x) (in-sum cs)) p (omega arith)) ∙ node-written x cs (go is)
   name-written x (shut ∷ is) [] go p f = refl

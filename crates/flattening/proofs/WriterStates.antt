@@ -20,8 +20,8 @@ use Rattle.syntax.proofs.Symbol.{the-type}
 use Rattle.syntax.proofs.SymbolLaws.{Marks, means-is}
 use Rattle.text.proofs.Slices.{slice-same, slice-join, slice-none}
 use Rattle.runs.specs.Texts.{Token, Tokens}
-use Rattle.flattening.specs.Items.{Item, begin, shut, comma, name, place, items-by, items-at, Mode, wanting, naming, having, emits, adds, in-sum, opening, bracket, closing, write, writes, brackets, written}
-use Rattle.flattening.specs.Writer.{Opened, Closed, Outcome, finished}
+use Rattle.flattening.specs.Items.{Item, begin, shut, comma, name, place-word, items-by, items-at, Mode, wanting, naming, having, emits, adds, in-sum, opening, bracket, closing, write, writes, brackets, text-words}
+use Rattle.flattening.specs.Writer.{ListOpened, ListClosed, TextWritten, finished}
 use Rattle.runs.specs.Areas.{Kept}
 use Rattle.flattening.specs.declared.Written.{Written}
 use Rattle.runs.proofs.Each.{code-token}
@@ -42,7 +42,7 @@ pub record Writing (s w : List ℕ) (from to base stack : ℕ) (v : List ℕ) (a
   pub room : out + from ≤ base + at
   pub deep : depth + from ≤ at
   pub tokens : Tokens s v base out
-  pub whole : emits (slice base out v) (writes s (items-at (take to s) at) m (brackets v stack depth)) ≡ written s (take to s) from
+  pub whole : emits (slice base out v) (writes s (items-at (take to s) at) m (brackets v stack depth)) ≡ text-words s (take to s) from
 
 -- a state seen from a later work area, and back
 module _ {s w : List ℕ} {from to base stack : ℕ} {v : List ℕ} {at depth out : ℕ} {m : Mode} (h : Writing s w from to base stack v at depth out m) where
@@ -76,7 +76,7 @@ module _ {s w : List ℕ} {from to base stack : ℕ} {v : List ℕ} {at depth ou
 
 -- ---- the words of a turn are tokens
 
-place-token : (s : List ℕ) (f t : ℕ) → f ≤ t → t ≤ length s → t < 65536 → Token s (place f t)
+place-token : (s : List ℕ) (f t : ℕ) → f ≤ t → t ≤ length s → t < 65536 → Token s (place-word f t)
 place-token s f t a b c = record { placed = λ p. omega arith }
 
 opening-tokens : (s : List ℕ) (a b : Bool) (x : ℕ) → Token s x → Each (Token s) (opening a b x)
@@ -98,7 +98,7 @@ module _ (s w : List ℕ) (from to base stack : ℕ) (start : from ≤ to) (fits
 
   -- the start
   pub writing-starts : State w from 0 base wanting
-  unfolding written brackets
+  unfolding text-words brackets
   writing-starts = record {
     len = refl;
     below = λ p q. refl;
@@ -157,14 +157,14 @@ module _ (s w : List ℕ) (from to base stack : ℕ) (start : from ≤ to) (fits
 
   -- ---- the turns
 
-  pushed : (v v₁ : List ℕ) (depth out x out₁ : ℕ) → Opened s v v₁ stack depth out x out₁ → brackets v₁ stack (depth + 1) ≡ bracket (adds s x) (in-sum (brackets v stack depth)) ∷ brackets v stack depth
+  pushed : (v v₁ : List ℕ) (depth out x out₁ : ℕ) → ListOpened s v v₁ stack depth out x out₁ → brackets v₁ stack (depth + 1) ≡ bracket (adds s x) (in-sum (brackets v stack depth)) ∷ brackets v stack depth
   unfolding brackets
   pushed v v₁ depth out x out₁ o = rw (add-one depth) (ap₂ (λ (c : ℕ) (cs : List ℕ). c ∷ cs) (o .top) (brackets-kept v v₁ stack depth (o .between)))
 
   module _ (v : List ℕ) (at depth out : ℕ) where
     -- a name and a bracket
     pub open-turn : State v at depth out wanting → {r q : Symbol} (f t u : ℕ) → r ≡ symbol-at (take to s) at → r ≡ Name f t → q ≡ symbol-at (take to s) t → q ≡ Begin u
-        → (v₁ : List ℕ) (out₁ : ℕ) → Opened s v v₁ stack depth out (place f t) out₁ → State v₁ u (depth + 1) out₁ wanting
+        → (v₁ : List ℕ) (out₁ : ℕ) → ListOpened s v v₁ stack depth out (place-word f t) out₁ → State v₁ u (depth + 1) out₁ wanting
     open-turn h f t u e₁ e₂ e₃ e₄ v₁ out₁ o =
         let lt = length-take-le to s fits in
         let n = means-is (take to s) at e₁ (Name f t) e₂ in
@@ -179,7 +179,7 @@ module _ (s w : List ℕ) (from to base stack : ℕ) (start : from ≤ to) (fits
         let hd = h .deep in
         let oe = o .ends in
         let cs = brackets v stack depth in
-        let x = place f t in
+        let x = place-word f t in
         let k = opening-short (adds s x) (in-sum cs) x in
         let z : brackets v₁ stack (depth + 1) ≡ bracket (adds s x) (in-sum cs) ∷ cs = pushed v v₁ depth out x out₁ o in
         moved v at depth out wanting h v₁ u (depth + 1) out₁ wanting (opening (adds s x) (in-sum cs) x) (o .len) (o .below) (λ p q. o .above p (omega arith)) (o .words)
@@ -207,7 +207,7 @@ module _ (s w : List ℕ) (from to base stack : ℕ) (start : from ≤ to) (fits
 
     -- a name that no bracket follows
     pub name-turn : State v at depth out wanting → {r q : Symbol} (f t : ℕ) → r ≡ symbol-at (take to s) at → r ≡ Name f t → q ≡ symbol-at (take to s) t
-        → OneOf (1 ∷ 2 ∷ 3 ∷ 4 ∷ 5 ∷ []) (tagOf the-type q) → (x : ℕ) → x ≡ place f t → State (set v out x) t depth (out + 1) having
+        → OneOf (1 ∷ 2 ∷ 3 ∷ 4 ∷ 5 ∷ []) (tagOf the-type q) → (x : ℕ) → x ≡ place-word f t → State (set v out x) t depth (out + 1) having
     name-turn h {r} {q} f t e₁ e₂ e₃ k x ex =
         let lt = length-take-le to s fits in
         let n = means-is (take to s) at e₁ (Name f t) e₂ in
@@ -218,9 +218,9 @@ module _ (s w : List ℕ) (from to base stack : ℕ) (start : from ≤ to) (fits
         let it = items-is (take to s) t e₃ q refl in
         one-more wanting h t having x (rw ex (place-token s f t (omega arith) (omega arith) (omega arith))) (omega arith) (omega arith)
         (ap (λ (o : Option (List Item)). writes s o wanting cs) (items-is (take to s) at e₁ (Name f t) e₂)
-        ∙ name-on s (place f t) (items-at (take to s) t) cs
-        ∙ ap (λ (o : Option (List Item)). writes s o (naming (place f t)) cs) it
-        ∙ naming-on s (items-at (take to s)) (place f t) cs q k
+        ∙ name-on s (place-word f t) (items-at (take to s) t) cs
+        ∙ ap (λ (o : Option (List Item)). writes s o (naming (place-word f t)) cs) it
+        ∙ naming-on s (items-at (take to s)) (place-word f t) cs q k
         ∙ ap₂ (λ (y : ℕ) (o : Option (List Item)). emits (y ∷ []) (writes s o having cs)) (sym ex) (sym it))
 
     pub comma-turn : State v at depth out having → {r : Symbol} (t : ℕ) → r ≡ symbol-at (take to s) at → r ≡ Comma t → (depth ≡ 0 → ⊥) → State (set v out 2883584) t depth (out + 1) wanting
@@ -237,7 +237,7 @@ module _ (s w : List ℕ) (from to base stack : ℕ) (start : from ≤ to) (fits
         ∙ ap (λ (cs : List ℕ). emits (2883584 ∷ []) (writes s (items-at (take to s) t) wanting cs)) (sym lb))
 
     pub shut-turn : State v at depth out having → {r : Symbol} (t : ℕ) → r ≡ symbol-at (take to s) at → r ≡ Shut t → (depth ≡ 0 → ⊥)
-        → (v₁ : List ℕ) (out₁ : ℕ) → Closed v v₁ stack (depth - 1) out out₁ → State v₁ t (depth - 1) out₁ having
+        → (v₁ : List ℕ) (out₁ : ℕ) → ListClosed v v₁ stack (depth - 1) out out₁ → State v₁ t (depth - 1) out₁ having
     shut-turn h t e₁ e₂ d v₁ out₁ o =
         let lt = length-take-le to s fits in
         let n = means-is (take to s) at e₁ (Shut t) e₂ in
@@ -263,15 +263,15 @@ module _ (s w : List ℕ) (from to base stack : ℕ) (start : from ≤ to) (fits
     pub kept : (m : Mode) → State v at depth out m → Kept w v base (stack + (to - from))
     kept m h = record { len = h .len; below = h .below; above = h .above }
 
-    none-ahead : (m : Mode) → State v at depth out m → writes s (items-at (take to s) at) m (brackets v stack depth) ≡ none → written s (take to s) from ≡ none
+    none-ahead : (m : Mode) → State v at depth out m → writes s (items-at (take to s) at) m (brackets v stack depth) ≡ none → text-words s (take to s) from ≡ none
     none-ahead m h e = sym (h .whole) ∙ ap (emits (slice base out v)) e
 
-    pub no-name : State v at depth out wanting → {r : Symbol} → r ≡ symbol-at (take to s) at → OneOf (0 ∷ 1 ∷ 2 ∷ 4 ∷ 5 ∷ []) (tagOf the-type r) → written s (take to s) from ≡ none
+    pub no-name : State v at depth out wanting → {r : Symbol} → r ≡ symbol-at (take to s) at → OneOf (0 ∷ 1 ∷ 2 ∷ 4 ∷ 5 ∷ []) (tagOf the-type r) → text-words s (take to s) from ≡ none
     no-name h {r} e k =
         let cs = brackets v stack depth in
         none-ahead wanting h (ap (λ (o : Option (List Item)). writes s o wanting cs) (items-is (take to s) at e r refl) ∙ wanting-off s (items-at (take to s)) cs r k)
 
-    pub no-delimiter : State v at depth out having → {r : Symbol} → r ≡ symbol-at (take to s) at → OneOf (0 ∷ 3 ∷ 4 ∷ 5 ∷ []) (tagOf the-type r) → (depth ≡ 0 → ⊥) → written s (take to s) from ≡ none
+    pub no-delimiter : State v at depth out having → {r : Symbol} → r ≡ symbol-at (take to s) at → OneOf (0 ∷ 3 ∷ 4 ∷ 5 ∷ []) (tagOf the-type r) → (depth ≡ 0 → ⊥) → text-words s (take to s) from ≡ none
     no-delimiter h {r} e k d =
         let c = getD v (stack + (depth - 1)) 0 in
         let cs = brackets v stack (depth - 1) in
@@ -279,18 +279,18 @@ module _ (s w : List ℕ) (from to base stack : ℕ) (start : from ≤ to) (fits
         (ap₂ (λ (o : Option (List Item)) (cs : List ℕ). writes s o having cs) (items-is (take to s) at e r refl) (last-bracket v stack depth d) ∙ having-off s (items-at (take to s)) c cs r k)
 
     -- no bracket is open
-    pub finish-turn : State v at depth out having → {r : Symbol} → r ≡ symbol-at (take to s) at → depth ≡ 0 → {q : Written} → q ≡ finished r out → Outcome s v from to base q
+    pub finish-turn : State v at depth out having → {r : Symbol} → r ≡ symbol-at (take to s) at → depth ≡ 0 → {q : Written} → q ≡ finished r out → TextWritten s v from to base q
     unfolding write
-    finish-turn h {r} e d {q} g = subst (Outcome s v from to base) (sym g) (by r (ap₂ (λ (o : Option (List Item)) (cs : List ℕ). writes s o having cs) (items-is (take to s) at e r refl) (no-bracket v stack depth d)))
+    finish-turn h {r} e d {q} g = subst (TextWritten s v from to base) (sym g) (by r (ap₂ (λ (o : Option (List Item)) (cs : List ℕ). writes s o having cs) (items-is (take to s) at e r refl) (no-bracket v stack depth d)))
       where
         rest : ℕ → Option (List Item)
         rest = items-at (take to s)
 
-        by : (r : Symbol) → writes s (items-at (take to s) at) having (brackets v stack depth) ≡ writes s (items-by r rest) having [] → Outcome s v from to base (finished r out)
+        by : (r : Symbol) → writes s (items-at (take to s) at) having (brackets v stack depth) ≡ writes s (items-by r rest) having [] → TextWritten s v from to base (finished r out)
         by (Begin t) a = none-ahead having h (a ∙ off s begin having (rest t) [] (λ is. refl))
         by (Shut t) a = none-ahead having h (a ∙ off s shut having (rest t) [] (λ is. refl))
         by (Comma t) a = none-ahead having h (a ∙ off s comma having (rest t) [] (λ is. refl))
-        by (Name f t) a = none-ahead having h (a ∙ off s (name (place f t)) having (rest t) [] (λ is. refl))
+        by (Name f t) a = none-ahead having h (a ∙ off s (name (place-word f t)) having (rest t) [] (λ is. refl))
         by Stop a =
             let hr = h .room in
             let hi = h .inside in

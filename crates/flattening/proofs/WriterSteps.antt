@@ -11,8 +11,8 @@ use Rattle.rules.specs.Bytes.{Text, same}
 use Rattle.rules.specs.Tree.{tamtplus}
 use Rattle.text.specs.Sorting.{Wrote}
 use Rattle.text.proofs.Slices.{slice-none, slice-set, slice-same}
-use Rattle.flattening.specs.Items.{place, adds, in-sum, opening, bracket, closing, brackets}
-use Rattle.flattening.specs.Writer.{Opened}
+use Rattle.flattening.specs.Items.{place-word, adds, in-sum, opening, bracket, closing, brackets}
+use Rattle.flattening.specs.Writer.{ListOpened}
 use Rattle.flattening.proofs.ItemTokens.{place-text}
 
 -- ---- words written
@@ -65,7 +65,7 @@ brackets-kept w v stack (suc d) h = ap₂ (λ (c : ℕ) (cs : List ℕ). c ∷ c
 
 -- ---- names
 
-pub adds-is : (s : Text) (f t : ℕ) → f < t → t < 65536 → same (take (t - f) (drop f s)) tamtplus ≡ adds s (place f t)
+pub adds-is : (s : Text) (f t : ℕ) → f < t → t < 65536 → same (take (t - f) (drop f s)) tamtplus ≡ adds s (place-word f t)
 unfolding adds
 adds-is s f t a b = sym (ap (λ (n : Text). same n tamtplus) (place-text s f t a b))
 
@@ -81,7 +81,7 @@ module _ (s : Text) (w v : List ℕ) (stack depth out x r : ℕ) (room : out + 2
   words = opening (adds s x) (in-sum (brackets w stack depth)) x
 
   pub opened-is : Wrote w v out (opening (adds s x) (in-sum (brackets w stack depth)) x) → r ≡ out + length (opening (adds s x) (in-sum (brackets w stack depth)) x) → (c : ℕ) → c ≡ bracket (adds s x) (in-sum (brackets w stack depth))
-      → Opened s w (set v (stack + depth) c) stack depth out x r
+      → ListOpened s w (set v (stack + depth) c) stack depth out x r
   opened-is h e c f =
       let n = opening-short (adds s x) (in-sum (brackets w stack depth)) x in
       let lv = h .len in

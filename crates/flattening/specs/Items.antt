@@ -20,18 +20,18 @@ pub data Item : Type 0 where
   name : ℕ → Item
 
 -- the word of a place
-abbrev pub place : ℕ → ℕ → ℕ
-place from to = from * 65536 + (to - from)
+abbrev pub place-word : ℕ → ℕ → ℕ
+place-word from to = from * 65536 + (to - from)
 
-abbrev pub before : Item → Option (List Item) → Option (List Item)
-before i o = o >>= λ is. some (i ∷ is)
+abbrev pub item-before : Item → Option (List Item) → Option (List Item)
+item-before i o = o >>= λ is. some (i ∷ is)
 
 -- the items from a symbol on, where `from` gives those from a position on
 abbrev pub items-by : Symbol → (ℕ → Option (List Item)) → Option (List Item)
-items-by (Begin to) from = before begin (from to)
-items-by (Shut to) from = before shut (from to)
-items-by (Comma to) from = before comma (from to)
-items-by (Name start to) from = before (name (place start to)) (from to)
+items-by (Begin to) from = item-before begin (from to)
+items-by (Shut to) from = item-before shut (from to)
+items-by (Comma to) from = item-before comma (from to)
+items-by (Name start to) from = item-before (name (place-word start to)) (from to)
 items-by Stop from = some []
 items-by Bad from = none
 
@@ -80,14 +80,14 @@ closing c = cond (eqb c 2) [] (2686976 ∷ [])
 
 -- the words of items, none where they are no term
 module _ (s : Text) where
-  abbrev pub finish : List ℕ → Option (List ℕ)
-  finish [] = some []
-  finish (c ∷ cs) = none
+  abbrev pub all-closed : List ℕ → Option (List ℕ)
+  all-closed [] = some []
+  all-closed (c ∷ cs) = none
 
   unfoldable pub write : List Item → Mode → List ℕ → Option (List ℕ)
   write [] wanting cs = none
-  write [] (naming x) cs = emits (x ∷ []) (finish cs)
-  write [] having cs = finish cs
+  write [] (naming x) cs = emits (x ∷ []) (all-closed cs)
+  write [] having cs = all-closed cs
   write (begin ∷ is) wanting cs = none
   write (begin ∷ is) (naming x) cs = emits (opening (adds s x) (in-sum cs) x) (write is wanting (bracket (adds s x) (in-sum cs) ∷ cs))
   write (begin ∷ is) having cs = none
@@ -110,9 +110,9 @@ module _ (s : Text) where
   writes o m cs = o >>= λ is. write is m cs
 
 -- the words of the text t from a position on; the names are places of s
-unfoldable pub written : Text → Text → ℕ → Option (List ℕ)
+unfoldable pub text-words : Text → Text → ℕ → Option (List ℕ)
 unfolding items-at write
-written s t at = writes s (items-at t at) wanting []
+text-words s t at = writes s (items-at t at) wanting []
 
 -- the open brackets, in the words from `stack` on
 unfoldable pub brackets : List ℕ → ℕ → ℕ → List ℕ

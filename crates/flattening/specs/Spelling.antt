@@ -11,7 +11,7 @@ use Rattle.flattening.specs.Terms.{Term, node, Terms, none, more, inner,
 use Rattle.flattening.specs.Items.{adds}
 
 -- no mark
-pub record Plain (x : ℕ) : Type 0 where
+pub record NoMark (x : ℕ) : Type 0 where
   pub no-open : x ≡ 2621440 → ⊥
   pub no-shut : x ≡ 2686976 → ⊥
   pub no-comma : x ≡ 2883584 → ⊥
@@ -49,7 +49,7 @@ module _ (s : Text) where
   -- a word of a name: no mark, and not that of sums
   pub record Word (x : ℕ) : Type 0 where
     pub token : Token s x
-    pub plain : Plain x
+    pub plain : NoMark x
     pub other : x ≡ 16777216 → ⊥
 
   -- the tree that a term spells

@@ -10,12 +10,12 @@ use Rattle.text.specs.Sorting.{Wrote}
 use Rattle.syntax.specs.declared.Symbol.{Symbol}
 use Rattle.syntax.specs.declared.Symbol.the-variants.{Begin, Shut, Comma, Name, Stop, Bad}
 use Rattle.runs.specs.Texts.{Tokens}
-use Rattle.flattening.specs.Items.{adds, in-sum, opening, bracket, closing, brackets, written}
+use Rattle.flattening.specs.Items.{adds, in-sum, opening, bracket, closing, brackets, text-words}
 use Rattle.flattening.specs.declared.Written.{Written}
 use Rattle.flattening.specs.declared.Written.the-variants.{Words, Unreadable}
 
 -- v is w with a name x and its bracket written from `out` to r, and the bracket on the stack
-pub record Opened (s : Text) (w v : List ℕ) (stack depth out x r : ℕ) : Type 0 where
+pub record ListOpened (s : Text) (w v : List ℕ) (stack depth out x r : ℕ) : Type 0 where
   pub len : length v ≡ length w
   pub below : (p : ℕ) → p < out → getD v p 0 ≡ getD w p 0
   pub between : (p : ℕ) → stack ≤ p → p < stack + depth → getD v p 0 ≡ getD w p 0
@@ -25,15 +25,15 @@ pub record Opened (s : Text) (w v : List ℕ) (stack depth out x r : ℕ) : Type
   pub top : getD v (stack + depth) 0 ≡ bracket (adds s x) (in-sum (brackets w stack depth))
 
 -- v is w with what is written for the closing of the bracket at `depth`
-pub record Closed (w v : List ℕ) (stack depth out r : ℕ) : Type 0 where
+pub record ListClosed (w v : List ℕ) (stack depth out r : ℕ) : Type 0 where
   pub wrote : Wrote w v out (closing (getD w (stack + depth) 0))
   pub ends : r ≡ out + length (closing (getD w (stack + depth) 0))
 
 -- the words of the text from `from` to `to` of the sheet s are those of v from base to `end`
-pub record Done (s v : List ℕ) (from to base end : ℕ) : Type 0 where
+pub record WordsWritten (s v : List ℕ) (from to base end : ℕ) : Type 0 where
   pub low : base ≤ end
   pub room : end + from ≤ base + to
-  pub words : written s (take to s) from ≡ some (slice base end v)
+  pub words : text-words s (take to s) from ≡ some (slice base end v)
   pub tokens : Tokens s v base end
 
 -- what a text is once no bracket is open
@@ -45,6 +45,6 @@ finished (Name from to) out = Unreadable
 finished Stop out = Words out
 finished Bad out = Unreadable
 
-abbrev pub Outcome : Text → List ℕ → ℕ → ℕ → ℕ → Written → Type 0
-Outcome s v from to base (Words end) = Done s v from to base end
-Outcome s v from to base Unreadable = written s (take to s) from ≡ none
+abbrev pub TextWritten : Text → List ℕ → ℕ → ℕ → ℕ → Written → Type 0
+TextWritten s v from to base (Words end) = WordsWritten s v from to base end
+TextWritten s v from to base Unreadable = text-words s (take to s) from ≡ none

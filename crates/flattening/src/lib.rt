@@ -3,9 +3,13 @@ ghost use mathlib.Core.Path.{_≡_};
 ghost use Prim.Native.Nat.{_+_, _-_, _<_, _≤_};
 ghost use lib.ListN.{length, getD, take};
 ghost use Rattle.text.specs.Sorting.{Wrote};
-ghost use Rattle.flattening.specs.Items.{place, adds, in-sum, opening, bracket, closing, brackets};
-ghost use Rattle.flattening.specs.Writer.{Opened, Closed, Outcome, finished};
+ghost use Rattle.flattening.specs.Items.{place-word, adds, in-sum, opening, bracket, closing, brackets};
+ghost use Rattle.flattening.specs.Writer.{ListOpened, ListClosed, TextWritten, finished};
 ghost use Rattle.runs.specs.Areas.{Kept};
+use runs::COMMA;
+use runs::OPEN;
+use runs::PLUS;
+use runs::SHUT;
 use syntax::Symbol;
 
 // What became of a text: its words, up to the one that is answered, or no term.
@@ -17,7 +21,7 @@ pub enum Written {
 // The word of a place.
 fn place(from: usize, to: usize) -> u32
     requires { ⌜ (from ≤ to) × (to < 65536) ⌝ }
-    ensures { λ r. ⌜ r ≡ place from to ⌝ }
+    ensures { λ r. ⌜ r ≡ place-word from to ⌝ }
 {
     (from * 65536 + (to - from)) as u32
 }
@@ -25,7 +29,7 @@ fn place(from: usize, to: usize) -> u32
 // Whether the bytes of a place are the name of sums.
 fn adds(sheet: &[u8], from: usize, to: usize) -> bool
     requires { ⌜ (from < to) × (to ≤ length (now sheet)) × (to < 65536) ⌝ }
-    ensures { λ r. ⌜ r ≡ adds (now (sheet .entry)) (place from to) ⌝ }
+    ensures { λ r. ⌜ r ≡ adds (now (sheet .entry)) (place-word from to) ⌝ }
 {
     text::same(&sheet[from..to], b"tamtplus")
 }
@@ -63,12 +67,12 @@ pub fn put_opening(work: &mut [u32], out: usize, sum: bool, inside: bool, word: 
         if inside {
             return out;
         }
-        work[out] = 16777216;
-        work[out + 1] = 2621440;
+        work[out] = PLUS;
+        work[out + 1] = OPEN;
         return out + 2;
     }
     work[out] = word;
-    work[out + 1] = 2621440;
+    work[out + 1] = OPEN;
     out + 2
 }
 
@@ -80,7 +84,7 @@ pub fn put_closing(work: &mut [u32], out: usize, bracket: u32) -> usize
     if bracket == 2 {
         return out;
     }
-    work[out] = 2686976;
+    work[out] = SHUT;
     out + 1
 }
 
@@ -95,7 +99,7 @@ fn open_list(
     out: usize,
 ) -> usize
     requires { ⌜ (from < to) × (to ≤ length (now sheet)) × (to < 65536) × (out + 2 ≤ stack) × (stack + depth < length (now work)) ⌝ }
-    ensures { λ r. ⌜ Opened (now (sheet .entry)) (now (work .entry)) (now (work .exit)) stack depth out (place from to) r ⌝ }
+    ensures { λ r. ⌜ ListOpened (now (sheet .entry)) (now (work .entry)) (now (work .exit)) stack depth out (place-word from to) r ⌝ }
 {
     let sum = adds(sheet, from, to);
     let inside = in_sum(work, stack, depth);
@@ -107,7 +111,7 @@ fn open_list(
 // The closing bracket of the list that was opened last; `depth` brackets stay open.
 fn close_list(work: &mut [u32], stack: usize, depth: usize, out: usize) -> usize
     requires { ⌜ (out + 1 ≤ stack) × (stack + depth < length (now work)) ⌝ }
-    ensures { λ r. ⌜ Closed (now (work .entry)) (now (work .exit)) stack depth out r ⌝ }
+    ensures { λ r. ⌜ ListClosed (now (work .entry)) (now (work .exit)) stack depth out r ⌝ }
 {
     let bracket = work[stack + depth];
     put_closing(work, out, bracket)
@@ -134,7 +138,7 @@ pub fn write_text(
     stack: usize,
 ) -> Written
     requires { ⌜ (from ≤ to) × (to ≤ length (now sheet)) × (to < 65536) × (base + (to - from) ≤ stack) × (stack + (to - from) ≤ length (now work)) ⌝ }
-    ensures { λ r. ⌜ Kept (now (work .entry)) (now (work .exit)) base (stack + (to - from)) × Outcome (now (sheet .entry)) (now (work .exit)) from to base r ⌝ }
+    ensures { λ r. ⌜ Kept (now (work .entry)) (now (work .exit)) base (stack + (to - from)) × TextWritten (now (sheet .entry)) (now (work .exit)) from to base r ⌝ }
 {
     let mut at = from;
     let mut depth: usize = 0;
@@ -161,7 +165,7 @@ pub fn write_text(
             }
             match next {
                 Symbol::Comma(past) => {
-                    work[out] = 2883584;
+                    work[out] = COMMA;
                     out += 1;
                     at = past;
                     continue 'term;

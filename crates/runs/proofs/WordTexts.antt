@@ -15,7 +15,7 @@ use Rattle.laws.specs.Unspelled.{zeros, zeros-name}
 use Rattle.laws.proofs.Renaming.Unspelled.{unspelled-zeros}
 use Rattle.tree.specs.Cells.{fixed-name}
 use Rattle.tree.proofs.FixedNames.{fixed-some, fixed-unspelled}
-use Rattle.runs.specs.Texts.{code-name, code-text, code-width, word-text, width-of, texts, Token, lex, after, zeros-of, more-zeros}
+use Rattle.runs.specs.Texts.{code-name, code-text, code-width, word-text, width-of, texts, Token, lex, next-spot, zeros-of, more-zeros}
 use Rattle.runs.specs.declared.order.Order.the-variants.{Less, Equal, Greater}
 use Rattle.runs.specs.declared.order.Spot.{Spot}
 
@@ -128,8 +128,8 @@ module _ (s w : List ℕ) (to : ℕ) (fits : to ≤ length w) where
   next-at from p h l = record { since = omega arith; inside = omega arith; within = λ q. width-pos (getD w (p .word + 1) 0); over = λ q. refl }
 
   -- one byte on
-  pub step-at : (from : ℕ) (p : Spot) → At w from to p → p .word < to → At w from to (after (getD w (p .word) 0) p)
-  unfolding after
+  pub step-at : (from : ℕ) (p : Spot) → At w from to p → p .word < to → At w from to (next-spot (getD w (p .word) 0) p)
+  unfolding next-spot
   step-at from p h l = go (eqb (p .byte + 1) (width-of x)) refl
     where
       x : ℕ
@@ -139,8 +139,8 @@ module _ (s w : List ℕ) (to : ℕ) (fits : to ≤ length w) where
       go true e = record { since = omega arith; inside = omega arith; within = λ q. width-pos (getD w (p .word + 1) 0); over = λ q. refl }
       go false e = record { since = omega arith; inside = omega arith; within = λ q. (let k = h .within l in let f = eqb-false (p .byte + 1) (width-of x) e in omega arith); over = λ q. omega arith }
 
-  pub step-rest : (from : ℕ) (p : Spot) → At w from to p → p .word < to → Token s (getD w (p .word) 0) → rest s w to (p .word) (p .byte + 1) ≡ rest-at s w to (after (getD w (p .word) 0) p)
-  unfolding after
+  pub step-rest : (from : ℕ) (p : Spot) → At w from to p → p .word < to → Token s (getD w (p .word) 0) → rest s w to (p .word) (p .byte + 1) ≡ rest-at s w to (next-spot (getD w (p .word) 0) p)
+  unfolding next-spot
   step-rest from p h l k = go (eqb (p .byte + 1) (width-of x)) refl
     where
       x : ℕ
@@ -342,18 +342,18 @@ module _ (s w : List ℕ) (from to start end : ℕ) (f : to ≤ length w) (g : e
       pub greater : b < a → lex (rest-at s w to l) (rest-at s w end r) ≡ Greater
       greater h = lex-greater left-byte right-byte h
 
-      pub on : (l₁ r₁ : Spot) → l₁ ≡ after x l → r₁ ≡ after y r → a ≤ b → b ≤ a → At w from to l₁ × At w start end r₁ × (lex (rest-at s w to l) (rest-at s w end r) ≡ lex (rest-at s w to l₁) (rest-at s w end r₁))
+      pub on : (l₁ r₁ : Spot) → l₁ ≡ next-spot x l → r₁ ≡ next-spot y r → a ≤ b → b ≤ a → At w from to l₁ × At w start end r₁ × (lex (rest-at s w to l) (rest-at s w end r) ≡ lex (rest-at s w to l₁) (rest-at s w end r₁))
       on l₁ r₁ e₁ e₂ h k =
-          let i₁ : l₁ ≡ after (getD w (l .word) 0) l = e₁ ∙ ap (λ (x : ℕ). after x l) ex in
-          let i₂ : r₁ ≡ after (getD w (r .word) 0) r = e₂ ∙ ap (λ (x : ℕ). after x r) ey in (
+          let i₁ : l₁ ≡ next-spot (getD w (l .word) 0) l = e₁ ∙ ap (λ (x : ℕ). next-spot x l) ex in
+          let i₂ : r₁ ≡ next-spot (getD w (r .word) 0) r = e₂ ∙ ap (λ (x : ℕ). next-spot x r) ey in (
             rw i₁ (step-at s w to f from l hl p),
             rw i₂ (step-at s w end g start r hr q),
             lex-on left-byte right-byte h k ∙ rw (step-rest s w to f from l hl p t, step-rest s w end g start r hr q u, i₁, i₂),
           )
 
-      pub falls : (l₁ : Spot) → l₁ ≡ after x l → length (rest-at s w to l₁) < length (rest-at s w to l)
+      pub falls : (l₁ : Spot) → l₁ ≡ next-spot x l → length (rest-at s w to l₁) < length (rest-at s w to l)
       falls l₁ e₁ =
-          let i₁ : l₁ ≡ after (getD w (l .word) 0) l = e₁ ∙ ap (λ (x : ℕ). after x l) ex in
+          let i₁ : l₁ ≡ next-spot (getD w (l .word) 0) l = e₁ ∙ ap (λ (x : ℕ). next-spot x l) ex in
           let k = ap length left-byte in
           let m = ap length (step-rest s w to f from l hl p t) in
           rw i₁ (omega arith)

@@ -55,8 +55,8 @@ lex (x ∷ a) [] = Greater
 lex (x ∷ a) (y ∷ b) = cond (ltb x y) Less (cond (ltb y x) Greater (lex a b))
 
 -- the spot after a spot, where x is the spot's word
-unfoldable pub after : ℕ → Spot → Spot
-after x p = cond (eqb (p .byte + 1) (width-of x)) (record { word = p .word + 1; byte = 0 }) (record { word = p .word; byte = p .byte + 1 })
+unfoldable pub next-spot : ℕ → Spot → Spot
+next-spot x p = cond (eqb (p .byte + 1) (width-of x)) (record { word = p .word + 1; byte = 0 }) (record { word = p .word; byte = p .byte + 1 })
 
 -- how many zeros the word x has if its name is one that no sheet spells, and 0 for any other word
 unfoldable pub zeros-of : ℕ → ℕ

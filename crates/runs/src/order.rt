@@ -3,7 +3,7 @@ ghost use mathlib.Core.Path.{_≡_};
 ghost use Prim.Native.Nat.{_+_, _<_, _≤_};
 ghost use lib.ListN.{length, getD};
 ghost use lib.Seq.{slice};
-ghost use Rattle.runs.specs.Texts.{code-name, code-text, code-width, Token, Tokens, width-of, word-text, texts, after, lex, zeros-of, more-zeros};
+ghost use Rattle.runs.specs.Texts.{code-name, code-text, code-width, Token, Tokens, width-of, word-text, texts, next-spot, lex, zeros-of, more-zeros};
 use text::places;
 use tree::fixed::fixed_byte;
 use tree::fixed::fixed_len;
@@ -21,7 +21,18 @@ struct Spot {
     pub byte: usize,
 }
 
-// The name of sums.
+// Codes below NAMES are marks, and those from BYTES on are bytes that are no mark. Between them are names: that of sums, the fixed ones
+// up to LAST_FIXED, and those that no sheet spells.
+const NAMES: usize = 256;
+
+const LAST_FIXED: usize = 262;
+
+pub const BYTES: usize = 512;
+
+// How many more zeros than its code such a name has: the first of them has 65,536.
+const ZEROS: usize = 65536 - 263;
+
+// The name of sums, tamtplus.
 const SUM: [u8; 8] = [116, 97, 109, 116, 112, 108, 117, 115];
 
 // How many bytes the name of sums has, for n = 0, or the fixed name of code n.
@@ -50,11 +61,11 @@ fn name_byte(n: usize, a: usize) -> u8
 fn code_width(code: usize) -> usize
     ensures { λ r. ⌜ r ≡ code-width code ⌝ }
 {
-    if code < 256 {
+    if code < NAMES {
         return 1;
     }
-    if code < 512 {
-        return name_width(code - 256);
+    if code < BYTES {
+        return name_width(code - NAMES);
     }
     1
 }
@@ -64,11 +75,11 @@ fn code_byte(code: usize, a: usize) -> u8
     requires { ⌜ a < code-width code ⌝ }
     ensures { λ r. ⌜ r ≡ getD (code-text code) a 0 ⌝ }
 {
-    if code < 256 {
+    if code < NAMES {
         return code as u8;
     }
-    if code < 512 {
-        return name_byte(code - 256, a);
+    if code < BYTES {
+        return name_byte(code - NAMES, a);
     }
     (code % 256) as u8
 }
@@ -99,7 +110,7 @@ pub fn byte_of(sheet: &[u8], x: usize, a: usize) -> u8
 // The spot after a spot, where x is the spot's word.
 fn after(x: usize, at: Spot) -> Spot
     requires { ⌜ (at .word) + (at .byte) < 9223372036854775808 ⌝ }
-    ensures { λ r. ⌜ r ≡ after x at ⌝ }
+    ensures { λ r. ⌜ r ≡ next-spot x at ⌝ }
 {
     let word = at.word;
     let byte = at.byte + 1;
@@ -121,9 +132,9 @@ pub fn zeros_of(x: usize) -> usize
 {
     let code = x / 65536;
     if x % 65536 == 0 {
-        if 262 < code {
-            if code < 512 {
-                return code + 65273;
+        if LAST_FIXED < code {
+            if code < BYTES {
+                return code + ZEROS;
             }
         }
     }

@@ -8,10 +8,10 @@ use lib.ListN.{length}
 use native.Mathlib.Omega.{arith}
 use Rattle.rules.specs.Bytes.{upto, insert, sort}
 use Rattle.runs.specs.Texts.{word-text, texts}
-use Rattle.settling.specs.Settle.{settled}
+use Rattle.settling.specs.Settle.{sums-sorted}
 use Rattle.flattening.specs.Terms.{Term, node, Terms, none, more, inner, insert-words, sort-words, headed, words, canonical, canonicals, canon-text, canon-texts}
 use Rattle.rules.specs.Writing.{commas, listed}
-use Rattle.flattening.specs.Spelling.{Plain}
+use Rattle.flattening.specs.Spelling.{NoMark}
 use Rattle.settling.proofs.Canonicals.{PlainTerm, settle-term}
 
 module _ (s : List ℕ) where
@@ -80,9 +80,9 @@ module _ (s : List ℕ) where
       canonicals-texts (more t ts) = ap₂ (λ (a : List ℕ) (b : List (List ℕ)). a ∷ b) (canonical-text t) (canonicals-texts ts)
 
     -- the pass over the words of a term leaves words whose text is the canonical text
-    pub settled-text : (base : ℕ) → Plain plus → (t : Term) → PlainTerm t → length (words t) < 65536 → texts s (settled s plus base (length (words t)) (words t)) ≡ canon-text s plus t
-    unfolding settled
+    pub settled-text : (base : ℕ) → NoMark plus → (t : Term) → PlainTerm t → length (words t) < 65536 → texts s (sums-sorted s plus base (length (words t)) (words t)) ≡ canon-text s plus t
+    unfolding sums-sorted
     settled-text base pp t h f =
         let e : words t ≡ [] ++ (words t ++ []) = sym (append-nil (words t)) in
-        let k : settled s plus base (length (words t)) ([] ++ (words t ++ [])) ≡ [] ++ (canonical s plus t ++ []) = settle-term s plus base pp t h [] [] (length (words t)) (omega arith) (omega arith) (λ e. omega arith) in
-        ap (texts s) (ap (settled s plus base (length (words t))) e ∙ k ∙ append-nil (canonical s plus t)) ∙ canonical-text t
+        let k : sums-sorted s plus base (length (words t)) ([] ++ (words t ++ [])) ≡ [] ++ (canonical s plus t ++ []) = settle-term s plus base pp t h [] [] (length (words t)) (omega arith) (omega arith) (λ e. omega arith) in
+        ap (texts s) (ap (sums-sorted s plus base (length (words t))) e ∙ k ∙ append-nil (canonical s plus t)) ∙ canonical-text t

@@ -10,7 +10,7 @@ use Rattle.rules.specs.Bytes.{Text}
 use Rattle.rules.specs.Tree.{Tree, Trees}
 use Rattle.rules.specs.Sums.{canonical}
 use Rattle.runs.specs.Texts.{texts, Token}
-use Rattle.settling.specs.Settle.{settled}
+use Rattle.settling.specs.Settle.{sums-sorted}
 use Rattle.flattening.specs.Terms.{Term, node, Terms, none, more, inner, headed, words, words-each}
 use Rattle.flattening.specs.Items.{adds}
 use Rattle.settling.proofs.Canonicals.{PlainTerm, PlainTerms}
@@ -18,7 +18,7 @@ use Rattle.settling.proofs.Canonicals as canonicals
 use Rattle.settling.proofs.CanonTexts.{settled-text}
 use Rattle.runs.proofs.Each.{Each, each-append, code-token}
 use Rattle.runs.proofs.Each as words-of
-use Rattle.flattening.specs.Spelling.{Plain, flat-by, splice-by, flatten, flattens, splice, splices, Word, Spells, as-variable, as-atom, as-apply, SpellsAll, spell-none, spell-more}
+use Rattle.flattening.specs.Spelling.{NoMark, flat-by, splice-by, flatten, flattens, splice, splices, Word, Spells, as-variable, as-atom, as-apply, SpellsAll, spell-none, spell-more}
 use Rattle.flattening.proofs.Flattening.{flatten-text}
 
 module _ (P : ℕ → Type 0) where
@@ -95,14 +95,14 @@ module _ (P : ℕ → Type 0) where
       words-have-each (both h hs) = one-more (words-have h) (words-have-each hs)
 
 mutual
-  plain-term : {t : Term} → Names Plain t → PlainTerm t
+  plain-term : {t : Term} → Names NoMark t → PlainTerm t
   plain-term (name p hs) = canonicals.plain p (plain-terms hs)
 
-  plain-terms : {ts : Terms} → NamesAll Plain ts → PlainTerms ts
+  plain-terms : {ts : Terms} → NamesAll NoMark ts → PlainTerms ts
   plain-terms nil = canonicals.nil
   plain-terms (both h hs) = canonicals.both (plain-term h) (plain-terms hs)
 
-plus-plain : Plain 16777216
+plus-plain : NoMark 16777216
 plus-plain = record { no-open = λ e. omega arith; no-shut = λ e. omega arith; no-comma = λ e. omega arith }
 
 module _ (s : Text) {t : Term} {u : Tree} (h : Spells s t u) where
@@ -111,6 +111,6 @@ module _ (s : Text) {t : Term} {u : Tree} (h : Spells s t u) where
       words-have (Token s) (code-token s 2621440 (omega arith)) (code-token s 2686976 (omega arith)) (code-token s 2883584 (omega arith))
       (flatten-names (Token s) s (code-token s 16777216 (omega arith)) (λ x w. w .token) h)
 
-  pub spelled-settled : length (words (flatten s t)) < 65536 → (base : ℕ) → texts s (settled s 16777216 base (length (words (flatten s t))) (words (flatten s t))) ≡ canonical u
+  pub spelled-settled : length (words (flatten s t)) < 65536 → (base : ℕ) → texts s (sums-sorted s 16777216 base (length (words (flatten s t))) (words (flatten s t))) ≡ canonical u
   unfolding canonical
-  spelled-settled k base = settled-text s 16777216 base plus-plain (flatten s t) (plain-term (flatten-names Plain s plus-plain (λ x w. w .plain) h)) k ∙ flatten-text s h
+  spelled-settled k base = settled-text s 16777216 base plus-plain (flatten s t) (plain-term (flatten-names NoMark s plus-plain (λ x w. w .plain) h)) k ∙ flatten-text s h

@@ -4,7 +4,7 @@ use mathlib.Core.Path.{_≡_, refl, sym, ap, ap₂, subst, _∙_}
 use mathlib.Core.Bool.{Bool}
 use lib.ListN.{length}
 use Rattle.text.specs.Sorting.{Wrote}
-use Rattle.flattening.specs.Items.{place, adds, in-sum, opening, bracket, brackets}
+use Rattle.flattening.specs.Items.{place-word, adds, in-sum, opening, bracket, brackets}
 use Rattle.flattening.proofs.WriterSteps.{opened-is, opening-is, bracket-is}
 use borrow.Author.Needs.{needs}
 use Rattle.flattening.proofs.open_list.Statement.{statement}
@@ -48,9 +48,9 @@ returns : tie.Need-returns
 returns c =
     let a = c .before .before .before .before .before .before .before .before .before .before .before .args in
     let q = c .before .before .before .before .before .before .before .before .before .before .before .pre in
-    let o = opening-is (a .sheet .now) (a .work .now) (c .before .before .before .put-opening .last .0) (a .stack) (a .depth) (a .out) (place (a .from) (a .to)) (c .before .before .before .put-opening .result) (c .before .before .before .before .before .before .before .before .adds .ensures) (c .before .before .before .before .before .before .in-sum .ensures) (c .before .before .before .before .place .ensures) (c .before .before .before .put-opening .ensures) in
-    opened-is (a .sheet .now) (a .work .now) (c .before .before .before .put-opening .last .0) (a .stack) (a .depth) (a .out) (place (a .from) (a .to)) (c .before .before .before .put-opening .result) (q .3) (q .4) (o .0) (o .1) (c .bracket-of .result)
-    (bracket-is (a .sheet .now) (a .work .now) (a .stack) (a .depth) (place (a .from) (a .to)) (c .before .before .before .before .before .before .before .before .adds .ensures) (c .before .before .before .before .before .before .in-sum .ensures) (c .bracket-of .ensures))
+    let o = opening-is (a .sheet .now) (a .work .now) (c .before .before .before .put-opening .last .0) (a .stack) (a .depth) (a .out) (place-word (a .from) (a .to)) (c .before .before .before .put-opening .result) (c .before .before .before .before .before .before .before .before .adds .ensures) (c .before .before .before .before .before .before .in-sum .ensures) (c .before .before .before .before .place .ensures) (c .before .before .before .put-opening .ensures) in
+    opened-is (a .sheet .now) (a .work .now) (c .before .before .before .put-opening .last .0) (a .stack) (a .depth) (a .out) (place-word (a .from) (a .to)) (c .before .before .before .put-opening .result) (q .3) (q .4) (o .0) (o .1) (c .bracket-of .result)
+    (bracket-is (a .sheet .now) (a .work .now) (a .stack) (a .depth) (place-word (a .from) (a .to)) (c .before .before .before .before .before .before .before .before .adds .ensures) (c .before .before .before .before .before .before .in-sum .ensures) (c .bracket-of .ensures))
 
 pub open-list-spec : {M : Type 1} → statement M
 open-list-spec =

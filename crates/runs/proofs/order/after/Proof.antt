@@ -1,6 +1,6 @@
 use mathlib.Core.Path.{sym, _∙_}
 use borrow.Author.Tests.{eq-eqb, ne-eqb}
-use Rattle.runs.specs.Texts.{after, width-of}
+use Rattle.runs.specs.Texts.{next-spot, width-of}
 use borrow.Author.Needs.{needs}
 use Rattle.runs.proofs.order.after.Statement.{statement}
 use Rattle.runs.proofs.order.after.Tie as tie
@@ -18,11 +18,11 @@ add-t7 : tie.Need-add-t7
 add-t7 c = search needs
 
 returns : tie.Need-returns
-unfolding after
+unfolding next-spot
 returns c = rw (eq-eqb _ (width-of (c .before .before .before .args .x)) (c .if1 .taken ∙ c .before .width-of .ensures))
 
 returns-2 : tie.Need-returns-2
-unfolding after
+unfolding next-spot
 returns-2 c = rw (ne-eqb _ (width-of (c .before .before .before .args .x)) (λ e. c .if1 .left (e ∙ sym (c .before .width-of .ensures))))
 
 pub after-spec : {M : Type 1} → statement M
