@@ -18,12 +18,12 @@ use Rattle.tree.specs.Cells.{tree-at}
 use Rattle.tree.specs.Arena.{Arena}
 use Rattle.tree.proofs.Decoding.{Agree, frame-tree}
 use Rattle.tree.proofs.Areas.{arena-frame}
-use Rattle.certificate.specs.Texts.{texts, Tokens, lex}
-use Rattle.certificate.specs.Writer.{Kept}
-use Rattle.certificate.specs.declared.order.Order.{Order}
-use Rattle.certificate.proofs.order.Order.{the-type}
-use Rattle.certificate.specs.declared.order.Order.the-variants.{Less, Equal, Greater}
-use Rattle.certificate.proofs.Comparisons.{equal-as, same-lex}
+use Rattle.runs.specs.Texts.{texts, Tokens, lex}
+use Rattle.runs.specs.Areas.{Kept}
+use Rattle.runs.specs.declared.order.Order.{Order}
+use Rattle.runs.proofs.order.Order.{the-type}
+use Rattle.runs.specs.declared.order.Order.the-variants.{Less, Equal, Greater}
+use Rattle.runs.proofs.RunLaws.{equal-as, same-lex}
 use Rattle.equivalence.specs.Words.{Canon}
 
 -- ---- the order of two texts

@@ -12,7 +12,7 @@ use Rattle.text.proofs.Slices.{slice-same, slice-join}
 use Rattle.tree.specs.Arena.{Arena, Below}
 use Rattle.tree.proofs.Decoding.{Agree}
 use Rattle.tree.proofs.Areas.{arena-frame}
-use Rattle.certificate.specs.Writer.{Kept}
+use Rattle.runs.specs.Areas.{Kept}
 
 -- scratch from the free end on leaves the cells
 pub below-kept : {w v : List ℕ} {n at lim : ℕ} → Kept w v at lim → 4 * n ≤ at → Below w v n

@@ -1,7 +1,7 @@
 // Equality of trees up to order and grouping of sums, and cancelling of sums (unifier.rs, `equivalent`, `cancel_sums`).
-pub mod fingerprints; // fingerprints.rt: fingerprints of texts
+mod fingerprints; // fingerprints.rt: fingerprints of texts
 pub mod sums; // sums.rt: summands and cancelling
-pub mod words; // words.rt: the words of a tree
+mod words; // words.rt: the words of a tree
 
 ghost use mathlib.Core.Path.{_≡_};
 ghost use Prim.Native.Nat.{_+_, _*_, _<_, _≤_};
@@ -10,7 +10,7 @@ ghost use Rattle.rules.specs.Tree.{size};
 ghost use Rattle.rules.specs.Sums.{equivalent};
 ghost use Rattle.tree.specs.Cells.{tree-at};
 ghost use Rattle.tree.specs.Arena.{Arena};
-ghost use Rattle.certificate.specs.Writer.{Kept};
+ghost use Rattle.runs.specs.Areas.{Kept};
 use tree::equality::same_tree;
 use words::same_text;
 use words::tree_words;

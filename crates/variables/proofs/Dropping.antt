@@ -17,7 +17,7 @@ use Rattle.text.proofs.Slices.{slice-same, slice-set, slice-none}
 use Rattle.tree.specs.Cells.{next-of, tree-at, trees-at}
 use Rattle.tree.specs.Arena.{Arena}
 use Rattle.tree.proofs.Decoding.{sizes-more, trees-none}
-use Rattle.certificate.specs.Writer.{Kept}
+use Rattle.runs.specs.Areas.{Kept}
 use Rattle.variables.specs.Ordered.{unique}
 use Rattle.variables.specs.Variables.{Readable, ReadableAll, Variable, Variables, VariablePlaces, repeats, Dropped, Ordered}
 use Rattle.variables.proofs.Ordering.{unique-skip, unique-keep, unique-sort}

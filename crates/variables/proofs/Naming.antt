@@ -23,7 +23,7 @@ use Rattle.tree.proofs.Decoding.{Agree, same-next, trees-none, trees-more, tree
 use Rattle.tree.proofs.FixedNames.{fixed-length}
 use Rattle.tree.proofs.Naming.{name-part, name-fixed}
 use Rattle.tree.proofs.Areas.{arena-frame}
-use Rattle.certificate.specs.Writer.{Kept}
+use Rattle.runs.specs.Areas.{Kept}
 use Rattle.variables.specs.Variables.{Readable, ReadableAll, Variable, Variables, VariablePlaces}
 
 -- ---- lists of places

@@ -10,7 +10,7 @@ use Rattle.rules.specs.Names.{variable-token}
 use Rattle.rules.specs.Tree.{Tree, Trees, variable-names, variable-names-in}
 use Rattle.rules.specs.Tidy.{Built, Builts}
 use Rattle.text.specs.Places.{text-at}
-use Rattle.certificate.specs.Writer.{Kept}
+use Rattle.runs.specs.Areas.{Kept}
 use Rattle.variables.specs.Ordered.{ordered-once, unique}
 
 -- no name is longer than a sheet

@@ -18,9 +18,9 @@ use Rattle.equivalence.proofs.words.+put_list+put_term.Lts-put_list as 
 use Rattle.equivalence.proofs.words.put_term.Reads as put-term
 use Rattle.equivalence.proofs.words.put_term.Kinds as put-term-kinds
 use Rattle.equivalence.proofs.words.+put_list+put_term.Lts-put_term as put-term-lts
-use Rattle.certificate.proofs.writer.bracket_of.Reads as bracket-of-reads
-use Rattle.certificate.proofs.writer.put_closing.Reads as put-closing-reads
-use Rattle.certificate.proofs.writer.put_opening.Reads as put-opening-reads
+use Rattle.flattening.proofs.bracket_of.Reads as bracket-of-reads
+use Rattle.flattening.proofs.put_closing.Reads as put-closing-reads
+use Rattle.flattening.proofs.put_opening.Reads as put-opening-reads
 use Rattle.equivalence.proofs.words.child_of.Reads as child-of-reads
 use Rattle.equivalence.proofs.words.put_leaf.Reads as put-leaf-reads
 use Rattle.equivalence.proofs.words.word_of.Reads as word-of-reads
