@@ -5,9 +5,9 @@ use certificate::sums::settle;
 use certificate::writer::bracket_of;
 use certificate::writer::put_closing;
 use certificate::writer::put_opening;
-use tree::cells::first_of;
 use tree::cells::kind_of;
 use tree::cells::next_of;
+use tree::children::child_of;
 use tree::names::name_is;
 ghost use mathlib.Core.Path.{_≡_};
 ghost use mathlib.Core.Bool.{Bool};
@@ -17,7 +17,7 @@ ghost use lib.Seq.{slice};
 ghost use Rattle.rules.specs.Bytes.{same};
 ghost use Rattle.rules.specs.Tree.{size, sizes};
 ghost use Rattle.tree.specs.Cells.{kind-of, first-of, name-at, tree-at, trees-at};
-ghost use Rattle.tree.specs.Arena.{Links, Arena};
+ghost use Rattle.tree.specs.Arena.{Arena};
 ghost use Rattle.certificate.specs.Texts.{word-text, texts, Tokens};
 ghost use Rattle.certificate.specs.Spelling.{Word};
 ghost use Rattle.equivalence.specs.Words.{Spelled, SpelledAll, Canon};
@@ -33,18 +33,6 @@ fn word_of(sheet: &[u8], work: &[u32], free: usize, k: usize) -> u32
         return place + 16777216;
     }
     place
-}
-
-// The first child of cell k, 0 for a leaf.
-fn child_of(work: &[u32], free: usize, k: usize) -> usize
-    requires { ⌜ Links (now work) free ⌝ }
-    requires { ⌜ (0 < k) × (k < free) ⌝ }
-    ensures { λ r. ⌜ (r < k) × (0 < r → (kind-of (now (work .entry)) k ≡ 0) × (r ≡ first-of (now (work .entry)) k)) × (r ≡ 0 → kind-of (now (work .entry)) k ≡ 0 → first-of (now (work .entry)) k ≡ 0) ⌝ }
-{
-    if kind_of(work, k) == 0 {
-        return first_of(work, free, k);
-    }
-    0
 }
 
 // Writes the words of the tree of cell i, which is a leaf.

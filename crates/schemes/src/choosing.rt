@@ -1,5 +1,4 @@
 // The choices for a list of trees, by an index: the first choice varies slowest. Cells of what does not change are used again.
-use crate::counting::children_of;
 use crate::counting::ways_of;
 use crate::firing::fire;
 use reduction::building::stay;
@@ -8,6 +7,7 @@ use substitution::instances::keep;
 use tree::cells::kind_of;
 use tree::cells::next_of;
 use tree::cells::share;
+use tree::children::child_of;
 ghost use mathlib.Core.Path.{_≡_};
 ghost use mathlib.Core.List.{List};
 ghost use Prim.Native.Nat.{ℕ, _+_, _*_, _<_, _≤_, _^_};
@@ -158,7 +158,7 @@ pub(crate) fn choose(
             free: free,
         };
     }
-    let first = children_of(sheet, work, free, i);
+    let first = child_of(work, free, i);
     let below = choose(sheet, work, free, first, fresh, next, index, ways);
     let here = root(sheet, work, i, fresh, below);
     let later = next_of(work, here.free, i);

@@ -3,30 +3,17 @@ use reduction::naming::RuleName;
 use reduction::naming::one_argument;
 use reduction::naming::rule_named;
 use reduction::naming::two_arguments;
-use tree::cells::first_of;
 use tree::cells::kind_of;
 use tree::cells::next_of;
+use tree::children::child_of;
 ghost use mathlib.Core.Path.{_≡_};
 ghost use Prim.Native.Nat.{_+_, _*_, _<_, _≤_};
-ghost use Rattle.rules.specs.Tree.{children};
 ghost use Rattle.rules.specs.Variants.{with-one, with-two, scheme-count, scheme-counts};
 ghost use Rattle.laws.specs.Schemes.{root-count};
 ghost use Rattle.tree.specs.Cells.{name-at, tree-at, trees-at};
 ghost use Rattle.tree.specs.Arena.{Arena};
 ghost use Rattle.schemes.specs.Choices.{over, ways-of};
 ghost use Rattle.schemes.specs.Counting.{capped, counted};
-
-// The first child of cell i, 0 for none and for a leaf.
-pub(crate) fn children_of(sheet: &[u8], work: &[u32], free: usize, i: usize) -> usize
-    requires { ⌜ Arena (now sheet) (now work) free ⌝ }
-    requires { ⌜ (0 < i) × (i < free) ⌝ }
-    ensures { λ r. ⌜ (r < i) × (trees-at (now (sheet .entry)) (now (work .entry)) r ≡ children (tree-at (now (sheet .entry)) (now (work .entry)) i)) ⌝ }
-{
-    if 0 < kind_of(work, i) {
-        return 0;
-    }
-    first_of(work, free, i)
-}
 
 // One choice more than k where the list from cell first on has one tree, else one.
 fn one_ways(sheet: &[u8], work: &[u32], free: usize, first: usize, k: usize) -> usize
@@ -102,7 +89,7 @@ fn count_list(sheet: &[u8], work: &[u32], free: usize, i: usize, count: usize) -
     if i == 0 {
         return count;
     }
-    let first = children_of(sheet, work, free, i);
+    let first = child_of(work, free, i);
     let below = count_list(sheet, work, free, first, count);
     let here = times(below, ways_of(sheet, work, free, i, first));
     count_list(sheet, work, free, next_of(work, free, i), here)
@@ -120,7 +107,7 @@ pub fn count_schemes(sheet: &[u8], work: &[u32], free: usize, i: usize) -> Count
     requires { ⌜ (0 < i) × (i < free) ⌝ }
     ensures { λ r. ⌜ r ≡ counted (scheme-count (tree-at (now (sheet .entry)) (now (work .entry)) i)) ⌝ }
 {
-    let first = children_of(sheet, work, free, i);
+    let first = child_of(work, free, i);
     let below = count_list(sheet, work, free, first, 1);
     let count = times(below, ways_of(sheet, work, free, i, first));
     if 4096 < count {

@@ -4,13 +4,13 @@ use sorts::natural;
 use sorts::refinable;
 use steps::elimination::Taken;
 use steps::elimination::eliminate;
-use steps::pushing::child_of;
 use steps::pushing::paired;
 use steps::pushing::push_children;
 use steps::rest::Rest;
 use steps::rest::unify_rest;
 use substitution::bindings::push_pair;
 use tree::cells::kind_of;
+use tree::children::child_of;
 use tree::equality::same_tree;
 use tree::names::same_head;
 ghost use mathlib.Core.Path.{_≡_};
@@ -111,14 +111,14 @@ fn decompose(
     requires { ⌜ same-tree (tree-at (now sheet) (now work) left) (tree-at (now sheet) (now work) right) ≡ false ⌝ }
     ensures { λ r. ⌜ Steps (now (sheet .entry)) (now (work .entry)) (now (work .exit)) free (load (tree-at (now (sheet .entry)) (now (work .entry)) left) (tree-at (now (sheet .entry)) (now (work .entry)) right) + weight (pairs-at (now (sheet .entry)) (now (work .entry)) rest)) (decompose (tree-at (now (sheet .entry)) (now (work .entry)) left) (tree-at (now (sheet .entry)) (now (work .entry)) right) (pairs-at (now (sheet .entry)) (now (work .entry)) rest)) r ⌝ }
 {
+    let a = child_of(work, free, left);
+    let b = child_of(work, free, right);
     if !same_head(sheet, work, free, left, right) {
         return Taken::Fails;
     }
     if is_sum(sheet, work, free, left) {
         return sum_step(sheet, work, free, left, right, rest);
     }
-    let a = child_of(work, free, left);
-    let b = child_of(work, free, right);
     let apart = paired(work, free, a, b);
     let pushed = push_children(sheet, work, free, a, b, rest);
     let stack = pushed.index;
