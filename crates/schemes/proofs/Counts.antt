@@ -16,7 +16,7 @@ use Rattle.laws.specs.Schemes.{root-count}
 use Rattle.tree.specs.Cells.{kind-of, name-at, tree-at}
 use Rattle.tree.proofs.Decoding.{Kind, application, a-variable, an-atom, kind, tree-variable, tree-atom, tree-apply}
 use Rattle.schemes.specs.Choices.{over, ways-of}
-use Rattle.schemes.specs.Counting.{capped, counted}
+use Rattle.schemes.specs.Counting.{capped, counted-schemes}
 use Rattle.schemes.specs.declared.counting.Counted.the-variants.{Schemes, Over}
 use Rattle.schemes.proofs.ByChildren.{count-children, over-same}
 
@@ -151,15 +151,15 @@ pub count-more : {here all : ℕ} (c : ℕ) (t : Tree) (ts : Trees) → here ≡
 unfolding scheme-count
 count-more {here} c t ts e f = f ∙ capped-step here (c * scheme-count t) (scheme-counts ts) e (counts-positive ts) ∙ ap capped (mul-assoc c (scheme-count t) (scheme-counts ts))
 
-pub counted-over : (c n : ℕ) → 4096 < c → c ≡ capped (1 * n) → Over ≡ counted n
-unfolding counted
+pub counted-over : (c n : ℕ) → 4096 < c → c ≡ capped (1 * n) → Over ≡ counted-schemes n
+unfolding counted-schemes
 counted-over c n h e = elim (decLt 4096 n) [
   | yes p ↦ sym (ap (λ (b : Bool). cond b (Schemes n) Over) (false-leb n 4096 p))
   | no p ↦ absurd (omega (arith, e, ap capped (let f : 1 * n ≡ n = omega arith in f), capped-within n (omega arith)))
 ]
 
-pub counted-some : (c n : ℕ) → c ≤ 4096 → c ≡ capped (1 * n) → Schemes c ≡ counted n
-unfolding counted
+pub counted-some : (c n : ℕ) → c ≤ 4096 → c ≡ capped (1 * n) → Schemes c ≡ counted-schemes n
+unfolding counted-schemes
 counted-some c n h e = elim (decLt 4096 n) [
   | yes p ↦ absurd (omega (arith, e, ap capped (let f : 1 * n ≡ n = omega arith in f), capped-over n p))
   | no p ↦ ap Schemes (e ∙ ap capped (let f : 1 * n ≡ n = omega arith in f) ∙ capped-within n (omega arith)) ∙ sym (ap (λ (b : Bool). cond b (Schemes n) Over) (true-leb n 4096 (omega arith)))

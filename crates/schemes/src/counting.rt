@@ -13,7 +13,7 @@ ghost use Rattle.laws.specs.Schemes.{root-count};
 ghost use Rattle.tree.specs.Cells.{name-at, tree-at, trees-at};
 ghost use Rattle.tree.specs.Arena.{Arena};
 ghost use Rattle.schemes.specs.Choices.{over, ways-of};
-ghost use Rattle.schemes.specs.Counting.{capped, counted};
+ghost use Rattle.schemes.specs.Counting.{capped, counted-schemes};
 
 // One choice more than k where the list from cell first on has one tree, else one.
 fn one_ways(sheet: &[u8], work: &[u32], free: usize, first: usize, k: usize) -> usize
@@ -105,7 +105,7 @@ pub enum Counted {
 pub fn count_schemes(sheet: &[u8], work: &[u32], free: usize, i: usize) -> Counted
     requires { ⌜ Arena (now sheet) (now work) free ⌝ }
     requires { ⌜ (0 < i) × (i < free) ⌝ }
-    ensures { λ r. ⌜ r ≡ counted (scheme-count (tree-at (now (sheet .entry)) (now (work .entry)) i)) ⌝ }
+    ensures { λ r. ⌜ r ≡ counted-schemes (scheme-count (tree-at (now (sheet .entry)) (now (work .entry)) i)) ⌝ }
 {
     let first = child_of(work, free, i);
     let below = count_list(sheet, work, free, first, 1);
