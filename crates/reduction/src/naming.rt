@@ -1,4 +1,5 @@
 // The rule of a name, and the children of a tree where they are as many as a rule asks for.
+use tree::cells::APPLICATION;
 use tree::cells::first_of;
 use tree::cells::kind_of;
 use tree::cells::next_of;
@@ -85,7 +86,7 @@ fn applies(sheet: &[u8], work: &[u32], free: usize, k: usize, text: &[u8]) -> bo
     requires { ⌜ (0 < k) × (k < free) ⌝ }
     ensures { λ r. ⌜ arguments-of (now (text .entry)) (tree-at (now (sheet .entry)) (now (work .entry)) k) ≡ given-if r (trees-at (now (sheet .entry)) (now (work .entry)) (first-of (now (work .entry)) k)) ⌝ }
 {
-    if 0 < kind_of(work, k) {
+    if APPLICATION < kind_of(work, k) {
         return false;
     }
     name_is(sheet, work, free, k, text)

@@ -4,6 +4,7 @@ use crate::firing::fire;
 use reduction::building::stay;
 use substitution::bindings::Pushed;
 use substitution::instances::keep;
+use tree::cells::APPLICATION;
 use tree::cells::kind_of;
 use tree::cells::next_of;
 use tree::cells::share;
@@ -65,7 +66,7 @@ fn unchanged(sheet: &[u8], work: &mut [u32], free: usize, i: usize, first: usize
     requires { ⌜ (4 * free + 4 ≤ length (now work)) × (free < 2 ^ 32) ⌝ }
     ensures { λ r. ⌜ KeptAs (now (sheet .entry)) (now (work .entry)) (now (work .exit)) free (over (tree-at (now (sheet .entry)) (now (work .entry)) i) (trees-at (now (sheet .entry)) (now (work .entry)) first)) (r .index) (r .free) ⌝ }
 {
-    if 0 < kind_of(work, i) {
+    if APPLICATION < kind_of(work, i) {
         return Pushed {
             index: i,
             free: free,

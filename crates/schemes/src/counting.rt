@@ -3,6 +3,7 @@ use reduction::naming::RuleName;
 use reduction::naming::one_argument;
 use reduction::naming::rule_named;
 use reduction::naming::two_arguments;
+use tree::cells::APPLICATION;
 use tree::cells::kind_of;
 use tree::cells::next_of;
 use tree::children::child_of;
@@ -62,7 +63,7 @@ pub(crate) fn ways_of(sheet: &[u8], work: &[u32], free: usize, i: usize, first: 
     requires { ⌜ (0 < i) × (i < free) × (first < free) ⌝ }
     ensures { λ r. ⌜ r ≡ ways-of (over (tree-at (now (sheet .entry)) (now (work .entry)) i) (trees-at (now (sheet .entry)) (now (work .entry)) first)) ⌝ }
 {
-    if 0 < kind_of(work, i) {
+    if APPLICATION < kind_of(work, i) {
         return 1;
     }
     name_ways(sheet, work, free, i, first)

@@ -3,6 +3,7 @@ use reduction::building::leaf;
 use reduction::naming::RuleName;
 use reduction::naming::rule_named;
 use substitution::bindings::push_pair;
+use tree::cells::APPLICATION;
 use tree::cells::next_of;
 use tree::cells::push_cell;
 use tree::cells::share;
@@ -45,7 +46,7 @@ fn named(
     requires { ⌜ (4 * free + 4 ≤ length (now work)) × (free < 2 ^ 32) ⌝ }
     ensures { λ r. ⌜ (r ≡ free + 1) × Linked (now (sheet .entry)) (now (work .entry)) (now (work .exit)) free next (apply (fixed-name code) (trees-at (now (sheet .entry)) (now (work .entry)) first)) ⌝ }
 {
-    push_cell(work, free, code, 0, 0, first, next, 1 + count)
+    push_cell(work, free, code, 0, APPLICATION, first, next, 1 + count)
 }
 
 // The name of a code over the variables of cells x and y.

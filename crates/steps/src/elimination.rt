@@ -4,6 +4,8 @@ use sorts::sorted;
 use substitution::occurrence::occurs;
 use substitution::solving::Waiting;
 use substitution::solving::bind_into;
+use tree::cells::APPLICATION;
+use tree::cells::VARIABLE_OTHER;
 use tree::cells::kind_of;
 ghost use Prim.Native.Nat.{_+_, _*_, _<_, _≤_};
 ghost use Rattle.rules.specs.Solving.{bind-into, swap-key, eliminate};
@@ -69,8 +71,8 @@ fn swap(
     ensures { λ r. ⌜ TakenIs (now (sheet .entry)) (now (work .entry)) (now (work .exit)) free 0 (swap-key (numbered sort) (name-at (now (sheet .entry)) (now (work .entry)) key) (tree-at (now (sheet .entry)) (now (work .entry)) value) (pairs-at (now (sheet .entry)) (now (work .entry)) rest)) r ⌝ }
 {
     let kind = kind_of(work, value);
-    if 0 < kind {
-        if kind < 6 {
+    if APPLICATION < kind {
+        if kind < VARIABLE_OTHER {
             if sorted(sheet, work, free, kind - 1, key) {
                 return bind(sheet, work, free, value, key, rest);
             }
@@ -98,7 +100,7 @@ pub fn eliminate(
     ensures { λ r. ⌜ TakenIs (now (sheet .entry)) (now (work .entry)) (now (work .exit)) free 0 (eliminate (name-at (now (sheet .entry)) (now (work .entry)) key) (tree-at (now (sheet .entry)) (now (work .entry)) value) (pairs-at (now (sheet .entry)) (now (work .entry)) rest)) r ⌝ }
 {
     let kind = kind_of(work, key);
-    if kind == 6 {
+    if kind == VARIABLE_OTHER {
         return Taken::Unknown;
     }
     if occurs(sheet, work, free, key, value) {

@@ -9,6 +9,9 @@ use steps::rest::match_rest;
 use substitution::bindings::Found;
 use substitution::bindings::lookup;
 use substitution::bindings::push_pair;
+use tree::cells::APPLICATION;
+use tree::cells::ATOMS;
+use tree::cells::VARIABLE_OTHER;
 use tree::cells::kind_of;
 use tree::cells::next_of;
 use tree::children::child_of;
@@ -71,7 +74,7 @@ fn match_key(
         }
         Found::Nothing => {
             let kind = kind_of(work, key);
-            if kind == 6 {
+            if kind == VARIABLE_OTHER {
                 return Moved::Clash;
             }
             if sorted(sheet, work, free, kind - 1, value) {
@@ -183,8 +186,8 @@ fn advance(
     ensures { λ r. ⌜ Moves (now (sheet .entry)) (now (work .entry)) (now (work .exit)) free (load (tree-at (now (sheet .entry)) (now (work .entry)) left) (tree-at (now (sheet .entry)) (now (work .entry)) right) + weight (pairs-at (now (sheet .entry)) (now (work .entry)) rest)) (move (tree-at (now (sheet .entry)) (now (work .entry)) left) (tree-at (now (sheet .entry)) (now (work .entry)) right) (pairs-at (now (sheet .entry)) (now (work .entry)) rest) (bindings-at (now (sheet .entry)) (now (work .entry)) made)) r ⌝ }
 {
     let kind = kind_of(work, left);
-    if 0 < kind {
-        if kind < 7 {
+    if APPLICATION < kind {
+        if kind < ATOMS {
             return match_key(sheet, work, free, left, right, rest, made);
         }
     }

@@ -9,6 +9,8 @@ use steps::pushing::push_children;
 use steps::rest::Rest;
 use steps::rest::unify_rest;
 use substitution::bindings::push_pair;
+use tree::cells::APPLICATION;
+use tree::cells::ATOMS;
 use tree::cells::kind_of;
 use tree::children::child_of;
 use tree::equality::same_tree;
@@ -136,10 +138,10 @@ fn is_variable(work: &[u32], k: usize) -> bool
     ensures { λ r. ⌜ r ≡ ltb 0 (kind-of (now (work .entry)) k) && ltb (kind-of (now (work .entry)) k) 7 ⌝ }
 {
     let kind = kind_of(work, k);
-    if kind == 0 {
+    if kind == APPLICATION {
         return false;
     }
-    kind < 7
+    kind < ATOMS
 }
 
 // Whether the trees of cells left and right are equal; if `apart` is 1, they are known to differ.
