@@ -1,9 +1,9 @@
 // Whether a member generalizes the solution of a scheme and its value (variants.rs, `complete`).
 use cover::generals::pair_variables;
+use matching::matcher;
 use substitution::bindings::push_pair;
 use tree::cells::first_of;
 use tree::cells::next_of;
-use unifier::matching::matcher;
 use unifier::unifying::Outcome;
 ghost use mathlib.Core.Path.{_≡_};
 ghost use Prim.Native.Nat.{_+_, _*_, _<_, _≤_};

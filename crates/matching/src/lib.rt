@@ -1,5 +1,4 @@
-// `matcher`: pattern variables are bound, subject variables are constants.
-use crate::unifying::Outcome;
+// Matching of trees in a lent work area (unifier.rs, `matcher`): pattern variables are bound, subject variables are constants.
 use equivalence::equivalent;
 use equivalence::sums::is_sum;
 use sorts::sorted;
@@ -16,6 +15,7 @@ use tree::cells::kind_of;
 use tree::cells::next_of;
 use tree::children::child_of;
 use tree::names::same_head;
+use unifier::unifying::Outcome;
 ghost use mathlib.Core.Path.{_≡_};
 ghost use mathlib.Core.Bool.{false};
 ghost use mathlib.Core.List.{[]};
@@ -29,8 +29,8 @@ ghost use Rattle.tree.specs.Arena.{Arena};
 ghost use Rattle.substitution.specs.Bindings.{bindings-at, Chain};
 ghost use Rattle.steps.specs.Stack.{Whole, pairs-at, Fit, FitPairs, FitBindings};
 ghost use Rattle.steps.specs.Area.{Room};
-ghost use Rattle.unifier.specs.Matching.{Moves};
+ghost use Rattle.matching.specs.Matching.{Moves};
 ghost use Rattle.unifier.specs.Running.{Answers};
 
 // What a pair taken gives: the next stack and the bindings, the newest first, or the end of the run.
 enum Moved {
