@@ -7,9 +7,9 @@ use lib.ListN.{length}
 abbrev pub step-words : ℕ
 step-words = 204802
 
--- the cells that a binding of `unify` is given: 4,100 to make it, 4,096 for the pairs that it leaves, 4,097 to compose it
-abbrev pub binding-cells : ℕ
-binding-cells = 12293
+-- the cells that a run of `unify` needs for each name: 4,100, 4,096 and 4,097 (unifier, Running)
+abbrev pub name-cells : ℕ
+name-cells = 12293
 
 -- room for k cells and for one step
 abbrev pub Room : List ℕ → ℕ → Type 0

@@ -10,7 +10,7 @@ use Rattle.laws.specs.Memory.{OverPairs, weight}
 use Rattle.tree.specs.Cells.{trees-at}
 use Rattle.tree.specs.Arena.{Arena, Below}
 use Rattle.substitution.specs.Bindings.{bindings-at, Chain}
-use Rattle.steps.specs.Area.{step-words, binding-cells, Room}
+use Rattle.steps.specs.Area.{step-words, name-cells, Room}
 use Rattle.unifier.specs.declared.unifying.Outcome.{Outcome}
 use Rattle.unifier.specs.declared.unifying.Outcome.the-variants as outcome
 
@@ -19,7 +19,7 @@ use Rattle.unifier.specs.declared.unifying.Outcome.the-variants as outco
 pub record Roomy (w : List ℕ) (n fuel : ℕ) (ps : List Pair) : Type 0 where
   pub names : List Text
   pub over : OverPairs names ps
-  pub room : Room w (n + weight ps + 2 * fuel + binding-cells * length names)
+  pub room : Room w (n + weight ps + 2 * fuel + name-cells * length names)
 
 -- from w, with the free end n, to v, with the free end m: the bindings are the list from cell b on, and the words of one step are free
 pub record Bound (s : Text) (w v : List ℕ) (n b m : ℕ) : Type 0 where
