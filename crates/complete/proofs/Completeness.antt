@@ -31,7 +31,7 @@ use Rattle.variants.specs.Members.{TextsRoom}
 use Rattle.sheet.specs.Claims.{truth}
 use Rattle.sheet.specs.declared.claims.Claim.{Claim}
 use Rattle.sheet.specs.declared.claims.Claim.the-variants.{Nothing}
-use Rattle.schemes.specs.Counting.{counted}
+use Rattle.schemes.specs.Counting.{counted-schemes}
 use Rattle.schemes.specs.declared.counting.Counted.the-variants.{Schemes, Over}
 use Rattle.schemes.specs.Building.{Fresh}
 use Rattle.variables.specs.Variables.{Readable}
@@ -51,16 +51,16 @@ use Rattle.families.proofs.Alike.{family-judges}
 use Rattle.complete.proofs.Asking.{asked-names, asked-tokens, asked-bytes, asked-colons, asked-judgeable}
 
 -- the count of schemes
-counted-some : (n c : ℕ) → Schemes c ≡ counted n → (c ≡ n) × (c ≤ 4096)
-unfolding counted
+counted-some : (n c : ℕ) → Schemes c ≡ counted-schemes n → (c ≡ n) × (c ≤ 4096)
+unfolding counted-schemes
 counted-some n c e = go (leb n 4096) refl e
   where
     go : (b : Bool) → leb n 4096 ≡ b → Schemes c ≡ cond b (Schemes n) Over → (c ≡ n) × (c ≤ 4096)
     go true f e = let q : c ≡ n = cc in (q, omega (arith, leb-true n 4096 f))
     go false f e = let z : _≡_ {A = ℕ} 0 1 = cc in absurd (omega arith)
 
-counted-over : (n : ℕ) → Over ≡ counted n → 4096 < n
-unfolding counted
+counted-over : (n : ℕ) → Over ≡ counted-schemes n → 4096 < n
+unfolding counted-schemes
 counted-over n e = go (leb n 4096) refl e
   where
     go : (b : Bool) → leb n 4096 ≡ b → Over ≡ cond b (Schemes n) Over → 4096 < n
@@ -105,10 +105,10 @@ module _ {s : Text} {w : List ℕ} {free term named at : ℕ} (k : CompleteInput
     term-now : tree-at s w term ≡ tree-at s v term
     term-now = frame-tree s v (a .links) (t .below .words) term tp tb
 
-    pub over-claims : Over ≡ counted (scheme-count (tree-at s v term)) → ClaimsComplete s w v free term at Nothing
+    pub over-claims : Over ≡ counted-schemes (scheme-count (tree-at s v term)) → ClaimsComplete s w v free term at Nothing
     over-claims e = claims-over (omega (arith, counted-over (scheme-count (tree-at s v term)) e, ap scheme-count term-now)) (t .below)
 
-    pub count-now : (c : ℕ) → Schemes c ≡ counted (scheme-count (tree-at s v term)) → (c ≡ scheme-count (tree-at s w term)) × (c ≤ 4096)
+    pub count-now : (c : ℕ) → Schemes c ≡ counted-schemes (scheme-count (tree-at s v term)) → (c ≡ scheme-count (tree-at s w term)) × (c ≤ 4096)
     count-now c e = let r = counted-some (scheme-count (tree-at s v term)) c e in (r .0 ∙ sym (ap scheme-count term-now), r .1)
 
     -- the words for the fresh variables and the members

@@ -10,9 +10,9 @@ use runs::order::BYTES;
 use runs::order::Order;
 use runs::order::compare;
 use settling::settle;
-use tree::cells::first_of;
 use tree::cells::kind_of;
 use tree::cells::next_of;
+use tree::children::child_of;
 use tree::names::name_is;
 ghost use mathlib.Core.Path.{_≡_};
 ghost use mathlib.Core.Bool.{Bool};
@@ -22,7 +22,7 @@ ghost use lib.Seq.{slice};
 ghost use Rattle.rules.specs.Bytes.{same};
 ghost use Rattle.rules.specs.Tree.{size, sizes};
 ghost use Rattle.tree.specs.Cells.{kind-of, first-of, name-at, tree-at, trees-at};
-ghost use Rattle.tree.specs.Arena.{Links, Arena};
+ghost use Rattle.tree.specs.Arena.{Arena};
 ghost use Rattle.runs.specs.Texts.{word-text, texts, Tokens};
 ghost use Rattle.flattening.specs.Spelling.{Word};
 ghost use Rattle.equivalence.specs.Words.{TermWritten, TermsWritten, Canon};
@@ -38,18 +38,6 @@ fn word_of(sheet: &[u8], work: &[u32], free: usize, k: usize) -> u32
         return place + PLUS;
     }
     place
-}
-
-// The first child of cell k, 0 for a leaf.
-fn child_of(work: &[u32], free: usize, k: usize) -> usize
-    requires { ⌜ Links (now work) free ⌝ }
-    requires { ⌜ (0 < k) × (k < free) ⌝ }
-    ensures { λ r. ⌜ (r < k) × (0 < r → (kind-of (now (work .entry)) k ≡ 0) × (r ≡ first-of (now (work .entry)) k)) × (r ≡ 0 → kind-of (now (work .entry)) k ≡ 0 → first-of (now (work .entry)) k ≡ 0) ⌝ }
-{
-    if kind_of(work, k) == 0 {
-        return first_of(work, free, k);
-    }
-    0
 }
 
 // Writes the words of the tree of cell i, which is a leaf.

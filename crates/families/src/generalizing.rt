@@ -1,8 +1,8 @@
 // Whether a member generalizes the solution of a scheme and its value (variants.rs, `complete`).
+use matching::matcher;
 use substitution::bindings::push_pair;
 use tree::cells::first_of;
 use tree::cells::next_of;
-use unifier::matching::matcher;
 use unifier::unifying::Outcome;
 use variables::pairing::pair_variables;
 ghost use mathlib.Core.Path.{_≡_};

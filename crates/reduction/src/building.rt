@@ -1,6 +1,7 @@
 // What a node becomes, before the list of its later siblings: a fixed name, a tree that is there, or its name over its new children.
 use substitution::bindings::Pushed;
 use substitution::instances::keep;
+use tree::cells::APPLICATION;
 use tree::cells::count_of;
 use tree::cells::first_of;
 use tree::cells::next_of;
@@ -24,7 +25,7 @@ pub fn leaf(sheet: &[u8], work: &mut [u32], free: usize, code: usize, next: usiz
     requires { ⌜ (4 * free + 4 ≤ length (now work)) × (free < 2 ^ 32) ⌝ }
     ensures { λ r. ⌜ NewTree (now (sheet .entry)) (now (work .entry)) (now (work .exit)) free 1 next (constant (fixed-name code)) (r .index) (r .free) ⌝ }
 {
-    let end = push_cell(work, free, code, 0, 0, 0, next, 1);
+    let end = push_cell(work, free, code, 0, APPLICATION, 0, next, 1);
     Pushed {
         index: free,
         free: end,

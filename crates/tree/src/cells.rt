@@ -7,6 +7,24 @@ ghost use Rattle.laws.specs.Unspelled.{unspelled};
 ghost use Rattle.tree.specs.Cells.{start-of, length-of, kind-of, nodes-of, first-of, next-of, tree-at, trees-at};
 ghost use Rattle.tree.specs.Arena.{Links, Arena, Wrote, Linked};
 
+// The kinds of cells (specs/Cells.antt): an application, a variable by its sort, and from ATOMS on an atom by its letter.
+pub const APPLICATION: usize = 0;
+
+pub const VARIABLE_PUB: usize = 1;
+
+pub const VARIABLE_FRESH: usize = 2;
+
+pub const VARIABLE_MSG: usize = 3;
+
+pub const VARIABLE_TAM_NAT: usize = 4;
+
+pub const VARIABLE_NODE: usize = 5;
+
+// A variable of none of the five sorts.
+pub const VARIABLE_OTHER: usize = 6;
+
+pub const ATOMS: usize = 7;
+
 // A word as an index.
 fn wide(x: u32) -> usize
     ensures { λ r. ⌜ (r ≡ x) × (r < 2 ^ 32) ⌝ }

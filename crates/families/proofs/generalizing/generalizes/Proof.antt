@@ -12,7 +12,7 @@ use Rattle.variables.proofs.pairing.pair_variables.Reads as pair-variables-read
 use Rattle.substitution.proofs.bindings.push_pair.Reads as push-pair-reads
 use Rattle.tree.proofs.cells.first_of.Reads as first-of-reads
 use Rattle.tree.proofs.cells.next_of.Reads as next-of-reads
-use Rattle.unifier.proofs.matching.matcher.Reads as matcher-reads
+use Rattle.matching.proofs.matcher.Reads as matcher-reads
 
 first-of-requires : tie.Need-first-of-requires
 first-of-requires c κs = search needs

@@ -4,7 +4,7 @@ use Rattle.yukhtsami.proofs.kinds.solve.Statement.{statement}
 use Rattle.yukhtsami.proofs.kinds.solve.Tie as tie
 use Rattle.yukhtsami.proofs.kinds.solve.Reads as reads
 use Rattle.yukhtsami.proofs.kinds.solve.Lts as lts
-use Rattle.unifier.proofs.matching.matcher.Reads as matcher-reads
+use Rattle.matching.proofs.matcher.Reads as matcher-reads
 use Rattle.unifier.proofs.unifying.unify.Reads as unify-reads
 
 matcher-requires : tie.Need-matcher-requires

@@ -1,12 +1,12 @@
 use mathlib.Core.Path.{sym, _∙_}
 use native.Mathlib.Omega.{arith}
 use Rattle.tree.proofs.Areas.{below-same}
 use Rattle.unifier.proofs.Fitting.{bound-value}
 use Rattle.equivalence.proofs.Scratch.{below-kept}
-use Rattle.unifier.proofs.Moving.{onwards-same, onwards-binding, bound-agrees, new-sortless, new-sorted}
+use Rattle.matching.proofs.Moving.{onwards-same, onwards-binding, bound-agrees, new-sortless, new-sorted}
 use borrow.Author.Needs.{needs}
-use Rattle.unifier.proofs.matching.match_key.Statement.{statement}
-use Rattle.unifier.proofs.matching.match_key.Tie as tie
+use Rattle.matching.proofs.match_key.Statement.{statement}
+use Rattle.matching.proofs.match_key.Tie as tie
 
 lookup-requires : tie.Need-lookup-requires
 lookup-requires c κs = search needs

@@ -1,10 +1,10 @@
 use Prim.Native.Nat.{_<_}
 use native.Mathlib.Omega.{arith}
 use Rattle.steps.specs.Stack.{pairs-at}
-use Rattle.unifier.proofs.Advancing.{Holds, holds-start, holds-solved, holds-spent, holds-right, holds-top, move-fits, move-room, holds-clash, holds-beyond, holds-onward}
+use Rattle.matching.proofs.Advancing.{Holds, holds-start, holds-solved, holds-spent, holds-right, holds-top, move-fits, move-room, holds-clash, holds-beyond, holds-onward}
 use borrow.Author.Needs.{needs}
-use Rattle.unifier.proofs.matching.matcher.Statement.{statement}
-use Rattle.unifier.proofs.matching.matcher.Tie as tie
+use Rattle.matching.proofs.matcher.Statement.{statement}
+use Rattle.matching.proofs.matcher.Tie as tie
 
 abbrev Inv-loop : tie.InvT-loop
 Inv-loop sheet work₀ free stack fuel left₀ waiting₀ made₀ end₀ work left waiting made end = Holds sheet work₀ work free (pairs-at sheet work₀ stack) fuel left waiting made end

@@ -5,11 +5,11 @@ use Rattle.rules.specs.Matching.{ground-eq, match-rest}
 use Rattle.rules.specs.Solving.{Rest}
 use Rattle.substitution.specs.Bindings.{bindings-at}
 use Rattle.steps.specs.Stack.{pairs-at}
 use Rattle.unifier.proofs.Sums.{pair-room}
-use Rattle.unifier.proofs.Moving.{onwards-same, onwards-sums}
+use Rattle.matching.proofs.Moving.{onwards-same, onwards-sums}
 use borrow.Author.Needs.{needs}
-use Rattle.unifier.proofs.matching.match_sums.Statement.{statement}
-use Rattle.unifier.proofs.matching.match_sums.Tie as tie
+use Rattle.matching.proofs.match_sums.Statement.{statement}
+use Rattle.matching.proofs.match_sums.Tie as tie
 
 match-rest-requires : tie.Need-match-rest-requires
 match-rest-requires c κs =

@@ -22,13 +22,13 @@ use Rattle.sorts.proofs.Coding.{kind-known, kind-unknown}
 use Rattle.substitution.specs.Bindings.{bindings-at, flatten-bindings, Chain}
 use Rattle.substitution.specs.Building.{Made}
 use Rattle.steps.specs.Stack.{pairs-at, Whole, pushes, Fit}
-use Rattle.steps.specs.Resting.{Equates}
+use Rattle.steps.specs.Resting.{EquationIs}
 use Rattle.steps.specs.Stepping.{Waits, GoesOn}
 use Rattle.steps.proofs.Differing.{differing-none}
 use Rattle.steps.proofs.Waiting.{stack-below, waits-below}
-use Rattle.unifier.specs.Matching.{Onwards}
+use Rattle.matching.specs.Matching.{Onwards}
 use Rattle.unifier.proofs.Sums.{pair-waits, pair-used}
 use Rattle.unifier.proofs.Steps.{children-pushed}
 
 -- the pairs and the bindings that stand below the free end n
 module _ {s : Text} {w : List ℕ} {n : ℕ} (a : Arena s w n) (rest made : ℕ) (q : rest < n) (q₁ : made < n) (whole : Whole (trees-at s w rest)) (chain : Chain (trees-at s w made)) where
@@ -114,7 +114,7 @@ module _ (t u : Tree) (ps : List Pair) (bs : List Binding) where
 pub onwards-sums : {s : Text} {w v u : List ℕ} {n p q m c y : ℕ} (l r rest made : ℕ) → Arena s w n → rest < n → made < n
     → (kind-of w l ≡ 0) × (name-at s w l ≡ tamtplus) × (kind-of w r ≡ 0) × (name-at s w r ≡ tamtplus)
     → Whole (trees-at s w rest) × Chain (trees-at s w made) × Fit (tree-at s w l) × Fit (tree-at s w r)
-    → Equates s w v n (kept-summands ground-eq (tree-at s w l) (tree-at s w r)) (cancel-sums false ground-eq (tree-at s w l) (tree-at s w r)) p q m
+    → EquationIs s w v n (kept-summands ground-eq (tree-at s w l) (tree-at s w r)) (cancel-sums false ground-eq (tree-at s w l) (tree-at s w r)) p q m
     → Made s v u m c y (more (tree-at s v p) (more (tree-at s v q) (trees-at s v rest))) × (c ≡ m + 2)
     → Onwards s w u n (load (tree-at s w l) (tree-at s w r) + weight (pairs-at s w rest))
     (match-rest (cancel-sums false ground-eq (tree-at s w l) (tree-at s w r)) (pairs-at s w rest) (bindings-at s w made)) y made c

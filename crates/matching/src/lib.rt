@@ -1,18 +1,21 @@
-// `matcher`: pattern variables are bound, subject variables are constants.
-use crate::unifying::Outcome;
+// Matching of trees in a lent work area (unifier.rs, `matcher`): pattern variables are bound, subject variables are constants.
 use equivalence::equivalent;
 use equivalence::sums::is_sum;
 use sorts::sorted;
-use steps::pushing::child_of;
 use steps::pushing::push_children;
 use steps::rest::Rest;
 use steps::rest::match_rest;
 use substitution::bindings::Found;
 use substitution::bindings::lookup;
 use substitution::bindings::push_pair;
+use tree::cells::APPLICATION;
+use tree::cells::ATOMS;
+use tree::cells::VARIABLE_OTHER;
 use tree::cells::kind_of;
 use tree::cells::next_of;
+use tree::children::child_of;
 use tree::names::same_head;
+use unifier::unifying::Outcome;
 ghost use mathlib.Core.Path.{_≡_};
 ghost use mathlib.Core.Bool.{false};
 ghost use mathlib.Core.List.{[]};
@@ -26,8 +29,8 @@ ghost use Rattle.tree.specs.Arena.{Arena};
 ghost use Rattle.substitution.specs.Bindings.{bindings-at, Chain};
 ghost use Rattle.steps.specs.Stack.{Whole, pairs-at, Fit, FitPairs, FitBindings};
 ghost use Rattle.steps.specs.Area.{Room};
-ghost use Rattle.unifier.specs.Matching.{Moves};
+ghost use Rattle.matching.specs.Matching.{Moves};
 ghost use Rattle.unifier.specs.Running.{Answers};
 
 // What a pair taken gives: the next stack and the bindings, the newest first, or the end of the run.
 enum Moved {
@@ -71,7 +74,7 @@ fn match_key(
         }
         Found::Nothing => {
             let kind = kind_of(work, key);
-            if kind == 6 {
+            if kind == VARIABLE_OTHER {
                 return Moved::Clash;
             }
             if sorted(sheet, work, free, kind - 1, value) {
@@ -183,8 +186,8 @@ fn advance(
     ensures { λ r. ⌜ Moves (now (sheet .entry)) (now (work .entry)) (now (work .exit)) free (load (tree-at (now (sheet .entry)) (now (work .entry)) left) (tree-at (now (sheet .entry)) (now (work .entry)) right) + weight (pairs-at (now (sheet .entry)) (now (work .entry)) rest)) (move (tree-at (now (sheet .entry)) (now (work .entry)) left) (tree-at (now (sheet .entry)) (now (work .entry)) right) (pairs-at (now (sheet .entry)) (now (work .entry)) rest) (bindings-at (now (sheet .entry)) (now (work .entry)) made)) r ⌝ }
 {
     let kind = kind_of(work, left);
-    if 0 < kind {
-        if kind < 7 {
+    if APPLICATION < kind {
+        if kind < ATOMS {
             return match_key(sheet, work, free, left, right, rest, made);
         }
     }

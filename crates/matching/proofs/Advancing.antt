@@ -17,12 +17,12 @@ use Rattle.substitution.specs.Bindings.{bindings-of, bindings-at, flatten-bindi
 use Rattle.substitution.proofs.Chains.{bindings-flatten, chain-flatten}
 use Rattle.steps.specs.Stack.{pairs-at, Whole, Fit, FitPairs, FitBindings}
 use Rattle.steps.specs.Area.{Room}
 use Rattle.unifier.specs.Running.{Bound}
-use Rattle.unifier.specs.Matching.{Moves}
-use Rattle.unifier.specs.declared.matching.Moved.{Moved}
-use Rattle.unifier.specs.declared.matching.Moved.the-variants as taken
+use Rattle.matching.specs.Matching.{Moves}
+use Rattle.matching.specs.declared.Moved.{Moved}
+use Rattle.matching.specs.declared.Moved.the-variants as taken
 use Rattle.unifier.proofs.Fitting.{FitMove, move-fit}
 use Rattle.unifier.proofs.Tops.{stack-empty, Top, right-some, top, top-pairs, top-weight, top-fit, top-whole}
 
 -- the answer after k pairs taken
 abbrev pub later : ℕ → Answer → Answer

@@ -6,12 +6,12 @@ use Rattle.tree.specs.Cells.{tree-at}
 use Rattle.tree.proofs.Areas.{below-same}
 use Rattle.substitution.specs.Bindings.{bindings-at}
 use Rattle.steps.specs.Stack.{pairs-at}
 use Rattle.unifier.proofs.Sums.{sum-told, no-sum-told, sum-cell, cell-head}
 use Rattle.unifier.proofs.Steps.{held, children-room}
-use Rattle.unifier.proofs.Moving.{roots-differ, roots-sums, onwards-children}
+use Rattle.matching.proofs.Moving.{roots-differ, roots-sums, onwards-children}
 use borrow.Author.Needs.{needs}
-use Rattle.unifier.proofs.matching.match_roots.Statement.{statement}
-use Rattle.unifier.proofs.matching.match_roots.Tie as tie
+use Rattle.matching.proofs.match_roots.Statement.{statement}
+use Rattle.matching.proofs.match_roots.Tie as tie
 
 same-head-requires : tie.Need-same-head-requires
 same-head-requires c κs = search needs
