@@ -21,7 +21,8 @@ use Rattle.syntax.proofs.SymbolLaws.{Marks, means-is}
 use Rattle.text.proofs.Slices.{slice-same, slice-join, slice-none}
 use Rattle.certificate.specs.Texts.{Token, Tokens}
 use Rattle.certificate.specs.Items.{Item, begin, shut, comma, name, place, items-by, items-at, Mode, wanting, naming, having, emits, adds, in-sum, opening, bracket, closing, write, writes, brackets, written}
-use Rattle.certificate.specs.Writer.{Opened, Closed, Kept, Outcome, finished}
+use Rattle.text.specs.Frames.{Outside}
+use Rattle.certificate.specs.Writer.{Opened, Closed, Outcome, finished}
 use Rattle.certificate.specs.declared.writer.Written.{Written}
 use Rattle.certificate.proofs.NameWords.{code-token}
 use Rattle.certificate.proofs.Settling.{Each, none as no-words, more as more-words, each-at, slice-at}
@@ -259,7 +260,7 @@ module _ (s w : List ℕ) (from to base stack : ℕ) (start : from ≤ to) (fits
 
     -- ---- the ends
 
-    pub kept : (m : Mode) → State v at depth out m → Kept w v base (stack + (to - from))
+    pub kept : (m : Mode) → State v at depth out m → Outside w v base (stack + (to - from))
     kept m h = record { len = h .len; below = h .below; above = h .above }
 
     none-ahead : (m : Mode) → State v at depth out m → writes s (items-at (take to s) at) m (brackets v stack depth) ≡ none → written s (take to s) from ≡ none

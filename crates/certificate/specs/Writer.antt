@@ -29,12 +29,6 @@ pub record Closed (w v : List ℕ) (stack depth out r : ℕ) : Type 0 where
   pub wrote : Wrote w v out (closing (getD w (stack + depth) 0))
   pub ends : r ≡ out + length (closing (getD w (stack + depth) 0))
 
--- only the words from base to lim changed
-pub record Kept (w v : List ℕ) (base lim : ℕ) : Type 0 where
-  pub len : length v ≡ length w
-  pub below : (p : ℕ) → p < base → getD v p 0 ≡ getD w p 0
-  pub above : (p : ℕ) → lim ≤ p → getD v p 0 ≡ getD w p 0
-
 -- the words of the text from `from` to `to` of the sheet s are those of v from base to `end`
 pub record Done (s v : List ℕ) (from to base end : ℕ) : Type 0 where
   pub low : base ≤ end

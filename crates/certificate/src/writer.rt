@@ -4,7 +4,8 @@ ghost use Prim.Native.Nat.{_+_, _-_, _<_, _≤_};
 ghost use lib.ListN.{length, getD, take};
 ghost use Rattle.text.specs.Sorting.{Wrote};
 ghost use Rattle.certificate.specs.Items.{place, adds, in-sum, opening, bracket, closing, brackets};
-ghost use Rattle.certificate.specs.Writer.{Opened, Closed, Kept, Outcome, finished};
+ghost use Rattle.text.specs.Frames.{Outside};
+ghost use Rattle.certificate.specs.Writer.{Opened, Closed, Outcome, finished};
 use syntax::Symbol;
 
 // What became of a text: its words, up to the one that is answered, or no term.
@@ -133,7 +134,7 @@ pub(crate) fn write_text(
     stack: usize,
 ) -> Written
     requires { ⌜ (from ≤ to) × (to ≤ length (now sheet)) × (to < 65536) × (base + (to - from) ≤ stack) × (stack + (to - from) ≤ length (now work)) ⌝ }
-    ensures { λ r. ⌜ Kept (now (work .entry)) (now (work .exit)) base (stack + (to - from)) × Outcome (now (sheet .entry)) (now (work .exit)) from to base r ⌝ }
+    ensures { λ r. ⌜ Outside (now (work .entry)) (now (work .exit)) base (stack + (to - from)) × Outcome (now (sheet .entry)) (now (work .exit)) from to base r ⌝ }
 {
     let mut at = from;
     let mut depth: usize = 0;
