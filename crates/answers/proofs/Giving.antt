@@ -15,8 +15,8 @@ use Rattle.sheet.specs.Claims as code
 use Rattle.sheet.specs.declared.claims.Claim.{Claim}
 use Rattle.sheet.specs.declared.claims.Claim.the-variants as claims
 use Rattle.tree.proofs.Printing.{printed-then}
-use Rattle.tree.specs.Output as Output
-use Rattle.tree.specs.Output.{Printed}
+use Rattle.text.specs.Printing as Output
+use Rattle.text.specs.Printing.{Printed}
 use Rattle.answers.specs.Settling.{settles, Settles, claim-text}
 use Rattle.answers.specs.declared.Settled.{Settled}
 use Rattle.answers.specs.declared.Settled.the-variants.{Written, Unreadable, Short}
@@ -39,7 +39,7 @@ short-settles a out h =
     record { number = sym (ap refusal-number e); count = sym (ap written e); output = sym (ap (λ (z : Reply Text). overwritten z out) e) }
 
 pub written-settles : (a out v : Text) (n : ℕ) → length a ≤ length out → Printed out v 0 a n → Settles (some a) out v (Written n)
-unfolding Output.written
+unfolding Output.printed-over
 written-settles a out v n h p =
     let e = settles-fits a (length out) h in
     record {

@@ -53,10 +53,10 @@ module _ {s : Text} {w w₁ : List ℕ} {free : ℕ} (l r : Place) {list first m
 
   module _ {w₂ : List ℕ} {second end : ℕ} (two : Read s w₁ w₂ middle (r .from) (r .to) second end) where
     first-tree : tree-at s w₂ first ≡ tree-at s w₁ first
-    first-tree = sym (frame-tree s w₂ (one .arena .links) (two .outside .below) first (one .placed .0) (one .placed .1))
+    first-tree = sym (frame-tree s w₂ (one .arena .links) (λ p q. sym (two .outside .below p q)) first (one .placed .0) (one .placed .1))
 
     list-trees : trees-at s w₂ list ≡ trees-at s w list
-    list-trees = sym (frame-trees s w₁ (a .links) (one .outside .below) list p ∙ frame-trees s w₂ (one .arena .links) (two .outside .below) list (omega (arith, one .grew)))
+    list-trees = sym (frame-trees s w₁ (a .links) (λ p q. sym (one .outside .below p q)) list p ∙ frame-trees s w₂ (one .arena .links) (λ p q. sym (two .outside .below p q)) list (omega (arith, one .grew)))
 
     pub pair-there : {v : List ℕ} {i m : ℕ} → Made s w₂ v end m i (more (tree-at s w₂ second) (more (tree-at s w₂ first) (trees-at s w₂ list))) → m ≡ end + 2 → ReadPair s w v free l r list i m
     pair-there d e = record {

@@ -12,11 +12,10 @@ use Rattle.rules.specs.Writing.{render}
 use Rattle.rules.specs.Substitution.{Binding}
 use Rattle.rules.specs.Solving.{solved, failed, unsupported}
 use Rattle.rules.specs.Answer.{line, binding-lines, verdict-lines}
-use Rattle.text.specs.Printing as Decimals
 use Rattle.tree.specs.Cells.{name-at, next-of, tree-at, trees-at}
 use Rattle.tree.specs.Arena.{Links}
-use Rattle.tree.specs.Output.{Printed}
-use Rattle.tree.proofs.Printing.{length-written, printed-then, printed-none, printed-number}
+use Rattle.text.specs.Printing.{Printed}
+use Rattle.tree.proofs.Printing.{length-written, printed-then, printed-none}
 use Rattle.substitution.specs.Bindings.{Chain}
 use Rattle.substitution.proofs.Keys.{bindings-none}
 use Rattle.substitution.proofs.Chains.{entry}
@@ -63,14 +62,14 @@ pub printed-length : {out v t : Text} {at r : ℕ} → at + length t ≤ length 
 printed-length {out} {v} {t} {at} h p = ap length (p .bytes) ∙ length-written out at t h
 
 pub head-printed : {out a b c d : Text} {i j k r : ℕ} (verdict : Text) (spent : ℕ) → length (head-lines verdict spent) ≤ length out
-    → Printed out a 0 verdict i → Printed a b i (bytes "spent=") j → Decimals.Printed b c j (decimal spent) k → Printed c d k (10 ∷ []) r
+    → Printed out a 0 verdict i → Printed a b i (bytes "spent=") j → Printed b c j (decimal spent) k → Printed c d k (10 ∷ []) r
     → Printed out d 0 (head-lines verdict spent) r
 unfolding head-lines
 head-printed verdict spent h p q x y =
     let e = head-length verdict spent in
     let f = printed-length (omega arith) p in
     let g = p .end in
-    printed-then (omega arith) p (line-printed (bytes "spent=") (decimal spent) (omega arith) q (printed-number x) y)
+    printed-then (omega arith) p (line-printed (bytes "spent=") (decimal spent) (omega arith) q x y)
 
 pub key-printed : {out a b c : Text} {at i j r : ℕ} (x : Text) → at + length (key-line x) ≤ length out → Printed out a at (bytes "key=") i → Printed a b i x j → Printed b c j (10 ∷ []) r
     → Printed out c at (key-line x) r

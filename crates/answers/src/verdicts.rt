@@ -19,7 +19,7 @@ ghost use Rattle.rules.specs.Solving.{solved, failed, unsupported};
 ghost use Rattle.rules.specs.Answer.{verdict-lines};
 ghost use Rattle.tree.specs.Cells.{name-at, tree-at, trees-at};
 ghost use Rattle.tree.specs.Arena.{Arena};
-ghost use Rattle.tree.specs.Output.{Printed};
+ghost use Rattle.text.specs.Printing.{Printed};
 ghost use Rattle.tree.specs.Measure.{measured};
 ghost use Rattle.substitution.specs.Bindings.{Chain, bindings-at};
 ghost use Rattle.answers.specs.Settling.{Settles};

@@ -15,7 +15,7 @@ use Rattle.rules.specs.Reading.{canonical-text}
 use Rattle.text.proofs.Slices.{slice-same}
 use Rattle.runs.specs.Texts.{texts, Tokens, lex}
 use Rattle.settling.specs.Settle.{sums-sorted, Arranges}
-use Rattle.runs.specs.Areas.{Kept}
+use Rattle.text.specs.Frames.{Outside}
 use Rattle.flattening.specs.Writer.{WordsWritten, TextWritten}
 use Rattle.certificate.specs.Comparing.{CanonicalWords, CanonicalWritten, ordered-as, order-of, equivalence-of}
 use Rattle.runs.specs.declared.order.Order.{Order}
@@ -33,8 +33,8 @@ use Rattle.certificate.proofs.WrittenTexts.{readable, unreadable}
 -- ---- one text
 
 module _ (s w v : List ℕ) (from to base scratch : ℕ) (start : from ≤ to) (fits : to ≤ length s) (small : to < 65536) (roomy : base + (to - from) ≤ scratch) (lasts : scratch + 2 * (to - from) < length w)
-    (r : Written) (h : Kept w v base (scratch + (to - from)) × TextWritten s v from to base r) where
-  pub none-settled : r ≡ ways.Unreadable → Kept w v base (scratch + 2 * (to - from)) × (canonical-text (slice from to s) ≡ none)
+    (r : Written) (h : Outside w v base (scratch + (to - from)) × TextWritten s v from to base r) where
+  pub none-settled : r ≡ ways.Unreadable → Outside w v base (scratch + 2 * (to - from)) × (canonical-text (slice from to s) ≡ none)
   none-settled e =
       let k = h .0 in
       (record { len = k .len; below = k .below; above = λ p q. k .above p (omega arith) }, unreadable s to from fits small (subst (TextWritten s v from to base) e (h .1)))
@@ -54,7 +54,7 @@ module _ (s w v : List ℕ) (from to base scratch : ℕ) (start : from ≤ to) (
     settle-tokens = done .tokens
 
     pub done-settled : (v₁ : List ℕ) → Arranges v v₁ base end scratch (sums-sorted s 16777216 base (end - base) (slice base end v)) × Tokens s v₁ base end
-        → Kept w v₁ base (scratch + 2 * (to - from)) × CanonicalWords s v₁ from to base end
+        → Outside w v₁ base (scratch + 2 * (to - from)) × CanonicalWords s v₁ from to base end
     done-settled v₁ (a, t) =
         let k = h .0 in
         let r = settle-room in
@@ -79,7 +79,7 @@ module _ (s w v : List ℕ) (from to base scratch : ℕ) (start : from ≤ to) (
 -- ---- two texts
 
 module _ (s w v₁ : List ℕ) (base from to start end : ℕ) (a₁ : from ≤ to) (a₂ : to ≤ length s) (b₁ : start ≤ end) (b₂ : end ≤ length s) (lasts : base + 4 * length s < length w)
-    (r : Written) (h : Kept w v₁ base (base + (to - from) + (end - start) + 2 * (to - from)) × CanonicalWritten s v₁ from to base r) where
+    (r : Written) (h : Outside w v₁ base (base + (to - from) + (end - start) + 2 * (to - from)) × CanonicalWritten s v₁ from to base r) where
   abbrev scratch : ℕ
   scratch = base + (to - from) + (end - start)
 
@@ -89,7 +89,7 @@ module _ (s w v₁ : List ℕ) (base from to start end : ℕ) (a₁ : from ≤ t
   abbrev right : Option Text
   right = canonical-text (slice start end s)
 
-  pub left-none : r ≡ ways.Unreadable → (ordered.Unreadable ≡ order-of left right) × Kept w v₁ base (base + 4 * length s)
+  pub left-none : r ≡ ways.Unreadable → (ordered.Unreadable ≡ order-of left right) × Outside w v₁ base (base + 4 * length s)
   left-none e =
       let k = h .0 in
       let c : left ≡ none = subst (CanonicalWritten s v₁ from to base) e (h .1) in
@@ -105,15 +105,15 @@ module _ (s w v₁ : List ℕ) (base from to start end : ℕ) (a₁ : from ≤ t
         let l = h .0 .len in
         (omega arith, omega arith)
 
-    module _ (v₂ : List ℕ) (q : Written) (g : Kept v₁ v₂ mid (base + (to - from) + (end - start) + 2 * (end - start)) × CanonicalWritten s v₂ start end mid q) where
-      pub both-kept : Kept w v₂ base (base + 4 * length s)
+    module _ (v₂ : List ℕ) (q : Written) (g : Outside v₁ v₂ mid (base + (to - from) + (end - start) + 2 * (end - start)) × CanonicalWritten s v₂ start end mid q) where
+      pub both-kept : Outside w v₂ base (base + 4 * length s)
       both-kept =
           let k = h .0 in
           let j = g .0 in
           let o = one .low in
           record { len = j .len ∙ k .len; below = λ p q. j .below p (omega arith) ∙ k .below p q; above = λ p q. j .above p (omega arith) ∙ k .above p (omega arith) }
 
-      pub right-none : q ≡ ways.Unreadable → (ordered.Unreadable ≡ order-of left right) × Kept w v₂ base (base + 4 * length s)
+      pub right-none : q ≡ ways.Unreadable → (ordered.Unreadable ≡ order-of left right) × Outside w v₂ base (base + 4 * length s)
       right-none f =
           let c : right ≡ none = subst (CanonicalWritten s v₂ start end mid) f (g .1) in
           (sym (ap₂ order-of (one .text) c), both-kept)
@@ -138,7 +138,7 @@ module _ (s w v₁ : List ℕ) (base from to start end : ℕ) (a₁ : from ≤ t
         pub right-tokens : Tokens s v₂ mid lim
         right-tokens = two .tokens
 
-        pub compared : {o : Order} → o ≡ lex (texts s (slice base mid v₂)) (texts s (slice mid lim v₂)) → (p : Order) → o ≡ p → (ordered-as p ≡ order-of left right) × Kept w v₂ base (base + 4 * length s)
+        pub compared : {o : Order} → o ≡ lex (texts s (slice base mid v₂)) (texts s (slice mid lim v₂)) → (p : Order) → o ≡ p → (ordered-as p ≡ order-of left right) × Outside w v₂ base (base + 4 * length s)
         compared c p d =
             let o₁ = compare-room in
             let l₁ = h .0 .len in

@@ -89,7 +89,7 @@ module _ {s : Text} {w v u : List ℕ} {n index end left i stop : ℕ} (value bi
   normal-is : (r : Bool) → r ≡ equivalent (tree-at s u index) (tree-at s u i) → equivalent made-tree (normalize made-tree) ≡ r
   normal-is r e = sym (e ∙ ap₂ equivalent made-now normal-now)
 
-  module _ {x : List ℕ} {lim : ℕ} (k : writer.Kept u x (4 * stop) lim) where
+  module _ {x : List ℕ} {lim : ℕ} (k : Outside u x (4 * stop) lim) where
     below-end : Below v x end
     below-end = below-then (two .kept) (below-kept {n = stop} k (omega arith)) (two .grew)
 

@@ -146,15 +146,15 @@ module _ (s : Text) (w : List ℕ) (n : ℕ) (ns : List Text) (key value : Place
         → Made s w₁ v end m b (more (tree-at s w₁ x) (more (tree-at s w₁ index) (trees-at s w₁ list))) → m ≡ end + 2 → Valued s w v n ns key value list b m
     value-read {w₁} {v} {x} {index} {end} {b} {m} a p q f r d z =
         let t = tree-at s w₁ index in
-        let name : name-at s w₁ x ≡ text-of s key = sym (same-name w w₁ (r .outside .below) x q s) ∙ f in
-        let rest : bindings-at s w₁ list ≡ bindings-at s w list = ap bindings-of (sym (frame-trees s w₁ (a .links) (r .outside .below) list p)) in
+        let name : name-at s w₁ x ≡ text-of s key = sym (same-name w w₁ (λ p q. sym (r .outside .below p q)) x q s) ∙ f in
+        let rest : bindings-at s w₁ list ≡ bindings-at s w list = ap bindings-of (sym (frame-trees s w₁ (a .links) (λ p q. sym (r .outside .below p q)) list p)) in
         let all : bindings-at s v b ≡ (text-of s key, t) ∷ bindings-at s w list = bindings-pair x index list d ∙ ap₂ (λ (y : Text) (bs : List Binding). (y, t) ∷ bs) name rest in
         let g = r .grew in
         let u = r .room in
         record {
           arena = d .arena;
           len = d .grown .len ∙ r .outside .len;
-          below = λ i l. r .outside .below i l ∙ d .grown .below i (omega arith);
+          below = λ i l. sym (r .outside .below i l) ∙ d .grown .below i (omega arith);
           grew = omega arith;
           inside = d .inside;
           used = omega arith;

@@ -20,7 +20,7 @@ use Rattle.tree.specs.Arena.{Links, Arena}
 use Rattle.tree.proofs.Decoding.{Agree, frame-tree, size-pos}
 use Rattle.tree.proofs.Areas.{arena-frame}
 use Rattle.runs.specs.Texts.{texts, Tokens}
-use Rattle.runs.specs.Areas.{Kept}
+use Rattle.text.specs.Frames.{Outside}
 use Rattle.equivalence.specs.Fingerprints.{fingerprint, Marked}
 use Rattle.equivalence.specs.Sums.{heft, Cells, CellRun, Described, index}
 
@@ -122,7 +122,7 @@ module _ (s w : List ℕ) (at end d base : ℕ) where
   pub record Describing (v : List ℕ) (p out : ℕ) : Type 0 where
     pub low : at ≤ p
     pub high : p ≤ end
-    pub kept : Kept w v end lim
+    pub kept : Outside w v end lim
     pub since : base ≤ out
     pub start : base + getD v (p + d) 0 ≡ out
     pub left : out + 15 * heft s w (slice p end w) + (p - at) ≤ base + 15 * heft s w (slice at end w)

@@ -11,7 +11,7 @@ use Rattle.rules.specs.Tree.{Tree, apply, none, more, size, tamtplus, plus}
 use Rattle.rules.specs.Sums.{rebuild}
 use Rattle.text.proofs.Slices.{slice-join, slice-none}
 use Rattle.tree.specs.Cells.{start-of, length-of, kind-of, nodes-of, next-of, name-at, made, tree-at, trees-at}
-use Rattle.tree.specs.Arena.{Arena, Wrote, Linked}
+use Rattle.tree.specs.Arena.{Arena, WroteCell, Linked}
 use Rattle.tree.proofs.Decoding.{Agree, made-apply, same-kind, same-name, trees-none, trees-more, frame-tree}
 use Rattle.tree.proofs.Pushing.{linked-like}
 use Rattle.tree.proofs.Areas.{grown-same, grown-then}

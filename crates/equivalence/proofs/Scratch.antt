@@ -12,10 +12,10 @@ use Rattle.text.proofs.Slices.{slice-same, slice-join}
 use Rattle.tree.specs.Arena.{Arena, Below}
 use Rattle.tree.proofs.Decoding.{Agree}
 use Rattle.tree.proofs.Areas.{arena-frame}
-use Rattle.runs.specs.Areas.{Kept}
+use Rattle.text.specs.Frames.{Outside}
 
 -- scratch from the free end on leaves the cells
-pub below-kept : {w v : List ℕ} {n at lim : ℕ} → Kept w v at lim → 4 * n ≤ at → Below w v n
+pub below-kept : {w v : List ℕ} {n at lim : ℕ} → Outside w v at lim → 4 * n ≤ at → Below w v n
 below-kept k h = record { len = k .len; words = λ p q. sym (k .below p (omega arith)) }
 
 module _ {w v : List ℕ} {to : ℕ} {l : List ℕ} (g : Wrote w v to l) where

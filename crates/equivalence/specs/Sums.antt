@@ -13,7 +13,7 @@ use Rattle.rules.specs.Solving.{cancel}
 use Rattle.tree.specs.Cells.{next-of, tree-at}
 use Rattle.tree.specs.Arena.{Arena, Grown}
 use Rattle.runs.specs.Texts.{texts, Tokens}
-use Rattle.runs.specs.Areas.{Kept}
+use Rattle.text.specs.Frames.{Outside}
 use Rattle.equivalence.specs.Fingerprints.{fingerprint}
 
 -- the trees of the cells with these numbers, but 0
@@ -32,7 +32,7 @@ Cells w n a e = (p : ℕ) → a ≤ p → p < e → (0 < getD w p 0) × (getD w 
 
 -- the cells of the summands, from `at` to `end`
 pub record SummandsGathered (s w v : List ℕ) (n at end most : ℕ) (ts : List Tree) : Type 0 where
-  pub kept : Kept w v at end
+  pub kept : Outside w v at end
   pub grew : at ≤ end
   pub most-is : end ≤ at + most
   pub cells : Cells v n at end
@@ -51,7 +51,7 @@ pub record CellRun (s v : List ℕ) (d base lim q : ℕ) : Type 0 where
 
 -- the runs of the cells from `at` to `end`
 pub record Described (s w v : List ℕ) (at end d base lim : ℕ) : Type 0 where
-  pub kept : Kept w v end lim
+  pub kept : Outside w v end lim
   pub runs : (q : ℕ) → at ≤ q → q < end → CellRun s v d base lim q
 
 -- those of the cells that are not taken out
@@ -89,7 +89,7 @@ pub record Cancelled (s w v : List ℕ) (at mid end : ℕ) (b : Bool) : Type 0 w
 -- the cells of the summands of l and r, cancelled, from `at` to mid and from mid to `end`; k is the nodes of both
 pub record SumsCancelled (s w v : List ℕ) (n at mid end k : ℕ) (l r : Tree) (b : Bool) : Type 0 where
   pub arena : Arena s v n
-  pub kept : Kept w v at (at + 17 * k + 2)
+  pub kept : Outside w v at (at + 17 * k + 2)
   pub low : at ≤ mid
   pub high : mid ≤ end
   pub bound : end ≤ at + k

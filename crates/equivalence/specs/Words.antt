@@ -11,7 +11,7 @@ use Rattle.text.specs.Sorting.{Wrote}
 use Rattle.runs.specs.Texts.{texts, Tokens}
 use Rattle.flattening.specs.Terms.{Term, Terms, more}
 use Rattle.flattening.specs.Spelling.{Spells, SpellsAll, term-words, list-words}
-use Rattle.runs.specs.Areas.{Kept}
+use Rattle.text.specs.Frames.{Outside}
 
 -- v is w with the words of a term that spells t, in a sum or not, from `out` to r
 pub record TermWritten (s w v : List ℕ) (b : Bool) (t : Tree) (out r : ℕ) : Type 0 where
@@ -32,7 +32,7 @@ pub record TermsWritten (s w v : List ℕ) (b : Bool) (ts : Trees) (out r : ℕ)
 
 -- the words of v from base to r have the canonical text of t
 pub record Canon (s w v : List ℕ) (t : Tree) (base r : ℕ) : Type 0 where
-  pub kept : Kept w v base (base + 15 * size t)
+  pub kept : Outside w v base (base + 15 * size t)
   pub low : base ≤ r
   pub room : r + 1 ≤ base + 5 * size t
   pub text : texts s (slice base r v) ≡ canonical t

@@ -10,7 +10,7 @@ ghost use Rattle.rules.specs.Tree.{size};
 ghost use Rattle.rules.specs.Sums.{equivalent};
 ghost use Rattle.tree.specs.Cells.{tree-at};
 ghost use Rattle.tree.specs.Arena.{Arena};
-ghost use Rattle.runs.specs.Areas.{Kept};
+ghost use Rattle.text.specs.Frames.{Outside};
 use tree::equality::same_tree;
 use words::same_text;
 use words::tree_words;
@@ -30,7 +30,7 @@ pub fn equivalent(
     requires { ⌜ (5 * size (tree-at (now sheet) (now work) i) < 65536) × (5 * size (tree-at (now sheet) (now work) j) < 65536) ⌝ }
     requires { ⌜ at + 15 * (size (tree-at (now sheet) (now work) i) + size (tree-at (now sheet) (now work) j)) ≤ length (now work) ⌝ }
     ensures { λ r. ⌜ r ≡ equivalent (tree-at (now (sheet .entry)) (now (work .entry)) i) (tree-at (now (sheet .entry)) (now (work .entry)) j) ⌝ }
-    ensures { λ _. ⌜ Kept (now (work .entry)) (now (work .exit)) at (at + 15 * (size (tree-at (now (sheet .entry)) (now (work .entry)) i) + size (tree-at (now (sheet .entry)) (now (work .entry)) j))) ⌝ }
+    ensures { λ _. ⌜ Outside (now (work .entry)) (now (work .exit)) at (at + 15 * (size (tree-at (now (sheet .entry)) (now (work .entry)) i) + size (tree-at (now (sheet .entry)) (now (work .entry)) j))) ⌝ }
 {
     if i == j {
         return true;

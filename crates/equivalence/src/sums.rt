@@ -3,6 +3,7 @@ use crate::fingerprints::marked_words;
 use crate::words::same_text;
 use substitution::ground::ground;
 use text::places::wide;
+use tree::cells::APPLICATION;
 use tree::cells::count_of;
 use tree::cells::first_of;
 use tree::cells::kind_of;
@@ -29,7 +30,7 @@ pub fn is_sum(sheet: &[u8], work: &[u32], free: usize, i: usize) -> bool
     requires { ⌜ (0 < i) × (i < free) ⌝ }
     ensures { λ r. ⌜ r ≡ eqb (kind-of (now (work .entry)) i) 0 && same (name-at (now (sheet .entry)) (now (work .entry)) i) tamtplus ⌝ }
 {
-    if kind_of(work, i) == 0 {
+    if kind_of(work, i) == APPLICATION {
         return name_is(sheet, work, free, i, b"tamtplus");
     }
     false

@@ -10,6 +10,7 @@ use runs::order::BYTES;
 use runs::order::Order;
 use runs::order::compare;
 use settling::settle;
+use tree::cells::ATOMS;
 use tree::cells::kind_of;
 use tree::cells::next_of;
 use tree::children::child_of;
@@ -49,7 +50,7 @@ fn put_leaf(sheet: &[u8], work: &mut [u32], free: usize, i: usize, out: usize) -
 {
     let kind = kind_of(work, i);
     let word = word_of(sheet, work, free, i);
-    if 7 <= kind {
+    if ATOMS <= kind {
         work[out] = ((BYTES + kind) * 65536) as u32;
         work[out + 1] = OPEN;
         work[out + 2] = word;

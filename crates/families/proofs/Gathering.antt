@@ -12,7 +12,7 @@ use Rattle.rules.specs.Tree.{apply, Trees, more, size, sizes}
 use Rattle.rules.specs.Sheet.{Member}
 use Rattle.rules.specs.Variants.{Variant, read-member}
 use Rattle.tree.specs.Cells.{fixed-name, tree-at, trees-at}
-use Rattle.tree.specs.Arena.{Arena, Wrote, Linked, Below}
+use Rattle.tree.specs.Arena.{Arena, WroteCell, Linked, Below}
 use Rattle.tree.proofs.Decoding.{frame-trees, trees-none}
 use Rattle.tree.proofs.Areas.{below-same, below-grown, below-then, grown-then}
 use Rattle.substitution.specs.Building.{Made}
@@ -37,7 +37,7 @@ module _ {s : Text} {w w₁ : List ℕ} {n bindings : ℕ} (value : ℕ) (a : Ar
   unfolding size
   shared-sizes = ap sizes (one .trees)
 
-  pub member-made : {v : List ℕ} {list count : ℕ} (end : ℕ) → list < n → 4 * (n + 2) ≤ length w → count ≡ sizes (trees-at s w₁ n) → Wrote w₁ v middle 3 0 0 n list (1 + count) → end ≡ middle + 1
+  pub member-made : {v : List ℕ} {list count : ℕ} (end : ℕ) → list < n → 4 * (n + 2) ≤ length w → count ≡ sizes (trees-at s w₁ n) → WroteCell w₁ v middle 3 0 0 n list (1 + count) → end ≡ middle + 1
       → Made s w v n end middle (more (member-tree (tree-at s w value) (trees-at s w bindings)) (trees-at s w list)) × (end ≡ n + 2)
   member-made {v} {list} end p room c x g =
       let two : Linked s w₁ v middle list (apply (fixed-name 3) (trees-at s w₁ n)) =

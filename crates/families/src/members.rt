@@ -4,6 +4,7 @@ use sheet::Cursor;
 use sheet::Line;
 use sheet::next_member;
 use substitution::bindings::Pushed;
+use tree::cells::APPLICATION;
 use tree::cells::push_cell;
 use tree::cells::share;
 use variants::members::Variant;
@@ -41,7 +42,7 @@ fn push_member(
 {
     let middle = share(sheet, work, free, value, bindings);
     let count = nodes_in(sheet, work, middle, free);
-    let end = push_cell(work, middle, 3, 0, 0, free, list, 1 + count);
+    let end = push_cell(work, middle, 3, 0, APPLICATION, free, list, 1 + count);
     Pushed {
         index: middle,
         free: end,

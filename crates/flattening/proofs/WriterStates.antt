@@ -22,7 +22,7 @@ use Rattle.text.proofs.Slices.{slice-same, slice-join, slice-none}
 use Rattle.runs.specs.Texts.{Token, Tokens}
 use Rattle.flattening.specs.Items.{Item, begin, shut, comma, name, place-word, items-by, items-at, Mode, wanting, naming, having, emits, adds, in-sum, opening, bracket, closing, write, writes, brackets, text-words}
 use Rattle.flattening.specs.Writer.{ListOpened, ListClosed, TextWritten, finished}
-use Rattle.runs.specs.Areas.{Kept}
+use Rattle.text.specs.Frames.{Outside}
 use Rattle.flattening.specs.declared.Written.{Written}
 use Rattle.runs.proofs.Each.{code-token}
 use Rattle.runs.proofs.Each.{Each, none as no-words, more as more-words, each-at, slice-at}
@@ -260,7 +260,7 @@ module _ (s w : List ℕ) (from to base stack : ℕ) (start : from ≤ to) (fits
 
     -- ---- the ends
 
-    pub kept : (m : Mode) → State v at depth out m → Kept w v base (stack + (to - from))
+    pub kept : (m : Mode) → State v at depth out m → Outside w v base (stack + (to - from))
     kept m h = record { len = h .len; below = h .below; above = h .above }
 
     none-ahead : (m : Mode) → State v at depth out m → writes s (items-at (take to s) at) m (brackets v stack depth) ≡ none → text-words s (take to s) from ≡ none

@@ -5,7 +5,7 @@ ghost use lib.ListN.{length, getD, take};
 ghost use Rattle.text.specs.Sorting.{Wrote};
 ghost use Rattle.flattening.specs.Items.{place-word, adds, in-sum, opening, bracket, closing, brackets};
 ghost use Rattle.flattening.specs.Writer.{ListOpened, ListClosed, TextWritten, finished};
-ghost use Rattle.runs.specs.Areas.{Kept};
+ghost use Rattle.text.specs.Frames.{Outside};
 use runs::COMMA;
 use runs::OPEN;
 use runs::PLUS;
@@ -138,7 +138,7 @@ pub fn write_text(
     stack: usize,
 ) -> Written
     requires { ⌜ (from ≤ to) × (to ≤ length (now sheet)) × (to < 65536) × (base + (to - from) ≤ stack) × (stack + (to - from) ≤ length (now work)) ⌝ }
-    ensures { λ r. ⌜ Kept (now (work .entry)) (now (work .exit)) base (stack + (to - from)) × TextWritten (now (sheet .entry)) (now (work .exit)) from to base r ⌝ }
+    ensures { λ r. ⌜ Outside (now (work .entry)) (now (work .exit)) base (stack + (to - from)) × TextWritten (now (sheet .entry)) (now (work .exit)) from to base r ⌝ }
 {
     let mut at = from;
     let mut depth: usize = 0;

@@ -17,13 +17,12 @@ use Rattle.rules.specs.Variants.{fresh-name}
 use Rattle.laws.specs.Unspelled.{unspelled, chosen}
 use Rattle.laws.proofs.Variants.Targets.{fresh-tokens}
 use Rattle.text.specs.Places.{text-at}
-use Rattle.text.specs.Printing as decimals
 use Rattle.text.proofs.Decimals.{width-one, width-more}
 use Rattle.tree.specs.Cells.{tree-at}
 use Rattle.tree.specs.Arena.{Arena, Grown, Linked}
-use Rattle.tree.specs.Output.{written, Printed}
+use Rattle.text.specs.Printing.{printed-over, Printed}
 use Rattle.tree.proofs.Decoding.{frame-tree}
-use Rattle.tree.proofs.Printing.{printed-then, printed-number}
+use Rattle.tree.proofs.Printing.{printed-then}
 use Rattle.tree.proofs.Areas.{grown-same, grown-then}
 use Rattle.sheet.specs.Lines.{part-of}
 use Rattle.variables.specs.Variables.{Variable}
@@ -51,16 +50,16 @@ unfolding fresh-name
 fresh-length n = simp length-append (omega arith)
 
 pub fresh-printed : {out a b c : Text} {i j r : ℕ} (n : ℕ) → n < 2 ^ 64 → 25 ≤ length out
-    → Printed out a 0 (bytes "x") i → decimals.Printed a b i (decimal n) j → Printed b c j (bytes ":Msg") r → Printed out c 0 (fresh-name n) r
+    → Printed out a 0 (bytes "x") i → Printed a b i (decimal n) j → Printed b c j (bytes ":Msg") r → Printed out c 0 (fresh-name n) r
 unfolding fresh-name
 fresh-printed {out} n h room x y z =
     let k = width-within n h in
-    let two : Printed out _ 0 (bytes "x" ++ decimal n) _ = printed-then (omega arith) x (printed-number y) in
+    let two : Printed out _ 0 (bytes "x" ++ decimal n) _ = printed-then (omega arith) x y in
     printed-then (omega (arith, length-append (bytes "x") (decimal n))) two z
 
 -- the bytes from the front on, as the code cuts them
 pub printed-front : {out v t : Text} {r : ℕ} → Printed out v 0 t r → part-of 0 r v ≡ t
-unfolding written
+unfolding printed-over
 printed-front {out} {v} {t} {r} x =
     let e : length t ≡ r - 0 = omega (arith, x .end) in
     ap (take (r - 0)) (x .bytes) ∙ take-at t (drop (0 + length t) out) (r - 0) e

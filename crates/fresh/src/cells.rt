@@ -14,7 +14,7 @@ ghost use lib.ListN.{length};
 ghost use Rattle.rules.specs.Tree.{variable};
 ghost use Rattle.rules.specs.Variants.{fresh-name};
 ghost use Rattle.tree.specs.Arena.{Arena, Linked};
-ghost use Rattle.tree.specs.Output.{Printed};
+ghost use Rattle.text.specs.Printing.{Printed};
 ghost use Rattle.fresh.specs.Searching.{FindsText};
 ghost use Rattle.fresh.specs.Fresh.{chosen-in, WritesFresh};
 

@@ -1,3 +1,2 @@
-pub mod Areas
 pub mod Texts
 pub mod Runs

@@ -2,6 +2,8 @@
 use crate::bindings::Found;
 use crate::bindings::Pushed;
 use crate::bindings::lookup;
+use tree::cells::APPLICATION;
+use tree::cells::ATOMS;
 use tree::cells::count_of;
 use tree::cells::first_of;
 use tree::cells::kind_of;
@@ -22,7 +24,7 @@ fn image(sheet: &[u8], work: &[u32], free: usize, i: usize, b: usize) -> usize
     requires { ⌜ 0 < kind-of (now work) i ⌝ }
     ensures { λ r. ⌜ (0 < r) × (r < free) × (tree-at (now (sheet .entry)) (now (work .entry)) r ≡ instance-at (now (sheet .entry)) (now (work .entry)) b i) ⌝ }
 {
-    if 7 <= kind_of(work, i) {
+    if ATOMS <= kind_of(work, i) {
         return i;
     }
     let found = lookup(sheet, work, free, b, i);
@@ -96,7 +98,7 @@ pub fn substitute(
     requires { ⌜ (4 * (free + budget) ≤ length (now work)) × (free + budget < 2 ^ 32) × (budget < 65536) ⌝ }
     ensures { λ r. ⌜ BuildsTree (now (sheet .entry)) (now (work .entry)) (now (work .exit)) free budget next (instance-at (now (sheet .entry)) (now (work .entry)) b i) r ⌝ }
 {
-    if 0 < kind_of(work, i) {
+    if APPLICATION < kind_of(work, i) {
         let k = image(sheet, work, free, i, b);
         return place(sheet, work, free, k, next, budget);
     }

@@ -17,7 +17,7 @@ use Rattle.text.proofs.Slices.{slice-same, slice-set, slice-none}
 use Rattle.tree.specs.Cells.{next-of, tree-at, trees-at}
 use Rattle.tree.specs.Arena.{Arena}
 use Rattle.tree.proofs.Decoding.{sizes-more, trees-none}
-use Rattle.runs.specs.Areas.{Kept}
+use Rattle.text.specs.Frames.{Outside}
 use Rattle.variables.specs.Ordered.{unique}
 use Rattle.variables.specs.Variables.{Readable, ReadableAll, Variable, Variables, VariablePlaces, repeats, Dropped, Ordered}
 use Rattle.variables.proofs.Ordering.{unique-skip, unique-keep, unique-sort}
@@ -50,7 +50,7 @@ no-more (x ∷ l) = ap (λ (m : List Text). x ∷ m) (no-more l)
 
 -- the words of w from `at` to i without repeats are those of v from `at` to out
 pub record Dropping (s : Text) (w v : List ℕ) (at end i out : ℕ) : Type 0 where
-  pub kept : Kept w v at end
+  pub kept : Outside w v at end
   pub low : at ≤ out
   pub mid : out ≤ i
   pub high : i ≤ end

@@ -18,7 +18,7 @@ use Rattle.laws.proofs.Basics.Tests.{and-left, and-right}
 use Rattle.laws.proofs.Reading.Builds.{variable-colon}
 use Rattle.text.specs.Places.{text-at}
 use Rattle.tree.specs.Cells.{named, name-at, variable-kind, made, trees-at}
-use Rattle.tree.specs.Arena.{Arena, Wrote, Linked}
+use Rattle.tree.specs.Arena.{Arena, WroteCell, Linked}
 use Rattle.tree.proofs.Decoding.{made-variable, trees-none}
 use Rattle.tree.proofs.Pushing.{name-push, arena-push, linked}
 use Rattle.tree.proofs.Areas.{grown-same}
@@ -55,7 +55,7 @@ module _ (s : Text) (x : ℕ) (h : Variable s x) where
   ]
 
   module _ {w v : List ℕ} {n next kind : ℕ} (a : Arena s w n) (k : kind ≡ leaf-kind (text-at s x)) (k₇ : kind < 7) (g : next < n) (room : 4 * n + 4 ≤ length w)
-      (d : Wrote w v n (x / 65536) (x % 65536) kind 0 next 1) where
+      (d : WroteCell w v n (x / 65536) (x % 65536) kind 0 next 1) where
     its-name : name-at s v n ≡ text-at s x
     unfolding named text-at
     its-name = name-push d s ∙ rw (ne-eqb (x % 65536) 0 (let p = place-some in omega arith))

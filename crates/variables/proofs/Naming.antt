@@ -23,7 +23,7 @@ use Rattle.tree.proofs.Decoding.{Agree, same-next, trees-none, trees-more, tree
 use Rattle.tree.proofs.FixedNames.{fixed-length}
 use Rattle.tree.proofs.Naming.{name-part, name-fixed}
 use Rattle.tree.proofs.Areas.{arena-frame}
-use Rattle.runs.specs.Areas.{Kept}
+use Rattle.text.specs.Frames.{Outside}
 use Rattle.variables.specs.Variables.{Readable, ReadableAll, Variable, Variables, VariablePlaces}
 
 -- ---- lists of places
@@ -109,7 +109,7 @@ first-spelled {t} {ts} h =
 -- ---- gathering
 
 -- an area of which only words after the cells changed
-module _ (s : Text) {w v : List ℕ} {n : ℕ} (a : Arena s w n) {at mid : ℕ} (l : 4 * n ≤ at) (g : Kept w v at mid) where
+module _ (s : Text) {w v : List ℕ} {n : ℕ} (a : Arena s w n) {at mid : ℕ} (l : 4 * n ≤ at) (g : Outside w v at mid) where
   cells-kept : Agree w v n
   cells-kept x h = sym (g .below x (omega arith))
 
@@ -216,7 +216,7 @@ module _ (s : Text) {w : List ℕ} {n : ℕ} (a : Arena s w n) (i : ℕ) (p : 0 
   parts-names = ap variable-names-in (trees-more s (a .links) i p q)
 
 -- the list after its first tree
-module _ (s : Text) (w v : List ℕ) (n i j at mid : ℕ) (a : Arena s w n) (p : 0 < i) (q : i < n) (l : 4 * n ≤ at) (e : j ≡ next-of v i) (g : Kept w v at mid) where
+module _ (s : Text) (w v : List ℕ) (n i j at mid : ℕ) (a : Arena s w n) (p : 0 < i) (q : i < n) (l : 4 * n ≤ at) (e : j ≡ next-of v i) (g : Outside w v at mid) where
   next-is : j ≡ next-of w i
   next-is = e ∙ sym (next-kept s a l g i q)
 

@@ -10,7 +10,7 @@ use Rattle.rules.specs.Names.{variable-token}
 use Rattle.rules.specs.Tree.{Tree, Trees, variable-names, variable-names-in}
 use Rattle.rules.specs.Tidy.{Built, Builts}
 use Rattle.text.specs.Places.{text-at}
-use Rattle.runs.specs.Areas.{Kept}
+use Rattle.text.specs.Frames.{Outside}
 use Rattle.variables.specs.Ordered.{ordered-once, unique}
 
 -- no name is longer than a sheet
@@ -37,7 +37,7 @@ Variables s (x ∷ xs) = Variable s x × Variables s xs
 
 -- the places of the variables ns, from `at` to `end`
 pub record VariablePlaces (s : Text) (w v : List ℕ) (at end most : ℕ) (ns : List Text) : Type 0 where
-  pub kept : Kept w v at end
+  pub kept : Outside w v at end
   pub grew : at ≤ end
   pub most-is : end ≤ at + most
   pub places : Variables s (slice at end v)
@@ -52,7 +52,7 @@ repeats (x ∷ y ∷ l) = same x y
 
 -- v is w, but the words from `at` to `end` are those of w without repeats, from `at` to r
 pub record Dropped (s : Text) (w v : List ℕ) (at end r : ℕ) : Type 0 where
-  pub kept : Kept w v at end
+  pub kept : Outside w v at end
   pub grew : at ≤ r
   pub most-is : r ≤ end
   pub places : Variables s (slice at end w) → Variables s (slice at r v)
@@ -60,7 +60,7 @@ pub record Dropped (s : Text) (w v : List ℕ) (at end r : ℕ) : Type 0 where
 
 -- the places of the variables ns in byte order, each once, from `at` to r
 pub record Ordered (s : Text) (w v : List ℕ) (at r most : ℕ) (ns : List Text) : Type 0 where
-  pub kept : Kept w v at (at + most + most)
+  pub kept : Outside w v at (at + most + most)
   pub grew : at ≤ r
   pub most-is : r ≤ at + most
   pub places : Variables s (slice at r v)

@@ -2,6 +2,8 @@
 use text::places::sort_places;
 use text::places::text_at;
 use text::same;
+use tree::cells::APPLICATION;
+use tree::cells::ATOMS;
 use tree::cells::first_of;
 use tree::cells::kind_of;
 use tree::cells::next_of;
@@ -25,11 +27,11 @@ fn gather(sheet: &[u8], work: &mut [u32], free: usize, i: usize, at: usize) -> u
     ensures { λ r. ⌜ VariablePlaces (now (sheet .entry)) (now (work .entry)) (now (work .exit)) at r (size (tree-at (now (sheet .entry)) (now (work .entry)) i)) (variable-names (tree-at (now (sheet .entry)) (now (work .entry)) i)) ⌝ }
 {
     let kind = kind_of(work, i);
-    if kind == 0 {
+    if kind == APPLICATION {
         let first = first_of(work, free, i);
         return gather_list(sheet, work, free, first, at);
     }
-    if kind < 7 {
+    if kind < ATOMS {
         work[at] = work[4 * i];
         return at + 1;
     }

@@ -102,7 +102,7 @@ module _ {s : Text} {w v u : List ℕ} {n index end left i stop : ℕ} (term lis
       instance-there (bindings-at s w list) (tree-at s w term) (tree-at s w value) (built-small one .1)
       ∙ ap some (sym (e ∙ ap₂ equivalent (two .tree ∙ ap normalize (one .before .tree)) same-value))
 
-  pub reduced-kept : {x : List ℕ} {lim : ℕ} → words.Kept u x (4 * stop) lim → Below w x n
+  pub reduced-kept : {x : List ℕ} {lim : ℕ} → Outside u x (4 * stop) lim → Below w x n
   reduced-kept k = below-then (below-then (below-grown (one .before .grown)) (two .kept) (one .before .grew)) (below-kept {n = stop} k (omega arith)) (omega (arith, one .before .grew, two .grew))
 
 -- ---- a member

@@ -20,7 +20,7 @@ use Rattle.tree.specs.Cells.{tree-at, trees-at}
 use Rattle.tree.specs.Arena.{Arena, Linked, Below}
 use Rattle.tree.proofs.Decoding.{frame-trees, trees-none}
 use Rattle.tree.proofs.Areas.{below-same, below-then, below-grown}
-use Rattle.reading.specs.Words.{Outside}
+use Rattle.text.specs.Frames.{Outside}
 use Rattle.reading.specs.Parsing.{Read, Parses}
 use Rattle.reading.specs.declared.Parsed.the-variants as parsed
 use Rattle.substitution.specs.Bindings.{bindings-of, bindings-at, Chain}
@@ -43,7 +43,7 @@ use Rattle.variants.specs.declared.members.Entries.the-variants as entri
 use Rattle.variants.proofs.Lookups.{Turned, turned-none, turned-more, turned-alike, bound-before, bindings-with, chain-with, entries-last, entries-unread}
 
 pub below-outside : {w v : List ℕ} {n e : ℕ} → Outside w v (4 * n) e → Below w v n
-below-outside o = record { len = o .len; words = o .below }
+below-outside o = record { len = o .len; words = λ p q. sym (o .below p q) }
 
 -- a tree has at most as many nodes as its text has bytes
 pub part-size : (s : Text) (f t : ℕ) (x : Tree) → parse (part-of f t s) ≡ some x → size x ≤ t - f
@@ -75,7 +75,7 @@ entry-there {s} {w} {w₁} {v} {n} key value {list} {index} {middle} {i} {m} a p
   grew = omega (arith, one .grew, d .grew);
   used = omega (arith, one .room);
   inside = d .inside;
-  trees = d .trees ∙ ap (binding-before (text-of s key) (tree-at s w₁ index)) (sym (frame-trees s w₁ (a .links) (one .outside .below) list p));
+  trees = d .trees ∙ ap (binding-before (text-of s key) (tree-at s w₁ index)) (sym (frame-trees s w₁ (a .links) (λ p q. sym (one .outside .below p q)) list p));
 }
 
 -- ---- entries in front of others

@@ -10,6 +10,7 @@ use sheet::next_entry;
 use sheet::next_member;
 use sheet::part;
 use substitution::bindings::Pushed;
+use tree::cells::APPLICATION;
 use tree::cells::push_cell;
 use tree::cells::share;
 ghost use mathlib.Core.Path.{_≡_};
@@ -68,7 +69,7 @@ fn variable_kind(name: &[u8]) -> usize
     ensures { λ r. ⌜ (r ≡ variable-kind (now (name .entry))) × (0 < r) × (r < 7) ⌝ }
 {
     let kind = leaf_kind(name);
-    if kind == 0 {
+    if kind == APPLICATION {
         return 6;
     }
     kind
