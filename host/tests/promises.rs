@@ -160,7 +160,8 @@ fn each_crate_has_one_section() {
         .flat_map(|(names, _)| names)
         .collect();
     let mut all = crates();
-    (named.sort(), all.sort());
+    named.sort();
+    all.sort();
     assert_eq!(
         named, all,
         "the headings of docs/PROMISES.md and crates.txt"
@@ -298,7 +299,8 @@ fn each_wrong_definition_has_a_row_with_the_laws_that_refuse_it() {
     }
     let patches = refusing();
     let mut laws: Vec<_> = patches.values().cloned().collect();
-    (rows.sort(), laws.sort());
+    rows.sort();
+    laws.sort();
     assert_eq!(
         rows, laws,
         "the rows and the lines `Refused:` of the patches"
