@@ -70,7 +70,6 @@ fn surface(name: &str) -> Vec<String> {
         let here = public_functions(&text(&file));
         found.extend(here.iter().map(|function| format!("{path}{function}")));
     }
-    found.sort();
     found
 }
 
@@ -153,19 +152,26 @@ fn sections() -> Vec<(Vec<String>, Vec<String>)> {
     found
 }
 
+// What stands in only one of two lists; an entry that is repeated counts each time.
+fn apart<T: PartialEq + Clone>(told: &[T], real: &[T]) -> (Vec<T>, Vec<T>) {
+    let (mut more, mut rest) = (Vec::new(), real.to_vec());
+    for entry in told {
+        match rest.iter().position(|other| other == entry) {
+            Some(at) => drop(rest.remove(at)),
+            None => more.push(entry.clone()),
+        }
+    }
+    (more, rest)
+}
+
 #[test]
 fn each_crate_has_one_section() {
-    let mut named: Vec<String> = sections()
+    let named: Vec<String> = sections()
         .into_iter()
-        .flat_map(|(names, _)| names)
+        .flat_map(|section| section.0)
         .collect();
-    let mut all = crates();
-    named.sort();
-    all.sort();
-    assert_eq!(
-        named, all,
-        "the headings of docs/PROMISES.md and crates.txt"
-    );
+    let differ = apart(&named, &crates());
+    assert_eq!(differ, (vec![], vec![]), "headings, crates of crates.txt");
 }
 
 #[test]
@@ -174,13 +180,11 @@ fn each_public_function_has_one_row_and_no_other_has() {
         let first = |line: &String| row(line).map(|cells| cells[0].to_owned());
         let first: Vec<String> = lines.iter().filter_map(first).collect();
         let told = first.iter().flat_map(|cell| marked(cell));
-        let mut told: Vec<String> = told.map(str::to_owned).collect();
-        told.sort();
+        let told: Vec<String> = told.map(str::to_owned).collect();
         let public: Vec<String> = names.iter().flat_map(|name| surface(name)).collect();
-        assert_eq!(
-            told, public,
-            "the rows and the public functions of {names:?}"
-        );
+        let differ = apart(&told, &public);
+        let what = "rows of no public function, public functions with no row";
+        assert_eq!(differ, (vec![], vec![]), "{names:?}: {what}");
     }
 }
 
@@ -297,14 +301,10 @@ fn each_wrong_definition_has_a_row_with_the_laws_that_refuse_it() {
             rows.push(names);
         }
     }
-    let patches = refusing();
-    let mut laws: Vec<_> = patches.values().cloned().collect();
-    rows.sort();
-    laws.sort();
-    assert_eq!(
-        rows, laws,
-        "the rows and the lines `Refused:` of the patches"
-    );
+    let laws: Vec<_> = refusing().into_values().collect();
+    let differ = apart(&rows, &laws);
+    let what = "rows of no patch, lines `Refused:` with no row";
+    assert_eq!(differ, (vec![], vec![]), "{what}");
 }
 
 #[test]
