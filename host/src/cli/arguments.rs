@@ -41,8 +41,8 @@ or one of
 
 /// The version, and by which logic the library was proved.
 pub fn version() -> String {
-    let library = match library::logic() {
-        _ if !library::present() => "absent".to_owned(),
+    let library = match yukhtsami::logic() {
+        _ if !yukhtsami::present() => "absent".to_owned(),
         "" => "present".to_owned(),
         logic => format!("rattle logic {logic}"),
     };
