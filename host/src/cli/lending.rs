@@ -1,5 +1,5 @@
 // The memory that is lent to the library, kept from one sheet to the next, and the calls.
-use std::fs;
+use std::{fs, hint::black_box};
 
 use yukhtsami::Refusal;
 
@@ -67,8 +67,11 @@ fn grow<T: Copy + Default>(memory: &mut Vec<T>, count: usize) -> Option<()> {
     if !may_ask(count.checked_mul(size_of::<T>())?) {
         return None;
     }
-    memory.try_reserve_exact(count).ok()?;
-    memory.resize(count, T::default());
+    let mut tried = Vec::<T>::new();
+    tried.try_reserve_exact(count).ok()?;
+    drop(black_box(tried));
+    // Zeros that the system gives page by page, where they are used.
+    *memory = vec![T::default(); count];
     Some(())
 }
 
