@@ -1,4 +1,4 @@
-// The six refusals. Their numbers are `number` of the rules.
+// The six refusals. Their numbers are `number-for` of the rules.
 pub enum Refusal {
     TooLong,
     ForeignByte,
