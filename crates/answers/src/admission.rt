@@ -1,6 +1,7 @@
 // What is refused before any term is read: 1, 2, 3, 11.
 use crate::refusal::Refusal;
 use sheet::form::Form;
+use sheet::form::ReadForm;
 use sheet::form::read_sheet;
 use sheet::form::words_needed;
 use text::Screened;
@@ -18,10 +19,10 @@ fn admit_screened(sheet: &[u8], words: usize) -> Admitted
     requires { ⌜ Fine (now sheet) ⌝ }
     ensures { λ r. ⌜ Admits (now (sheet .entry)) words r ⌝ }
 {
-    let form = read_sheet(sheet);
-    if let Form::Three = form {
+    let read = read_sheet(sheet);
+    let ReadForm::Sheet(form) = read else {
         return Admitted::Refused(Refusal::LineOutOfPlace);
-    }
+    };
     let needed = words_needed(sheet, form);
     if words < needed {
         return Admitted::Refused(Refusal::ShortWorkArea);

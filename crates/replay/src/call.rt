@@ -7,7 +7,7 @@ ghost use mathlib.Core.Bool.{_&&_};
 ghost use lib.Dec.{eqb, leb};
 ghost use lib.ListN.{length, take};
 ghost use Rattle.rules.specs.Bytes.{same};
-ghost use Rattle.replay.specs.Inside.{Inside};
+ghost use Rattle.replay.specs.Inside.{RecordInside};
 ghost use Rattle.replay.specs.Replaying.{lends, Compares, Replays};
 
 // A record: the words and bytes of output lent, the refusal, where its label, its sheet and its
@@ -70,7 +70,7 @@ fn agrees(sheet: &[u8], work: &mut [u32], output: &mut [u8], refusal: usize, ans
 
 // Replays a record, if it lends what is there.
 pub(crate) fn replay(list: &[u8], work: &mut [u32], output: &mut [u8], stored: Record) -> Outcome
-    requires { ⌜ Inside (now list) stored ⌝ }
+    requires { ⌜ RecordInside (now list) stored ⌝ }
     ensures { λ r. ⌜ Replays (now (list .entry)) stored (now (work .entry)) (now (work .exit)) (now (output .entry)) (now (output .exit)) r ⌝ }
 {
     let from = stored.sheet;

@@ -21,7 +21,7 @@ use Rattle.tree.proofs.Areas.{below-same, below-then}
 use Rattle.reading.specs.Parsing.{Read, Parses}
 use Rattle.reading.specs.declared.Parsed.the-variants as parsed
 use Rattle.sheet.specs.Lines.{part-of, lines-at, value-at}
-use Rattle.sheet.specs.Pairs.{entries-by, before}
+use Rattle.sheet.specs.Pairs.{entries-by, entries-before}
 use Rattle.sheet.specs.Members.{members-at}
 use Rattle.sheet.specs.declared.Cursor.{Cursor}
 use Rattle.sheet.specs.declared.Line.the-variants.{Whole, Missing}
@@ -93,7 +93,7 @@ module _ (s : Text) (at f t : ℕ) (c : Cursor) (e : Whole f t c ≡ value-at s 
       member-reads m ms h =
           let y = member-next s at (m ∷ ms) h f t c e in
           let z = first-of (y .members) in
-          let (p, a, b) = bound (lines-at s d >>= entries-by (bytes "key=") (bytes "value=")) (before (x .walk .es)) (y .es, y .rest) (sym (x .walk .chain) ∙ y .entries) in
+          let (p, a, b) = bound (lines-at s d >>= entries-by (bytes "key=") (bytes "value=")) (entries-before (x .walk .es)) (y .es, y .rest) (sym (x .walk .chain) ∙ y .entries) in
           let q = parts-before (x .walk .es) p (y .es) (y .rest) b in
           let g = two-end (bytes "key=") (bytes "value=") s d (p .0) (p .1) a (x .stops) in
           let k : y .es ≡ x .walk .es = sym (q .0) ∙ ap (λ (gs : List Entry). x .walk .es ++ gs) (g .0) ∙ append-nil (x .walk .es) in

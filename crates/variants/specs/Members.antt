@@ -18,7 +18,7 @@ use Rattle.tree.specs.Cells.{tree-at, trees-at}
 use Rattle.tree.specs.Arena.{Arena, Below}
 use Rattle.substitution.specs.Bindings.{bindings-at, Chain}
 use Rattle.sheet.specs.Lines.{lines-at}
-use Rattle.sheet.specs.Pairs.{pair-at, entries-by}
+use Rattle.sheet.specs.Pairs.{two-lines-at, entries-by}
 use Rattle.sheet.specs.Members.{members-at, Walks}
 use Rattle.sheet.specs.Form.{text-of}
 use Rattle.sheet.specs.declared.Place.{Place}
@@ -73,7 +73,7 @@ TextsRoom s w n at = (length s ≤ 65536) × (4 * texts-end s n at + 3 * length 
 -- the entries from `at` on, which end at c, read as bs; the list from cell i on gives every variable the same value as bs
 pub record ReadEntries (s : Text) (w v : List ℕ) (n at i m c : ℕ) : Type 0 where
   pub walk : Walks (bytes "key=") (bytes "value=") s at c
-  pub stops : End ≡ pair-at (bytes "key=") (bytes "value=") s c
+  pub stops : End ≡ two-lines-at (bytes "key=") (bytes "value=") s c
   pub bs : List Binding
   pub read : every (map read-entry (walk .es)) ≡ some bs
   pub alike : distinct-keys (walk .es) [] ≡ true → Alike (bindings-at s v i) bs

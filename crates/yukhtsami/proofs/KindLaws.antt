@@ -1,5 +1,5 @@
 -- A sheet that was read as a form is settled by what its kind's function gives.
-use mathlib.Core.Path.{_≡_, sym, subst, ap, _∙_}
+use mathlib.Core.Path.{_≡_, refl, sym, subst, ap, _∙_}
 use mathlib.Core.List.{List, [], _∷_}
 use mathlib.Core.Option.{Option, some, Option·some-injective}
 use Prim.Native.Nat.{ℕ, _+_, _*_, _≤_}
@@ -7,16 +7,16 @@ use lib.ListN.{length}
 use native.Mathlib.Omega.{arith}
 use Rattle.rules.specs.Bytes.{Text}
 use Rattle.rules.specs.Text.{count-of}
-use Rattle.rules.specs.Sheet.{Sheet, Member, asks-equal, asks-reduce, asks-sound, read-sheet}
+use Rattle.rules.specs.Sheet.{Sheet, Member, asks-equal, asks-reduce, asks-sound, read-sheet, words-needed}
 use Rattle.sheet.specs.Members.{members-at}
 use Rattle.sheet.specs.declared.Cursor.{Cursor}
 use Rattle.rules.specs.Answer.{answer-of}
 use Rattle.rules.specs.Call.{Reply, refused, admitted, settled, call, refusal-number, written, overwritten, cleared, work-after}
-use Rattle.sheet.specs.Form.{text-of, sheet-of, form-raise, form-words}
+use Rattle.sheet.specs.Form.{text-of, sheet-of, EnoughWords}
 use Rattle.sheet.specs.declared.Place.{Place}
 use Rattle.sheet.specs.declared.form.Form.{Form}
 use Rattle.sheet.specs.declared.form.Form.the-variants as form
-use Rattle.sheet.proofs.WordLaws.{words-same}
+use Rattle.sheet.proofs.WordLaws.{raise-counted}
 use Rattle.sheet.proofs.WalkLaws.{sound-member}
 use Rattle.answers.specs.Clearing.{zeroed}
 use Rattle.answers.specs.Settling.{settles, settled-number, settled-count, Settles}
@@ -26,7 +26,6 @@ use Rattle.yukhtsami.specs.declared.Reply as code
 use Rattle.yukhtsami.specs.declared.Reply.the-variants as reply
 use Rattle.answers.specs.declared.refusal.Refusal.{Refusal}
 use Rattle.answers.specs.declared.Settled.{Settled}
-use Rattle.answers.specs.declared.Settled.the-variants.{Unreadable}
 use Rattle.answers.proofs.Giving.{settles-as}
 
 -- a sheet that was read is settled with its answer, and as the form that stands for it
@@ -56,25 +55,26 @@ sound-settled s t c f {out} {v} {x} e h sheet g =
     let k = sound-member s t c sheet (ap (sheet-of s) (sym e) ∙ g) in
     subst (λ (z : Sheet). Settles (answer-of z) out v x) (sym (k .1)) (h (k .0) (k .2))
 
--- every kind has the words of what is read and of one step, and those of its colons
-pub least-words : (s : Text) (f : Form) {n : ℕ} → form-words s f ≤ n → 1048576 + 16 * length s ≤ n
-unfolding form-words
-least-words s f h = omega arith
+pub more-words : (s : Text) (f : Form) {n m : ℕ} → EnoughWords s f n → n ≤ m → EnoughWords s f m
+more-words s f h k = record { sheet = h .sheet; stands = h .stands; enough = (let e = h .enough in omega arith) }
 
-pub colon-words : (s : Text) (f : Form) {n : ℕ} → form-words s f ≤ n → 65536 * (count-of 58 s + 16) + 16 * length s ≤ n
-unfolding form-words
-colon-words s f h = omega arith
+-- every kind has the words of what is read and of one step, and those of its colons
+pub least-words : (s : Text) (f : Form) {n : ℕ} → EnoughWords s f n → 1048576 + 16 * length s ≤ n
+unfolding words-needed
+least-words s f h = let k = h .enough in omega arith
+
+pub colon-words : (s : Text) (f : Form) {n : ℕ} → EnoughWords s f n → 65536 * (count-of 58 s + 16) + 16 * length s ≤ n
+unfolding words-needed
+colon-words s f h = let k = h .enough in omega arith
 
 -- the words of `complete`
-pub complete-words : (s : Text) (t : Place) (c : Cursor) (f : Form) {n : ℕ} → f ≡ form.Complete t c → form-words s f ≤ n
+pub complete-words : (s : Text) (t : Place) (c : Cursor) (f : Form) {n : ℕ} → f ≡ form.Complete t c → EnoughWords s f n
     → 65536 * (count-of 58 s + 2 * count-of 40 (text-of s t) + 16) + 16 * length s ≤ n
-unfolding form-words
-complete-words s t c f e h = let k = ap (form-raise s) e in omega arith
-
--- no sheet that is read stands as three
-pub never-three : (s : Text) (f : Form) (out : Text) → f ≡ form.Three → Decoded s f → SettlesForm (sheet-of s f) out out Unreadable
-unfolding sheet-of
-never-three s f out e d sheet g = let z : _≡_ {A = ℕ} 0 1 = cc (ap (sheet-of s) e) in absurd (omega arith)
+unfolding words-needed
+complete-words s t c f e h =
+    let k = h .enough in
+    let r = raise-counted s t c f e refl (h .sheet) (h .stands) in
+    omega arith
 
 -- the whole call, by what was admitted and settled
 module _ (s : Text) (w : List ℕ) (out : Text) where
@@ -90,8 +90,8 @@ module _ (s : Text) (w : List ℕ) (out : Text) where
       }
 
   module _ (f : Form) (needed : ℕ) (a : Stands s (length w) f needed) where
-    pub enough-words : form-words s f ≤ needed
-    enough-words = omega (arith, a .need, words-same s f (a .decoded .sheet) (a .decoded .decodes))
+    pub enough-words : EnoughWords s f needed
+    enough-words = record { sheet = a .decoded .sheet; stands = a .decoded .decodes; enough = omega (arith, a .need) }
 
     pub settled-answers : (v : List ℕ) (after : Text) (x : Settled) (r : code.Reply) → SettlesForm (sheet-of s f) out after x → v ≡ zeroed needed w
         → (reply-number r ≡ settled-number x) × (reply-count r ≡ settled-count x) → Answers s w v out after r

@@ -35,7 +35,7 @@ ghost use Rattle.rules.specs.Sheet.{Member, asks-equal, asks-reduce, asks-sound
 ghost use Rattle.sheet.specs.Members.{members-at};
 ghost use Rattle.tree.specs.Cells.{trees-at};
 ghost use Rattle.tree.specs.Arena.{Arena};
-ghost use Rattle.sheet.specs.Form.{text-of, Inside, sheet-of, form-words};
+ghost use Rattle.sheet.specs.Form.{text-of, Inside, sheet-of, EnoughWords};
 ghost use Rattle.answers.specs.Admission.{Decoded};
 ghost use Rattle.steps.specs.Stack.{Whole, pairs-at, FitPairs};
 ghost use Rattle.unifier.specs.Running.{Roomy, Answers as Solves};
@@ -219,10 +219,10 @@ fn complete_of(
     )
 }
 
-// A sheet that is admitted, by its kind. No form that is admitted is `Three`.
+// A sheet that is admitted, by its kind.
 pub(crate) fn settle(sheet: &[u8], work: &mut [u32], output: &mut [u8], form: Form) -> Settled
     requires { ⌜ Decoded (now sheet) form ⌝ }
-    requires { ⌜ form-words (now sheet) form ≤ length (now work) ⌝ }
+    requires { ⌜ EnoughWords (now sheet) form (length (now work)) ⌝ }
     ensures { λ r. ⌜ SettlesForm (sheet-of (now (sheet .entry)) form) (now (output .entry)) (now (output .exit)) r ⌝ }
 {
     match form {
@@ -233,6 +233,5 @@ pub(crate) fn settle(sheet: &[u8], work: &mut [u32], output: &mut [u8], form: Fo
         Form::Sound { term, member } => sound_of(sheet, work, output, term, member),
         Form::Cover { pairs, members: _ } => cover_of(sheet, work, output, pairs),
         Form::Complete { term, members } => complete_of(sheet, work, output, term, members),
-        Form::Three => Settled::Unreadable,
     }
 }

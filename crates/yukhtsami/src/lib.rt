@@ -11,7 +11,7 @@ use sheet::form::Form;
 ghost use mathlib.Core.Path.{_≡_};
 ghost use Prim.Native.Nat.{_≤_};
 ghost use lib.ListN.{length};
-ghost use Rattle.sheet.specs.Form.{sheet-of, form-words};
+ghost use Rattle.sheet.specs.Form.{sheet-of, EnoughWords};
 ghost use Rattle.answers.specs.Settling.{settled-number, settled-count};
 ghost use Rattle.answers.specs.Clearing.{zeroed};
 ghost use Rattle.yukhtsami.specs.Answering.{SettlesForm, reply-number, reply-count, Answers, Calls};
@@ -32,7 +32,7 @@ fn settle_and_clear(
     needed: usize,
 ) -> Settled
     requires { ⌜ Decoded (now sheet) form ⌝ }
-    requires { ⌜ (form-words (now sheet) form ≤ needed) × (needed ≤ length (now work)) ⌝ }
+    requires { ⌜ EnoughWords (now sheet) form needed × (needed ≤ length (now work)) ⌝ }
     ensures { λ r. ⌜ SettlesForm (sheet-of (now (sheet .entry)) form) (now (output .entry)) (now (output .exit)) r ⌝ }
     ensures { λ _. ⌜ now (work .exit) ≡ zeroed needed (now (work .entry)) ⌝ }
 {

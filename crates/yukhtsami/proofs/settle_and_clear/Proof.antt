@@ -3,6 +3,7 @@ use native.Mathlib.Omega.{arith}
 use lib.ListN.{length, take}
 use lib.Seq.{length-take-le}
 use Rattle.answers.proofs.Zeroing.{zeroed-over}
+use Rattle.yukhtsami.proofs.KindLaws.{more-words}
 use borrow.Author.Needs.{needs}
 use Rattle.yukhtsami.proofs.settle_and_clear.Statement.{statement}
 use Rattle.yukhtsami.proofs.settle_and_clear.Tie as tie
@@ -20,7 +21,7 @@ slice-aggregate-settle c = sym (length-take-le (c .before .before .before .befor
 settle-requires : tie.Need-settle-requires
 settle-requires c κs =
     let e = length-take-le (c .before .before .before .before .before .args .needed) (c .before .before .before .before .before .args .work .now) (c .before .before .before .before .before .pre .1 .1) in
-    (c .before .before .before .before .before .pre .0, omega arith)
+    (c .before .before .before .before .before .pre .0, more-words _ _ (c .before .before .before .before .before .pre .1 .0) (omega arith))
 
 clear-requires : tie.Need-clear-requires
 clear-requires c κs = search needs

@@ -4,7 +4,7 @@ use Rattle.sheet.specs.Form.{Within}
 use Rattle.yukhtsami.proofs.Solves.{unify-asked, match-asked}
 use Rattle.yukhtsami.proofs.Covers.{cover-asked}
 use Rattle.yukhtsami.proofs.Completes.{complete-asked}
-use Rattle.yukhtsami.proofs.KindLaws.{form-settled, least-words, colon-words, complete-words, equal-settled, reduce-settled, sound-settled, never-three}
+use Rattle.yukhtsami.proofs.KindLaws.{form-settled, least-words, colon-words, complete-words, equal-settled, reduce-settled, sound-settled}
 use borrow.Author.Needs.{needs}
 use Rattle.yukhtsami.proofs.kinds.settle.Statement.{statement}
 use Rattle.yukhtsami.proofs.kinds.settle.Tie as tie
@@ -75,9 +75,6 @@ complete-of-requires : tie.Need-complete-of-requires
 complete-of-requires c κs =
     let a = c .before .before .before .before .before .before .before .before .args in
     (complete-asked (a .sheet .now) _ _ (a .form) (c .before .before .before .form7 .given .1) (c .before .before .before .before .before .before .before .before .pre .0), complete-words (a .sheet .now) _ _ (a .form) (c .before .before .before .form7 .given .1) (c .before .before .before .before .before .before .before .before .pre .1))
-
-enum-told : tie.Need-enum-told
-enum-told c = search needs
 
 same-length : tie.Need-same-length
 same-length c = search needs
@@ -156,11 +153,6 @@ returns-7 c =
     let a = c .before .before .before .before .before .before .before .before .before .before .before .before .before .args in
     form-settled (a .sheet .now) (a .form) (c .before .before .before .before .before .before .before .before .before .before .before .before .before .pre .0) (c .before .before .before .before .complete-of .ensures)
 
-returns-8 : tie.Need-returns-8
-returns-8 c =
-    let a = c .before .before .before .before .before .args in
-    never-three (a .sheet .now) (a .form) (a .output .now) (c .enum-told .given .1) (c .before .before .before .before .before .pre .0)
-
 pub settle-spec : {M : Type 1} → statement M
 settle-spec =
     tie.close
@@ -179,7 +171,6 @@ settle-spec =
     cover-of-requires
     enum-known-form-7
     complete-of-requires
-    enum-told
     same-length
     same-length-2
     returns
@@ -200,5 +191,4 @@ settle-spec =
     returns-6
     same-length-13
     same-length-14
-    returns-7
-    returns-8)
+    returns-7)
