@@ -26,14 +26,16 @@ use Rattle.reading.specs.Parsing.{Read}
 use Rattle.sheet.specs.Claims as code
 use Rattle.sheet.specs.declared.claims.Claim.{Claim}
 use Rattle.complete.specs.Completing.{CompleteInput}
-use Rattle.answers.specs.Settling.{Settles, claim-text}
 use Rattle.answers.specs.Admission.{Decoded}
-use Rattle.yukhtsami.specs.Answering.{SettlesForm}
+use Rattle.yukhtsami.specs.Answering.{DecidesForm}
 use Rattle.yukhtsami.specs.Outcomes.{CompleteAsked}
-use Rattle.answers.specs.declared.Settled.{Settled}
-use Rattle.answers.specs.declared.Settled.the-variants.{Unreadable}
-use Rattle.answers.proofs.Giving.{unreadable-settles, claim-line}
-use Rattle.yukhtsami.proofs.KindLaws.{read-settled}
+use Rattle.answers.specs.Deciding.{claim-decision}
+use Rattle.answers.specs.declared.deciding.Key.the-variants as key
+use Rattle.answers.specs.declared.deciding.Decision.{Decision}
+use Rattle.answers.specs.declared.deciding.Decision.the-variants.{Refused}
+use Rattle.answers.specs.declared.refusal.Refusal.the-variants.{UnreadableTerm}
+use Rattle.answers.proofs.Decides.{unreadable-decides, claim-decides}
+use Rattle.yukhtsami.proofs.KindLaws.{read-decided}
 
 pub complete-asked : (s : Text) (t : Place) (c : Cursor) (f : Form) → f ≡ form.Complete t c → Decoded s f → CompleteAsked s t (c .at)
 complete-asked s t c f e h =
@@ -48,8 +50,8 @@ module _ (s : Text) (t : Place) (at : ℕ) (a : CompleteAsked s t at) where
   unfolding answer-of
   complete-answer o e = ap (λ (o : Option Tree). o >>= λ u. some (line (bytes "complete=") (claim (complete u (a .members))))) e
 
-  pub complete-unread : (out : Text) → parse (text-of s t) ≡ none → SettlesForm (read-sheet s) out out Unreadable
-  complete-unread out e = read-settled s (asks-complete (text-of s t) (a .members)) none (a .reads) (complete-answer none e) (unreadable-settles out)
+  pub complete-unread : {w : List ℕ} → parse (text-of s t) ≡ none → DecidesForm (read-sheet s) s w (Refused UnreadableTerm)
+  complete-unread e = read-decided s (asks-complete (text-of s t) (a .members)) none (a .reads) (complete-answer none e) unreadable-decides
 
   module _ {w v : List ℕ} {i m : ℕ} (r : Read s w v 1 (t .from) (t .to) i m) where
     pub complete-asks : {colons brackets named : ℕ} → colons ≡ count-of 58 (text-of s t) → brackets ≡ count-of 40 (text-of s t) → named ≡ colons + 2 * brackets
@@ -67,10 +69,9 @@ module _ (s : Text) (t : Place) (at : ℕ) (a : CompleteAsked s t at) where
       words = omega (arith, r .outside .len);
     }
 
-    pub complete-settled : (c : Claim) {out after : Text} {y : Settled} → ((ms : List Member) → members-at s at ≡ some ms → code.truth c ≡ complete (tree-at s v i) ms)
-        → Settles (some (claim-text c (bytes "complete=yes\n") (bytes "complete=no\n") (bytes "complete=none\n"))) out after y → SettlesForm (read-sheet s) out after y
-    complete-settled c h k =
-        read-settled s (asks-complete (text-of s t) (a .members)) (some (claim-text c (bytes "complete=yes\n") (bytes "complete=no\n") (bytes "complete=none\n"))) (a .reads)
-        (complete-answer (some (tree-at s v i)) (r .reads) ∙ ap (λ (o : Option Bool). some (line (bytes "complete=") (claim o))) (sym (h (a .members) (a .later)))
-        ∙ ap some (sym (claim-line (bytes "complete=") c)))
-        k
+    pub complete-decided : {u : List ℕ} (c : Claim) {d : Decision} → ((ms : List Member) → members-at s at ≡ some ms → code.truth c ≡ complete (tree-at s v i) ms)
+        → d ≡ claim-decision key.Complete c → DecidesForm (read-sheet s) s u d
+    complete-decided c h k =
+        read-decided s (asks-complete (text-of s t) (a .members)) (some (line (bytes "complete=") (claim (code.truth c)))) (a .reads)
+        (complete-answer (some (tree-at s v i)) (r .reads) ∙ ap (λ (o : Option Bool). some (line (bytes "complete=") (claim o))) (sym (h (a .members) (a .later))))
+        (claim-decides key.Complete c k)

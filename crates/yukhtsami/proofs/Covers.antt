@@ -23,15 +23,17 @@ use Rattle.steps.specs.Stack.{pairs-at}
 use Rattle.sheet.specs.Claims as code
 use Rattle.sheet.specs.declared.claims.Claim.{Claim}
 use Rattle.cover.specs.Covered.{CoverInput}
-use Rattle.answers.specs.Settling.{Settles, claim-text}
 use Rattle.answers.specs.Admission.{Decoded}
-use Rattle.yukhtsami.specs.Answering.{SettlesForm}
+use Rattle.yukhtsami.specs.Answering.{DecidesForm}
 use Rattle.answers.specs.Pairs.{ReadPairs}
 use Rattle.yukhtsami.specs.Outcomes.{CoverAsked}
-use Rattle.answers.specs.declared.Settled.{Settled}
-use Rattle.answers.specs.declared.Settled.the-variants.{Unreadable}
-use Rattle.answers.proofs.Giving.{unreadable-settles, claim-line}
-use Rattle.yukhtsami.proofs.KindLaws.{read-settled}
+use Rattle.answers.specs.Deciding.{claim-decision}
+use Rattle.answers.specs.declared.deciding.Key.the-variants as key
+use Rattle.answers.specs.declared.deciding.Decision.{Decision}
+use Rattle.answers.specs.declared.deciding.Decision.the-variants.{Refused}
+use Rattle.answers.specs.declared.refusal.Refusal.the-variants.{UnreadableTerm}
+use Rattle.answers.proofs.Decides.{unreadable-decides, claim-decides}
+use Rattle.yukhtsami.proofs.KindLaws.{read-decided}
 use Rattle.yukhtsami.proofs.Solves.{read-whole, read-are}
 
 -- the members of the form are those after its pairs
@@ -57,14 +59,14 @@ module _ (s : Text) (at : ℕ) (a : CoverAsked s at) where
   unfolding answer-of
   cover-answer o e = ap (λ (o : Option (List Pair)). o >>= λ ps. some (line (bytes "covered=") (claim (covered ps (a .members))))) e
 
-  pub cover-unread : (out : Text) → read-pairs (a .entries) ≡ none → SettlesForm (read-sheet s) out out Unreadable
-  cover-unread out e = read-settled s (asks-cover (a .entries) (a .members)) none (a .reads) (cover-answer none e) (unreadable-settles out)
+  pub cover-unread : {w : List ℕ} → read-pairs (a .entries) ≡ none → DecidesForm (read-sheet s) s w (Refused UnreadableTerm)
+  cover-unread e = read-decided s (asks-cover (a .entries) (a .members)) none (a .reads) (cover-answer none e) unreadable-decides
 
-  module _ {w v : List ℕ} {i m d : ℕ} (r : ReadPairs s w v (a .entries) (a .rest) i m d) where
-    members-there : members-at s d ≡ some (a .members)
-    members-there = members-later s d (a .rest) (a .members) (r .lines) (a .later)
+  module _ {w v : List ℕ} {i m end : ℕ} (r : ReadPairs s w v (a .entries) (a .rest) i m end) where
+    members-there : members-at s end ≡ some (a .members)
+    members-there = members-later s end (a .rest) (a .members) (r .lines) (a .later)
 
-    pub cover-asks : 65536 * (count-of 58 s + 16) + 16 * length s ≤ length w → CoverInput s v m i d
+    pub cover-asks : 65536 * (count-of 58 s + 16) + 16 * length s ≤ length w → CoverInput s v m i end
     cover-asks enough = record {
       entries = a .entries;
       members = a .members;
@@ -78,10 +80,10 @@ module _ (s : Text) (at : ℕ) (a : CoverAsked s at) where
       words = omega (arith, r .len);
     }
 
-    pub cover-settled : (c : Claim) {out after : Text} {y : Settled} → ((ms : List Member) → members-at s d ≡ some ms → code.truth c ≡ covered (pairs-at s v i) ms)
-        → Settles (some (claim-text c (bytes "covered=yes\n") (bytes "covered=no\n") (bytes "covered=none\n"))) out after y → SettlesForm (read-sheet s) out after y
-    cover-settled c h k =
-        read-settled s (asks-cover (a .entries) (a .members)) (some (claim-text c (bytes "covered=yes\n") (bytes "covered=no\n") (bytes "covered=none\n"))) (a .reads)
+    pub cover-decided : {u : List ℕ} (c : Claim) {d : Decision} → ((ms : List Member) → members-at s end ≡ some ms → code.truth c ≡ covered (pairs-at s v i) ms)
+        → d ≡ claim-decision key.Covered c → DecidesForm (read-sheet s) s u d
+    cover-decided c h k =
+        read-decided s (asks-cover (a .entries) (a .members)) (some (line (bytes "covered=") (claim (code.truth c)))) (a .reads)
         (cover-answer (some (r .ps)) (r .read) ∙ ap (λ (ps : List Pair). some (line (bytes "covered=") (claim (covered ps (a .members))))) (sym (read-are r))
-        ∙ ap (λ (o : Option Bool). some (line (bytes "covered=") (claim o))) (sym (h (a .members) members-there)) ∙ ap some (sym (claim-line (bytes "covered=") c)))
-        k
+        ∙ ap (λ (o : Option Bool). some (line (bytes "covered=") (claim o))) (sym (h (a .members) members-there)))
+        (claim-decides key.Covered c k)

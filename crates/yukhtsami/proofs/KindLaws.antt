@@ -1,4 +1,4 @@
--- A sheet that was read as a form is settled by what its kind's function gives.
+-- What is decided of a sheet that was read as a form is what its kind's function decides; so it is settled, and answered.
 use mathlib.Core.Path.{_≡_, refl, sym, subst, ap, _∙_}
 use mathlib.Core.List.{List, [], _∷_}
 use mathlib.Core.Option.{Option, some, Option·some-injective}
@@ -11,7 +11,7 @@ use Rattle.rules.specs.Sheet.{Sheet, Member, asks-equal, asks-reduce, asks-soun
 use Rattle.sheet.specs.Members.{members-at}
 use Rattle.sheet.specs.declared.Cursor.{Cursor}
 use Rattle.rules.specs.Answer.{answer-of}
-use Rattle.rules.specs.Call.{Reply, refused, admitted, settled, call, refusal-number, written, overwritten, cleared, work-after}
+use Rattle.rules.specs.Call.{Reply, refused, given, admitted, settled, call, refusal-number, written, overwritten, cleared, work-after}
 use Rattle.sheet.specs.Form.{text-of, sheet-of, EnoughWords}
 use Rattle.sheet.specs.declared.Place.{Place}
 use Rattle.sheet.specs.declared.form.Form.{Form}
@@ -19,41 +19,44 @@ use Rattle.sheet.specs.declared.form.Form.the-variants as form
 use Rattle.sheet.proofs.WordLaws.{raise-counted}
 use Rattle.sheet.proofs.WalkLaws.{sound-member}
 use Rattle.answers.specs.Clearing.{zeroed}
-use Rattle.answers.specs.Settling.{settles, settled-number, settled-count, Settles}
+use Rattle.answers.specs.Deciding.{decided, Held, Decides}
+use Rattle.answers.specs.Settling.{fits, Settles}
 use Rattle.answers.specs.Admission.{refusal-code, Decoded, Stands}
-use Rattle.yukhtsami.specs.Answering.{SettlesForm, reply-number, reply-count, Answers}
-use Rattle.yukhtsami.specs.declared.Reply as code
-use Rattle.yukhtsami.specs.declared.Reply.the-variants as reply
+use Rattle.yukhtsami.specs.Answering.{DecidesForm, SettlesForm, CallAnswers}
+use Rattle.answers.specs.declared.deciding.Decision.{Decision}
+use Rattle.answers.specs.declared.deciding.Decision.the-variants.{Refused}
+use Rattle.answers.specs.declared.giving.Reply as code
+use Rattle.answers.specs.declared.giving.Reply.the-variants as replies
 use Rattle.answers.specs.declared.refusal.Refusal.{Refusal}
-use Rattle.answers.specs.declared.Settled.{Settled}
-use Rattle.answers.proofs.Giving.{settles-as}
+use Rattle.answers.proofs.Decides.{decides-as}
 
--- a sheet that was read is settled with its answer, and as the form that stands for it
-pub read-settled : (s : Text) (sheet : Sheet) (o : Option Text) {out v : Text} {x : Settled} → read-sheet s ≡ some sheet → answer-of sheet ≡ o → Settles o out v x → SettlesForm (read-sheet s) out v x
-read-settled s sheet o r e h other g = settles-as (ap answer-of (Option·some-injective other sheet (sym g ∙ r)) ∙ e) h
+-- what is decided of a sheet that was read, and of the form that stands for it
+pub read-decided : (s : Text) (sheet : Sheet) (o : Option Text) {w : List ℕ} {d : Decision} → read-sheet s ≡ some sheet → answer-of sheet ≡ o → Decides (given o 4) s w d
+    → DecidesForm (read-sheet s) s w d
+read-decided s sheet o r e h other g = decides-as (ap answer-of (Option·some-injective other sheet (sym g ∙ r)) ∙ e) h
 
-pub form-settled : (s : Text) (f : Form) {out v : Text} {x : Settled} → Decoded s f → SettlesForm (read-sheet s) out v x → SettlesForm (sheet-of s f) out v x
-form-settled s f d h sheet e = h sheet (d .reads ∙ sym (d .decodes) ∙ e)
+pub form-decided : (s : Text) (f : Form) {w : List ℕ} {d : Decision} → Decoded s f → DecidesForm (read-sheet s) s w d → DecidesForm (sheet-of s f) s w d
+form-decided s f x h sheet e = h sheet (x .reads ∙ sym (x .decodes) ∙ e)
 
-pub equal-settled : (s : Text) (l r : Place) (f : Form) {out v : Text} {x : Settled} → f ≡ form.Equal l r
-    → Settles (answer-of (asks-equal (text-of s l) (text-of s r))) out v x → SettlesForm (sheet-of s f) out v x
+pub equal-decided : (s : Text) (l r : Place) (f : Form) {w : List ℕ} {d : Decision} → f ≡ form.Equal l r
+    → Decides (given (answer-of (asks-equal (text-of s l) (text-of s r))) 4) s w d → DecidesForm (sheet-of s f) s w d
 unfolding sheet-of
-equal-settled s l r f {out} {v} {x} e h sheet g =
+equal-decided s l r f {w} {d} e h sheet g =
     let z : asks-equal (text-of s l) (text-of s r) ≡ sheet = cc (ap (sheet-of s) e) in
-    subst (λ (t : Sheet). Settles (answer-of t) out v x) z h
+    subst (λ (t : Sheet). Decides (given (answer-of t) 4) s w d) z h
 
-pub reduce-settled : (s : Text) (t : Place) (f : Form) {out v : Text} {x : Settled} → f ≡ form.Reduce t
-    → Settles (answer-of (asks-reduce (text-of s t))) out v x → SettlesForm (sheet-of s f) out v x
+pub reduce-decided : (s : Text) (t : Place) (f : Form) {w : List ℕ} {d : Decision} → f ≡ form.Reduce t
+    → Decides (given (answer-of (asks-reduce (text-of s t))) 4) s w d → DecidesForm (sheet-of s f) s w d
 unfolding sheet-of
-reduce-settled s t f {out} {v} {x} e h sheet g =
+reduce-decided s t f {w} {d} e h sheet g =
     let z : asks-reduce (text-of s t) ≡ sheet = cc (ap (sheet-of s) e) in
-    subst (λ (t : Sheet). Settles (answer-of t) out v x) z h
+    subst (λ (t : Sheet). Decides (given (answer-of t) 4) s w d) z h
 
-pub sound-settled : (s : Text) (t : Place) (c : Cursor) (f : Form) {out v : Text} {x : Settled} → f ≡ form.Sound t c
-    → ((m : Member) → members-at s (c .at) ≡ some (m ∷ []) → Settles (answer-of (asks-sound (text-of s t) m)) out v x) → SettlesForm (sheet-of s f) out v x
-sound-settled s t c f {out} {v} {x} e h sheet g =
+pub sound-decided : (s : Text) (t : Place) (c : Cursor) (f : Form) {w : List ℕ} {d : Decision} → f ≡ form.Sound t c
+    → ((m : Member) → members-at s (c .at) ≡ some (m ∷ []) → Decides (given (answer-of (asks-sound (text-of s t) m)) 4) s w d) → DecidesForm (sheet-of s f) s w d
+sound-decided s t c f {w} {d} e h sheet g =
     let k = sound-member s t c sheet (ap (sheet-of s) (sym e) ∙ g) in
-    subst (λ (z : Sheet). Settles (answer-of z) out v x) (sym (k .1)) (h (k .0) (k .2))
+    subst (λ (z : Sheet). Decides (given (answer-of z) 4) s w d) (sym (k .1)) (h (k .0) (k .2))
 
 pub more-words : (s : Text) (f : Form) {n m : ℕ} → EnoughWords s f n → n ≤ m → EnoughWords s f m
 more-words s f h k = record { sheet = h .sheet; stands = h .stands; enough = (let e = h .enough in omega arith) }
@@ -76,10 +79,19 @@ complete-words s t c f e h =
     let r = raise-counted s t c f e refl (h .sheet) (h .stands) in
     omega arith
 
+-- what was decided, with an output
+pub decided-held : (s : Text) (f : Form) {w : List ℕ} {d : Decision} → Decoded s f → DecidesForm (sheet-of s f) s w d → Held s w d
+decided-held s f x h = h (x .sheet) (x .decodes) .held
+
+pub decided-settles : (s : Text) (f : Form) {w : List ℕ} (d : Decision) {out v : Text} {r : code.Reply} → DecidesForm (sheet-of s f) s w d
+    → Settles (fits (decided s w d) (length out)) out v r → SettlesForm (sheet-of s f) out v r
+unfolding settled fits
+decided-settles s f {w} d {out} {v} {r} h k sheet e = subst (λ (z : Reply Text). Settles (fits z (length out)) out v r) (h sheet e .reply) k
+
 -- the whole call, by what was admitted and settled
 module _ (s : Text) (w : List ℕ) (out : Text) where
-  pub refused-answers : (x : Refusal) → admitted s (length w) ≡ refused (refusal-code x) → Answers s w w out out (reply.Refused x)
-  unfolding call settled settles work-after
+  pub refused-answers : (x : Refusal) → admitted s (length w) ≡ refused (refusal-code x) → CallAnswers s w w out out (replies.Refused x)
+  unfolding call work-after
   refused-answers x e =
       let f : call s (length w) (length out) ≡ refused (refusal-code x) = rw e in
       record {
@@ -93,15 +105,14 @@ module _ (s : Text) (w : List ℕ) (out : Text) where
     pub enough-words : EnoughWords s f needed
     enough-words = record { sheet = a .decoded .sheet; stands = a .decoded .decodes; enough = omega (arith, a .need) }
 
-    pub settled-answers : (v : List ℕ) (after : Text) (x : Settled) (r : code.Reply) → SettlesForm (sheet-of s f) out after x → v ≡ zeroed needed w
-        → (reply-number r ≡ settled-number x) × (reply-count r ≡ settled-count x) → Answers s w v out after r
-    unfolding call settled settles work-after
-    settled-answers v after x r h z q =
+    pub settled-answers : (v : List ℕ) (after : Text) (r : code.Reply) → SettlesForm (sheet-of s f) out after r → v ≡ zeroed needed w → CallAnswers s w v out after r
+    unfolding call work-after
+    settled-answers v after r h z =
         let k = h (a .decoded .sheet) (a .decoded .decodes) in
-        let g : call s (length w) (length out) ≡ settles (answer-of (a .decoded .sheet)) (length out) = rw (a .passes) in
+        let g : call s (length w) (length out) ≡ settled (a .decoded .sheet) (length out) = rw (a .passes) in
         record {
-          number = q .0 ∙ k .number ∙ sym (ap refusal-number g);
-          written-is = q .1 ∙ k .count ∙ sym (ap written g);
+          number = k .number ∙ sym (ap refusal-number g);
+          written-is = k .count ∙ sym (ap written g);
           output = k .output ∙ sym (ap (λ (y : Reply Text). overwritten y out) g);
           work = z ∙ ap (λ (n : ℕ). zeroed n w) (a .need) ∙ sym (ap (λ (y : Reply Sheet). cleared s y w) (a .passes));
         }

@@ -14,6 +14,7 @@ use Rattle.rules.specs.Substitution.{Pair, flatten}
 use Rattle.rules.specs.Solving.{Answer}
 use Rattle.rules.specs.Sheet.{Entry, read-sheet}
 use Rattle.rules.specs.Answer.{read-pairs, verdict-lines, answer-of}
+use Rattle.rules.specs.Call.{passed}
 use Rattle.laws.specs.Memory.{weight, sheet-pairs}
 use Rattle.sheet.specs.Form.{sheet-of, Within}
 use Rattle.sheet.specs.declared.Cursor.{Cursor}
@@ -28,15 +29,16 @@ use Rattle.unifier.specs.declared.unifying.Outcome.{Outcome}
 use Rattle.unifier.specs.declared.unifying.Outcome.the-variants as outcome
 use Rattle.steps.proofs.Children.{pairs-flatten}
 use Rattle.unifier.proofs.Fitting.{pairs-fit}
-use Rattle.answers.specs.Settling.{Settles}
+use Rattle.answers.specs.Deciding.{Decides}
 use Rattle.answers.specs.Admission.{Decoded}
-use Rattle.yukhtsami.specs.Answering.{SettlesForm}
+use Rattle.yukhtsami.specs.Answering.{DecidesForm}
 use Rattle.answers.specs.Pairs.{ReadPairs}
-use Rattle.yukhtsami.specs.Outcomes.{asks, solve-by, Asked, told, Listed}
-use Rattle.answers.specs.declared.Settled.{Settled}
-use Rattle.answers.specs.declared.Settled.the-variants.{Unreadable}
-use Rattle.answers.proofs.Giving.{unreadable-settles}
-use Rattle.yukhtsami.proofs.KindLaws.{read-settled}
+use Rattle.yukhtsami.specs.Outcomes.{asks, solve-by, Asked, told, verdict-of}
+use Rattle.answers.specs.declared.deciding.Decision.{Decision}
+use Rattle.answers.specs.declared.deciding.Decision.the-variants.{Refused}
+use Rattle.answers.specs.declared.refusal.Refusal.the-variants.{UnreadableTerm}
+use Rattle.answers.proofs.Decides.{unreadable-decides}
+use Rattle.yukhtsami.proofs.KindLaws.{read-decided}
 use Rattle.yukhtsami.proofs.RunRooms.{pair-names, run-words, run-cells}
 
 -- both kinds are answered in one way
@@ -74,9 +76,10 @@ module _ {s : Text} {w v : List ℕ} {es : List Entry} {rest : List Text} {i m c
   read-fit = subst FitPairs (sym read-are) (pairs-fit es (r .ps) (r .read))
 
 module _ (s : Text) (b : Bool) (fuel at : ℕ) (a : Asked s b fuel at) where
-  pub unread-settled : (out : Text) → read-pairs (a .entries) ≡ none → SettlesForm (read-sheet s) out out Unreadable
-  unread-settled out e =
-      read-settled s (asks b fuel (a .entries)) none (a .reads) (solving-answer b fuel (a .entries) ∙ ap (λ (o : Option (List Pair)). o >>= λ ps. some (verdict-lines (solve-by b fuel ps))) e) (unreadable-settles out)
+  pub unread-decided : {w : List ℕ} → read-pairs (a .entries) ≡ none → DecidesForm (read-sheet s) s w (Refused UnreadableTerm)
+  unread-decided e =
+      read-decided s (asks b fuel (a .entries)) none (a .reads) (solving-answer b fuel (a .entries) ∙ ap (λ (o : Option (List Pair)). o >>= λ ps. some (verdict-lines (solve-by b fuel ps))) e)
+      unreadable-decides
 
   module _ {w v : List ℕ} {i m c : ℕ} (r : ReadPairs s w v (a .entries) [] i m c) where
     pub read-roomy : 65536 * (count-of 58 s + 16) + 16 * length s ≤ length w → Roomy v m fuel (pairs-at s v i)
@@ -94,23 +97,22 @@ module _ (s : Text) (b : Bool) (fuel at : ℕ) (a : Asked s b fuel at) where
         })
 
     -- the answer, from what the run gave
-    pub solved-settled : (u : List ℕ) {out after : Text} {x : Settled} (y : Outcome) → Answers s v u m (solve-by b fuel (pairs-at s v i)) y → Settles (some (verdict-lines (told s u y))) out after x
-        → SettlesForm (read-sheet s) out after x
-    solved-settled u {out} {after} {x} y h k =
-        read-settled s (asks b fuel (a .entries)) (some (verdict-lines (told s u y))) (a .reads)
+    pub solved-decided : (u : List ℕ) (y : Outcome) {d : Decision} → Answers s v u m (solve-by b fuel (pairs-at s v i)) y → d ≡ verdict-of y → DecidesForm (read-sheet s) s u d
+    solved-decided u y {d} h k =
+        read-decided s (asks b fuel (a .entries)) (some (verdict-lines (told s u y))) (a .reads)
         (solving-answer b fuel (a .entries) ∙ ap (λ (o : Option (List Pair)). o >>= λ ps. some (verdict-lines (solve-by b fuel ps))) (r .read)
         ∙ ap (λ (ps : List Pair). some (verdict-lines (solve-by b fuel ps))) (sym (read-are r)) ∙ ap (λ (z : Answer). some (verdict-lines z)) (is-told y h))
-        k
+        (subst (Decides (passed (verdict-lines (told s u y))) s u) (sym k) (verdict-decides y h))
       where
         is-told : (y : Outcome) → Answers s v u m (solve-by b fuel (pairs-at s v i)) y → solve-by b fuel (pairs-at s v i) ≡ told s u y
         is-told (outcome.Solved j n k) g = g .0
         is-told (outcome.Failed k) g = g .0
         is-told (outcome.Unsupported k) g = g .0
 
-pub answers-listed : (s : Text) (w v : List ℕ) (n : ℕ) (a : Answer) (y : Outcome) → Answers s w v n a y → Listed s v y
-answers-listed s w v n a (outcome.Solved j m k) g = (g .1 .arena, g .1 .inside, g .1 .chain)
-answers-listed s w v n a (outcome.Failed k) g = tt
-answers-listed s w v n a (outcome.Unsupported k) g = tt
+        verdict-decides : (y : Outcome) → Answers s v u m (solve-by b fuel (pairs-at s v i)) y → Decides (passed (verdict-lines (told s u y))) s u (verdict-of y)
+        verdict-decides (outcome.Solved j n k) g = record { reply = refl; held = (g .1 .arena, g .1 .inside, g .1 .chain) }
+        verdict-decides (outcome.Failed k) g = record { reply = refl; held = tt }
+        verdict-decides (outcome.Unsupported k) g = record { reply = refl; held = tt }
 
 -- room for `match` is less than for `unify`
 pub match-room : {w : List ℕ} {n fuel : ℕ} {ps : List Pair} → Roomy w n fuel ps → Room w (n + weight ps + 2 * fuel)

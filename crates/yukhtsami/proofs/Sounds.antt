@@ -12,16 +12,14 @@ use Rattle.rules.specs.Variants.{sound}
 use Rattle.rules.specs.Answer.{line, claim, answer-of}
 use Rattle.sheet.specs.Claims as code
 use Rattle.sheet.specs.declared.claims.Claim.{Claim}
-use Rattle.answers.specs.Settling.{claim-text}
-use Rattle.answers.proofs.Giving.{claim-line}
 
 pub sound-unreadable : (t : Text) (m : Member) → parse t ≡ none → answer-of (asks-sound t m) ≡ none
 unfolding answer-of
 sound-unreadable t m e = ap (λ (o : Option Tree). o >>= λ u. some (line (bytes "sound=") (claim (sound u m)))) e
 
 pub sound-line : (t : Text) (m : Member) (u : Tree) (c : Claim) → parse t ≡ some u → code.truth c ≡ sound u m
-    → answer-of (asks-sound t m) ≡ some (claim-text c (bytes "sound=yes\n") (bytes "sound=no\n") (bytes "sound=none\n"))
+    → answer-of (asks-sound t m) ≡ some (line (bytes "sound=") (claim (code.truth c)))
 unfolding answer-of
 sound-line t m u c e f =
     ap (λ (o : Option Tree). o >>= λ u. some (line (bytes "sound=") (claim (sound u m)))) e
-    ∙ ap (λ (o : Option Bool). some (line (bytes "sound=") (claim o))) (sym f) ∙ ap some (sym (claim-line (bytes "sound=") c))
+    ∙ ap (λ (o : Option Bool). some (line (bytes "sound=") (claim o))) (sym f)

@@ -7,24 +7,19 @@ use lib.ListN.{length}
 use Rattle.rules.specs.Bytes.{Text}
 use Rattle.rules.specs.Sheet.{Sheet}
 use Rattle.rules.specs.Answer.{answer-of}
-use Rattle.rules.specs.Call.{call, refusal-number, written, overwritten, work-after}
-use Rattle.answers.specs.Settling.{Settles}
-use Rattle.answers.specs.Admission.{refusal-code}
-use Rattle.answers.specs.declared.Settled.{Settled}
-use Rattle.yukhtsami.specs.declared.Reply as code
-use Rattle.yukhtsami.specs.declared.Reply.the-variants as reply
+use Rattle.rules.specs.Call.{given, settled, call, refusal-number, written, overwritten, work-after}
+use Rattle.answers.specs.Deciding.{Decides}
+use Rattle.answers.specs.Settling.{reply-number, reply-count, Settles}
+use Rattle.answers.specs.declared.deciding.Decision.{Decision}
+use Rattle.answers.specs.declared.giving.Reply as code
 
--- a sheet that was read is settled with its answer
-abbrev pub SettlesForm : Option Sheet → Text → Text → Settled → Type 0
-SettlesForm o out v r = (sheet : Sheet) → o ≡ some sheet → Settles (answer-of sheet) out v r
+-- what is decided of a sheet that was read is its answer, or 4 where there is none
+abbrev pub DecidesForm : Option Sheet → Text → List ℕ → Decision → Type 0
+DecidesForm o s w d = (sheet : Sheet) → o ≡ some sheet → Decides (given (answer-of sheet) 4) s w d
 
-abbrev pub reply-number : code.Reply → ℕ
-reply-number (reply.Written n) = 0
-reply-number (reply.Refused x) = refusal-code x
-
-abbrev pub reply-count : code.Reply → ℕ
-reply-count (reply.Written n) = n
-reply-count (reply.Refused x) = 0
+-- a sheet that was read is settled
+abbrev pub SettlesForm : Option Sheet → Text → Text → code.Reply → Type 0
+SettlesForm o out v r = (sheet : Sheet) → o ≡ some sheet → Settles (settled sheet (length out)) out v r
 
 -- what the call gives, as 01's two numbers, and every byte of the output and every word of the work area after it
 pub record Calls (s : Text) (w v : List ℕ) (out after : Text) (refusal count : ℕ) : Type 0 where
@@ -33,5 +28,5 @@ pub record Calls (s : Text) (w v : List ℕ) (out after : Text) (refusal count :
   pub output : after ≡ overwritten (call s (length w) (length out)) out
   pub work : v ≡ work-after s w
 
-abbrev pub Answers : Text → List ℕ → List ℕ → Text → Text → code.Reply → Type 0
-Answers s w v out after r = Calls s w v out after (reply-number r) (reply-count r)
+abbrev pub CallAnswers : Text → List ℕ → List ℕ → Text → Text → code.Reply → Type 0
+CallAnswers s w v out after r = Calls s w v out after (reply-number r) (reply-count r)

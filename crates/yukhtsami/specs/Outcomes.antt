@@ -1,5 +1,5 @@
 -- What a sheet of kind `unify`, `match`, `cover` or `complete` asks, and the answer as the code makes it. Definitions only.
-use Prim.Native.Nat.{ℕ, _<_, _≤_}
+use Prim.Native.Nat.{ℕ, _≤_}
 use mathlib.Core.Path.{_≡_}
 use mathlib.Core.Bool.{Bool, true, false}
 use mathlib.Core.List.{List, []}
@@ -11,13 +11,14 @@ use Rattle.rules.specs.Substitution.{Pair}
 use Rattle.rules.specs.Solving.{solved, failed, unsupported, Answer, unify}
 use Rattle.rules.specs.Matching.{matcher}
 use Rattle.rules.specs.Sheet.{Sheet, Entry, Member, asks-unify, asks-match, asks-cover, asks-complete, pairs, members-from, none-waiting, read-sheet}
-use Rattle.tree.specs.Cells.{trees-at}
-use Rattle.tree.specs.Arena.{Arena}
-use Rattle.substitution.specs.Bindings.{bindings-at, Chain}
+use Rattle.substitution.specs.Bindings.{bindings-at}
 use Rattle.sheet.specs.Lines.{lines-at}
 use Rattle.sheet.specs.Members.{members-at}
 use Rattle.sheet.specs.Form.{text-of, Inside}
 use Rattle.sheet.specs.declared.Place.{Place}
+use Rattle.answers.specs.declared.deciding.Lines.the-variants as verdict
+use Rattle.answers.specs.declared.deciding.Decision.{Decision}
+use Rattle.answers.specs.declared.deciding.Decision.the-variants.{Given}
 use Rattle.unifier.specs.declared.unifying.Outcome.{Outcome}
 use Rattle.unifier.specs.declared.unifying.Outcome.the-variants as outcome
 
@@ -66,8 +67,8 @@ told s w (outcome.Solved b m spent) = (solved (bindings-at s w b), spent)
 told s w (outcome.Failed spent) = (failed, spent)
 told s w (outcome.Unsupported spent) = (unsupported, spent)
 
--- its bindings stand in the work area
-abbrev pub Listed : Text → List ℕ → Outcome → Type 0
-Listed s w (outcome.Solved b m spent) = Arena s w m × (b < m) × Chain (trees-at s w b)
-Listed s w (outcome.Failed spent) = Unit {0}
-Listed s w (outcome.Unsupported spent) = Unit {0}
+-- an outcome as a decision
+abbrev pub verdict-of : Outcome → Decision
+verdict-of (outcome.Solved b m spent) = Given (verdict.Solved b m spent)
+verdict-of (outcome.Failed spent) = Given (verdict.Failed spent)
+verdict-of (outcome.Unsupported spent) = Given (verdict.Unsupported spent)

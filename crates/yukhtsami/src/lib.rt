@@ -1,26 +1,31 @@
 // The call: a sheet, a work area and an output, all lent.
 mod kinds; // kinds.rt: one function for each kind
 
-use answers::Settled;
 use answers::admission::Admitted;
 use answers::admission::admit;
 use answers::clearing::clear;
+use answers::giving::Reply;
+use answers::giving::give;
 use answers::refusal::Refusal;
-use kinds::settle;
+use kinds::decide;
 use sheet::form::Form;
 ghost use mathlib.Core.Path.{_≡_};
 ghost use Prim.Native.Nat.{_≤_};
 ghost use lib.ListN.{length};
 ghost use Rattle.sheet.specs.Form.{sheet-of, EnoughWords};
-ghost use Rattle.answers.specs.Settling.{settled-number, settled-count};
+ghost use Rattle.answers.specs.Settling.{reply-number, reply-count};
 ghost use Rattle.answers.specs.Clearing.{zeroed};
-ghost use Rattle.yukhtsami.specs.Answering.{SettlesForm, reply-number, reply-count, Answers, Calls};
+ghost use Rattle.yukhtsami.specs.Answering.{SettlesForm, CallAnswers, Calls};
 ghost use Rattle.answers.specs.Admission.{refusal-code, Decoded};
 
-// The count of bytes written, or a refusal.
-pub enum Reply {
-    Written(usize),
-    Refused(Refusal),
+// Decides a sheet that is admitted, and gives what was decided.
+fn settle(sheet: &[u8], work: &mut [u32], output: &mut [u8], form: Form) -> Reply
+    requires { ⌜ Decoded (now sheet) form ⌝ }
+    requires { ⌜ EnoughWords (now sheet) form (length (now work)) ⌝ }
+    ensures { λ r. ⌜ SettlesForm (sheet-of (now (sheet .entry)) form) (now (output .entry)) (now (output .exit)) r ⌝ }
+{
+    let decision = decide(sheet, work, form);
+    give(sheet, work, decision, output)
 }
 
 // Settles a sheet that is admitted, and clears the words that it needed.
@@ -30,7 +35,7 @@ fn settle_and_clear(
     output: &mut [u8],
     form: Form,
     needed: usize,
-) -> Settled
+) -> Reply
     requires { ⌜ Decoded (now sheet) form ⌝ }
     requires { ⌜ EnoughWords (now sheet) form needed × (needed ≤ length (now work)) ⌝ }
     ensures { λ r. ⌜ SettlesForm (sheet-of (now (sheet .entry)) form) (now (output .entry)) (now (output .exit)) r ⌝ }
@@ -41,27 +46,14 @@ fn settle_and_clear(
     settled
 }
 
-// The reply to a sheet that was settled.
-fn reply_of(settled: Settled) -> Reply
-    ensures { λ r. ⌜ (reply-number r ≡ settled-number settled) × (reply-count r ≡ settled-count settled) ⌝ }
-{
-    match settled {
-        Settled::Written(count) => Reply::Written(count),
-        Settled::Unreadable => Reply::Refused(Refusal::UnreadableTerm),
-        Settled::Short => Reply::Refused(Refusal::ShortOutput),
-    }
-}
-
 // Answers a sheet.
 pub fn answer(sheet: &[u8], work: &mut [u32], output: &mut [u8]) -> Reply
-    ensures { λ r. ⌜ Answers (now (sheet .entry)) (now (work .entry)) (now (work .exit)) (now (output .entry)) (now (output .exit)) r ⌝ }
+    ensures { λ r. ⌜ CallAnswers (now (sheet .entry)) (now (work .entry)) (now (work .exit)) (now (output .entry)) (now (output .exit)) r ⌝ }
 {
     let admitted = admit(sheet, work.len());
     match admitted {
         Admitted::Refused(refusal) => Reply::Refused(refusal),
-        Admitted::Sheet { form, needed } => {
-            reply_of(settle_and_clear(sheet, work, output, form, needed))
-        }
+        Admitted::Sheet { form, needed } => settle_and_clear(sheet, work, output, form, needed),
     }
 }
 

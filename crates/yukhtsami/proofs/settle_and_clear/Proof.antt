@@ -10,7 +10,7 @@ use Rattle.yukhtsami.proofs.settle_and_clear.Tie as tie
 use Rattle.yukhtsami.proofs.settle_and_clear.Reads as reads
 use Rattle.yukhtsami.proofs.settle_and_clear.Lts as lts
 use Rattle.answers.proofs.clearing.clear.Reads as clear-reads
-use Rattle.yukhtsami.proofs.kinds.settle.Reads as settle-reads
+use Rattle.yukhtsami.proofs.settle.Reads as settle-reads
 
 slice-relend-prefix-settle : tie.Need-slice-relend-prefix-settle
 slice-relend-prefix-settle c = search needs
