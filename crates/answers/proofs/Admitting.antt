@@ -9,7 +9,7 @@ use Rattle.rules.specs.Bytes.{Text}
 use Rattle.rules.specs.Sheet.{Sheet, read-sheet, words-needed}
 use Rattle.rules.specs.RefusalNumbers.{LineOutOfPlace, ShortWorkArea, number-for}
 use Rattle.rules.specs.Call.{refused, passed, admitted}
-use Rattle.sheet.specs.Form.{StandsFor, NeedsWords}
+use Rattle.sheet.specs.Form.{FormStands, NeedsWords}
 use Rattle.sheet.specs.declared.form.Form.{Form}
 use Rattle.answers.specs.Admission.{Fine, Stands}
 
@@ -28,7 +28,7 @@ module _ (s : Text) (words : ℕ) where
     passes sheet e h = rw (le-leb (length s) 65536 (fine .short), fine .plain-bytes, e, le-leb (words-needed s sheet) words h)
 
 -- a sheet that was read as a form, against the words that it needs
-module _ (s : Text) (words : ℕ) (fine : Fine s) (f : Form) (r : StandsFor s (read-sheet s) f) (n : ℕ) (e : NeedsWords s f n) where
+module _ (s : Text) (words : ℕ) (fine : Fine s) (f : Form) (r : FormStands s (read-sheet s) f) (n : ℕ) (e : NeedsWords s f n) where
   pub refuses-words : words < n → admitted s words ≡ refused (number-for ShortWorkArea)
   refuses-words g = let q = e (r .sheet) (r .decodes) in few-words s words fine (r .sheet) (r .reads) (omega arith)
 

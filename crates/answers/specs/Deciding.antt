@@ -30,10 +30,10 @@ key-text keys.Sound = bytes "sound="
 key-text keys.Covered = bytes "covered="
 key-text keys.Complete = bytes "complete="
 
-abbrev pub word-text : Word → Text
-word-text words.Yes = bytes "yes"
-word-text words.No = bytes "no"
-word-text words.Nothing = bytes "none"
+abbrev pub claim-word : Word → Text
+claim-word words.Yes = bytes "yes"
+claim-word words.No = bytes "no"
+claim-word words.Nothing = bytes "none"
 
 -- the line that tells what is claimed
 abbrev pub claim-decision : Key → Claim → Decision
@@ -42,7 +42,7 @@ claim-decision k claims.No = Given (Constant k words.No)
 claim-decision k claims.Nothing = Given (Constant k words.Nothing)
 
 abbrev pub lines-text : Text → List ℕ → Lines → Text
-lines-text s w (Constant k x) = line (key-text k) (word-text x)
+lines-text s w (Constant k x) = line (key-text k) (claim-word x)
 lines-text s w (Term k free i) = line (key-text k) (render (tree-at s w i))
 lines-text s w (Solved b free spent) = verdict-lines (solved (bindings-at s w b), spent)
 lines-text s w (Failed spent) = verdict-lines (failed, spent)
@@ -57,15 +57,15 @@ LinesHeld s w (Failed spent) = Unit {0}
 LinesHeld s w (Unsupported spent) = Unit {0}
 
 -- what is decided, whatever the room
-abbrev pub decided : Text → List ℕ → Decision → Reply Text
-decided s w (Refused x) = refused (refusal-code x)
-decided s w (Given l) = passed (lines-text s w l)
+abbrev pub reply-of : Text → List ℕ → Decision → Reply Text
+reply-of s w (Refused x) = refused (refusal-code x)
+reply-of s w (Given l) = passed (lines-text s w l)
 
-abbrev pub Held : Text → List ℕ → Decision → Type 0
-Held s w (Refused x) = Unit {0}
-Held s w (Given l) = LinesHeld s w l
+abbrev pub Standing : Text → List ℕ → Decision → Type 0
+Standing s w (Refused x) = Unit {0}
+Standing s w (Given l) = LinesHeld s w l
 
 -- d is this reply, and what it tells stands in the work area
-pub record Decides (o : Reply Text) (s : Text) (w : List ℕ) (d : Decision) : Type 0 where
-  pub reply : decided s w d ≡ o
-  pub held : Held s w d
+pub record DecisionIs (o : Reply Text) (s : Text) (w : List ℕ) (d : Decision) : Type 0 where
+  pub reply : reply-of s w d ≡ o
+  pub held : Standing s w d

@@ -10,8 +10,8 @@ use Rattle.answers.specs.declared.giving.Reply as code
 use Rattle.answers.specs.declared.giving.Reply.the-variants as reply
 
 -- 12 where the answer is longer than the output; rules' `settled` is this of the answer to a sheet, 4 where there is none
-unfoldable pub fits : Reply Text → ℕ → Reply Text
-fits o room = do
+unfoldable pub within-room : Reply Text → ℕ → Reply Text
+within-room o room = do
   answer ← o
   _ ← need (leb (length answer) room) 12
   passed answer

@@ -17,8 +17,8 @@ ghost use lib.ListN.{length};
 ghost use Rattle.rules.specs.Call.{passed};
 ghost use Rattle.text.specs.Printing.{Printed};
 ghost use Rattle.tree.specs.Measure.{measured};
-ghost use Rattle.answers.specs.Deciding.{lines-text, LinesHeld, decided, Held};
-ghost use Rattle.answers.specs.Settling.{fits, Settles};
+ghost use Rattle.answers.specs.Deciding.{lines-text, LinesHeld, reply-of, Standing};
+ghost use Rattle.answers.specs.Settling.{within-room, Settles};
 
 // What the call gives: the count of bytes written, or a refusal.
 pub enum Reply {
@@ -66,7 +66,7 @@ fn write(sheet: &[u8], work: &[u32], lines: Lines, output: &mut [u8], at: usize)
 // Writes an answer from byte 0 on, if it fits. It is measured before a byte is written.
 fn give_lines(sheet: &[u8], work: &[u32], lines: Lines, output: &mut [u8]) -> Reply
     requires { ⌜ LinesHeld (now sheet) (now work) lines ⌝ }
-    ensures { λ r. ⌜ Settles (fits (passed (lines-text (now (sheet .entry)) (now (work .entry)) lines)) (length (now (output .entry)))) (now (output .entry)) (now (output .exit)) r ⌝ }
+    ensures { λ r. ⌜ Settles (within-room (passed (lines-text (now (sheet .entry)) (now (work .entry)) lines)) (length (now (output .entry)))) (now (output .entry)) (now (output .exit)) r ⌝ }
 {
     let measured = measure(sheet, work, lines, output.len());
     let Measured::Fits(_) = measured else {
@@ -78,8 +78,8 @@ fn give_lines(sheet: &[u8], work: &[u32], lines: Lines, output: &mut [u8]) -> Re
 
 // The refusal that was decided, 12 where the answer does not fit, or the answer, written from byte 0 on.
 pub fn give(sheet: &[u8], work: &[u32], decision: Decision, output: &mut [u8]) -> Reply
-    requires { ⌜ Held (now sheet) (now work) decision ⌝ }
-    ensures { λ r. ⌜ Settles (fits (decided (now (sheet .entry)) (now (work .entry)) decision) (length (now (output .entry)))) (now (output .entry)) (now (output .exit)) r ⌝ }
+    requires { ⌜ Standing (now sheet) (now work) decision ⌝ }
+    ensures { λ r. ⌜ Settles (within-room (reply-of (now (sheet .entry)) (now (work .entry)) decision) (length (now (output .entry)))) (now (output .entry)) (now (output .exit)) r ⌝ }
 {
     match decision {
         Decision::Refused(refusal) => Reply::Refused(refusal),

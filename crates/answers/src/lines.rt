@@ -15,7 +15,7 @@ ghost use Rattle.tree.specs.Cells.{tree-at};
 ghost use Rattle.tree.specs.Arena.{Arena};
 ghost use Rattle.text.specs.Printing.{Printed};
 ghost use Rattle.tree.specs.Measure.{measured};
-ghost use Rattle.answers.specs.Deciding.{key-text, word-text};
+ghost use Rattle.answers.specs.Deciding.{key-text, claim-word};
 
 // The length of a key.
 fn key_len(key: Key) -> usize
@@ -32,7 +32,7 @@ fn key_len(key: Key) -> usize
 
 // The length of a word.
 fn word_len(word: Word) -> usize
-    ensures { λ r. ⌜ (r ≡ length (word-text word)) × (r < 16) ⌝ }
+    ensures { λ r. ⌜ (r ≡ length (claim-word word)) × (r < 16) ⌝ }
 {
     match word {
         Word::Yes => 3,
@@ -57,8 +57,8 @@ fn print_key(output: &mut [u8], at: usize, key: Key) -> usize
 
 // Writes a word, and returns where it ends.
 fn print_word(output: &mut [u8], at: usize, word: Word) -> usize
-    requires { ⌜ at + length (word-text word) ≤ length (now output) ⌝ }
-    ensures { λ r. ⌜ Printed (now (output .entry)) (now (output .exit)) at (word-text word) r ⌝ }
+    requires { ⌜ at + length (claim-word word) ≤ length (now output) ⌝ }
+    ensures { λ r. ⌜ Printed (now (output .entry)) (now (output .exit)) at (claim-word word) r ⌝ }
 {
     match word {
         Word::Yes => print_text(output, at, b"yes"),
@@ -69,7 +69,7 @@ fn print_word(output: &mut [u8], at: usize, word: Word) -> usize
 
 // The length of the line of a key and a word.
 pub(crate) fn measure_constant(key: Key, word: Word, room: usize) -> Measured
-    ensures { λ r. ⌜ r ≡ measured (length (line (key-text key) (word-text word))) room ⌝ }
+    ensures { λ r. ⌜ r ≡ measured (length (line (key-text key) (claim-word word))) room ⌝ }
 {
     let n = key_len(key) + word_len(word) + 1;
     if room < n {
@@ -80,8 +80,8 @@ pub(crate) fn measure_constant(key: Key, word: Word, room: usize) -> Measured
 
 // Writes the line of a key and a word, and returns where it ends.
 pub(crate) fn write_constant(output: &mut [u8], at: usize, key: Key, word: Word) -> usize
-    requires { ⌜ at + length (line (key-text key) (word-text word)) ≤ length (now output) ⌝ }
-    ensures { λ r. ⌜ Printed (now (output .entry)) (now (output .exit)) at (line (key-text key) (word-text word)) r ⌝ }
+    requires { ⌜ at + length (line (key-text key) (claim-word word)) ≤ length (now output) ⌝ }
+    ensures { λ r. ⌜ Printed (now (output .entry)) (now (output .exit)) at (line (key-text key) (claim-word word)) r ⌝ }
 {
     let start = print_key(output, at, key);
     let end = print_word(output, start, word);

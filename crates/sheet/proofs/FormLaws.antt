@@ -20,7 +20,7 @@ use Rattle.text.specs.declared.decimal.Number.the-variants.{Is, Not}
 use Rattle.sheet.specs.Lines.{part-of, lines-at, value-at}
 use Rattle.sheet.specs.Pairs.{place-between, with-line, two-lines-at, entries-by}
 use Rattle.sheet.specs.Members.{members-at, counted}
-use Rattle.sheet.specs.Form.{solving, read-kind-at, text-of, sheet-of, Within, StandsFor, ReadsAs, Walked, term-members}
+use Rattle.sheet.specs.Form.{solving, read-kind-at, text-of, sheet-of, Within, FormStands, ReadsAs, Walked, term-members}
 use Rattle.sheet.specs.declared.Cursor.{Cursor}
 use Rattle.sheet.specs.declared.Place.{Place}
 use Rattle.sheet.specs.declared.Line.{Line}
@@ -33,7 +33,7 @@ use Rattle.sheet.proofs.PairLaws.{paired, Stops, stops, pairs-are, then
 
 -- ---- what was read
 
-pub reads-form : {s : Text} {o : Option Sheet} {r : Form} → sheet-of s r ≡ o → (sheet : Sheet) → o ≡ some sheet → Within s r → StandsFor s o r
+pub reads-form : {s : Text} {o : Option Sheet} {r : Form} → sheet-of s r ≡ o → (sheet : Sheet) → o ≡ some sheet → Within s r → FormStands s o r
 reads-form d sheet e w = record { sheet = sheet; reads = e; decodes = d ∙ e; within = w }
 
 pub reads-also : (s : Text) (r : ReadForm) {o p : Option Sheet} → o ≡ p → ReadsAs s o r → ReadsAs s p r

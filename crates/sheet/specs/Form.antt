@@ -77,7 +77,7 @@ Within s (form.Sound t c) = Inside s t × (c .at ≤ length s)
 Within s (form.Complete t c) = Inside s t × (t .to ≤ c .at) × (c .at ≤ length s)
 
 -- f stands for the sheet that was read
-pub record StandsFor (s : Text) (o : Option Sheet) (f : Form) : Type 0 where
+pub record FormStands (s : Text) (o : Option Sheet) (f : Form) : Type 0 where
   pub sheet : Sheet
   pub reads : o ≡ some sheet
   pub decodes : sheet-of s f ≡ some sheet
@@ -85,7 +85,7 @@ pub record StandsFor (s : Text) (o : Option Sheet) (f : Form) : Type 0 where
 
 -- r is what was read, or there is none
 abbrev pub ReadsAs : Text → Option Sheet → ReadForm → Type 0
-ReadsAs s o (found.Sheet f) = StandsFor s o f
+ReadsAs s o (found.Sheet f) = FormStands s o f
 ReadsAs s o found.LineOutOfPlace = o ≡ none
 
 -- a `term` line and the members after it, from a position on
@@ -106,9 +106,9 @@ pub record TermThen (s : Text) (at : ℕ) (t : Place) (c : ℕ) (count : ℕ) : 
   pub follows : t .to ≤ c
   pub inside : c ≤ length s
 
-abbrev pub ReadsMembers : Text → ℕ → TermMembers → Type 0
-ReadsMembers s at (termed.Read t c count) = TermThen s at t (c .at) count
-ReadsMembers s at termed.LineOutOfPlace = term-members s at ≡ none
+abbrev pub ReadsTermMembers : Text → ℕ → TermMembers → Type 0
+ReadsTermMembers s at (termed.Read t c count) = TermThen s at t (c .at) count
+ReadsTermMembers s at termed.LineOutOfPlace = term-members s at ≡ none
 
 -- n is the raise of the sheet that a form stands for
 abbrev pub RaisesBy : Text → Form → ℕ → Type 0

@@ -14,7 +14,7 @@ ghost use mathlib.Core.Path.{_≡_};
 ghost use Prim.Native.Nat.{_≤_};
 ghost use lib.ListN.{length};
 ghost use Rattle.rules.specs.Sheet.{Equal, Reduce, Cover, Sound, Complete, read-sheet, kind-in, kinds};
-ghost use Rattle.sheet.specs.Form.{kind-read, solving, Walked, read-kind-at, ReadsMembers, ReadsAs, Within, RaisesBy, NeedsWords};
+ghost use Rattle.sheet.specs.Form.{kind-read, solving, Walked, read-kind-at, ReadsTermMembers, ReadsAs, Within, RaisesBy, NeedsWords};
 
 // The most fuel that a sheet may give.
 const MOST_FUEL: usize = 65536;
@@ -178,7 +178,7 @@ enum TermMembers {
 // A `term` line, then members up to the sheet's end.
 fn term_then_members(sheet: &[u8], start: Cursor) -> TermMembers
     requires { ⌜ length (now sheet) ≤ 65536 ⌝ }
-    ensures { λ r. ⌜ ReadsMembers (now (sheet .entry)) (start .at) r ⌝ }
+    ensures { λ r. ⌜ ReadsTermMembers (now (sheet .entry)) (start .at) r ⌝ }
 {
     let line = start.keyed(sheet, b"term=");
     let Line::Whole { from, to, next } = line else {

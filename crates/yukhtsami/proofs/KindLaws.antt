@@ -19,8 +19,8 @@ use Rattle.sheet.specs.declared.form.Form.the-variants as form
 use Rattle.sheet.proofs.WordLaws.{raise-counted}
 use Rattle.sheet.proofs.WalkLaws.{sound-member}
 use Rattle.answers.specs.Clearing.{zeroed}
-use Rattle.answers.specs.Deciding.{decided, Held, Decides}
-use Rattle.answers.specs.Settling.{fits, Settles}
+use Rattle.answers.specs.Deciding.{reply-of, Standing, DecisionIs}
+use Rattle.answers.specs.Settling.{within-room, Settles}
 use Rattle.answers.specs.Admission.{refusal-code, Decoded, Stands}
 use Rattle.yukhtsami.specs.Answering.{DecidesForm, SettlesForm, CallAnswers}
 use Rattle.answers.specs.declared.deciding.Decision.{Decision}
@@ -31,7 +31,7 @@ use Rattle.answers.specs.declared.refusal.Refusal.{Refusal}
 use Rattle.answers.proofs.Decides.{decides-as}
 
 -- what is decided of a sheet that was read, and of the form that stands for it
-pub read-decided : (s : Text) (sheet : Sheet) (o : Option Text) {w : List ℕ} {d : Decision} → read-sheet s ≡ some sheet → answer-of sheet ≡ o → Decides (given o 4) s w d
+pub read-decided : (s : Text) (sheet : Sheet) (o : Option Text) {w : List ℕ} {d : Decision} → read-sheet s ≡ some sheet → answer-of sheet ≡ o → DecisionIs (given o 4) s w d
     → DecidesForm (read-sheet s) s w d
 read-decided s sheet o r e h other g = decides-as (ap answer-of (Option·some-injective other sheet (sym g ∙ r)) ∙ e) h
 
@@ -39,24 +39,24 @@ pub form-decided : (s : Text) (f : Form) {w : List ℕ} {d : Decision} → Decod
 form-decided s f x h sheet e = h sheet (x .reads ∙ sym (x .decodes) ∙ e)
 
 pub equal-decided : (s : Text) (l r : Place) (f : Form) {w : List ℕ} {d : Decision} → f ≡ form.Equal l r
-    → Decides (given (answer-of (asks-equal (text-of s l) (text-of s r))) 4) s w d → DecidesForm (sheet-of s f) s w d
+    → DecisionIs (given (answer-of (asks-equal (text-of s l) (text-of s r))) 4) s w d → DecidesForm (sheet-of s f) s w d
 unfolding sheet-of
 equal-decided s l r f {w} {d} e h sheet g =
     let z : asks-equal (text-of s l) (text-of s r) ≡ sheet = cc (ap (sheet-of s) e) in
-    subst (λ (t : Sheet). Decides (given (answer-of t) 4) s w d) z h
+    subst (λ (t : Sheet). DecisionIs (given (answer-of t) 4) s w d) z h
 
 pub reduce-decided : (s : Text) (t : Place) (f : Form) {w : List ℕ} {d : Decision} → f ≡ form.Reduce t
-    → Decides (given (answer-of (asks-reduce (text-of s t))) 4) s w d → DecidesForm (sheet-of s f) s w d
+    → DecisionIs (given (answer-of (asks-reduce (text-of s t))) 4) s w d → DecidesForm (sheet-of s f) s w d
 unfolding sheet-of
 reduce-decided s t f {w} {d} e h sheet g =
     let z : asks-reduce (text-of s t) ≡ sheet = cc (ap (sheet-of s) e) in
-    subst (λ (t : Sheet). Decides (given (answer-of t) 4) s w d) z h
+    subst (λ (t : Sheet). DecisionIs (given (answer-of t) 4) s w d) z h
 
 pub sound-decided : (s : Text) (t : Place) (c : Cursor) (f : Form) {w : List ℕ} {d : Decision} → f ≡ form.Sound t c
-    → ((m : Member) → members-at s (c .at) ≡ some (m ∷ []) → Decides (given (answer-of (asks-sound (text-of s t) m)) 4) s w d) → DecidesForm (sheet-of s f) s w d
+    → ((m : Member) → members-at s (c .at) ≡ some (m ∷ []) → DecisionIs (given (answer-of (asks-sound (text-of s t) m)) 4) s w d) → DecidesForm (sheet-of s f) s w d
 sound-decided s t c f {w} {d} e h sheet g =
     let k = sound-member s t c sheet (ap (sheet-of s) (sym e) ∙ g) in
-    subst (λ (z : Sheet). Decides (given (answer-of z) 4) s w d) (sym (k .1)) (h (k .0) (k .2))
+    subst (λ (z : Sheet). DecisionIs (given (answer-of z) 4) s w d) (sym (k .1)) (h (k .0) (k .2))
 
 pub more-words : (s : Text) (f : Form) {n m : ℕ} → EnoughWords s f n → n ≤ m → EnoughWords s f m
 more-words s f h k = record { sheet = h .sheet; stands = h .stands; enough = (let e = h .enough in omega arith) }
@@ -80,13 +80,13 @@ complete-words s t c f e h =
     omega arith
 
 -- what was decided, with an output
-pub decided-held : (s : Text) (f : Form) {w : List ℕ} {d : Decision} → Decoded s f → DecidesForm (sheet-of s f) s w d → Held s w d
+pub decided-held : (s : Text) (f : Form) {w : List ℕ} {d : Decision} → Decoded s f → DecidesForm (sheet-of s f) s w d → Standing s w d
 decided-held s f x h = h (x .sheet) (x .decodes) .held
 
 pub decided-settles : (s : Text) (f : Form) {w : List ℕ} (d : Decision) {out v : Text} {r : code.Reply} → DecidesForm (sheet-of s f) s w d
-    → Settles (fits (decided s w d) (length out)) out v r → SettlesForm (sheet-of s f) out v r
-unfolding settled fits
-decided-settles s f {w} d {out} {v} {r} h k sheet e = subst (λ (z : Reply Text). Settles (fits z (length out)) out v r) (h sheet e .reply) k
+    → Settles (within-room (reply-of s w d) (length out)) out v r → SettlesForm (sheet-of s f) out v r
+unfolding settled within-room
+decided-settles s f {w} d {out} {v} {r} h k sheet e = subst (λ (z : Reply Text). Settles (within-room z (length out)) out v r) (h sheet e .reply) k
 
 -- the whole call, by what was admitted and settled
 module _ (s : Text) (w : List ℕ) (out : Text) where

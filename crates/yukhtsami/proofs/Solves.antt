@@ -29,7 +29,7 @@ use Rattle.unifier.specs.declared.unifying.Outcome.{Outcome}
 use Rattle.unifier.specs.declared.unifying.Outcome.the-variants as outcome
 use Rattle.steps.proofs.Children.{pairs-flatten}
 use Rattle.unifier.proofs.Fitting.{pairs-fit}
-use Rattle.answers.specs.Deciding.{Decides}
+use Rattle.answers.specs.Deciding.{DecisionIs}
 use Rattle.answers.specs.Admission.{Decoded}
 use Rattle.yukhtsami.specs.Answering.{DecidesForm}
 use Rattle.answers.specs.Pairs.{ReadPairs}
@@ -102,14 +102,14 @@ module _ (s : Text) (b : Bool) (fuel at : ℕ) (a : Asked s b fuel at) where
         read-decided s (asks b fuel (a .entries)) (some (verdict-lines (told s u y))) (a .reads)
         (solving-answer b fuel (a .entries) ∙ ap (λ (o : Option (List Pair)). o >>= λ ps. some (verdict-lines (solve-by b fuel ps))) (r .read)
         ∙ ap (λ (ps : List Pair). some (verdict-lines (solve-by b fuel ps))) (sym (read-are r)) ∙ ap (λ (z : Answer). some (verdict-lines z)) (is-told y h))
-        (subst (Decides (passed (verdict-lines (told s u y))) s u) (sym k) (verdict-decides y h))
+        (subst (DecisionIs (passed (verdict-lines (told s u y))) s u) (sym k) (verdict-decides y h))
       where
         is-told : (y : Outcome) → Answers s v u m (solve-by b fuel (pairs-at s v i)) y → solve-by b fuel (pairs-at s v i) ≡ told s u y
         is-told (outcome.Solved j n k) g = g .0
         is-told (outcome.Failed k) g = g .0
         is-told (outcome.Unsupported k) g = g .0
 
-        verdict-decides : (y : Outcome) → Answers s v u m (solve-by b fuel (pairs-at s v i)) y → Decides (passed (verdict-lines (told s u y))) s u (verdict-of y)
+        verdict-decides : (y : Outcome) → Answers s v u m (solve-by b fuel (pairs-at s v i)) y → DecisionIs (passed (verdict-lines (told s u y))) s u (verdict-of y)
         verdict-decides (outcome.Solved j n k) g = record { reply = refl; held = (g .1 .arena, g .1 .inside, g .1 .chain) }
         verdict-decides (outcome.Failed k) g = record { reply = refl; held = tt }
         verdict-decides (outcome.Unsupported k) g = record { reply = refl; held = tt }

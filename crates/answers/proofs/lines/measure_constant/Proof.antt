@@ -1,7 +1,7 @@
 use native.Mathlib.Omega.{arith}
 use lib.ListN.{length}
 use Rattle.tree.proofs.Lengths.{fits-is, over-is}
-use Rattle.answers.specs.Deciding.{key-text, word-text}
+use Rattle.answers.specs.Deciding.{key-text, claim-word}
 use Rattle.answers.proofs.Gives.{line-length}
 use borrow.Author.Needs.{needs}
 use Rattle.answers.proofs.lines.measure_constant.Statement.{statement}
@@ -30,13 +30,13 @@ add-n-2 c = search needs
 -- src/lines.rt:76:9
 returns : tie.Need-returns
 returns c =
-    let e = line-length (key-text (c .before .before .before .args .key)) (word-text (c .before .before .before .args .word)) in
+    let e = line-length (key-text (c .before .before .before .args .key)) (claim-word (c .before .before .before .args .word)) in
     over-is (omega (arith, c .before .before .key-len .ensures, c .before .word-len .ensures))
 
 -- src/lines.rt:71:1
 returns-2 : tie.Need-returns-2
 returns-2 c =
-    let e = line-length (key-text (c .before .before .before .args .key)) (word-text (c .before .before .before .args .word)) in
+    let e = line-length (key-text (c .before .before .before .args .key)) (claim-word (c .before .before .before .args .word)) in
     fits-is (omega (arith, c .before .before .key-len .ensures, c .before .word-len .ensures)) (omega (arith, c .before .before .key-len .ensures, c .before .word-len .ensures))
 
 pub measure-constant-spec : {M : Type 1} → statement M

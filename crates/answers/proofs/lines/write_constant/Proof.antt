@@ -1,5 +1,5 @@
 use native.Mathlib.Omega.{arith}
-use Rattle.answers.specs.Deciding.{key-text, word-text}
+use Rattle.answers.specs.Deciding.{key-text, claim-word}
 use Rattle.answers.proofs.Gives.{line-length, line-printed}
 use borrow.Author.Needs.{needs}
 use Rattle.answers.proofs.lines.write_constant.Statement.{statement}
@@ -13,19 +13,19 @@ use Rattle.tree.proofs.names.print_byte.Reads as print-byte-reads
 -- src/lines.rt:86:9
 print-key-requires : tie.Need-print-key-requires
 print-key-requires c κs =
-    let e = line-length (key-text (c .before .before .args .key)) (word-text (c .before .before .args .word)) in
+    let e = line-length (key-text (c .before .before .args .key)) (claim-word (c .before .before .args .word)) in
     omega arith
 
 -- src/lines.rt:87:9
 print-word-requires : tie.Need-print-word-requires
 print-word-requires c κs =
-    let e = line-length (key-text (c .before .before .before .before .before .before .args .key)) (word-text (c .before .before .before .before .before .before .args .word)) in
+    let e = line-length (key-text (c .before .before .before .before .before .before .args .key)) (claim-word (c .before .before .before .before .before .before .args .word)) in
     omega (arith, c .before .before .before .print-key .ensures .end)
 
 -- src/lines.rt:88:5
 print-byte-requires : tie.Need-print-byte-requires
 print-byte-requires c κs =
-    let e = line-length (key-text (c .before .before .before .before .before .before .before .before .before .before .args .key)) (word-text (c .before .before .before .before .before .before .before .before .before .before .args .word)) in
+    let e = line-length (key-text (c .before .before .before .before .before .before .before .before .before .before .args .key)) (claim-word (c .before .before .before .before .before .before .before .before .before .before .args .word)) in
     omega (arith, c .before .before .before .before .before .before .before .print-key .ensures .end, c .before .before .before .print-word .ensures .end)
 
 -- src/lines.rt:82:1
@@ -35,8 +35,8 @@ same-length c = search needs
 -- src/lines.rt:82:1
 returns : tie.Need-returns
 returns c =
-    let e = line-length (key-text (c .before .before .before .before .before .before .before .before .before .before .before .before .before .args .key)) (word-text (c .before .before .before .before .before .before .before .before .before .before .before .before .before .args .word)) in
-    line-printed (key-text (c .before .before .before .before .before .before .before .before .before .before .before .before .before .args .key)) (word-text (c .before .before .before .before .before .before .before .before .before .before .before .before .before .args .word)) (omega arith) (c .before .before .before .before .before .before .before .before .before .before .print-key .ensures) (c .before .before .before .before .before .before .print-word .ensures) (c .before .before .print-byte .ensures)
+    let e = line-length (key-text (c .before .before .before .before .before .before .before .before .before .before .before .before .before .args .key)) (claim-word (c .before .before .before .before .before .before .before .before .before .before .before .before .before .args .word)) in
+    line-printed (key-text (c .before .before .before .before .before .before .before .before .before .before .before .before .before .args .key)) (claim-word (c .before .before .before .before .before .before .before .before .before .before .before .before .before .args .word)) (omega arith) (c .before .before .before .before .before .before .before .before .before .before .print-key .ensures) (c .before .before .before .before .before .before .print-word .ensures) (c .before .before .print-byte .ensures)
 
 pub write-constant-spec : {M : Type 1} → statement M
 write-constant-spec =

@@ -1,5 +1,5 @@
 use mathlib.Core.Path.{subst}
-use Rattle.sheet.specs.Form.{ReadsMembers}
+use Rattle.sheet.specs.Form.{ReadsTermMembers}
 use Rattle.sheet.proofs.SheetLaws.{complete-unread, complete-read}
 use borrow.Author.Needs.{needs}
 use Rattle.sheet.proofs.form.read_complete.Statement.{statement}
@@ -20,13 +20,13 @@ enum-told c = search needs
 returns : tie.Need-returns
 returns c =
     let a = c .before .before .before .before .args in
-    complete-unread (a .sheet .now) (a .start .at) (subst (ReadsMembers (a .sheet .now) (a .start .at)) (c .enum-told .given .1) (c .before .before .term-then-members .ensures))
+    complete-unread (a .sheet .now) (a .start .at) (subst (ReadsTermMembers (a .sheet .now) (a .start .at)) (c .enum-told .given .1) (c .before .before .term-then-members .ensures))
 
 returns-2 : tie.Need-returns-2
 returns-2 c =
     let b = c .before in
     let a = b .before .before .before .before .args in
-    complete-read (a .sheet .now) (a .start .at) (b .read .given .0 .0) (b .read .given .0 .1 .0) (b .read .given .0 .1 .1 .0) (subst (ReadsMembers (a .sheet .now) (a .start .at)) (b .read .given .1) (b .before .before .term-then-members .ensures))
+    complete-read (a .sheet .now) (a .start .at) (b .read .given .0 .0) (b .read .given .0 .1 .0) (b .read .given .0 .1 .1 .0) (subst (ReadsTermMembers (a .sheet .now) (a .start .at)) (b .read .given .1) (b .before .before .term-then-members .ensures))
 
 pub read-complete-spec : {M : Type 1} → statement M
 read-complete-spec =
