@@ -281,6 +281,32 @@ fn the_first_run_tells_how_far_it_is() {
 }
 
 #[test]
+fn on_a_terminal_one_line_tells_how_far_it_is() {
+    let tree = Tree::new("terminal");
+    tree.write("waiting", "");
+    let mut command = tree.command("script");
+    command.args(["-qec", "./yukhtsami a", "/dev/null"]);
+    command.stdin(Stdio::null()).stdout(Stdio::piped());
+    let Ok(mut child) = command.spawn() else {
+        notice::tell("no script(1); nothing was run on a terminal\n".to_owned());
+        return;
+    };
+    let mut seen = BufReader::new(child.stdout.take().unwrap());
+    let mut part = Vec::new();
+    while !part.starts_with(b"yukhtsami: proving crate 2 of 3, ") {
+        part.clear();
+        assert!(seen.read_until(b'\r', &mut part).unwrap() > 0);
+    }
+    tree.write("go", "");
+    let mut rest = String::new();
+    seen.read_to_string(&mut rest).unwrap();
+    let parts: Vec<&str> = rest.split('\r').collect();
+    assert!(parts.contains(&" ".repeat(60).as_str()), "{rest:?}");
+    assert!(rest.ends_with("answered a\r\n"), "{rest:?}");
+    assert!(child.wait().unwrap().success());
+}
+
+#[test]
 fn the_first_run_needs_no_standard_error() {
     for (name, line) in [
         ("none", "./yukhtsami a 2>&-"),
