@@ -37,7 +37,7 @@ module _ (s w v : List ℕ) (n p a b : ℕ) (o : Arena s w n) (pp : 0 < p) (qp :
   sum : made (kind-of v p) (name-at s v p) (trees-at s v n) ≡ plus (tree-at s w a) (tree-at s w b)
   sum = made-apply (kind-of v p) (name-at s v p) (trees-at s v n) (sym (same-kind w v agree p qp) ∙ kp) ∙ ap₂ apply (sym (same-name w v agree p qp s) ∙ np) kids
 
-  pub added : (u : List ℕ) (m c : ℕ) → m ≡ n + 1 → c ≡ nodes-of v n + nodes-of v b + 1 → Wrote v u m (start-of v p) (length-of v p) (kind-of v p) n 0 c
+  pub added : (u : List ℕ) (m c : ℕ) → m ≡ n + 1 → c ≡ nodes-of v n + nodes-of v b + 1 → WroteCell v u m (start-of v p) (length-of v p) (kind-of v p) n 0 c
       → SummandAdded s w u n (plus (tree-at s w a) (tree-at s w b))
   unfolding size
   added u m c e f x =
