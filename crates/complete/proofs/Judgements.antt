@@ -30,7 +30,6 @@ use Rattle.tree.proofs.Areas.{below-then, below-grown, arena-below}
 use Rattle.equivalence.proofs.Scratch.{below-kept}
 use Rattle.substitution.specs.Bindings.{bindings-of, bindings-at}
 use Rattle.substitution.specs.Building.{Placed, instance-at}
-use Rattle.runs.specs.Areas as writer
 use Rattle.reduction.specs.Building.{NewTree}
 use Rattle.reduction.proofs.NormalForms.{normalize-size}
 use Rattle.schemes.specs.Building.{Systems}

@@ -22,7 +22,6 @@ use Rattle.tree.proofs.Areas.{below-grown, below-then}
 use Rattle.equivalence.proofs.Scratch.{below-kept}
 use Rattle.substitution.specs.Bindings.{bindings-at}
 use Rattle.substitution.specs.Building.{Placed, instance-at}
-use Rattle.runs.specs.Areas as words
 use Rattle.reduction.specs.Building.{NewTree}
 use Rattle.reduction.proofs.NormalForms.{normalize-size}
 use Rattle.sheet.specs.Members.{members-at}
