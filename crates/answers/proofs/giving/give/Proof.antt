@@ -18,7 +18,7 @@ enum-known-decision-2 c = search needs
 
 -- src/giving.rt:86:35
 give-lines-requires : tie.Need-give-lines-requires
-give-lines-requires c κs = subst (Held (c .before .before .before .before .before .before .before .args .sheet .now) (c .before .before .before .before .before .before .before .args .work .now)) (c .before .before .decision2 .given .1) c .before .before .before .before .before .before .before .pre
+give-lines-requires c κs = subst (Held (c .before .before .before .before .before .before .before .args .sheet .now) (c .before .before .before .before .before .before .before .args .work .now)) (c .before .before .decision2 .given .1) (c .before .before .before .before .before .before .before .pre)
 
 -- src/giving.rt:80:1
 returns : tie.Need-returns

@@ -27,8 +27,8 @@ enum-known-lines-2 c = search needs
 measure-keyed-requires : tie.Need-measure-keyed-requires
 measure-keyed-requires c κs =
     let a = c .before .before .before .before .before .args in
-    let h = subst (LinesHeld (a .sheet .now) (a .work .now)) (c .before .lines2 .given .1) c .before .before .before .before .before .pre in
-    (h .0, h .1)
+    let h = subst (LinesHeld (a .sheet .now) (a .work .now)) (c .before .lines2 .given .1) (c .before .before .before .before .before .pre) in
+    (h .0, (h .1, h .2))
 
 -- src/giving.rt:38:13
 enum-known-lines-3 : tie.Need-enum-known-lines-3
@@ -38,7 +38,7 @@ enum-known-lines-3 c = search needs
 measure-solved-requires : tie.Need-measure-solved-requires
 measure-solved-requires c κs =
     let a = c .before .before .before .before .before .args in
-    let h = subst (LinesHeld (a .sheet .now) (a .work .now)) (c .before .lines3 .given .1) c .before .before .before .before .before .pre in
+    let h = subst (LinesHeld (a .sheet .now) (a .work .now)) (c .before .lines3 .given .1) (c .before .before .before .before .before .pre) in
     (h .0, (h .1, h .2))
 
 -- src/giving.rt:42:25

@@ -35,7 +35,7 @@ write-keyed-requires c κs =
     let a = c .before .before .before .before .before .before .before .args in
     let h = subst (LinesHeld (a .sheet .now) (a .work .now)) (c .before .before .lines2 .given .1) (c .before .before .before .before .before .before .before .pre .0) in
     let r = subst (λ (l : Lines). a .at + length (lines-text (a .sheet .now) (a .work .now) l) ≤ length (a .output .now)) (c .before .before .lines2 .given .1) (c .before .before .before .before .before .before .before .pre .1) in
-    (h .0, (h .1, r))
+    (h .0, ((h .1, h .2), r))
 
 -- src/giving.rt:57:13
 enum-known-lines-3 : tie.Need-enum-known-lines-3

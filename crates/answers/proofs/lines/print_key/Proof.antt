@@ -20,7 +20,7 @@ slice-aggregate-print-text c = search needs
 
 -- src/lines.rt:50:23
 print-text-requires : tie.Need-print-text-requires
-print-text-requires c κs = subst (λ (x : Key). c .before .before .before .before .before .args .at + length (key-text x) ≤ length (c .before .before .before .before .before .args .output .now)) (c .before .before .enum-told .given .1) c .before .before .before .before .before .pre
+print-text-requires c κs = subst (λ (x : Key). c .before .before .before .before .before .args .at + length (key-text x) ≤ length (c .before .before .before .before .before .args .output .now)) (c .before .before .enum-told .given .1) (c .before .before .before .before .before .pre)
 
 -- src/lines.rt:51:35
 enum-told-2 : tie.Need-enum-told-2
@@ -32,7 +32,7 @@ slice-aggregate-print-text-2 c = search needs
 
 -- src/lines.rt:51:24
 print-text-requires-2 : tie.Need-print-text-requires-2
-print-text-requires-2 c κs = subst (λ (x : Key). c .before .before .before .before .before .args .at + length (key-text x) ≤ length (c .before .before .before .before .before .args .output .now)) (c .before .before .enum-told2 .given .1) c .before .before .before .before .before .pre
+print-text-requires-2 c κs = subst (λ (x : Key). c .before .before .before .before .before .args .at + length (key-text x) ≤ length (c .before .before .before .before .before .args .output .now)) (c .before .before .enum-told2 .given .1) (c .before .before .before .before .before .pre)
 
 -- src/lines.rt:52:34
 enum-told-3 : tie.Need-enum-told-3
@@ -44,7 +44,7 @@ slice-aggregate-print-text-3 c = search needs
 
 -- src/lines.rt:52:23
 print-text-requires-3 : tie.Need-print-text-requires-3
-print-text-requires-3 c κs = subst (λ (x : Key). c .before .before .before .before .before .args .at + length (key-text x) ≤ length (c .before .before .before .before .before .args .output .now)) (c .before .before .enum-told3 .given .1) c .before .before .before .before .before .pre
+print-text-requires-3 c κs = subst (λ (x : Key). c .before .before .before .before .before .args .at + length (key-text x) ≤ length (c .before .before .before .before .before .args .output .now)) (c .before .before .enum-told3 .given .1) (c .before .before .before .before .before .pre)
 
 -- src/lines.rt:53:36
 enum-told-4 : tie.Need-enum-told-4
@@ -56,7 +56,7 @@ slice-aggregate-print-text-4 c = search needs
 
 -- src/lines.rt:53:25
 print-text-requires-4 : tie.Need-print-text-requires-4
-print-text-requires-4 c κs = subst (λ (x : Key). c .before .before .before .before .before .args .at + length (key-text x) ≤ length (c .before .before .before .before .before .args .output .now)) (c .before .before .enum-told4 .given .1) c .before .before .before .before .before .pre
+print-text-requires-4 c κs = subst (λ (x : Key). c .before .before .before .before .before .args .at + length (key-text x) ≤ length (c .before .before .before .before .before .args .output .now)) (c .before .before .enum-told4 .given .1) (c .before .before .before .before .before .pre)
 
 -- src/lines.rt:54:37
 enum-told-5 : tie.Need-enum-told-5
@@ -68,7 +68,7 @@ slice-aggregate-print-text-5 c = search needs
 
 -- src/lines.rt:54:26
 print-text-requires-5 : tie.Need-print-text-requires-5
-print-text-requires-5 c κs = subst (λ (x : Key). c .before .before .before .before .before .args .at + length (key-text x) ≤ length (c .before .before .before .before .before .args .output .now)) (c .before .before .enum-told5 .given .1) c .before .before .before .before .before .pre
+print-text-requires-5 c κs = subst (λ (x : Key). c .before .before .before .before .before .args .at + length (key-text x) ≤ length (c .before .before .before .before .before .args .output .now)) (c .before .before .enum-told5 .given .1) (c .before .before .before .before .before .pre)
 
 -- src/lines.rt:45:1
 same-length : tie.Need-same-length

@@ -20,7 +20,7 @@ slice-aggregate-print-text c = search needs
 
 -- src/lines.rt:64:22
 print-text-requires : tie.Need-print-text-requires
-print-text-requires c κs = subst (λ (x : Word). c .before .before .before .before .before .args .at + length (word-text x) ≤ length (c .before .before .before .before .before .args .output .now)) (c .before .before .enum-told .given .1) c .before .before .before .before .before .pre
+print-text-requires c κs = subst (λ (x : Word). c .before .before .before .before .before .args .at + length (word-text x) ≤ length (c .before .before .before .before .before .args .output .now)) (c .before .before .enum-told .given .1) (c .before .before .before .before .before .pre)
 
 -- src/lines.rt:65:32
 enum-told-2 : tie.Need-enum-told-2
@@ -32,7 +32,7 @@ slice-aggregate-print-text-2 c = search needs
 
 -- src/lines.rt:65:21
 print-text-requires-2 : tie.Need-print-text-requires-2
-print-text-requires-2 c κs = subst (λ (x : Word). c .before .before .before .before .before .args .at + length (word-text x) ≤ length (c .before .before .before .before .before .args .output .now)) (c .before .before .enum-told2 .given .1) c .before .before .before .before .before .pre
+print-text-requires-2 c κs = subst (λ (x : Word). c .before .before .before .before .before .args .at + length (word-text x) ≤ length (c .before .before .before .before .before .args .output .now)) (c .before .before .enum-told2 .given .1) (c .before .before .before .before .before .pre)
 
 -- src/lines.rt:66:37
 enum-told-3 : tie.Need-enum-told-3
@@ -44,7 +44,7 @@ slice-aggregate-print-text-3 c = search needs
 
 -- src/lines.rt:66:26
 print-text-requires-3 : tie.Need-print-text-requires-3
-print-text-requires-3 c κs = subst (λ (x : Word). c .before .before .before .before .before .args .at + length (word-text x) ≤ length (c .before .before .before .before .before .args .output .now)) (c .before .before .enum-told3 .given .1) c .before .before .before .before .before .pre
+print-text-requires-3 c κs = subst (λ (x : Word). c .before .before .before .before .before .args .at + length (word-text x) ≤ length (c .before .before .before .before .before .args .output .now)) (c .before .before .enum-told3 .given .1) (c .before .before .before .before .before .pre)
 
 -- src/lines.rt:59:1
 same-length : tie.Need-same-length
