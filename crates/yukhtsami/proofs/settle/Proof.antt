@@ -1,0 +1,31 @@
+use Rattle.yukhtsami.proofs.KindLaws.{decided-held, decided-settles}
+use borrow.Author.Needs.{needs}
+use Rattle.yukhtsami.proofs.settle.Statement.{statement}
+use Rattle.yukhtsami.proofs.settle.Tie as tie
+use Rattle.yukhtsami.proofs.settle.Reads as reads
+use Rattle.yukhtsami.proofs.settle.Lts as lts
+use Rattle.answers.proofs.giving.give.Reads as give-reads
+use Rattle.yukhtsami.proofs.kinds.decide.Reads as decide-reads
+
+-- src/lib.rt:27:9
+decide-requires : tie.Need-decide-requires
+decide-requires c κs = search needs
+
+-- src/lib.rt:28:5
+give-requires : tie.Need-give-requires
+give-requires c κs = decided-held (c .before .before .before .before .before .before .before .before .before .args .sheet .now) (c .before .before .before .before .before .before .before .before .before .args .form) (c .before .before .before .before .before .before .before .before .before .pre .0) (c .before .before .before .before .decide .ensures)
+
+-- src/lib.rt:22:1
+same-length : tie.Need-same-length
+same-length c = search needs
+
+-- src/lib.rt:22:1
+same-length-2 : tie.Need-same-length-2
+same-length-2 c = search needs
+
+-- src/lib.rt:22:1
+returns : tie.Need-returns
+returns c = decided-settles (c .before .before .before .before .before .before .before .before .before .before .before .before .args .sheet .now) (c .before .before .before .before .before .before .before .before .before .before .before .before .args .form) (c .before .before .before .before .before .before .before .decide .result) (c .before .before .before .before .before .before .before .decide .ensures) (c .before .before .give .ensures)
+
+pub settle-spec : {M : Type 1} → statement M
+settle-spec = tie.close (tie.spec decide-requires give-requires same-length same-length-2 returns)
