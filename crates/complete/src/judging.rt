@@ -28,7 +28,7 @@ ghost use Rattle.complete.specs.Judging.{judgement, fuel-for, CanJudge, 
 
 // What the schemes so far decide: nothing yet, that one has no member, that the instance of one is over 4,096 nodes, or that one is not
 // supported, which ends the judging.
-enum Judged {
+pub(crate) enum Judged {
     Pending,
     Missing,
     Over,

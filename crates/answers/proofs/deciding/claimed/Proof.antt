@@ -4,27 +4,21 @@ use Rattle.answers.proofs.deciding.claimed.Tie as tie
 use Rattle.answers.proofs.deciding.claimed.Reads as reads
 use Rattle.answers.proofs.deciding.claimed.Lts as lts
 
--- src/deciding.rt:60:19
 enum-told : tie.Need-enum-told
 enum-told c = search needs
 
--- src/deciding.rt:64:19
 enum-told-2 : tie.Need-enum-told-2
 enum-told-2 c = search needs
 
--- src/deciding.rt:68:19
 enum-told-3 : tie.Need-enum-told-3
 enum-told-3 c = search needs
 
--- src/deciding.rt:54:1
 returns : tie.Need-returns
 returns c = rw (c .enum-told .given .1)
 
--- src/deciding.rt:54:1
 returns-2 : tie.Need-returns-2
 returns-2 c = rw (c .enum-told2 .given .1)
 
--- src/deciding.rt:54:1
 returns-3 : tie.Need-returns-3
 returns-3 c = rw (c .enum-told3 .given .1)
 

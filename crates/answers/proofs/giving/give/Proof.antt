@@ -8,27 +8,21 @@ use Rattle.answers.proofs.giving.give.Reads as reads
 use Rattle.answers.proofs.giving.give.Lts as lts
 use Rattle.answers.proofs.giving.give_lines.Reads as give-lines-reads
 
--- src/giving.rt:85:27
 enum-known-decision : tie.Need-enum-known-decision
 enum-known-decision c = search needs
 
--- src/giving.rt:86:25
 enum-known-decision-2 : tie.Need-enum-known-decision-2
 enum-known-decision-2 c = search needs
 
--- src/giving.rt:86:35
 give-lines-requires : tie.Need-give-lines-requires
-give-lines-requires c κs = subst (Standing (c .before .before .before .before .before .before .before .args .sheet .now) (c .before .before .before .before .before .before .before .args .work .now)) (c .before .before .decision2 .given .1) c .before .before .before .before .before .before .before .pre
+give-lines-requires c κs = subst (Standing (c .before .before .before .before .before .before .before .args .sheet .now) (c .before .before .before .before .before .before .before .args .work .now)) (c .before .before .decision2 .given .1) (c .before .before .before .before .before .before .before .pre)
 
--- src/giving.rt:80:1
 returns : tie.Need-returns
 returns c = rw (c .before .decision .given .1) (refused-settles (c .before .decision .given .0 .0) (c .before .before .before .before .before .before .args .output .now))
 
--- src/giving.rt:80:1
 same-length : tie.Need-same-length
 same-length c = search needs
 
--- src/giving.rt:80:1
 returns-2 : tie.Need-returns-2
 returns-2 c = rw (c .before .before .before .before .before .decision2 .given .1) (c .before .before .give-lines .ensures)
 

@@ -11,25 +11,21 @@ use Rattle.answers.proofs.giving.give_lines.Lts as lts
 use Rattle.answers.proofs.giving.measure.Reads as measure-reads
 use Rattle.answers.proofs.giving.write.Reads as write-reads
 
--- src/giving.rt:71:9
 measure-requires : tie.Need-measure-requires
 measure-requires c κs = search needs
 
 enum-told : tie.Need-enum-told
 enum-told c = search needs
 
--- src/giving.rt:73:31
 enum-told-2 : tie.Need-enum-told-2
 enum-told-2 c = search needs
 
--- src/giving.rt:73:9
 returns : tie.Need-returns
 returns c =
     let a = c .before .before .before .before .before .before .args in
     let t = lines-text (a .sheet .now) (a .work .now) (a .lines) in
     short-settles t (a .output .now) (told-over {x = length t} {room = length (a .output .now)} (c .before .before .measure .ensures) (c .enum-told2 .given .1))
 
--- src/giving.rt:75:9
 write-requires : tie.Need-write-requires
 write-requires c κs =
     let a = c .before .before .before .before .before .before .before .args in
@@ -37,11 +33,9 @@ write-requires c κs =
     let h = told {x = length t} {room = length (a .output .now)} (c .before .before .before .measure .ensures) (c .before .enum-told .given .1) in
     (c .before .before .before .before .before .before .before .pre, omega arith)
 
--- src/giving.rt:67:1
 same-length : tie.Need-same-length
 same-length c = search needs
 
--- src/giving.rt:67:1
 returns-2 : tie.Need-returns-2
 returns-2 c =
     let a = c .before .before .before .before .before .before .before .before .before .before .args in

@@ -11,77 +11,60 @@ use Rattle.answers.proofs.lines.measure_keyed.Reads as measure-keyed-re
 use Rattle.answers.proofs.verdicts.measure_head.Reads as measure-head-reads
 use Rattle.answers.proofs.verdicts.measure_solved.Reads as measure-solved-reads
 
--- src/giving.rt:35:27
 enum-known-lines : tie.Need-enum-known-lines
 enum-known-lines c = search needs
 
--- src/giving.rt:35:42
 measure-constant-requires : tie.Need-measure-constant-requires
 measure-constant-requires c κs = search needs
 
--- src/giving.rt:36:23
 enum-known-lines-2 : tie.Need-enum-known-lines-2
 enum-known-lines-2 c = search needs
 
--- src/giving.rt:36:45
 measure-keyed-requires : tie.Need-measure-keyed-requires
 measure-keyed-requires c κs =
     let a = c .before .before .before .before .before .args in
-    let h = subst (LinesHeld (a .sheet .now) (a .work .now)) (c .before .lines2 .given .1) c .before .before .before .before .before .pre in
-    (h .0, h .1)
+    let h = subst (LinesHeld (a .sheet .now) (a .work .now)) (c .before .lines2 .given .1) (c .before .before .before .before .before .pre) in
+    (h .0, (h .1, h .2))
 
--- src/giving.rt:38:13
 enum-known-lines-3 : tie.Need-enum-known-lines-3
 enum-known-lines-3 c = search needs
 
--- src/giving.rt:41:14
 measure-solved-requires : tie.Need-measure-solved-requires
 measure-solved-requires c κs =
     let a = c .before .before .before .before .before .args in
-    let h = subst (LinesHeld (a .sheet .now) (a .work .now)) (c .before .lines3 .given .1) c .before .before .before .before .before .pre in
+    let h = subst (LinesHeld (a .sheet .now) (a .work .now)) (c .before .lines3 .given .1) (c .before .before .before .before .before .pre) in
     (h .0, (h .1, h .2))
 
--- src/giving.rt:42:25
 enum-known-lines-4 : tie.Need-enum-known-lines-4
 enum-known-lines-4 c = search needs
 
--- src/giving.rt:42:49
 slice-aggregate-measure-head : tie.Need-slice-aggregate-measure-head
 slice-aggregate-measure-head c = search needs
 
--- src/giving.rt:42:36
 measure-head-requires : tie.Need-measure-head-requires
 measure-head-requires c κs = search needs
 
--- src/giving.rt:43:30
 enum-known-lines-5 : tie.Need-enum-known-lines-5
 enum-known-lines-5 c = search needs
 
--- src/giving.rt:43:54
 slice-aggregate-measure-head-2 : tie.Need-slice-aggregate-measure-head-2
 slice-aggregate-measure-head-2 c = search needs
 
--- src/giving.rt:43:41
 measure-head-requires-2 : tie.Need-measure-head-requires-2
 measure-head-requires-2 c κs = search needs
 
--- src/giving.rt:30:1
 returns : tie.Need-returns
 returns c = rw (c .before .before .lines .given .1) (c .measure-constant .ensures)
 
--- src/giving.rt:30:1
 returns-2 : tie.Need-returns-2
 returns-2 c = rw (c .before .before .lines2 .given .1) (c .measure-keyed .ensures)
 
--- src/giving.rt:30:1
 returns-3 : tie.Need-returns-3
 returns-3 c = rw (c .before .before .lines3 .given .1) (c .measure-solved .ensures)
 
--- src/giving.rt:30:1
 returns-4 : tie.Need-returns-4
 returns-4 c = rw (c .before .before .before .lines4 .given .1, failed-lines) (c .measure-head .ensures)
 
--- src/giving.rt:30:1
 returns-5 : tie.Need-returns-5
 returns-5 c = rw (c .before .before .before .lines5 .given .1, unsupported-lines) (c .measure-head2 .ensures)
 

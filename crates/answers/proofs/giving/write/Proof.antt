@@ -15,33 +15,27 @@ use Rattle.answers.proofs.lines.write_keyed.Reads as write-keyed-reads
 use Rattle.answers.proofs.verdicts.write_head.Reads as write-head-reads
 use Rattle.answers.proofs.verdicts.write_solved.Reads as write-solved-reads
 
--- src/giving.rt:54:27
 enum-known-lines : tie.Need-enum-known-lines
 enum-known-lines c = search needs
 
--- src/giving.rt:54:42
 write-constant-requires : tie.Need-write-constant-requires
 write-constant-requires c κs =
     let a = c .before .before .before .before .before .before .before .args in
     subst (λ (l : Lines). a .at + length (lines-text (a .sheet .now) (a .work .now) l) ≤ length (a .output .now)) (c .before .before .lines .given .1) (c .before .before .before .before .before .before .before .pre .1)
 
--- src/giving.rt:55:23
 enum-known-lines-2 : tie.Need-enum-known-lines-2
 enum-known-lines-2 c = search needs
 
--- src/giving.rt:55:45
 write-keyed-requires : tie.Need-write-keyed-requires
 write-keyed-requires c κs =
     let a = c .before .before .before .before .before .before .before .args in
     let h = subst (LinesHeld (a .sheet .now) (a .work .now)) (c .before .before .lines2 .given .1) (c .before .before .before .before .before .before .before .pre .0) in
     let r = subst (λ (l : Lines). a .at + length (lines-text (a .sheet .now) (a .work .now) l) ≤ length (a .output .now)) (c .before .before .lines2 .given .1) (c .before .before .before .before .before .before .before .pre .1) in
-    (h .0, (h .1, r))
+    (h .0, ((h .1, h .2), r))
 
--- src/giving.rt:57:13
 enum-known-lines-3 : tie.Need-enum-known-lines-3
 enum-known-lines-3 c = search needs
 
--- src/giving.rt:60:14
 write-solved-requires : tie.Need-write-solved-requires
 write-solved-requires c κs =
     let a = c .before .before .before .before .before .before .before .args in
@@ -49,15 +43,12 @@ write-solved-requires c κs =
     let r = subst (λ (l : Lines). a .at + length (lines-text (a .sheet .now) (a .work .now) l) ≤ length (a .output .now)) (c .before .before .lines3 .given .1) (c .before .before .before .before .before .before .before .pre .1) in
     (h .0, (h .1, (h .2, r)))
 
--- src/giving.rt:61:25
 enum-known-lines-4 : tie.Need-enum-known-lines-4
 enum-known-lines-4 c = search needs
 
--- src/giving.rt:61:59
 slice-aggregate-write-head : tie.Need-slice-aggregate-write-head
 slice-aggregate-write-head c = search needs
 
--- src/giving.rt:61:36
 write-head-requires : tie.Need-write-head-requires
 write-head-requires c κs =
     let a = c .before .before .before .before .before .before .before .before .args in
@@ -65,15 +56,12 @@ write-head-requires c κs =
     let e = ap length (failed-lines (c .before .before .before .lines4 .given .0 .0)) in
     omega arith
 
--- src/giving.rt:62:30
 enum-known-lines-5 : tie.Need-enum-known-lines-5
 enum-known-lines-5 c = search needs
 
--- src/giving.rt:62:64
 slice-aggregate-write-head-2 : tie.Need-slice-aggregate-write-head-2
 slice-aggregate-write-head-2 c = search needs
 
--- src/giving.rt:62:41
 write-head-requires-2 : tie.Need-write-head-requires-2
 write-head-requires-2 c κs =
     let a = c .before .before .before .before .before .before .before .before .args in
@@ -81,43 +69,33 @@ write-head-requires-2 c κs =
     let e = ap length (unsupported-lines (c .before .before .before .lines5 .given .0 .0)) in
     omega arith
 
--- src/giving.rt:48:1
 same-length : tie.Need-same-length
 same-length c = search needs
 
--- src/giving.rt:48:1
 returns : tie.Need-returns
 returns c = rw (c .before .before .before .before .before .lines .given .1) (c .before .before .write-constant .ensures)
 
--- src/giving.rt:48:1
 same-length-2 : tie.Need-same-length-2
 same-length-2 c = search needs
 
--- src/giving.rt:48:1
 returns-2 : tie.Need-returns-2
 returns-2 c = rw (c .before .before .before .before .before .lines2 .given .1) (c .before .before .write-keyed .ensures)
 
--- src/giving.rt:48:1
 same-length-3 : tie.Need-same-length-3
 same-length-3 c = search needs
 
--- src/giving.rt:48:1
 returns-3 : tie.Need-returns-3
 returns-3 c = rw (c .before .before .before .before .before .lines3 .given .1) (c .before .before .write-solved .ensures)
 
--- src/giving.rt:48:1
 same-length-4 : tie.Need-same-length-4
 same-length-4 c = search needs
 
--- src/giving.rt:48:1
 returns-4 : tie.Need-returns-4
 returns-4 c = rw (c .before .before .before .before .before .before .lines4 .given .1, failed-lines) (c .before .before .write-head .ensures)
 
--- src/giving.rt:48:1
 same-length-5 : tie.Need-same-length-5
 same-length-5 c = search needs
 
--- src/giving.rt:48:1
 returns-5 : tie.Need-returns-5
 returns-5 c = rw (c .before .before .before .before .before .before .lines5 .given .1, unsupported-lines) (c .before .before .write-head2 .ensures)
 

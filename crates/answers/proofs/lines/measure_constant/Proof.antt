@@ -11,29 +11,23 @@ use Rattle.answers.proofs.lines.measure_constant.Lts as lts
 use Rattle.answers.proofs.lines.key_len.Reads as key-len-reads
 use Rattle.answers.proofs.lines.word_len.Reads as word-len-reads
 
--- src/lines.rt:74:13
 key-len-requires : tie.Need-key-len-requires
 key-len-requires c κs = search needs
 
--- src/lines.rt:74:28
 word-len-requires : tie.Need-word-len-requires
 word-len-requires c κs = search needs
 
--- src/lines.rt:74:13
 add-n : tie.Need-add-n
 add-n c = search needs
 
--- src/lines.rt:74:13
 add-n-2 : tie.Need-add-n-2
 add-n-2 c = search needs
 
--- src/lines.rt:76:9
 returns : tie.Need-returns
 returns c =
     let e = line-length (key-text (c .before .before .before .args .key)) (claim-word (c .before .before .before .args .word)) in
     over-is (omega (arith, c .before .before .key-len .ensures, c .before .word-len .ensures))
 
--- src/lines.rt:71:1
 returns-2 : tie.Need-returns-2
 returns-2 c =
     let e = line-length (key-text (c .before .before .before .args .key)) (claim-word (c .before .before .before .args .word)) in

@@ -13,34 +13,27 @@ use Rattle.answers.proofs.lines.measure_keyed.Lts as lts
 use Rattle.answers.proofs.lines.key_len.Reads as key-len-reads
 use Rattle.tree.proofs.measuring.measure_term.Reads as measure-term-reads
 
--- src/lines.rt:104:13
 key-len-requires : tie.Need-key-len-requires
 key-len-requires c κs = search needs
 
--- src/lines.rt:104:13
 add-n : tie.Need-add-n
 add-n c = search needs
 
--- src/lines.rt:106:9
 returns : tie.Need-returns
 returns c =
     let a = c .before .before .before .before .args in
     let e = line-length (key-text (a .key)) (render (tree-at (a .sheet .now) (a .work .now) (a .i))) in
     over-is (omega (arith, c .before .key-len .ensures))
 
--- src/lines.rt:108:9
 measure-term-requires : tie.Need-measure-term-requires
 measure-term-requires c κs = search needs
 
--- src/lines.rt:109:24
 enum-known-term : tie.Need-enum-known-term
 enum-known-term c = search needs
 
--- src/lines.rt:110:9
 enum-told : tie.Need-enum-told
 enum-told c = search needs
 
--- src/lines.rt:110:9
 returns-2 : tie.Need-returns-2
 returns-2 c =
     let a = c .before .before .before .before .before .before .before .args in
@@ -48,13 +41,11 @@ returns-2 c =
     let h = told-over (c .before .before .measure-term .ensures) (c .enum-told .given .1) in
     over-is (omega (arith, c .before .before .before .before .key-len .ensures))
 
--- src/lines.rt:112:20
 add-t10 : tie.Need-add-t10
 add-t10 c =
     let h = told (c .before .before .before .measure-term .ensures) (c .before .term .given .1) in
     omega (arith, c .before .before .before .before .before .key-len .ensures)
 
--- src/lines.rt:92:1
 returns-3 : tie.Need-returns-3
 returns-3 c =
     let a = c .before .before .before .before .before .before .before .before .args in

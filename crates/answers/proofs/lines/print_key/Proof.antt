@@ -10,103 +10,78 @@ use Rattle.answers.proofs.lines.print_key.Reads as reads
 use Rattle.answers.proofs.lines.print_key.Lts as lts
 use Rattle.tree.proofs.names.print_text.Reads as print-text-reads
 
--- src/lines.rt:50:34
 enum-told : tie.Need-enum-told
 enum-told c = search needs
 
--- src/lines.rt:50:46
 slice-aggregate-print-text : tie.Need-slice-aggregate-print-text
 slice-aggregate-print-text c = search needs
 
--- src/lines.rt:50:23
 print-text-requires : tie.Need-print-text-requires
-print-text-requires c κs = subst (λ (x : Key). c .before .before .before .before .before .args .at + length (key-text x) ≤ length (c .before .before .before .before .before .args .output .now)) (c .before .before .enum-told .given .1) c .before .before .before .before .before .pre
+print-text-requires c κs = subst (λ (x : Key). c .before .before .before .before .before .args .at + length (key-text x) ≤ length (c .before .before .before .before .before .args .output .now)) (c .before .before .enum-told .given .1) (c .before .before .before .before .before .pre)
 
--- src/lines.rt:51:35
 enum-told-2 : tie.Need-enum-told-2
 enum-told-2 c = search needs
 
--- src/lines.rt:51:47
 slice-aggregate-print-text-2 : tie.Need-slice-aggregate-print-text-2
 slice-aggregate-print-text-2 c = search needs
 
--- src/lines.rt:51:24
 print-text-requires-2 : tie.Need-print-text-requires-2
-print-text-requires-2 c κs = subst (λ (x : Key). c .before .before .before .before .before .args .at + length (key-text x) ≤ length (c .before .before .before .before .before .args .output .now)) (c .before .before .enum-told2 .given .1) c .before .before .before .before .before .pre
+print-text-requires-2 c κs = subst (λ (x : Key). c .before .before .before .before .before .args .at + length (key-text x) ≤ length (c .before .before .before .before .before .args .output .now)) (c .before .before .enum-told2 .given .1) (c .before .before .before .before .before .pre)
 
--- src/lines.rt:52:34
 enum-told-3 : tie.Need-enum-told-3
 enum-told-3 c = search needs
 
--- src/lines.rt:52:46
 slice-aggregate-print-text-3 : tie.Need-slice-aggregate-print-text-3
 slice-aggregate-print-text-3 c = search needs
 
--- src/lines.rt:52:23
 print-text-requires-3 : tie.Need-print-text-requires-3
-print-text-requires-3 c κs = subst (λ (x : Key). c .before .before .before .before .before .args .at + length (key-text x) ≤ length (c .before .before .before .before .before .args .output .now)) (c .before .before .enum-told3 .given .1) c .before .before .before .before .before .pre
+print-text-requires-3 c κs = subst (λ (x : Key). c .before .before .before .before .before .args .at + length (key-text x) ≤ length (c .before .before .before .before .before .args .output .now)) (c .before .before .enum-told3 .given .1) (c .before .before .before .before .before .pre)
 
--- src/lines.rt:53:36
 enum-told-4 : tie.Need-enum-told-4
 enum-told-4 c = search needs
 
--- src/lines.rt:53:48
 slice-aggregate-print-text-4 : tie.Need-slice-aggregate-print-text-4
 slice-aggregate-print-text-4 c = search needs
 
--- src/lines.rt:53:25
 print-text-requires-4 : tie.Need-print-text-requires-4
-print-text-requires-4 c κs = subst (λ (x : Key). c .before .before .before .before .before .args .at + length (key-text x) ≤ length (c .before .before .before .before .before .args .output .now)) (c .before .before .enum-told4 .given .1) c .before .before .before .before .before .pre
+print-text-requires-4 c κs = subst (λ (x : Key). c .before .before .before .before .before .args .at + length (key-text x) ≤ length (c .before .before .before .before .before .args .output .now)) (c .before .before .enum-told4 .given .1) (c .before .before .before .before .before .pre)
 
--- src/lines.rt:54:37
 enum-told-5 : tie.Need-enum-told-5
 enum-told-5 c = search needs
 
--- src/lines.rt:54:49
 slice-aggregate-print-text-5 : tie.Need-slice-aggregate-print-text-5
 slice-aggregate-print-text-5 c = search needs
 
--- src/lines.rt:54:26
 print-text-requires-5 : tie.Need-print-text-requires-5
-print-text-requires-5 c κs = subst (λ (x : Key). c .before .before .before .before .before .args .at + length (key-text x) ≤ length (c .before .before .before .before .before .args .output .now)) (c .before .before .enum-told5 .given .1) c .before .before .before .before .before .pre
+print-text-requires-5 c κs = subst (λ (x : Key). c .before .before .before .before .before .args .at + length (key-text x) ≤ length (c .before .before .before .before .before .args .output .now)) (c .before .before .enum-told5 .given .1) (c .before .before .before .before .before .pre)
 
--- src/lines.rt:45:1
 same-length : tie.Need-same-length
 same-length c = search needs
 
--- src/lines.rt:45:1
 returns : tie.Need-returns
 returns c = rw (c .before .before .before .before .before .enum-told .given .1) (c .before .before .print-text .ensures)
 
--- src/lines.rt:45:1
 same-length-2 : tie.Need-same-length-2
 same-length-2 c = search needs
 
--- src/lines.rt:45:1
 returns-2 : tie.Need-returns-2
 returns-2 c = rw (c .before .before .before .before .before .enum-told2 .given .1) (c .before .before .print-text2 .ensures)
 
--- src/lines.rt:45:1
 same-length-3 : tie.Need-same-length-3
 same-length-3 c = search needs
 
--- src/lines.rt:45:1
 returns-3 : tie.Need-returns-3
 returns-3 c = rw (c .before .before .before .before .before .enum-told3 .given .1) (c .before .before .print-text3 .ensures)
 
--- src/lines.rt:45:1
 same-length-4 : tie.Need-same-length-4
 same-length-4 c = search needs
 
--- src/lines.rt:45:1
 returns-4 : tie.Need-returns-4
 returns-4 c = rw (c .before .before .before .before .before .enum-told4 .given .1) (c .before .before .print-text4 .ensures)
 
--- src/lines.rt:45:1
 same-length-5 : tie.Need-same-length-5
 same-length-5 c = search needs
 
--- src/lines.rt:45:1
 returns-5 : tie.Need-returns-5
 returns-5 c = rw (c .before .before .before .before .before .enum-told5 .given .1) (c .before .before .print-text5 .ensures)
 

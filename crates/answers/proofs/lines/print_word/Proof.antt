@@ -10,63 +10,48 @@ use Rattle.answers.proofs.lines.print_word.Reads as reads
 use Rattle.answers.proofs.lines.print_word.Lts as lts
 use Rattle.tree.proofs.names.print_text.Reads as print-text-reads
 
--- src/lines.rt:64:33
 enum-told : tie.Need-enum-told
 enum-told c = search needs
 
--- src/lines.rt:64:45
 slice-aggregate-print-text : tie.Need-slice-aggregate-print-text
 slice-aggregate-print-text c = search needs
 
--- src/lines.rt:64:22
 print-text-requires : tie.Need-print-text-requires
-print-text-requires c κs = subst (λ (x : Word). c .before .before .before .before .before .args .at + length (claim-word x) ≤ length (c .before .before .before .before .before .args .output .now)) (c .before .before .enum-told .given .1) c .before .before .before .before .before .pre
+print-text-requires c κs = subst (λ (x : Word). c .before .before .before .before .before .args .at + length (claim-word x) ≤ length (c .before .before .before .before .before .args .output .now)) (c .before .before .enum-told .given .1) (c .before .before .before .before .before .pre)
 
--- src/lines.rt:65:32
 enum-told-2 : tie.Need-enum-told-2
 enum-told-2 c = search needs
 
--- src/lines.rt:65:44
 slice-aggregate-print-text-2 : tie.Need-slice-aggregate-print-text-2
 slice-aggregate-print-text-2 c = search needs
 
--- src/lines.rt:65:21
 print-text-requires-2 : tie.Need-print-text-requires-2
-print-text-requires-2 c κs = subst (λ (x : Word). c .before .before .before .before .before .args .at + length (claim-word x) ≤ length (c .before .before .before .before .before .args .output .now)) (c .before .before .enum-told2 .given .1) c .before .before .before .before .before .pre
+print-text-requires-2 c κs = subst (λ (x : Word). c .before .before .before .before .before .args .at + length (claim-word x) ≤ length (c .before .before .before .before .before .args .output .now)) (c .before .before .enum-told2 .given .1) (c .before .before .before .before .before .pre)
 
--- src/lines.rt:66:37
 enum-told-3 : tie.Need-enum-told-3
 enum-told-3 c = search needs
 
--- src/lines.rt:66:49
 slice-aggregate-print-text-3 : tie.Need-slice-aggregate-print-text-3
 slice-aggregate-print-text-3 c = search needs
 
--- src/lines.rt:66:26
 print-text-requires-3 : tie.Need-print-text-requires-3
-print-text-requires-3 c κs = subst (λ (x : Word). c .before .before .before .before .before .args .at + length (claim-word x) ≤ length (c .before .before .before .before .before .args .output .now)) (c .before .before .enum-told3 .given .1) c .before .before .before .before .before .pre
+print-text-requires-3 c κs = subst (λ (x : Word). c .before .before .before .before .before .args .at + length (claim-word x) ≤ length (c .before .before .before .before .before .args .output .now)) (c .before .before .enum-told3 .given .1) (c .before .before .before .before .before .pre)
 
--- src/lines.rt:59:1
 same-length : tie.Need-same-length
 same-length c = search needs
 
--- src/lines.rt:59:1
 returns : tie.Need-returns
 returns c = rw (c .before .before .before .before .before .enum-told .given .1) (c .before .before .print-text .ensures)
 
--- src/lines.rt:59:1
 same-length-2 : tie.Need-same-length-2
 same-length-2 c = search needs
 
--- src/lines.rt:59:1
 returns-2 : tie.Need-returns-2
 returns-2 c = rw (c .before .before .before .before .before .enum-told2 .given .1) (c .before .before .print-text2 .ensures)
 
--- src/lines.rt:59:1
 same-length-3 : tie.Need-same-length-3
 same-length-3 c = search needs
 
--- src/lines.rt:59:1
 returns-3 : tie.Need-returns-3
 returns-3 c = rw (c .before .before .before .before .before .enum-told3 .given .1) (c .before .before .print-text3 .ensures)
 

@@ -10,29 +10,24 @@ use Rattle.answers.proofs.lines.print_key.Reads as print-key-reads
 use Rattle.answers.proofs.lines.print_word.Reads as print-word-reads
 use Rattle.tree.proofs.names.print_byte.Reads as print-byte-reads
 
--- src/lines.rt:86:9
 print-key-requires : tie.Need-print-key-requires
 print-key-requires c κs =
     let e = line-length (key-text (c .before .before .args .key)) (claim-word (c .before .before .args .word)) in
     omega arith
 
--- src/lines.rt:87:9
 print-word-requires : tie.Need-print-word-requires
 print-word-requires c κs =
     let e = line-length (key-text (c .before .before .before .before .before .before .args .key)) (claim-word (c .before .before .before .before .before .before .args .word)) in
     omega (arith, c .before .before .before .print-key .ensures .end)
 
--- src/lines.rt:88:5
 print-byte-requires : tie.Need-print-byte-requires
 print-byte-requires c κs =
     let e = line-length (key-text (c .before .before .before .before .before .before .before .before .before .before .args .key)) (claim-word (c .before .before .before .before .before .before .before .before .before .before .args .word)) in
     omega (arith, c .before .before .before .before .before .before .before .print-key .ensures .end, c .before .before .before .print-word .ensures .end)
 
--- src/lines.rt:82:1
 same-length : tie.Need-same-length
 same-length c = search needs
 
--- src/lines.rt:82:1
 returns : tie.Need-returns
 returns c =
     let e = line-length (key-text (c .before .before .before .before .before .before .before .before .before .before .before .before .before .args .key)) (claim-word (c .before .before .before .before .before .before .before .before .before .before .before .before .before .args .word)) in

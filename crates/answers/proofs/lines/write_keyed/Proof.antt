@@ -12,32 +12,27 @@ use Rattle.answers.proofs.lines.print_key.Reads as print-key-reads
 use Rattle.tree.proofs.names.print_byte.Reads as print-byte-reads
 use Rattle.tree.proofs.writing.write_term.Reads as write-term-reads
 
--- src/lines.rt:130:9
 print-key-requires : tie.Need-print-key-requires
 print-key-requires c κs =
     let a = c .before .before .before .before .args in
     let e = line-length (key-text (a .key)) (render (tree-at (a .sheet .now) (a .work .now) (a .i))) in
     omega arith
 
--- src/lines.rt:131:9
 write-term-requires : tie.Need-write-term-requires
 write-term-requires c κs =
     let a = c .before .before .before .before .before .before .before .before .args in
     let e = line-length (key-text (a .key)) (render (tree-at (a .sheet .now) (a .work .now) (a .i))) in
     (c .before .before .before .before .before .before .before .before .pre .0, (c .before .before .before .before .before .before .before .before .pre .1 .0, omega (arith, c .before .before .before .print-key .ensures .end)))
 
--- src/lines.rt:132:5
 print-byte-requires : tie.Need-print-byte-requires
 print-byte-requires c κs =
     let a = c .before .before .before .before .before .before .before .before .before .before .before .before .args in
     let e = line-length (key-text (a .key)) (render (tree-at (a .sheet .now) (a .work .now) (a .i))) in
     omega (arith, c .before .before .before .before .before .before .before .print-key .ensures .end, c .before .before .before .write-term .ensures .end)
 
--- src/lines.rt:116:1
 same-length : tie.Need-same-length
 same-length c = search needs
 
--- src/lines.rt:116:1
 returns : tie.Need-returns
 returns c =
     let a = c .before .before .before .before .before .before .before .before .before .before .before .before .before .before .before .args in

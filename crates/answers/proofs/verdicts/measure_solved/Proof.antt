@@ -15,23 +15,18 @@ use Rattle.answers.proofs.verdicts.measure_solved.Lts as lts
 use Rattle.answers.proofs.verdicts.measure_bindings.Reads as measure-bindings-reads
 use Rattle.answers.proofs.verdicts.measure_head.Reads as measure-head-reads
 
--- src/verdicts.rt:197:29
 slice-aggregate-measure-head : tie.Need-slice-aggregate-measure-head
 slice-aggregate-measure-head c = search needs
 
--- src/verdicts.rt:197:9
 measure-head-requires : tie.Need-measure-head-requires
 measure-head-requires c κs = search needs
 
--- src/verdicts.rt:198:24
 enum-known-head : tie.Need-enum-known-head
 enum-known-head c = search needs
 
--- src/verdicts.rt:199:9
 enum-told : tie.Need-enum-told
 enum-told c = search needs
 
--- src/verdicts.rt:199:9
 returns : tie.Need-returns
 returns c =
     let a = c .before .before .before .before .before .before .args in
@@ -39,26 +34,21 @@ returns c =
     let n = told-over {x = length (head-lines (bytes "verdict=solved\n") (a .spent))} {room = a .room} (c .before .before .measure-head .ensures) (c .enum-told .given .1) in
     over-is (omega arith)
 
--- src/verdicts.rt:201:59
 sub-measure-bindings : tie.Need-sub-measure-bindings
 sub-measure-bindings c =
     let a = c .before .before .before .before .before .before .before .args in
     let n = told {x = length (head-lines (bytes "verdict=solved\n") (a .spent))} {room = a .room} (c .before .before .before .measure-head .ensures) (c .before .head .given .1) in
     omega arith
 
--- src/verdicts.rt:201:9
 measure-bindings-requires : tie.Need-measure-bindings-requires
 measure-bindings-requires c κs = search needs
 
--- src/verdicts.rt:202:24
 enum-known-lines : tie.Need-enum-known-lines
 enum-known-lines c = search needs
 
--- src/verdicts.rt:203:9
 enum-told-2 : tie.Need-enum-told-2
 enum-told-2 c = search needs
 
--- src/verdicts.rt:203:9
 returns-2 : tie.Need-returns-2
 returns-2 c =
     let a = c .before .before .before .before .before .before .before .before .before .before .args in
@@ -67,7 +57,6 @@ returns-2 c =
     let m = told-over (c .before .before .measure-bindings .ensures) (c .enum-told2 .given .1) in
     over-is (omega arith)
 
--- src/verdicts.rt:205:20
 add-t14 : tie.Need-add-t14
 add-t14 c =
     let a = c .before .before .before .before .before .before .before .before .before .before .before .args in
@@ -75,7 +64,6 @@ add-t14 c =
     let m = told (c .before .before .before .measure-bindings .ensures) (c .before .lines .given .1) in
     omega arith
 
--- src/verdicts.rt:184:1
 returns-3 : tie.Need-returns-3
 returns-3 c =
     let a = c .before .before .before .before .before .before .before .before .before .before .before .args in

@@ -15,29 +15,24 @@ use Rattle.answers.proofs.verdicts.write_solved.Lts as lts
 use Rattle.answers.proofs.verdicts.write_bindings.Reads as write-bindings-reads
 use Rattle.answers.proofs.verdicts.write_head.Reads as write-head-reads
 
--- src/verdicts.rt:224:40
 slice-aggregate-write-head : tie.Need-slice-aggregate-write-head
 slice-aggregate-write-head c = search needs
 
--- src/verdicts.rt:224:9
 write-head-requires : tie.Need-write-head-requires
 write-head-requires c κs =
     let a = c .before .before .before .before .before .args in
     let e = solved-length (bindings-at (a .sheet .now) (a .work .now) (a .list)) (a .spent) in
     omega arith
 
--- src/verdicts.rt:225:5
 write-bindings-requires : tie.Need-write-bindings-requires
 write-bindings-requires c κs =
     let a = c .before .before .before .before .before .before .before .before .before .args in
     let e = solved-length (bindings-at (a .sheet .now) (a .work .now) (a .list)) (a .spent) in
     (c .before .before .before .before .before .before .before .before .before .pre .0, (c .before .before .before .before .before .before .before .before .before .pre .1 .0, (c .before .before .before .before .before .before .before .before .before .pre .1 .1 .0, omega (arith, c .before .before .before .write-head .ensures .end))))
 
--- src/verdicts.rt:209:1
 same-length : tie.Need-same-length
 same-length c = search needs
 
--- src/verdicts.rt:209:1
 returns : tie.Need-returns
 returns c =
     let a = c .before .before .before .before .before .before .before .before .before .before .before .before .args in
