@@ -22,6 +22,7 @@ use Rattle.tree.proofs.Areas.{below-grown, below-then}
 use Rattle.equivalence.proofs.Scratch.{below-kept}
 use Rattle.substitution.specs.Bindings.{bindings-at}
 use Rattle.substitution.specs.Building.{Placed, instance-at}
+use Rattle.text.specs.Frames.{Outside}
 use Rattle.reduction.specs.Building.{NewTree}
 use Rattle.reduction.proofs.NormalForms.{normalize-size}
 use Rattle.sheet.specs.Members.{members-at}
