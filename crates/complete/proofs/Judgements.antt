@@ -23,6 +23,7 @@ use Rattle.laws.proofs.Solving.Weights.{weight-size}
 use Rattle.laws.proofs.Solving.Budget.{flatten-size}
 use Rattle.laws.proofs.Solving.UnifyFuel.{unify-enough}
 use Rattle.laws.proofs.Sheets.BuiltRun.{BuiltPairs}
+use Rattle.text.specs.Frames.{Outside}
 use Rattle.tree.specs.Cells.{tree-at, trees-at}
 use Rattle.tree.specs.Arena.{Arena, Below}
 use Rattle.tree.proofs.Decoding.{frame-tree, frame-trees}
