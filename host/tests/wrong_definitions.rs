@@ -62,7 +62,9 @@ fn patch(refused: &str, from: &str, to: &str) -> String {
 
 // The status, what was said, and the files of laws that were proved, after one patch is tried.
 fn tried(name: &str, patch: &str) -> (Option<i32>, Vec<String>, Vec<String>) {
-    let folder: PathBuf = Path::new(env!("CARGO_TARGET_TMPDIR")).join(format!("wrong-{name}"));
+    // below the root's `target`, where rt takes no file for a source
+    let tests = Path::new(env!("CARGO_MANIFEST_DIR")).join("../target/host-tests");
+    let folder: PathBuf = tests.join(format!("wrong-{name}"));
     let _ = fs::remove_dir_all(&folder);
     for (file, text) in FILES {
         write(&folder.join(file), text);
