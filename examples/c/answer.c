@@ -1,8 +1,8 @@
 /*
  * Answers the sheet on standard input. From the root of the repository:
  *
- *   rt staticlib archive
- *   gcc -std=c11 -Iinclude examples/c/answer.c target/staticlib/libarchive.a -o answer
+ *   rt staticlib yukhtsami
+ *   gcc -std=c11 -Iinclude examples/c/answer.c target/staticlib/libyukhtsami.a -o answer
  *   ./answer < FILE
  *
  * The exit status is the refusal's number, or 71 without memory and 74 where reading or writing fails.

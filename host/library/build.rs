@@ -1,4 +1,4 @@
-// Finds the proved library and links it, if it is there.
+// Finds the proved library and links it. Where it is absent the build fails, but with the feature `absent`.
 use std::{
     env, fs,
     path::{Path, PathBuf},
@@ -12,7 +12,7 @@ fn file() -> PathBuf {
     let root = Path::new(&package).join("../..");
     match env::var_os(VARIABLE) {
         Some(file) => root.join(file),
-        None => root.join("target/staticlib/libarchive.a"),
+        None => root.join("target/staticlib/libyukhtsami.a"),
     }
 }
 
@@ -36,6 +36,12 @@ fn main() {
     println!("cargo::rustc-env=LIBRARY_FILE={}", file.display());
     println!("cargo::rustc-env=LIBRARY_LOGIC={}", logic(&file));
     if !file.is_file() {
+        if env::var_os("CARGO_FEATURE_ABSENT").is_none() {
+            let file = file.display();
+            println!(
+                "cargo::error=no {file}: write it by `rt staticlib yukhtsami`, or set {VARIABLE} to its path"
+            );
+        }
         return;
     }
     let (Some(folder), Some(name)) = (file.parent(), file.file_name()) else {

@@ -142,8 +142,8 @@ pub fn run(words: impl Iterator<Item = OsString>) -> u8 {
     match arguments::read(words) {
         Ok(Asked::Help) => print(arguments::HELP),
         Ok(Asked::Version) => print(&arguments::version()),
-        Ok(Asked::Answers(_)) if !library::present() => {
-            Failure::new(status::UNAVAILABLE, library::notice()).end()
+        Ok(Asked::Answers(_)) if !yukhtsami::present() => {
+            Failure::new(status::UNAVAILABLE, yukhtsami::notice()).end()
         }
         Ok(Asked::Answers(job)) => on_a_thread(&job),
         Err(fault) => Failure::new(status::USAGE, fault).end(),

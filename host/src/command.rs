@@ -162,8 +162,8 @@ fn compare(words: &[String]) -> Outcome {
 
 fn compare_library(words: &[String]) -> Outcome {
     let options = options(words, &["--count", "--seed", "--kinds"], 10_000)?;
-    if !library::present() {
-        return Err(format!("{}; nothing was compared", library::notice()));
+    if !yukhtsami::present() {
+        return Err(format!("{}; nothing was compared", yukhtsami::notice()));
     }
     notice::absent("the library is compared with the model alone");
     let records = store::stored()?;
@@ -219,8 +219,8 @@ fn write_deepest(words: &[String]) -> Outcome {
     let [file] = words else {
         return Err("deepest takes one file; see host --help".to_owned());
     };
-    if !library::present() {
-        return Err(format!("{}; nothing was written", library::notice()));
+    if !yukhtsami::present() {
+        return Err(format!("{}; nothing was written", yukhtsami::notice()));
     }
     let records = deepest::records();
     fs::write(file, store::written(&records)).map_err(|error| format!("{file}: {error}"))?;
@@ -231,8 +231,8 @@ fn write_deepest(words: &[String]) -> Outcome {
 // Both tables, and the document with them if one is named.
 fn benched(words: &[String]) -> Outcome {
     let options = options(words, &["--kinds", "--long", "--write"], 0)?;
-    if !library::present() {
-        return Err(format!("{}; nothing was timed", library::notice()));
+    if !yukhtsami::present() {
+        return Err(format!("{}; nothing was timed", yukhtsami::notice()));
     }
     if options.out.is_some() && !(oracle::present() && options.kinds.len() == KINDS.len()) {
         return Err("--write takes the tables of all kinds, with the Rust".to_owned());

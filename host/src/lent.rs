@@ -2,7 +2,7 @@
 // beyond what is lent, and the tests of what a call left there.
 use std::thread;
 
-use library::Called;
+use yukhtsami::Called;
 
 use crate::{
     reference::{self, Reply},
@@ -47,7 +47,7 @@ impl Default for Lent {
 
 /// A call of the linked library on a thread of its own, with a stack of 2 MiB.
 pub fn call(name: &str, sheet: &[u8], work: &mut [u32], output: &mut [u8]) -> Called {
-    on_a_small_stack(name, || library::call(sheet, work, output))
+    on_a_small_stack(name, || yukhtsami::call(sheet, work, output))
 }
 
 /// A function on a thread with the stack that a call has. An exhausted stack ends the program with

@@ -17,8 +17,8 @@ pub fn absent(left_out: &str) {
 
 /// The same for the library; whether it is absent.
 pub fn library_absent(left_out: &str) -> bool {
-    if !library::present() {
-        tell(format!("{}; {left_out}\n", library::notice()));
+    if !yukhtsami::present() {
+        tell(format!("{}; {left_out}\n", yukhtsami::notice()));
     }
-    !library::present()
+    !yukhtsami::present()
 }

@@ -33,8 +33,8 @@ fn compiled(compiler: &[&str], file: &str) -> PathBuf {
     command.args(["-Wall", "-Wextra", "-Werror", "-pedantic", "-O2"]);
     command.arg("-I").arg(root().join("include"));
     command.arg(root().join(file));
-    if library::present() {
-        command.args(["-x", "none"]).arg(library::file());
+    if yukhtsami::present() {
+        command.args(["-x", "none"]).arg(yukhtsami::file());
     }
     let output = command.arg("-o").arg(&program).output().unwrap();
     let said = String::from_utf8_lossy(&output.stderr).into_owned();

@@ -172,7 +172,7 @@ fn the_output_grows_with_the_answer_and_the_work_area_with_the_sheet() {
     let variables: Vec<String> = (0..40).map(|index| format!("x{index}:Msg")).collect();
     let term = format!("g({})", variables.join(","));
     let sheet = format!("kind=reduce\nterm={term}\n");
-    assert!(library::words_needed(sheet.as_bytes()) > 3 << 20);
+    assert!(yukhtsami::words_needed(sheet.as_bytes()) > 3 << 20);
     assert_eq!(run(&[], &sheet), answered(&format!("normal={term}\n")));
 }
 
@@ -228,8 +228,8 @@ fn help_and_version_are_told_without_the_library() {
     let version = format!("yukhtsami {}\nproved library: ", env!("CARGO_PKG_VERSION"));
     let library = out.strip_prefix(&version).unwrap();
     assert_eq!((status, &*err), (0, ""));
-    assert_eq!(library == "absent\n", !library::present());
-    assert!(!library::present() || library.len() > 64, "{library}");
+    assert_eq!(library == "absent\n", !yukhtsami::present());
+    assert!(!yukhtsami::present() || library.len() > 64, "{library}");
 }
 
 #[test]
@@ -248,10 +248,10 @@ fn a_faulty_command_line_is_64() {
 
 #[test]
 fn an_absent_library_is_69() {
-    if library::present() {
+    if yukhtsami::present() {
         return;
     }
-    assert_eq!(run(&[], EQUAL), failed(69, &library::notice()));
+    assert_eq!(run(&[], EQUAL), failed(69, &yukhtsami::notice()));
 }
 
 #[test]

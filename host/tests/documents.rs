@@ -138,11 +138,11 @@ fn the_pairs_shown_are_the_pairs_taken() {
 // Asks the linked library, or the reference where that is absent.
 fn asked(sheet: &str) -> Reply {
     let words = needed(sheet.as_bytes());
-    if !library::present() {
+    if !yukhtsami::present() {
         return reference::call(sheet.as_bytes(), words, ROOM);
     }
     let (mut work, mut output) = (vec![1; words as usize], vec![0; 64]);
-    match library::answer(sheet.as_bytes(), &mut work, &mut output) {
+    match yukhtsami::answer(sheet.as_bytes(), &mut work, &mut output) {
         Ok(written) => Reply::Answer(output[..written].to_vec()),
         Err(refusal) => Reply::Refused(refusal.number()),
     }

@@ -1,9 +1,11 @@
 // The linked library against the reference: the stored list, generated sheets, what a difference
 // shows, and terms that fill a sheet on a small stack.
+use std::{path::Path, process::Command};
+
 use host::{
     bench, deep, generate::KINDS, lent, linked::Comparison, notice, reference::Reply, sheet, store,
 };
-use library::Refusal;
+use yukhtsami::Refusal;
 
 fn none_differ(comparison: &Comparison) {
     let smallest = comparison.smallest.as_ref().map(ToString::to_string);
@@ -51,15 +53,40 @@ fn the_library_answers_with_just_the_words_and_bytes_needed() {
     }
     let needed = 65_536 * 16 + 16 * SHEET.len();
     let (mut work, mut output) = (vec![7; needed], [0; 10]);
-    let less = library::answer(SHEET, &mut work[..needed - 1], &mut output);
+    let less = yukhtsami::answer(SHEET, &mut work[..needed - 1], &mut output);
     assert_eq!((less, work[0]), (Err(Refusal::ShortWorkArea), 7));
-    let short = library::answer(SHEET, &mut work, &mut output[..9]);
+    let short = yukhtsami::answer(SHEET, &mut work, &mut output[..9]);
     assert_eq!(
         (short, work[needed - 1], output),
         (Err(Refusal::ShortOutput), 0, [0; 10])
     );
-    assert_eq!(library::answer(SHEET, &mut work, &mut output), Ok(10));
+    assert_eq!(yukhtsami::answer(SHEET, &mut work, &mut output), Ok(10));
     assert_eq!(&output, b"equal=yes\n");
+}
+
+// The crate by itself, as a user of it builds it.
+#[test]
+fn a_missing_library_is_a_build_error_that_says_what_to_run() {
+    let folder = Path::new(env!("CARGO_TARGET_TMPDIR")).join("missing-library");
+    let mut cargo = Command::new(env!("CARGO"));
+    cargo.args([
+        "check",
+        "--offline",
+        "--package",
+        "yukhtsami",
+        "--manifest-path",
+    ]);
+    cargo.arg(concat!(env!("CARGO_MANIFEST_DIR"), "/library/Cargo.toml"));
+    cargo.arg("--target-dir").arg(folder);
+    let output = cargo
+        .env("YUKHTSAMI_LIBRARY", "no/such.a")
+        .output()
+        .unwrap();
+    let said = String::from_utf8(output.stderr).unwrap();
+    assert!(!output.status.success(), "{said}");
+    for part in ["no/such.a", "`rt staticlib yukhtsami`", "YUKHTSAMI_LIBRARY"] {
+        assert!(said.contains(part), "{said}");
+    }
 }
 
 #[test]

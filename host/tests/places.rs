@@ -242,7 +242,7 @@ fn agree(bytes: &[u8]) -> u32 {
         Err(refusal) => refusal,
         Ok(sheet) => {
             let needed = sheet::words_needed(bytes, &sheet);
-            assert_eq!(library::words_needed(bytes), needed, "{text}");
+            assert_eq!(yukhtsami::words_needed(bytes), needed, "{text}");
             if readable(&sheet) { 0 } else { 4 }
         }
     };

@@ -1,5 +1,6 @@
 pub mod Zeroing
-pub mod Giving
+pub mod Gives
+pub mod Decides
 pub mod Screening
 pub mod Admitting
 pub mod PairReading

@@ -1,4 +1,4 @@
--- Pairs of lines read into cells: one pair, and the walk over all of them, whose list is backwards. Assumes nothing.
+-- Pairs of lines read into cells: one pair, and the walk over all of them, whose list is backwards.
 use Prim.Native.Nat.{ℕ, _+_, _*_, _-_, _<_, _≤_}
 use native.Mathlib.Omega.{arith}
 use mathlib.Core.Path.{_≡_, refl, sym, ap, ap₂, _∙_}
@@ -23,7 +23,7 @@ use Rattle.reading.specs.declared.Parsed.the-variants as parsed
 use Rattle.reading.proofs.Ordering.{back-none}
 use Rattle.substitution.specs.Building.{Made}
 use Rattle.sheet.specs.Lines.{lines-at}
-use Rattle.sheet.specs.Pairs.{pair-at}
+use Rattle.sheet.specs.Pairs.{two-lines-at}
 use Rattle.sheet.specs.Form.{text-of, Inside}
 use Rattle.sheet.specs.declared.Cursor.{Cursor}
 use Rattle.sheet.specs.declared.Place.{Place}
@@ -53,10 +53,10 @@ module _ {s : Text} {w w₁ : List ℕ} {free : ℕ} (l r : Place) {list first m
 
   module _ {w₂ : List ℕ} {second end : ℕ} (two : Read s w₁ w₂ middle (r .from) (r .to) second end) where
     first-tree : tree-at s w₂ first ≡ tree-at s w₁ first
-    first-tree = sym (frame-tree s w₂ (one .arena .links) (two .outside .below) first (one .placed .0) (one .placed .1))
+    first-tree = sym (frame-tree s w₂ (one .arena .links) (λ p q. sym (two .outside .below p q)) first (one .placed .0) (one .placed .1))
 
     list-trees : trees-at s w₂ list ≡ trees-at s w list
-    list-trees = sym (frame-trees s w₁ (a .links) (one .outside .below) list p ∙ frame-trees s w₂ (one .arena .links) (two .outside .below) list (omega (arith, one .grew)))
+    list-trees = sym (frame-trees s w₁ (a .links) (λ p q. sym (one .outside .below p q)) list p ∙ frame-trees s w₂ (one .arena .links) (λ p q. sym (two .outside .below p q)) list (omega (arith, one .grew)))
 
     pub pair-there : {v : List ℕ} {i m : ℕ} → Made s w₂ v end m i (more (tree-at s w₂ second) (more (tree-at s w₂ first) (trees-at s w₂ list))) → m ≡ end + 2 → ReadPair s w v free l r list i m
     pair-there d e = record {
@@ -83,7 +83,7 @@ pub record Ahead (s : Text) (c : ℕ) (es : List Entry) (rest : List Text) (ps :
   pub read : read-pairs es ≡ (read-pairs later >>= λ qs. some (ps ++ qs))
 
 module _ {s : Text} {c : ℕ} {es : List Entry} {rest : List Text} {ps : List Pair} (h : Ahead s c es rest ps) where
-  ahead-next : (l r : Place) (n : Cursor) → Sides l r n ≡ pair-at (bytes "left=") (bytes "right=") s c
+  ahead-next : (l r : Place) (n : Cursor) → Sides l r n ≡ two-lines-at (bytes "left=") (bytes "right=") s c
       → (fs : List Entry) × (h .later ≡ sides s l r ∷ fs) × PairsFrom s (n .at) fs rest
   ahead-next l r n e =
       let (fs, d, g) = two-there (bytes "left=") (bytes "right=") s c (h .later) rest (sym (pairs-by s c) ∙ h .from) l r n e in
@@ -92,7 +92,7 @@ module _ {s : Text} {c : ℕ} {es : List Entry} {rest : List Text} {ps : List Pa
   ahead-read : (fs : List Entry) → h .later ≡ fs → read-pairs es ≡ (read-pairs fs >>= λ qs. some (ps ++ qs))
   ahead-read fs d = h .read ∙ ap (λ (fs : List Entry). read-pairs fs >>= λ qs. some (ps ++ qs)) d
 
-  ahead-turn : (l r : Place) (n : Cursor) (p : Pair) → Sides l r n ≡ pair-at (bytes "left=") (bytes "right=") s c → read-pair (sides s l r) ≡ some p → Ahead s (n .at) es rest (ps ++ (p ∷ []))
+  ahead-turn : (l r : Place) (n : Cursor) (p : Pair) → Sides l r n ≡ two-lines-at (bytes "left=") (bytes "right=") s c → read-pair (sides s l r) ≡ some p → Ahead s (n .at) es rest (ps ++ (p ∷ []))
   ahead-turn l r n p e g =
       let (fs, d, k) = ahead-next l r n e in
       record {
@@ -106,12 +106,12 @@ module _ {s : Text} {c : ℕ} {es : List Entry} {rest : List Text} {ps : List Pa
       go nothing = refl
       go (some qs) = ap some (sym (append-assoc ps (p ∷ []) qs))
 
-  ahead-unread : (l r : Place) (n : Cursor) → Sides l r n ≡ pair-at (bytes "left=") (bytes "right=") s c → read-pair (sides s l r) ≡ nothing → read-pairs es ≡ nothing
+  ahead-unread : (l r : Place) (n : Cursor) → Sides l r n ≡ two-lines-at (bytes "left=") (bytes "right=") s c → read-pair (sides s l r) ≡ nothing → read-pairs es ≡ nothing
   ahead-unread l r n e g =
       let (fs, d, k) = ahead-next l r n e in
       ahead-read (sides s l r ∷ fs) d ∙ ap (λ (o : Option (List Pair)). o >>= λ qs. some (ps ++ qs)) (read-first (sides s l r) fs nothing g)
 
-  module _ (e : End ≡ pair-at (bytes "left=") (bytes "right=") s c) where
+  module _ (e : End ≡ two-lines-at (bytes "left=") (bytes "right=") s c) where
     none-later : (h .later ≡ []) × (lines-at s c ≡ some rest)
     none-later = two-end (bytes "left=") (bytes "right=") s c (h .later) rest (sym (pairs-by s c) ∙ h .from) e
 
@@ -154,7 +154,7 @@ pub record Located (s : Text) (c : ℕ) (l r : Place) (n : Cursor) : Type 0 wher
   pub next : c + 13 + (l .to - l .from) + (r .to - r .from) ≡ n .at
   pub within : n .at ≤ length s
 
-pub located : (s : Text) (c : ℕ) (l r : Place) (n : Cursor) → Sides l r n ≡ pair-at (bytes "left=") (bytes "right=") s c → Located s c l r n
+pub located : (s : Text) (c : ℕ) (l r : Place) (n : Cursor) → Sides l r n ≡ two-lines-at (bytes "left=") (bytes "right=") s c → Located s c l r n
 located s c l r n e =
     let h = paired (bytes "left=") (bytes "right=") s c l r n e in
     let a : length (bytes "left=") ≡ 5 = refl in
@@ -167,7 +167,7 @@ located s c l r n e =
     }
 
 module _ {s : Text} {w v : List ℕ} {at c list free : ℕ} (h : Reading s w at v c list free) where
-  pub reading-ends : End ≡ pair-at (bytes "left=") (bytes "right=") s c → Reversed s w v at list free c
+  pub reading-ends : End ≡ two-lines-at (bytes "left=") (bytes "right=") s c → Reversed s w v at list free c
   unfolding flatten
   reading-ends e = record {
     ps = h .ps ++ [];
@@ -181,7 +181,7 @@ module _ {s : Text} {w v : List ℕ} {at c list free : ℕ} (h : Reading s w at 
     len = h .len;
   }
 
-  module _ (l r : Place) (n : Cursor) (e : Sides l r n ≡ pair-at (bytes "left=") (bytes "right=") s c) where
+  module _ (l r : Place) (n : Cursor) (e : Sides l r n ≡ two-lines-at (bytes "left=") (bytes "right=") s c) where
     pub reading-room : pair-end free l r ≤ 1 + 2 * length s
     reading-room = let x = located s c l r n e in omega (arith, h .used, x .next, x .within)
 

@@ -1,5 +1,4 @@
 -- A list of trees written once more, the last first: the loop's invariant and its turns; and the pairs whose list was turned round.
--- Assumes nothing.
 use Prim.Native.Nat.{ℕ, _+_, _<_}
 use native.Mathlib.Omega.{arith}
 use mathlib.Core.Path.{_≡_, refl, sym, ap, ap₂, _∙_}

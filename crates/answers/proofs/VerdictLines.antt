@@ -1,6 +1,6 @@
 -- The lines of a verdict: their lengths, and their bytes one part after another.
 use Prim.Native.Nat.{ℕ, _+_, _<_, _≤_}
-use mathlib.Core.Path.{_≡_, refl, sym, ap, _∙_}
+use mathlib.Core.Path.{_≡_, refl, sym, ap, subst, _∙_}
 use mathlib.Core.List.{List, [], _∷_, _++_, append-assoc, append-nil}
 use native.Mathlib.Omega.{arith}
 use lib.ListN.{length, length-append}
@@ -12,16 +12,15 @@ use Rattle.rules.specs.Writing.{render}
 use Rattle.rules.specs.Substitution.{Binding}
 use Rattle.rules.specs.Solving.{solved, failed, unsupported}
 use Rattle.rules.specs.Answer.{line, binding-lines, verdict-lines}
-use Rattle.text.specs.Printing as Decimals
 use Rattle.tree.specs.Cells.{name-at, next-of, tree-at, trees-at}
 use Rattle.tree.specs.Arena.{Links}
-use Rattle.tree.specs.Output.{Printed}
-use Rattle.tree.proofs.Printing.{length-written, printed-then, printed-none, printed-number}
+use Rattle.text.specs.Printing.{Printed}
+use Rattle.tree.proofs.Printing.{length-written, printed-then, printed-none}
 use Rattle.substitution.specs.Bindings.{Chain}
 use Rattle.substitution.proofs.Keys.{bindings-none}
 use Rattle.substitution.proofs.Chains.{entry}
-use Rattle.answers.specs.Verdicts.{head-lines, key-line, value-line, entry-lines, lines-at}
-use Rattle.answers.proofs.Giving.{line-length, line-printed}
+use Rattle.answers.specs.Verdicts.{head-lines, key-line, value-line, entry-lines, bindings-text}
+use Rattle.answers.proofs.Gives.{line-length, line-printed}
 
 -- lengths
 
@@ -57,20 +56,29 @@ pub solved-lines : (bs : List Binding) (spent : ℕ) → verdict-lines (solved b
 unfolding verdict-lines head-lines
 solved-lines bs spent = refl
 
+pub solved-length : (bs : List Binding) (spent : ℕ) → length (verdict-lines (solved bs, spent)) ≡ length (head-lines (bytes "verdict=solved\n") spent) + length (binding-lines bs)
+solved-length bs spent = ap length (solved-lines bs spent) ∙ length-append (head-lines (bytes "verdict=solved\n") spent) (binding-lines bs)
+
 -- printing
 
 pub printed-length : {out v t : Text} {at r : ℕ} → at + length t ≤ length out → Printed out v at t r → length v ≡ length out
 printed-length {out} {v} {t} {at} h p = ap length (p .bytes) ∙ length-written out at t h
 
-pub head-printed : {out a b c d : Text} {i j k r : ℕ} (verdict : Text) (spent : ℕ) → length (head-lines verdict spent) ≤ length out
-    → Printed out a 0 verdict i → Printed a b i (bytes "spent=") j → Decimals.Printed b c j (decimal spent) k → Printed c d k (10 ∷ []) r
-    → Printed out d 0 (head-lines verdict spent) r
+pub head-printed : {out a b c d : Text} {at i j k r : ℕ} (verdict : Text) (spent : ℕ) → at + length (head-lines verdict spent) ≤ length out
+    → Printed out a at verdict i → Printed a b i (bytes "spent=") j → Printed b c j (decimal spent) k → Printed c d k (10 ∷ []) r
+    → Printed out d at (head-lines verdict spent) r
 unfolding head-lines
 head-printed verdict spent h p q x y =
     let e = head-length verdict spent in
     let f = printed-length (omega arith) p in
     let g = p .end in
-    printed-then (omega arith) p (line-printed (bytes "spent=") (decimal spent) (omega arith) q (printed-number x) y)
+    printed-then (omega arith) p (line-printed (bytes "spent=") (decimal spent) (omega arith) q x y)
+
+pub solved-printed : {out a b : Text} {at i r : ℕ} (bs : List Binding) (spent : ℕ) → at + length (verdict-lines (solved bs, spent)) ≤ length out
+    → Printed out a at (head-lines (bytes "verdict=solved\n") spent) i → Printed a b i (binding-lines bs) r → Printed out b at (verdict-lines (solved bs, spent)) r
+solved-printed {out} {a} {b} {at} {i} {r} bs spent h p q =
+    let e = solved-length bs spent in
+    subst (λ (t : Text). Printed out b at t r) (sym (solved-lines bs spent)) (printed-then (omega arith) p q)
 
 pub key-printed : {out a b c : Text} {at i j r : ℕ} (x : Text) → at + length (key-line x) ≤ length out → Printed out a at (bytes "key=") i → Printed a b i x j → Printed b c j (10 ∷ []) r
     → Printed out c at (key-line x) r
@@ -85,14 +93,14 @@ value-printed t h p q z = let e = line-length (bytes "value=") (render t) in lin
 -- the bindings from cell k on
 
 module _ {w : List ℕ} {n : ℕ} (s : Text) (l : Links w n) (k v : ℕ) (p : 0 < k) (q : k < n) (c : Chain (trees-at s w k)) (e : v ≡ next-of w k) where
-  pub lines-more : (j : ℕ) → j ≡ next-of w v → lines-at s w k ≡ entry-lines (name-at s w k) (tree-at s w v) ++ lines-at s w j
+  pub lines-more : (j : ℕ) → j ≡ next-of w v → bindings-text s w k ≡ entry-lines (name-at s w k) (tree-at s w v) ++ bindings-text s w j
   unfolding binding-lines key-line value-line
   lines-more j f = ap binding-lines (entry s l k v p q c e j f .read)
 
-  pub length-more : (j : ℕ) → j ≡ next-of w v → length (lines-at s w k) ≡ length (entry-lines (name-at s w k) (tree-at s w v)) + length (lines-at s w j)
-  length-more j f = ap length (lines-more j f) ∙ length-append (entry-lines (name-at s w k) (tree-at s w v)) (lines-at s w j)
+  pub length-more : (j : ℕ) → j ≡ next-of w v → length (bindings-text s w k) ≡ length (entry-lines (name-at s w k) (tree-at s w v)) + length (bindings-text s w j)
+  length-more j f = ap length (lines-more j f) ∙ length-append (entry-lines (name-at s w k) (tree-at s w v)) (bindings-text s w j)
 
-pub lines-none : (s : Text) (w : List ℕ) (k : ℕ) → k ≡ 0 → lines-at s w k ≡ []
+pub lines-none : (s : Text) (w : List ℕ) (k : ℕ) → k ≡ 0 → bindings-text s w k ≡ []
 unfolding binding-lines
 lines-none s w k e = ap binding-lines (bindings-none s w k e)
 

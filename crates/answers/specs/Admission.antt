@@ -1,4 +1,4 @@
--- What the code answers to a sheet before any term is read, and 01's number for each refusal. Definitions only.
+-- What the code answers to a sheet before any term is read, and which refusal of the rules each of the code's is. Definitions only.
 use Prim.Native.Nat.{ℕ, _≤_}
 use mathlib.Core.Path.{_≡_}
 use mathlib.Core.Bool.{true}
@@ -7,21 +7,26 @@ use lib.ListN.{length}
 use Rattle.rules.specs.Bytes.{Text}
 use Rattle.rules.specs.Sheet.{Sheet, read-sheet, words-needed}
 use Rattle.rules.specs.Names.{all}
+use Rattle.rules.specs.RefusalNumbers.{Refusal, TooLong, ForeignByte, LineOutOfPlace, UnreadableTerm, ShortWorkArea, ShortOutput, number-for}
 use Rattle.rules.specs.Call.{refused, passed, plain, admitted}
 use Rattle.sheet.specs.Form.{sheet-of, Within}
 use Rattle.sheet.specs.declared.form.Form.{Form}
-use Rattle.answers.specs.declared.admission.Refusal.{Refusal}
-use Rattle.answers.specs.declared.admission.Refusal.the-variants as refusal
-use Rattle.answers.specs.declared.admission.Admitted as code
+use Rattle.answers.specs.declared.refusal.Refusal as code
+use Rattle.answers.specs.declared.refusal.Refusal.the-variants as refusal
+use Rattle.answers.specs.declared.admission.Admitted as answered
 use Rattle.answers.specs.declared.admission.Admitted.the-variants as admission
 
-abbrev pub refusal-code : Refusal → ℕ
-refusal-code refusal.Long = 1
-refusal-code refusal.Foreign = 2
-refusal-code refusal.Lines = 3
-refusal-code refusal.Words = 11
-refusal-code refusal.Unreadable = 4
-refusal-code refusal.Short = 12
+-- the refusal of the rules
+abbrev pub refusal-of : code.Refusal → Refusal
+refusal-of refusal.TooLong = TooLong
+refusal-of refusal.ForeignByte = ForeignByte
+refusal-of refusal.LineOutOfPlace = LineOutOfPlace
+refusal-of refusal.UnreadableTerm = UnreadableTerm
+refusal-of refusal.ShortWorkArea = ShortWorkArea
+refusal-of refusal.ShortOutput = ShortOutput
+
+abbrev pub refusal-code : code.Refusal → ℕ
+refusal-code x = number-for (refusal-of x)
 
 -- neither 1 nor 2
 pub record Fine (s : Text) : Type 0 where
@@ -43,6 +48,6 @@ pub record Stands (s : Text) (words : ℕ) (f : Form) (needed : ℕ) : Type 0 wh
   pub need : needed ≡ words-needed s (decoded .sheet)
   pub enough : needed ≤ words
 
-abbrev pub Admits : Text → ℕ → code.Admitted → Type 0
+abbrev pub Admits : Text → ℕ → answered.Admitted → Type 0
 Admits s words (admission.Sheet f needed) = Stands s words f needed
 Admits s words (admission.Refused x) = admitted s words ≡ refused (refusal-code x)

@@ -1,5 +1,6 @@
 pub mod Clearing
-pub mod Settling
 pub mod Admission
+pub mod Deciding
+pub mod Settling
 pub mod Pairs
 pub mod Verdicts

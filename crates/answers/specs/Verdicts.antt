@@ -24,5 +24,5 @@ abbrev pub entry-lines : Text → Tree → Text
 entry-lines x t = key-line x ++ value-line t
 
 -- `key` and `value` for each binding from cell k on
-abbrev pub lines-at : Text → List ℕ → ℕ → Text
-lines-at s w k = binding-lines (bindings-at s w k)
+abbrev pub bindings-text : Text → List ℕ → ℕ → Text
+bindings-text s w k = binding-lines (bindings-at s w k)

@@ -1,20 +1,12 @@
 // What is refused before any term is read: 1, 2, 3, 11.
+use crate::refusal::Refusal;
 use sheet::form::Form;
+use sheet::form::ReadForm;
 use sheet::form::read_sheet;
 use sheet::form::words_needed;
 use text::Screened;
 use text::screen;
 ghost use Rattle.answers.specs.Admission.{Fine, Admits};
-
-// The six refusals.
-pub enum Refusal {
-    Long,
-    Foreign,
-    Lines,
-    Words,
-    Unreadable,
-    Short,
-}
 
 // A sheet that is admitted, with the words that it needs, or a refusal.
 pub enum Admitted {
@@ -27,13 +19,13 @@ fn admit_screened(sheet: &[u8], words: usize) -> Admitted
     requires { ⌜ Fine (now sheet) ⌝ }
     ensures { λ r. ⌜ Admits (now (sheet .entry)) words r ⌝ }
 {
-    let form = read_sheet(sheet);
-    if let Form::Three = form {
-        return Admitted::Refused(Refusal::Lines);
-    }
+    let read = read_sheet(sheet);
+    let ReadForm::Sheet(form) = read else {
+        return Admitted::Refused(Refusal::LineOutOfPlace);
+    };
     let needed = words_needed(sheet, form);
     if words < needed {
-        return Admitted::Refused(Refusal::Words);
+        return Admitted::Refused(Refusal::ShortWorkArea);
     }
     Admitted::Sheet { form, needed }
 }
@@ -44,8 +36,8 @@ pub fn admit(sheet: &[u8], words: usize) -> Admitted
 {
     let screened = screen(sheet);
     match screened {
-        Screened::Long => Admitted::Refused(Refusal::Long),
-        Screened::Foreign => Admitted::Refused(Refusal::Foreign),
+        Screened::Long => Admitted::Refused(Refusal::TooLong),
+        Screened::Foreign => Admitted::Refused(Refusal::ForeignByte),
         Screened::Fine => admit_screened(sheet, words),
     }
 }

@@ -21,7 +21,7 @@ ghost use Rattle.substitution.specs.Building.{Made};
 ghost use Rattle.answers.specs.Pairs.{pair-end, ReadsPair, ReadsReversed, ReadsPairs};
 
 // A pair before a list of sides and the free end after it, or a side that cannot be read.
-pub enum Added {
+enum Added {
     List { index: usize, free: usize },
     Unreadable,
 }

@@ -1,5 +1,4 @@
-// The answers to `unify` and `match` in the output: measured, then written where they fit.
-use crate::Settled;
+// The answers to `unify` and `match`: measured, and written at a place of the output.
 use substitution::bindings::rest_of;
 use substitution::bindings::value_of;
 use text::decimal::print;
@@ -12,21 +11,19 @@ use tree::names::print_name;
 use tree::names::print_text;
 use tree::writing::write_term;
 ghost use mathlib.Core.Path.{_≡_};
-ghost use mathlib.Core.Option.{some};
 ghost use Prim.Native.Nat.{_+_, _<_, _≤_};
 ghost use lib.ListN.{length};
-ghost use Rattle.rules.specs.Solving.{solved, failed, unsupported};
+ghost use Rattle.rules.specs.Solving.{solved};
 ghost use Rattle.rules.specs.Answer.{verdict-lines};
 ghost use Rattle.tree.specs.Cells.{name-at, tree-at, trees-at};
 ghost use Rattle.tree.specs.Arena.{Arena};
-ghost use Rattle.tree.specs.Output.{Printed};
+ghost use Rattle.text.specs.Printing.{Printed};
 ghost use Rattle.tree.specs.Measure.{measured};
 ghost use Rattle.substitution.specs.Bindings.{Chain, bindings-at};
-ghost use Rattle.answers.specs.Settling.{Settles};
-ghost use Rattle.answers.specs.Verdicts.{head-lines, key-line, value-line, entry-lines, lines-at};
+ghost use Rattle.answers.specs.Verdicts.{head-lines, key-line, value-line, entry-lines, bindings-text};
 
 // The length of the verdict's line and the line `spent`.
-fn measure_head(verdict: &[u8], spent: usize, room: usize) -> Measured
+pub(crate) fn measure_head(verdict: &[u8], spent: usize, room: usize) -> Measured
     ensures { λ r. ⌜ r ≡ measured (length (head-lines (now (verdict .entry)) spent)) room ⌝ }
 {
     let width = width_of(spent);
@@ -44,40 +41,14 @@ fn measure_head(verdict: &[u8], spent: usize, room: usize) -> Measured
 }
 
 // Writes the verdict's line and the line `spent`, and returns where they end.
-fn write_head(output: &mut [u8], verdict: &[u8], spent: usize) -> usize
-    requires { ⌜ length (head-lines (now verdict) spent) ≤ length (now output) ⌝ }
-    ensures { λ r. ⌜ Printed (now (output .entry)) (now (output .exit)) 0 (head-lines (now (verdict .entry)) spent) r ⌝ }
+pub(crate) fn write_head(output: &mut [u8], at: usize, verdict: &[u8], spent: usize) -> usize
+    requires { ⌜ at + length (head-lines (now verdict) spent) ≤ length (now output) ⌝ }
+    ensures { λ r. ⌜ Printed (now (output .entry)) (now (output .exit)) at (head-lines (now (verdict .entry)) spent) r ⌝ }
 {
-    let start = print_text(output, 0, verdict);
+    let start = print_text(output, at, verdict);
     let digits = print_text(output, start, b"spent=");
     let end = print(spent, output, digits);
     print_byte(output, end, 10)
-}
-
-// Writes a verdict without bindings as the whole answer, if it fits.
-fn give_head(output: &mut [u8], verdict: &[u8], spent: usize) -> Settled
-    ensures { λ r. ⌜ Settles (some (head-lines (now (verdict .entry)) spent)) (now (output .entry)) (now (output .exit)) r ⌝ }
-{
-    let measured = measure_head(verdict, spent, output.len());
-    let Measured::Fits(_) = measured else {
-        return Settled::Short;
-    };
-    let end = write_head(output, verdict, spent);
-    Settled::Written(end)
-}
-
-// Verdict `failed`.
-pub fn give_failed(output: &mut [u8], spent: usize) -> Settled
-    ensures { λ r. ⌜ Settles (some (verdict-lines (failed, spent))) (now (output .entry)) (now (output .exit)) r ⌝ }
-{
-    give_head(output, b"verdict=failed\n", spent)
-}
-
-// Verdict `unsupported`.
-pub fn give_unsupported(output: &mut [u8], spent: usize) -> Settled
-    ensures { λ r. ⌜ Settles (some (verdict-lines (unsupported, spent))) (now (output .entry)) (now (output .exit)) r ⌝ }
-{
-    give_head(output, b"verdict=unsupported\n", spent)
 }
 
 // The length of the two lines of a binding, by the cells of its key and its value.
@@ -110,7 +81,7 @@ fn measure_bindings(sheet: &[u8], work: &[u32], free: usize, list: usize, room: 
     requires { ⌜ Arena (now sheet) (now work) free ⌝ }
     requires { ⌜ list < free ⌝ }
     requires { ⌜ Chain (trees-at (now sheet) (now work) list) ⌝ }
-    ensures { λ r. ⌜ r ≡ measured (length (lines-at (now (sheet .entry)) (now (work .entry)) list)) room ⌝ }
+    ensures { λ r. ⌜ r ≡ measured (length (bindings-text (now (sheet .entry)) (now (work .entry)) list)) room ⌝ }
 {
     let mut k = list;
     let mut left = room;
@@ -196,8 +167,8 @@ fn write_bindings(
     requires { ⌜ Arena (now sheet) (now work) free ⌝ }
     requires { ⌜ list < free ⌝ }
     requires { ⌜ Chain (trees-at (now sheet) (now work) list) ⌝ }
-    requires { ⌜ at + length (lines-at (now sheet) (now work) list) ≤ length (now output) ⌝ }
-    ensures { λ r. ⌜ Printed (now (output .entry)) (now (output .exit)) at (lines-at (now (sheet .entry)) (now (work .entry)) list) r ⌝ }
+    requires { ⌜ at + length (bindings-text (now sheet) (now work) list) ≤ length (now output) ⌝ }
+    ensures { λ r. ⌜ Printed (now (output .entry)) (now (output .exit)) at (bindings-text (now (sheet .entry)) (now (work .entry)) list) r ⌝ }
 {
     let mut key = list;
     let mut end = at;
@@ -209,30 +180,47 @@ fn write_bindings(
     end
 }
 
-// Verdict `solved`, with the bindings from cell `list` on.
-pub fn give_solved(
+// The length of verdict `solved` with the bindings from cell `list` on.
+pub(crate) fn measure_solved(
+    sheet: &[u8],
+    work: &[u32],
+    free: usize,
+    list: usize,
+    spent: usize,
+    room: usize,
+) -> Measured
+    requires { ⌜ Arena (now sheet) (now work) free ⌝ }
+    requires { ⌜ list < free ⌝ }
+    requires { ⌜ Chain (trees-at (now sheet) (now work) list) ⌝ }
+    ensures { λ r. ⌜ r ≡ measured (length (verdict-lines (solved (bindings-at (now (sheet .entry)) (now (work .entry)) list), spent))) room ⌝ }
+{
+    let head = measure_head(b"verdict=solved\n", spent, room);
+    let Measured::Fits(n) = head else {
+        return Measured::Over;
+    };
+    let lines = measure_bindings(sheet, work, free, list, room - n);
+    let Measured::Fits(m) = lines else {
+        return Measured::Over;
+    };
+    Measured::Fits(n + m)
+}
+
+// Writes verdict `solved` with the bindings from cell `list` on, and returns where it ends.
+pub(crate) fn write_solved(
     sheet: &[u8],
     work: &[u32],
     free: usize,
     list: usize,
     spent: usize,
     output: &mut [u8],
-) -> Settled
+    at: usize,
+) -> usize
     requires { ⌜ Arena (now sheet) (now work) free ⌝ }
     requires { ⌜ list < free ⌝ }
     requires { ⌜ Chain (trees-at (now sheet) (now work) list) ⌝ }
-    ensures { λ r. ⌜ Settles (some (verdict-lines (solved (bindings-at (now (sheet .entry)) (now (work .entry)) list), spent))) (now (output .entry)) (now (output .exit)) r ⌝ }
+    requires { ⌜ at + length (verdict-lines (solved (bindings-at (now sheet) (now work) list), spent)) ≤ length (now output) ⌝ }
+    ensures { λ r. ⌜ Printed (now (output .entry)) (now (output .exit)) at (verdict-lines (solved (bindings-at (now (sheet .entry)) (now (work .entry)) list), spent)) r ⌝ }
 {
-    let room = output.len();
-    let head = measure_head(b"verdict=solved\n", spent, room);
-    let Measured::Fits(n) = head else {
-        return Settled::Short;
-    };
-    let lines = measure_bindings(sheet, work, free, list, room - n);
-    let Measured::Fits(_) = lines else {
-        return Settled::Short;
-    };
-    let start = write_head(output, b"verdict=solved\n", spent);
-    let last = write_bindings(sheet, work, free, list, output, start);
-    Settled::Written(last)
+    let start = write_head(output, at, b"verdict=solved\n", spent);
+    write_bindings(sheet, work, free, list, output, start)
 }

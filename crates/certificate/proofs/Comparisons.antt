@@ -1,50 +1,47 @@
 -- Two texts written and sorted, one after the other: the order of their words' texts is that of their canonical texts.
--- Assumes nothing.
 use Prim.Native.Nat.{ℕ, _+_, _-_, _*_, _<_, _≤_}
 use mathlib.Core.Path.{_≡_, refl, sym, ap, ap₂, subst, _∙_}
-use mathlib.Core.Bool.{Bool, true, false, cond, _&&_}
+use mathlib.Core.Bool.{Bool, cond}
 use mathlib.Core.List.{List, [], _∷_}
 use mathlib.Core.Logic.{⊎-elim}
 use mathlib.Core.Option.{Option, some, none}
 use denote.Enum.Declared.{tagOf}
 use types.Run.{OneOf}
-use lib.Dec.{eqb, ltb}
 use lib.ListN.{length}
 use lib.Seq.{slice, length-slice}
 use native.Mathlib.Omega.{arith}
-use native.Mathlib.Decide.{decLt}
-use borrow.Author.Tests.{eq-eqb, ne-eqb, lt-ltb, le-ltb}
-use Rattle.rules.specs.Bytes.{Text, same}
+use Rattle.rules.specs.Bytes.{Text}
 use Rattle.rules.specs.Reading.{canonical-text}
 use Rattle.text.proofs.Slices.{slice-same}
-use Rattle.certificate.specs.Texts.{texts, Tokens, lex}
-use Rattle.certificate.specs.Settle.{settled, Arranges}
-use Rattle.certificate.specs.Writer as writer
-use Rattle.certificate.specs.Writer.{Kept, Done}
-use Rattle.certificate.specs.Comparing.{Settled, Outcome, ordered-as, order-of, equivalence-of}
-use Rattle.certificate.specs.declared.order.Order.{Order}
-use Rattle.certificate.specs.declared.order.Order.the-variants.{Less, Equal, Greater}
+use Rattle.runs.specs.Texts.{texts, Tokens, lex}
+use Rattle.settling.specs.Settle.{sums-sorted, Arranges}
+use Rattle.text.specs.Frames.{Outside}
+use Rattle.flattening.specs.Writer.{WordsWritten, TextWritten}
+use Rattle.certificate.specs.Comparing.{CanonicalWords, CanonicalWritten, ordered-as, order-of, equivalence-of}
+use Rattle.runs.specs.declared.order.Order.{Order}
+use Rattle.runs.specs.declared.order.Order.the-variants.{Less, Equal, Greater}
 use Rattle.certificate.specs.declared.Ordered.{Ordered}
 use Rattle.certificate.specs.declared.Ordered.the-variants as ordered
 use Rattle.certificate.specs.declared.Equivalence.{Equivalence}
 use Rattle.certificate.specs.declared.Equivalence.the-variants.{Yes, No, Unreadable}
-use Rattle.certificate.specs.declared.writer.Written.{Written}
-use Rattle.certificate.specs.declared.writer.Written.the-variants as ways
+use Rattle.flattening.specs.declared.Written.{Written}
+use Rattle.flattening.specs.declared.Written.the-variants as ways
 use Rattle.certificate.proofs.Ordered.{the-type}
+use Rattle.runs.proofs.RunLaws.{equal-as, same-lex}
 use Rattle.certificate.proofs.WrittenTexts.{readable, unreadable}
 
 -- ---- one text
 
 module _ (s w v : List ℕ) (from to base scratch : ℕ) (start : from ≤ to) (fits : to ≤ length s) (small : to < 65536) (roomy : base + (to - from) ≤ scratch) (lasts : scratch + 2 * (to - from) < length w)
-    (r : Written) (h : Kept w v base (scratch + (to - from)) × writer.Outcome s v from to base r) where
-  pub none-settled : r ≡ ways.Unreadable → Kept w v base (scratch + 2 * (to - from)) × (canonical-text (slice from to s) ≡ none)
+    (r : Written) (h : Outside w v base (scratch + (to - from)) × TextWritten s v from to base r) where
+  pub none-settled : r ≡ ways.Unreadable → Outside w v base (scratch + 2 * (to - from)) × (canonical-text (slice from to s) ≡ none)
   none-settled e =
       let k = h .0 in
-      (record { len = k .len; below = k .below; above = λ p q. k .above p (omega arith) }, unreadable s to from fits small (subst (writer.Outcome s v from to base) e (h .1)))
+      (record { len = k .len; below = k .below; above = λ p q. k .above p (omega arith) }, unreadable s to from fits small (subst (TextWritten s v from to base) e (h .1)))
 
   module _ (end : ℕ) (e : r ≡ ways.Words end) where
-    done : Done s v from to base end
-    done = subst (writer.Outcome s v from to base) e (h .1)
+    done : WordsWritten s v from to base end
+    done = subst (TextWritten s v from to base) e (h .1)
 
     pub settle-room : (base ≤ end) × (end ≤ scratch) × (end < base + 65536) × (scratch + 2 * (end - base) < length v)
     settle-room =
@@ -56,15 +53,15 @@ module _ (s w v : List ℕ) (from to base scratch : ℕ) (start : from ≤ to) (
     pub settle-tokens : Tokens s v base end
     settle-tokens = done .tokens
 
-    pub done-settled : (v₁ : List ℕ) → Arranges v v₁ base end scratch (settled s 16777216 base (end - base) (slice base end v)) × Tokens s v₁ base end
-        → Kept w v₁ base (scratch + 2 * (to - from)) × Settled s v₁ from to base end
+    pub done-settled : (v₁ : List ℕ) → Arranges v v₁ base end scratch (sums-sorted s 16777216 base (end - base) (slice base end v)) × Tokens s v₁ base end
+        → Outside w v₁ base (scratch + 2 * (to - from)) × CanonicalWords s v₁ from to base end
     done-settled v₁ (a, t) =
         let k = h .0 in
         let r = settle-room in
         let d₂ = done .room in
         let l₁ = k .len in
         let n : length (slice base end v) ≡ end - base = length-slice base end v (omega arith) in
-        let c : canonical-text (slice from to s) ≡ some (texts s (settled s 16777216 base (length (slice base end v)) (slice base end v))) =
+        let c : canonical-text (slice from to s) ≡ some (texts s (sums-sorted s 16777216 base (length (slice base end v)) (slice base end v))) =
         readable s to from fits small (slice base end v) (done .words) (omega arith) base in (
           record {
             len = a .len ∙ l₁;
@@ -74,7 +71,7 @@ module _ (s w v : List ℕ) (from to base scratch : ℕ) (start : from ≤ to) (
           record {
             low = done .low;
             room = d₂;
-            text = c ∙ ap (λ (l : List ℕ). some (texts s l)) (ap (λ (n : ℕ). settled s 16777216 base n (slice base end v)) n ∙ sym (a .words));
+            text = c ∙ ap (λ (l : List ℕ). some (texts s l)) (ap (λ (n : ℕ). sums-sorted s 16777216 base n (slice base end v)) n ∙ sym (a .words));
             tokens = t;
           },
         )
@@ -82,7 +79,7 @@ module _ (s w v : List ℕ) (from to base scratch : ℕ) (start : from ≤ to) (
 -- ---- two texts
 
 module _ (s w v₁ : List ℕ) (base from to start end : ℕ) (a₁ : from ≤ to) (a₂ : to ≤ length s) (b₁ : start ≤ end) (b₂ : end ≤ length s) (lasts : base + 4 * length s < length w)
-    (r : Written) (h : Kept w v₁ base (base + (to - from) + (end - start) + 2 * (to - from)) × Outcome s v₁ from to base r) where
+    (r : Written) (h : Outside w v₁ base (base + (to - from) + (end - start) + 2 * (to - from)) × CanonicalWritten s v₁ from to base r) where
   abbrev scratch : ℕ
   scratch = base + (to - from) + (end - start)
 
@@ -92,15 +89,15 @@ module _ (s w v₁ : List ℕ) (base from to start end : ℕ) (a₁ : from ≤ t
   abbrev right : Option Text
   right = canonical-text (slice start end s)
 
-  pub left-none : r ≡ ways.Unreadable → (ordered.Unreadable ≡ order-of left right) × Kept w v₁ base (base + 4 * length s)
+  pub left-none : r ≡ ways.Unreadable → (ordered.Unreadable ≡ order-of left right) × Outside w v₁ base (base + 4 * length s)
   left-none e =
       let k = h .0 in
-      let c : left ≡ none = subst (Outcome s v₁ from to base) e (h .1) in
+      let c : left ≡ none = subst (CanonicalWritten s v₁ from to base) e (h .1) in
       (sym (ap (λ (o : Option Text). order-of o right) c), record { len = k .len; below = k .below; above = λ p q. k .above p (omega arith) })
 
   module _ (mid : ℕ) (e : r ≡ ways.Words mid) where
-    one : Settled s v₁ from to base mid
-    one = subst (Outcome s v₁ from to base) e (h .1)
+    one : CanonicalWords s v₁ from to base mid
+    one = subst (CanonicalWritten s v₁ from to base) e (h .1)
 
     pub right-room : (mid + (end - start) ≤ scratch) × (scratch + 2 * (end - start) < length v₁)
     right-room =
@@ -108,22 +105,22 @@ module _ (s w v₁ : List ℕ) (base from to start end : ℕ) (a₁ : from ≤ t
         let l = h .0 .len in
         (omega arith, omega arith)
 
-    module _ (v₂ : List ℕ) (q : Written) (g : Kept v₁ v₂ mid (base + (to - from) + (end - start) + 2 * (end - start)) × Outcome s v₂ start end mid q) where
-      pub both-kept : Kept w v₂ base (base + 4 * length s)
+    module _ (v₂ : List ℕ) (q : Written) (g : Outside v₁ v₂ mid (base + (to - from) + (end - start) + 2 * (end - start)) × CanonicalWritten s v₂ start end mid q) where
+      pub both-kept : Outside w v₂ base (base + 4 * length s)
       both-kept =
           let k = h .0 in
           let j = g .0 in
           let o = one .low in
           record { len = j .len ∙ k .len; below = λ p q. j .below p (omega arith) ∙ k .below p q; above = λ p q. j .above p (omega arith) ∙ k .above p (omega arith) }
 
-      pub right-none : q ≡ ways.Unreadable → (ordered.Unreadable ≡ order-of left right) × Kept w v₂ base (base + 4 * length s)
+      pub right-none : q ≡ ways.Unreadable → (ordered.Unreadable ≡ order-of left right) × Outside w v₂ base (base + 4 * length s)
       right-none f =
-          let c : right ≡ none = subst (Outcome s v₂ start end mid) f (g .1) in
+          let c : right ≡ none = subst (CanonicalWritten s v₂ start end mid) f (g .1) in
           (sym (ap₂ order-of (one .text) c), both-kept)
 
       module _ (lim : ℕ) (f : q ≡ ways.Words lim) where
-        two : Settled s v₂ start end mid lim
-        two = subst (Outcome s v₂ start end mid) f (g .1)
+        two : CanonicalWords s v₂ start end mid lim
+        two = subst (CanonicalWritten s v₂ start end mid) f (g .1)
 
         pub compare-room : (base ≤ mid) × (mid ≤ length v₂) × (mid ≤ lim) × (lim ≤ length v₂)
         compare-room =
@@ -141,7 +138,7 @@ module _ (s w v₁ : List ℕ) (base from to start end : ℕ) (a₁ : from ≤ t
         pub right-tokens : Tokens s v₂ mid lim
         right-tokens = two .tokens
 
-        pub compared : {o : Order} → o ≡ lex (texts s (slice base mid v₂)) (texts s (slice mid lim v₂)) → (p : Order) → o ≡ p → (ordered-as p ≡ order-of left right) × Kept w v₂ base (base + 4 * length s)
+        pub compared : {o : Order} → o ≡ lex (texts s (slice base mid v₂)) (texts s (slice mid lim v₂)) → (p : Order) → o ≡ p → (ordered-as p ≡ order-of left right) × Outside w v₂ base (base + 4 * length s)
         compared c p d =
             let o₁ = compare-room in
             let l₁ = h .0 .len in
@@ -151,23 +148,6 @@ module _ (s w v₁ : List ℕ) (base from to start end : ℕ) (a₁ : from ≤ t
             (ap ordered-as (sym d ∙ c) ∙ sym (ap₂ order-of y (two .text)), both-kept)
 
 -- ---- equal or not
-
-abbrev pub equal-as : Order → Bool
-equal-as Less = false
-equal-as Equal = true
-equal-as Greater = false
-
-pub same-lex : (a b : Text) → same a b ≡ equal-as (lex a b)
-unfolding same lex
-same-lex [] [] = refl
-same-lex [] (y ∷ b) = refl
-same-lex (x ∷ a) [] = refl
-same-lex (x ∷ a) (y ∷ b) = go (decLt x y) (decLt y x) (same-lex a b)
-  where
-    go : Dec (x < y) → Dec (y < x) → same a b ≡ equal-as (lex a b) → eqb x y && same a b ≡ equal-as (cond (ltb x y) Less (cond (ltb y x) Greater (lex a b)))
-    go (yes p) d e = rw (lt-ltb x y p, ne-eqb x y (omega arith))
-    go (no p) (yes q) e = rw (le-ltb x y (omega arith), lt-ltb y x q, ne-eqb x y (omega arith))
-    go (no p) (no q) e = rw (le-ltb x y (omega arith), le-ltb y x (omega arith), eq-eqb x y (omega arith)) e
 
 abbrev equivalence-as : Ordered → Equivalence
 equivalence-as ordered.Less = No

@@ -1,4 +1,4 @@
--- What is written for a text, once its sums are sorted, has the canonical text of the tree that is read. Assumes nothing.
+-- What is written for a text, once its sums are sorted, has the canonical text of the tree that is read.
 use Prim.Native.Nat.{ℕ, suc, _<_, _≤_}
 use mathlib.Core.Path.{_≡_, refl, sym, ap, subst, _∙_}
 use mathlib.Core.List.{List, [], _∷_, map, append-nil}
@@ -10,16 +10,16 @@ use Rattle.rules.specs.Maybe.{_>>=_}
 use Rattle.rules.specs.Tree.{Tree}
 use Rattle.rules.specs.Reading.{as-written, read-term, read-text, wholly, canonical-text}
 use Rattle.rules.specs.Sums.{canonical}
-use Rattle.certificate.specs.Texts.{texts}
-use Rattle.certificate.specs.Settle.{settled}
-use Rattle.certificate.specs.Terms.{Term, words}
-use Rattle.certificate.specs.Items.{Item, begin, shut, comma, name, wanting, write, writes, items-at, written}
-use Rattle.certificate.proofs.ItemTokens.{item-text, Proper, tokens-items, items-proper}
-use Rattle.certificate.proofs.ItemTerms.{Read, item-term, tree-of, term-read, good-term, GoodTerm, NamedTerm}
-use Rattle.certificate.specs.Spelling.{flatten}
-use Rattle.certificate.proofs.Flattening.{named-spells}
-use Rattle.certificate.proofs.NameWords.{spelled-settled}
-use Rattle.certificate.proofs.ItemWords.{term-written, after-term}
+use Rattle.runs.specs.Texts.{texts}
+use Rattle.settling.specs.Settle.{sums-sorted}
+use Rattle.flattening.specs.Terms.{Term, words}
+use Rattle.flattening.specs.Items.{Item, begin, shut, comma, name, wanting, write, writes, items-at, text-words}
+use Rattle.flattening.proofs.ItemTokens.{item-text, Proper, tokens-items, items-proper}
+use Rattle.flattening.proofs.ItemTerms.{Read, item-term, tree-of, term-read, good-term, GoodTerm, NamedTerm}
+use Rattle.flattening.specs.Spelling.{flatten}
+use Rattle.flattening.proofs.Flattening.{named-spells}
+use Rattle.settling.proofs.NameWords.{spelled-settled}
+use Rattle.flattening.proofs.ItemWords.{term-written, after-term}
 
 module _ (s : Text) where
   -- ---- a whole text
@@ -52,8 +52,8 @@ module _ (s : Text) where
       (agree-by (length is) (item-term (length is) is) (good-term s (length is) is p)))
 
   module _ (to at : ℕ) (fits : to ≤ length s) (small : to < 65536) where
-    agree : Agree (read-text as-written (drop at (take to s))) (written s (take to s) at)
-    unfolding read-text written
+    agree : Agree (read-text as-written (drop at (take to s))) (text-words s (take to s) at)
+    unfolding read-text text-words
     agree = subst (λ (o : Option (List Text)). Agree (o >>= λ ts. wholly (read-term as-written (length ts) ts)) (writes s (items-at (take to s) at) wanting [])) (sym (tokens-items s to fits small at)) (go (items-at (take to s) at) (λ is e. items-proper s to fits small at is e))
       where
         go : (o : Option (List Item)) → ((is : List Item) → o ≡ some is → Proper s is)
@@ -63,7 +63,7 @@ module _ (s : Text) where
 
     -- the words, sorted, have the canonical text; no words, no canonical text
     canonical-of : (o : Option Tree) (p : Option (List ℕ)) → Agree o p → (ws : List ℕ) → p ≡ some ws → length ws < 65536 → (base : ℕ)
-        → (o >>= λ t. some (canonical t)) ≡ some (texts s (settled s 16777216 base (length ws) ws))
+        → (o >>= λ t. some (canonical t)) ≡ some (texts s (sums-sorted s 16777216 base (length ws) ws))
     unfolding canonical
     canonical-of nothing nothing a ws e l base = let z : _≡_ {A = ℕ} 0 1 = cc in absurd (omega arith)
     canonical-of nothing (some vs) a ws e l base = absurd a
@@ -73,16 +73,16 @@ module _ (s : Text) where
         let k : length (words (flatten s u)) < 65536 = rw z l in
         ap some (ap canonical (sym f) ∙ sym (spelled-settled s (named-spells s h) k base) ∙ rw z)
 
-    pub readable : (ws : List ℕ) → written s (take to s) at ≡ some ws → length ws < 65536 → (base : ℕ)
-        → canonical-text (drop at (take to s)) ≡ some (texts s (settled s 16777216 base (length ws) ws))
+    pub readable : (ws : List ℕ) → text-words s (take to s) at ≡ some ws → length ws < 65536 → (base : ℕ)
+        → canonical-text (drop at (take to s)) ≡ some (texts s (sums-sorted s 16777216 base (length ws) ws))
     unfolding canonical-text
-    readable ws e l base = canonical-of (read-text as-written (drop at (take to s))) (written s (take to s) at) agree ws e l base
+    readable ws e l base = canonical-of (read-text as-written (drop at (take to s))) (text-words s (take to s) at) agree ws e l base
 
     none-of : (o : Option Tree) (p : Option (List ℕ)) → Agree o p → p ≡ nothing → (o >>= λ t. some (canonical t)) ≡ nothing
     none-of nothing p a e = refl
     none-of (some t) nothing a e = absurd a
     none-of (some t) (some ws) a e = let z : _≡_ {A = ℕ} 0 1 = cc in absurd (omega arith)
 
-    pub unreadable : written s (take to s) at ≡ nothing → canonical-text (drop at (take to s)) ≡ nothing
+    pub unreadable : text-words s (take to s) at ≡ nothing → canonical-text (drop at (take to s)) ≡ nothing
     unfolding canonical-text
-    unreadable e = none-of (read-text as-written (drop at (take to s))) (written s (take to s) at) agree e
+    unreadable e = none-of (read-text as-written (drop at (take to s))) (text-words s (take to s) at) agree e

@@ -1,4 +1,4 @@
--- The words of a sheet of kind `complete` are enough for each of its schemes. Assumes nothing.
+-- The words of a sheet of kind `complete` are enough for each of its schemes.
 use Prim.Native.Nat.{ℕ, _+_, _*_, _<_, _≤_}
 use mathlib.Core.Path.{_≡_, refl, sym, ap, subst, _∙_}
 use mathlib.Core.Bool.{true}
@@ -35,13 +35,13 @@ use Rattle.tree.specs.Cells.{tree-at}
 use Rattle.sheet.proofs.WordLaws.{count-bound}
 use Rattle.steps.specs.Stack.{FitPairs}
 use Rattle.steps.specs.Area.{Room}
-use Rattle.cover.specs.Covering.{Matched}
-use Rattle.cover.proofs.Rooms.{fit-sides}
-use Rattle.complete.specs.Families.{Family, nil, next}
-use Rattle.complete.specs.Generalizing.{member-pairs, AllMatched}
+use Rattle.unifier.specs.Matched.{Matched}
+use Rattle.unifier.proofs.Fitting.{fit-sides}
+use Rattle.families.specs.Families.{Family, nil, next}
+use Rattle.families.specs.Generalizing.{member-pairs, AllMatched}
 use Rattle.complete.specs.Judging.{fuel-for, system-of, solved-end, Judgeable}
-use Rattle.complete.specs.Completing.{Asks}
-use Rattle.complete.proofs.Alike.{stands-alike}
+use Rattle.complete.specs.Completing.{CompleteInput}
+use Rattle.families.proofs.Alike.{stands-alike}
 use Rattle.complete.proofs.Rooms.{fuel-few, match-words, match-room}
 
 -- ---- members that are read
@@ -69,7 +69,7 @@ reverse-listed v (u ∷ vs) us (List·Memᴰ·tail l) = reverse-listed v vs (u �
 
 -- ---- a sheet of kind `complete`
 
-module _ {s : Text} {w : List ℕ} {free term named at : ℕ} (k : Asks s w free term named at) where
+module _ {s : Text} {w : List ℕ} {free term named at : ℕ} (k : CompleteInput s w free term named at) where
   abbrev tree : Tree
   tree = tree-at s w term
 

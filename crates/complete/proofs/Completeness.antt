@@ -1,4 +1,4 @@
--- The term's variables, the fresh ones and the members in cells, and what judging the schemes over them says. Assumes nothing.
+-- The term's variables, the fresh ones and the members in cells, and what judging the schemes over them says.
 use Prim.Native.Nat.{ℕ, _+_, _*_, _<_, _≤_, _^_}
 use mathlib.Core.Path.{_≡_, refl, sym, ap, subst, _∙_}
 use mathlib.Core.Bool.{Bool, true, false, cond}
@@ -28,47 +28,47 @@ use Rattle.tree.proofs.Areas.{below-then, below-grown}
 use Rattle.sheet.specs.Members.{members-at}
 use Rattle.sheet.proofs.WordLaws.{count-bound}
 use Rattle.variants.specs.Members.{TextsRoom}
-use Rattle.variants.specs.Soundness.{claim}
-use Rattle.variants.specs.declared.soundness.Claim.{Claim}
-use Rattle.variants.specs.declared.soundness.Claim.the-variants.{Nothing}
-use Rattle.schemes.specs.Counting.{counted}
+use Rattle.sheet.specs.Claims.{truth}
+use Rattle.sheet.specs.declared.claims.Claim.{Claim}
+use Rattle.sheet.specs.declared.claims.Claim.the-variants.{Nothing}
+use Rattle.schemes.specs.Counting.{counted-schemes}
 use Rattle.schemes.specs.declared.counting.Counted.the-variants.{Schemes, Over}
 use Rattle.schemes.specs.Building.{Fresh}
-use Rattle.cover.specs.Variables.{Spelled}
-use Rattle.cover.proofs.Rooms.{short-read}
-use Rattle.cover.specs.Listing.{backwards}
-use Rattle.cover.specs.Generals.{names-of, names-at, OfVariables}
-use Rattle.complete.specs.Families.{ReadAll, ReadMembers, ReadsMembers}
-use Rattle.complete.specs.declared.families.Members.the-variants.{Unreadable}
-use Rattle.complete.specs.Searching.{spells}
-use Rattle.complete.specs.Fresh.{chosen-in, WritesFresh}
-use Rattle.complete.specs.Generalizing.{variants-at}
+use Rattle.variables.specs.Variables.{Readable}
+use Rattle.variables.proofs.Shortness.{short-read}
+use Rattle.variables.specs.Listing.{backwards}
+use Rattle.variables.specs.Pairing.{names-of, names-at, OfVariables}
+use Rattle.families.specs.Families.{ReadAll, ReadMembers, ReadsMembers}
+use Rattle.families.specs.declared.members.Members.the-variants.{Unreadable}
+use Rattle.fresh.specs.Searching.{spells}
+use Rattle.fresh.specs.Fresh.{chosen-in, WritesFresh}
+use Rattle.families.specs.Generalizing.{variants-at}
 use Rattle.complete.specs.Judging.{CanJudgeAll, JudgesAll}
-use Rattle.complete.specs.TermNames.{TermNames}
-use Rattle.complete.specs.Completing.{Asks, ClaimsComplete}
-use Rattle.complete.proofs.Finding.{part-is-spelled}
-use Rattle.complete.proofs.Alike.{family-judges}
+use Rattle.fresh.specs.TermNames.{TermNames}
+use Rattle.complete.specs.Completing.{CompleteInput, ClaimsComplete}
+use Rattle.fresh.proofs.Finding.{part-is-spelled}
+use Rattle.families.proofs.Alike.{family-judges}
 use Rattle.complete.proofs.Asking.{asked-names, asked-tokens, asked-bytes, asked-colons, asked-judgeable}
 
 -- the count of schemes
-counted-some : (n c : ℕ) → Schemes c ≡ counted n → (c ≡ n) × (c ≤ 4096)
-unfolding counted
+counted-some : (n c : ℕ) → Schemes c ≡ counted-schemes n → (c ≡ n) × (c ≤ 4096)
+unfolding counted-schemes
 counted-some n c e = go (leb n 4096) refl e
   where
     go : (b : Bool) → leb n 4096 ≡ b → Schemes c ≡ cond b (Schemes n) Over → (c ≡ n) × (c ≤ 4096)
     go true f e = let q : c ≡ n = cc in (q, omega (arith, leb-true n 4096 f))
     go false f e = let z : _≡_ {A = ℕ} 0 1 = cc in absurd (omega arith)
 
-counted-over : (n : ℕ) → Over ≡ counted n → 4096 < n
-unfolding counted
+counted-over : (n : ℕ) → Over ≡ counted-schemes n → 4096 < n
+unfolding counted-schemes
 counted-over n e = go (leb n 4096) refl e
   where
     go : (b : Bool) → leb n 4096 ≡ b → Over ≡ cond b (Schemes n) Over → 4096 < n
     go true f e = let z : _≡_ {A = ℕ} 0 1 = cc in absurd (omega arith)
     go false f e = omega (arith, leb-false n 4096 f)
 
-module _ {s : Text} {w : List ℕ} {free term named at : ℕ} (k : Asks s w free term named at) where
-  pub term-spelled : Spelled (tree-at s w term)
+module _ {s : Text} {w : List ℕ} {free term named at : ℕ} (k : CompleteInput s w free term named at) where
+  pub term-spelled : Readable (tree-at s w term)
   unfolding sheet-texts
   term-spelled = record {
     built = builds (k .text) (tree-at s w term) (k .parsed);
@@ -78,7 +78,7 @@ module _ {s : Text} {w : List ℕ} {free term named at : ℕ} (k : Asks s w free
   pub term-fits : size (tree-at s w term) ≤ length s
   term-fits = omega (arith, asked-bytes k)
 
-  claims : {z : List ℕ} (r : Claim) → claim r ≡ complete (tree-at s w term) (k .members) → Below w z free → ClaimsComplete s w z free term at r
+  claims : {z : List ℕ} (r : Claim) → truth r ≡ complete (tree-at s w term) (k .members) → Below w z free → ClaimsComplete s w z free term at r
   claims r e b = ((λ ms f. e ∙ ap (complete (tree-at s w term)) (Option·some-injective (k .members) ms (sym (k .later) ∙ f))), b)
 
   -- no claim: a variable has no index, there are too many schemes, or a member is unreadable
@@ -105,10 +105,10 @@ module _ {s : Text} {w : List ℕ} {free term named at : ℕ} (k : Asks s w free
     term-now : tree-at s w term ≡ tree-at s v term
     term-now = frame-tree s v (a .links) (t .below .words) term tp tb
 
-    pub over-claims : Over ≡ counted (scheme-count (tree-at s v term)) → ClaimsComplete s w v free term at Nothing
+    pub over-claims : Over ≡ counted-schemes (scheme-count (tree-at s v term)) → ClaimsComplete s w v free term at Nothing
     over-claims e = claims-over (omega (arith, counted-over (scheme-count (tree-at s v term)) e, ap scheme-count term-now)) (t .below)
 
-    pub count-now : (c : ℕ) → Schemes c ≡ counted (scheme-count (tree-at s v term)) → (c ≡ scheme-count (tree-at s w term)) × (c ≤ 4096)
+    pub count-now : (c : ℕ) → Schemes c ≡ counted-schemes (scheme-count (tree-at s v term)) → (c ≡ scheme-count (tree-at s w term)) × (c ≤ 4096)
     count-now c e = let r = counted-some (scheme-count (tree-at s v term)) c e in (r .0 ∙ sym (ap scheme-count term-now), r .1)
 
     -- the words for the fresh variables and the members
@@ -168,7 +168,7 @@ module _ {s : Text} {w : List ℕ} {free term named at : ℕ} (k : Asks s w free
         judged-complete : Arena s u end → ((ms : List Variant) → every (map read-member (k .members)) ≡ some ms → complete (tree-at s w term) (k .members) ≡ judged-from name (tree-at s w term) (variables (tree-at s w term) []) ms 0 pending)
             → {z : List ℕ} (r : Claim) → JudgesAll s x z stop top names index term r → ClaimsComplete s w z free term at r
         judged-complete b by r j =
-            let g : claim r ≡ judged-from name (tree-at s w term) (variables (tree-at s w term) []) (variants-at s x index) 0 pending = j .0 name (fresh-kept b) ∙ rw (names-are, sym term-kept) refl in
+            let g : truth r ≡ judged-from name (tree-at s w term) (variables (tree-at s w term) []) (variants-at s x index) 0 pending = j .0 name (fresh-kept b) ∙ rw (names-are, sym term-kept) refl in
             let h =
             g ∙ family-judges name (tree-at s w term) (variables (tree-at s w term) []) (asked-tokens k) (members-read .vs) (members-read .family) 0 pending
             ∙ sym (by (reverse (members-read .vs)) (members-read .read)) in

@@ -1,4 +1,4 @@
--- The schemes one after the other: what each makes of what was decided before it. Assumes nothing.
+-- The schemes one after the other: what each makes of what was decided before it.
 use Prim.Native.Nat.{ℕ, _+_, _<_, _≤_}
 use mathlib.Core.Path.{_≡_, refl, sym, ap, ap₂, subst, _∙_}
 use mathlib.Core.Bool.{Bool, false}
@@ -23,20 +23,20 @@ use Rattle.tree.proofs.Areas.{below-same, below-then}
 use Rattle.unifier.proofs.Tops.{pairs-are}
 use Rattle.schemes.specs.Building.{Fresh, Systems}
 use Rattle.schemes.specs.declared.systems.System.{System}
-use Rattle.variants.specs.Soundness.{claim}
-use Rattle.variants.specs.declared.soundness.Claim.{Claim}
-use Rattle.variants.specs.declared.soundness.Claim.the-variants.{Yes, No, Nothing}
-use Rattle.cover.specs.Generals.{names-at, OfVariables}
-use Rattle.complete.specs.Generalizing.{variants-at}
+use Rattle.sheet.specs.Claims.{truth}
+use Rattle.sheet.specs.declared.claims.Claim.{Claim}
+use Rattle.sheet.specs.declared.claims.Claim.the-variants.{Yes, No, Nothing}
+use Rattle.variables.specs.Pairing.{names-at, OfVariables}
+use Rattle.families.specs.Generalizing.{variants-at}
 use Rattle.complete.specs.Judging.{judgement, system-of, Judgeable, CanJudge, CanJudgeAll, Decides, Judges, Ends, JudgesAll}
 use Rattle.complete.specs.declared.judging.Judged.{Judged}
 use Rattle.complete.specs.declared.judging.Judged.the-variants.{Pending, Missing, Over, Unsupported}
 use Rattle.complete.proofs.judging.Judged.{the-type}
-use Rattle.complete.proofs.Generals.{all-matched-same}
+use Rattle.families.proofs.Generals.{all-matched-same}
 
 -- ---- the answer
 
-ends-at : (state : Judged) (r : Claim) (k : Judgement) → judgement state ≡ some k → claim r ≡ answered k → Ends state r
+ends-at : (state : Judged) (r : Claim) (k : Judgement) → judgement state ≡ some k → truth r ≡ answered k → Ends state r
 ends-at state r k e f j g = f ∙ ap answered (Option·some-injective k j (sym e ∙ g))
 
 pub ends-pending : Ends Pending Yes

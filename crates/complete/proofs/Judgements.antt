@@ -1,4 +1,4 @@
--- What one scheme decides: its instance once it is solved, and its run in a part of the work area. Assumes nothing.
+-- What one scheme decides: its instance once it is solved, and its run in a part of the work area.
 use Prim.Native.Nat.{ℕ, _+_, _*_, _<_, _≤_, _^_}
 use mathlib.Core.Path.{_≡_, refl, sym, ap, ap₂, subst, _∙_}
 use mathlib.Core.Bool.{Bool, true, false, cond}
@@ -23,6 +23,7 @@ use Rattle.laws.proofs.Solving.Weights.{weight-size}
 use Rattle.laws.proofs.Solving.Budget.{flatten-size}
 use Rattle.laws.proofs.Solving.UnifyFuel.{unify-enough}
 use Rattle.laws.proofs.Sheets.BuiltRun.{BuiltPairs}
+use Rattle.text.specs.Frames.{Outside}
 use Rattle.tree.specs.Cells.{tree-at, trees-at}
 use Rattle.tree.specs.Arena.{Arena, Below}
 use Rattle.tree.proofs.Decoding.{frame-tree, frame-trees}
@@ -30,7 +31,6 @@ use Rattle.tree.proofs.Areas.{below-then, below-grown, arena-below}
 use Rattle.equivalence.proofs.Scratch.{below-kept}
 use Rattle.substitution.specs.Bindings.{bindings-of, bindings-at}
 use Rattle.substitution.specs.Building.{Placed, instance-at}
-use Rattle.certificate.specs.Writer as writer
 use Rattle.reduction.specs.Building.{NewTree}
 use Rattle.reduction.proofs.NormalForms.{normalize-size}
 use Rattle.schemes.specs.Building.{Systems}
@@ -39,13 +39,13 @@ use Rattle.steps.specs.Stack.{pairs-at, Whole, FitPairs}
 use Rattle.unifier.specs.Running.{Roomy, Answers}
 use Rattle.unifier.specs.declared.unifying.Outcome.the-variants as outcome
 use Rattle.unifier.proofs.Tops.{pairs-are, whole-are}
-use Rattle.cover.specs.Listing.{backwards}
-use Rattle.cover.specs.Generals.{names-of, names-at, OfVariables}
-use Rattle.cover.proofs.CoveredLaws.{names-count}
-use Rattle.cover.proofs.Parts.{part-agrees, part-arena, back-agrees, back-arena, back-below}
-use Rattle.complete.specs.Generalizing.{variants-of, variants-at, AllMatched}
+use Rattle.variables.specs.Listing.{backwards}
+use Rattle.variables.specs.Pairing.{names-of, names-at, OfVariables}
+use Rattle.variables.proofs.Listed.{names-count}
+use Rattle.unifier.proofs.Parts.{part-agrees, part-arena, back-agrees, back-arena, back-below}
+use Rattle.families.specs.Generalizing.{variants-of, variants-at, AllMatched}
 use Rattle.complete.specs.Judging.{fuel-for, system-of, solved-end, Judgeable}
-use Rattle.complete.proofs.Generals.{all-matched-same}
+use Rattle.families.proofs.Generals.{all-matched-same}
 use Rattle.complete.proofs.Rooms.{fuel-few}
 
 -- ---- the instance of a solved scheme
@@ -89,7 +89,7 @@ module _ {s : Text} {w v u : List ℕ} {n index end left i stop : ℕ} (value bi
   normal-is : (r : Bool) → r ≡ equivalent (tree-at s u index) (tree-at s u i) → equivalent made-tree (normalize made-tree) ≡ r
   normal-is r e = sym (e ∙ ap₂ equivalent made-now normal-now)
 
-  module _ {x : List ℕ} {lim : ℕ} (k : writer.Kept u x (4 * stop) lim) where
+  module _ {x : List ℕ} {lim : ℕ} (k : Outside u x (4 * stop) lim) where
     below-end : Below v x end
     below-end = below-then (two .kept) (below-kept {n = stop} k (omega arith)) (two .grew)
 

@@ -1,13 +1,5 @@
-pub mod Indexing
-pub mod Finding
-pub mod FreshCells
-pub mod Gathering
-pub mod AnyOrder
-pub mod Generals
-pub mod Alike
 pub mod Rooms
 pub mod Judgements
 pub mod Deciding
 pub mod Asking
-pub mod TermNaming
 pub mod Completeness

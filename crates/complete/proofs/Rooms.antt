@@ -1,5 +1,4 @@
 -- The words that a sheet of kind `complete` needs are enough for the run of each scheme, and after it for the match of each member.
--- Assumes nothing.
 use Prim.Native.Nat.{ℕ, _+_, _*_, _<_, _≤_, _^_}
 use mathlib.Core.Path.{_≡_, refl, sym, ap}
 use mathlib.Core.Bool.{Bool, true, false, cond}

@@ -12,12 +12,12 @@ use Rattle.rules.specs.Variants.{complete}
 use Rattle.tree.specs.Cells.{tree-at}
 use Rattle.tree.specs.Arena.{Below}
 use Rattle.sheet.specs.Members.{members-at}
-use Rattle.variants.specs.Soundness.{claim}
-use Rattle.variants.specs.declared.soundness.Claim.{Claim}
+use Rattle.sheet.specs.Claims.{truth}
+use Rattle.sheet.specs.declared.claims.Claim.{Claim}
 
 -- the sheet is one of kind `complete`: its term is that of cell term, read before `at`; its members stand from `at` on. At most `named`
 -- names are in a scheme.
-pub record Asks (s : Text) (w : List ℕ) (free term named at : ℕ) : Type 0 where
+pub record CompleteInput (s : Text) (w : List ℕ) (free term named at : ℕ) : Type 0 where
   pub text : Text
   pub members : List Member
   pub reads : read-sheet s ≡ some (asks-complete text members)
@@ -31,4 +31,4 @@ pub record Asks (s : Text) (w : List ℕ) (free term named at : ℕ) : Type 0 wh
 
 -- whether the members from `at` on are complete for the term
 abbrev pub ClaimsComplete : Text → List ℕ → List ℕ → ℕ → ℕ → ℕ → Claim → Type 0
-ClaimsComplete s w v n term at r = ((ms : List Member) → members-at s at ≡ some ms → claim r ≡ complete (tree-at s w term) ms) × Below w v n
+ClaimsComplete s w v n term at r = ((ms : List Member) → members-at s at ≡ some ms → truth r ≡ complete (tree-at s w term) ms) × Below w v n

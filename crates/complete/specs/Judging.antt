@@ -17,11 +17,11 @@ use Rattle.tree.specs.Cells.{tree-at, trees-at}
 use Rattle.tree.specs.Arena.{Below}
 use Rattle.steps.specs.Stack.{FitPairs}
 use Rattle.steps.specs.Area.{Room}
-use Rattle.variants.specs.Soundness.{claim}
-use Rattle.variants.specs.declared.soundness.Claim.{Claim}
+use Rattle.sheet.specs.Claims.{truth}
+use Rattle.sheet.specs.declared.claims.Claim.{Claim}
 use Rattle.schemes.specs.Building.{Fresh}
-use Rattle.cover.specs.Generals.{names-at}
-use Rattle.complete.specs.Generalizing.{variants-at, AllMatched}
+use Rattle.variables.specs.Pairing.{names-at}
+use Rattle.families.specs.Generalizing.{variants-at, AllMatched}
 use Rattle.complete.specs.declared.judging.Judged.{Judged}
 use Rattle.complete.specs.declared.judging.Judged.the-variants.{Pending, Missing, Over, Unsupported}
 
@@ -84,9 +84,9 @@ Judges s w v n fresh names members term i before r =
 
 -- the answer after the last scheme
 abbrev pub Ends : Judged → Claim → Type 0
-Ends state r = (j : Judgement) → judgement state ≡ some j → claim r ≡ answered j
+Ends state r = (j : Judgement) → judgement state ≡ some j → truth r ≡ answered j
 
 -- the answer of all schemes, by any such names
 abbrev pub JudgesAll : Text → List ℕ → List ℕ → ℕ → ℕ → ℕ → ℕ → ℕ → Claim → Type 0
 JudgesAll s w v n fresh names members term r =
-    ((name : ℕ → Text) → Fresh s w n fresh name → claim r ≡ judged-from name (tree-at s w term) (names-at s w names) (variants-at s w members) 0 pending) × Below w v n
+    ((name : ℕ → Text) → Fresh s w n fresh name → truth r ≡ judged-from name (tree-at s w term) (names-at s w names) (variants-at s w members) 0 pending) × Below w v n

@@ -1,14 +1,16 @@
 // What the schemes decide: the system of each is unified, and a member is looked for that generalizes its solution and value.
-use crate::generalizing::generalized;
-use cover::covered::nodes_in;
 use equivalence::equivalent;
+use families::generalizing::generalized;
+use reduction::building::nodes_in;
 use reduction::normalizing::normalize;
 use schemes::systems::system_at;
+use sheet::claims::Claim;
 use substitution::instances::Built;
 use substitution::instances::substitute;
+use unifier::room::NAME_CELLS;
+use unifier::room::STEP_WORDS;
 use unifier::unifying::Outcome;
 use unifier::unifying::unify;
-use variants::soundness::Claim;
 ghost use mathlib.Core.Path.{_≡_};
 ghost use mathlib.Core.Option.{some};
 ghost use Prim.Native.Nat.{_+_, _*_, _<_, _≤_};
@@ -20,14 +22,13 @@ ghost use Rattle.laws.specs.Schemes.{pending, judge};
 ghost use Rattle.tree.specs.Cells.{tree-at, trees-at};
 ghost use Rattle.tree.specs.Arena.{Arena, Below};
 ghost use Rattle.substitution.specs.Bindings.{bindings-at};
-ghost use Rattle.variants.specs.Soundness.{claim};
-ghost use Rattle.cover.specs.Generals.{OfVariables, names-at};
-ghost use Rattle.complete.specs.Generalizing.{variants-at, AllMatched};
+ghost use Rattle.variables.specs.Pairing.{OfVariables, names-at};
+ghost use Rattle.families.specs.Generalizing.{variants-at, AllMatched};
 ghost use Rattle.complete.specs.Judging.{judgement, fuel-for, CanJudge, CanJudgeAll, Judges, Ends, JudgesAll};
 
 // What the schemes so far decide: nothing yet, that one has no member, that the instance of one is over 4,096 nodes, or that one is not
 // supported, which ends the judging.
-pub enum Judged {
+pub(crate) enum Judged {
     Pending,
     Missing,
     Over,
@@ -109,7 +110,7 @@ fn judge_scheme(
     let end = system.free;
     let nodes = nodes_in(sheet, work, end, stack);
     let fuel = enough(nodes, named);
-    let limit = 4 * (end + nodes + 2 * fuel + 12293 * named) + 204802;
+    let limit = 4 * (end + nodes + 2 * fuel + NAME_CELLS * named) + STEP_WORDS;
     let outcome = unify(sheet, &mut work[..limit], end, stack, fuel);
     match outcome {
         Outcome::Unsupported { spent: _ } => Judged::Unsupported,
@@ -138,7 +139,7 @@ fn claim_of(state: Judged) -> Claim
 }
 
 // All schemes of the tree of cell term, the first to the last; their fresh variables are the cells from `fresh` on.
-pub fn judge(
+pub(crate) fn judge(
     sheet: &[u8],
     work: &mut [u32],
     free: usize,

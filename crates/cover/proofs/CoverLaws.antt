@@ -1,4 +1,4 @@
--- Whether a member covers, from the trees that its entries give the variables. Assumes nothing.
+-- Whether a member covers, from the trees that its entries give the variables.
 use mathlib.Core.Path.{_≡_, refl, sym, ap, _∙_}
 use mathlib.Core.Bool.{Bool, true, false, _||_, true≢false}
 use mathlib.Core.List.{List, [], _∷_, map}
@@ -12,20 +12,9 @@ use Rattle.rules.specs.Substitution.{Binding, Pair, lookup}
 use Rattle.rules.specs.Sheet.{Entry}
 use Rattle.rules.specs.Cover.{general, covering, pair-at, covers}
 use Rattle.laws.proofs.Basics.Tests.{or-left, or-right, or-cases, same-eq, same-self}
-use Rattle.substitution.specs.Bindings.{key-of}
-use Rattle.cover.specs.Listing.{variable-list, backwards}
-use Rattle.cover.specs.Generals.{names-of, OfVariables, paired}
+use Rattle.variables.specs.Listing.{backwards}
+use Rattle.variables.specs.Pairing.{paired}
 use Rattle.cover.specs.Values.{value-in}
-
--- ---- the list of variables
-
-pub names-list : (xs : List Text) → names-of (variable-list xs) ≡ xs
-unfolding names-of variable-list key-of
-names-list [] = refl
-names-list (x ∷ xs) = ap (λ (l : List Text). x ∷ l) (names-list xs)
-
-pub variables-list : (xs : List Text) → OfVariables (variable-list xs)
-variables-list xs = ap variable-list (names-list xs)
 
 -- the order of a list does not matter to what is one of it
 either : (a b c : Bool) → ((a || b) || c) ≡ (b || (a || c))

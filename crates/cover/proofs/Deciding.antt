@@ -1,4 +1,4 @@
--- Whether a member covers, from the match of its pairs; and the loop over all members. Assumes nothing.
+-- Whether a member covers, from the match of its pairs; and the loop over all members.
 use Prim.Native.Nat.{ℕ, _+_, _*_, _-_, _<_, _≤_}
 use mathlib.Core.Path.{_≡_, refl, sym, ap, subst, _∙_}
 use mathlib.Core.Bool.{Bool, true, false, not}
@@ -36,10 +36,11 @@ use Rattle.unifier.specs.declared.unifying.Outcome.{Outcome}
 use Rattle.unifier.specs.declared.unifying.Outcome.the-variants as outcome
 use Rattle.unifier.proofs.unifying.Outcome.{the-type}
 use Rattle.unifier.proofs.Tops.{pairs-are}
-use Rattle.cover.specs.Generals.{names-at}
+use Rattle.variables.specs.Pairing.{names-at}
 use Rattle.cover.specs.Values.{EntriesFrom}
 use Rattle.cover.specs.Members.{MemberPairs, PairsMember}
-use Rattle.cover.specs.Covering.{Matched, PairsOf, Matchable, CoversMember}
+use Rattle.unifier.specs.Matched.{Matched}
+use Rattle.cover.specs.Covering.{PairsOf, Matchable, CoversMember}
 use Rattle.cover.specs.declared.members.Sides.the-variants as sides
 use Rattle.cover.specs.declared.covering.Covering.the-variants as it
 use Rattle.cover.proofs.CoverLaws.{covers-read, covers-unread}

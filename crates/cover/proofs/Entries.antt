@@ -1,4 +1,4 @@
--- The walk over a member's entries: the values up to a position stand in bindings. Assumes nothing.
+-- The walk over a member's entries: the values up to a position stand in bindings.
 use Prim.Native.Nat.{ℕ, _+_, _*_, _-_, _<_, _≤_}
 use mathlib.Core.Path.{_≡_, refl, sym, ap, subst, _∙_}
 use mathlib.Core.Bool.{Bool, true, false}
@@ -17,7 +17,7 @@ use Rattle.tree.specs.Cells.{trees-at}
 use Rattle.tree.specs.Arena.{Arena, Below}
 use Rattle.tree.proofs.Decoding.{frame-trees}
 use Rattle.tree.proofs.Areas.{below-then}
-use Rattle.sheet.specs.Pairs.{pair-at}
+use Rattle.sheet.specs.Pairs.{two-lines-at}
 use Rattle.sheet.specs.Form.{Inside}
 use Rattle.sheet.specs.declared.Cursor.{Cursor}
 use Rattle.sheet.specs.declared.Place.{Place}
@@ -27,7 +27,7 @@ use Rattle.sheet.proofs.WalkLaws.{two-there, two-end}
 use Rattle.reading.specs.Parsing.{stack-end}
 use Rattle.substitution.specs.Bindings.{bindings-at}
 use Rattle.substitution.proofs.Keys.{bindings-none}
-use Rattle.cover.specs.Generals.{names-of, OfVariables}
+use Rattle.variables.specs.Pairing.{names-of, OfVariables}
 use Rattle.cover.specs.Values.{value-in, resumed, entry-of, Valued, Unread, EntriesThen, ValuesRead, OneUnread}
 
 -- what is found, or else the variable itself, is what is looked up
@@ -76,7 +76,7 @@ pub record Placed (s : Text) (c : ℕ) (l r : Place) (n : Cursor) : Type 0 where
   pub next : c + 12 + (l .to - l .from) + (r .to - r .from) ≡ n .at
   pub within : n .at ≤ length s
 
-pub placed : (s : Text) (c : ℕ) (l r : Place) (n : Cursor) → Sides l r n ≡ pair-at (bytes "key=") (bytes "value=") s c → Placed s c l r n
+pub placed : (s : Text) (c : ℕ) (l r : Place) (n : Cursor) → Sides l r n ≡ two-lines-at (bytes "key=") (bytes "value=") s c → Placed s c l r n
 placed s c l r n e =
     let h = paired (bytes "key=") (bytes "value=") s c l r n e in
     let a : length (bytes "key=") ≡ 4 = refl in
@@ -95,7 +95,7 @@ module _ {s : Text} {w v : List ℕ} {n names at c list end : ℕ} (a : Arena s 
   pub names-there : OfVariables (trees-at s w names) → OfVariables (trees-at s v names)
   names-there o = subst OfVariables names-kept o
 
-  pub walking-ends : End ≡ pair-at (bytes "key=") (bytes "value=") s c → ValuesRead s w v n (names-of (trees-at s w names)) at list end c
+  pub walking-ends : End ≡ two-lines-at (bytes "key=") (bytes "value=") s c → ValuesRead s w v n (names-of (trees-at s w names)) at list end c
   unfolding value-in entry-at
   walking-ends e = record {
     low = h .low;
@@ -113,7 +113,7 @@ module _ {s : Text} {w v : List ℕ} {n names at c list end : ℕ} (a : Arena s 
         );
   }
 
-  module _ (l r : Place) (nx : Cursor) (e : Sides l r nx ≡ pair-at (bytes "key=") (bytes "value=") s c) where
+  module _ (l r : Place) (nx : Cursor) (e : Sides l r nx ≡ two-lines-at (bytes "key=") (bytes "value=") s c) where
     pub walking-room : (stack-end end (r .from) (r .to) + 8 + 4 * at ≤ 4 * n + 11 * length s + 4 * at + 9) × (end + 2 * (r .to - r .from) + 2 ≤ n + 2 * length s)
     walking-room = let x = placed s c l r nx e in let u = h .used in let y = h .low in let z = x .next in let t = x .within in (omega arith, omega arith)
 

@@ -1,14 +1,8 @@
-pub mod Ordering
-pub mod Naming
-pub mod Dropping
-pub mod Listings
-pub mod Pairings
 pub mod Valuing
 pub mod Entries
 pub mod CoverLaws
 pub mod MemberLaws
 pub mod Deciding
 pub mod CoveredLaws
-pub mod Parts
 pub mod Rooms
 pub mod Solutions

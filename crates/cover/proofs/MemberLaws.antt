@@ -1,4 +1,4 @@
--- The pairs of one member, from its values and the variables. Assumes nothing.
+-- The pairs of one member, from its values and the variables.
 use Prim.Native.Nat.{ℕ, _<_}
 use mathlib.Core.Path.{_≡_, refl, sym, ap, _∙_}
 use mathlib.Core.List.{List}
@@ -10,11 +10,11 @@ use Rattle.tree.specs.Cells.{trees-at}
 use Rattle.tree.specs.Arena.{Arena, Below}
 use Rattle.tree.proofs.Decoding.{frame-trees, trees-none}
 use Rattle.substitution.specs.Bindings.{bindings-of, bindings-at}
-use Rattle.cover.specs.Generals.{names-of, names-at, paired, flatten-before, PairsUp}
+use Rattle.variables.specs.Pairing.{names-of, names-at, paired, flatten-before, PairsUp}
 use Rattle.cover.specs.Values.{ValuesRead, OneUnread}
 use Rattle.cover.specs.Members.{MemberPairs, PairsMember}
 use Rattle.cover.specs.declared.members.Sides.the-variants.{Unreadable}
-use Rattle.cover.proofs.Pairings.{before-none}
+use Rattle.variables.proofs.Pairings.{before-none}
 use Rattle.cover.proofs.CoverLaws.{one-listed, pairs-every, pairs-none}
 
 pub member-unread : (s : Text) (w v : List ℕ) (n names bindings at : ℕ) → OneUnread s (names-of (trees-at s w names)) at × Below w v n → PairsMember s w v n names bindings at Unreadable

@@ -1,5 +1,5 @@
 -- The words that a sheet of kind `cover` needs are enough for the variables of its pairs, for the run over them, and after it for the
--- match of each member. Assumes nothing.
+-- match of each member.
 use Prim.Native.Nat.{ℕ, suc, _+_, _*_, _-_, _<_, _≤_, _^_}
 use mathlib.Core.Path.{_≡_, refl, sym, ap, subst, _∙_}
 use mathlib.Core.List.{List, [], _∷_, _++_, map, List·Memᴰ, List·Memᴰ·not-nil, List·Memᴰ·append-cases}
@@ -11,8 +11,7 @@ use native.Mathlib.Decide.{decLt}
 use Rattle.rules.specs.Bytes.{Text}
 use Rattle.rules.specs.Text.{count-of}
 use Rattle.rules.specs.Maybe.{every}
-use Rattle.rules.specs.Tree.{Tree, sizes, variable-names, variable-names-in}
-use Rattle.rules.specs.Reading.{parse}
+use Rattle.rules.specs.Tree.{sizes, variable-names, variable-names-in}
 use Rattle.rules.specs.Tidy.{Builts, nil, both}
 use Rattle.rules.specs.Substitution.{Binding, Pair, size-pairs, flatten}
 use Rattle.rules.specs.Solving.{solved, unify}
@@ -24,7 +23,6 @@ use Rattle.rules.specs.Families.{Against, nil as no-more, next}
 use Rattle.laws.specs.Parts.{PartOf}
 use Rattle.laws.proofs.Reading.Measures.{total}
 use Rattle.laws.proofs.Reading.Colons.{parse-size}
-use Rattle.laws.proofs.Reading.Spelled.{part-length, names-listed, part-spelled}
 use Rattle.laws.proofs.Solving.Keeping.{Sides}
 use Rattle.laws.proofs.Solving.Weights.{load-size, Upto}
 use Rattle.laws.proofs.Solving.Budget.{flatten-size}
@@ -33,17 +31,19 @@ use Rattle.laws.proofs.Sheets.Calls.{pairs-read}
 use Rattle.laws.proofs.Sheets.SheetTexts.{total-append}
 use Rattle.laws.proofs.Sheets.SheetParts.{sheet-parts}
 use Rattle.laws.proofs.Renaming.Completing.{all-left}
-use Rattle.laws.proofs.Variants.Targets.{All, all-at}
+use Rattle.laws.proofs.Variants.Targets.{All}
 use Rattle.laws.proofs.Sheets.NamesRead.{sheet-bytes, pairs-read-by, pairs-colons, pairs-sizes, pairs-over, sides-held, sheet-names}
 use Rattle.laws.proofs.Variants.Covered.{paired}
 use Rattle.laws.proofs.Variants.VariableNames.{variables-of-length}
 use Rattle.laws.proofs.Variants.CoverRoom.{texts-within, cover-room}
 use Rattle.tree.specs.Cells.{trees-at}
 use Rattle.sheet.proofs.WordLaws.{count-bound}
-use Rattle.steps.specs.Stack.{FitPairs, pairs-at}
-use Rattle.cover.specs.Variables.{Short, SpelledAll}
-use Rattle.cover.specs.Covering.{Matched}
-use Rattle.cover.specs.Covered.{Asks}
+use Rattle.steps.specs.Stack.{pairs-at}
+use Rattle.unifier.proofs.Fitting.{fit-sides}
+use Rattle.variables.proofs.Shortness.{short-read}
+use Rattle.variables.specs.Variables.{Short, ReadableAll}
+use Rattle.unifier.specs.Matched.{Matched}
+use Rattle.cover.specs.Covered.{CoverInput}
 
 -- ---- pairs
 
@@ -51,10 +51,6 @@ flatten-built : (ps : List Pair) → BuiltPairs ps → Builts (flatten ps)
 unfolding flatten
 flatten-built [] h = nil
 flatten-built (p ∷ ps) h = both (h .0) (both (h .1) (flatten-built ps (h .2)))
-
--- no name of a tree that is read of a part of a sheet is longer than the sheet
-pub short-read : (s x : Text) (t : Tree) → length s ≤ 65536 → PartOf s x → parse x ≡ some t → Short (variable-names t)
-short-read s x t l p e y m = omega (arith, part-length s y (all-at (PartOf s) (variable-names t) y m (names-listed (PartOf s) (PartOf s) t (part-spelled s x t p e))))
 
 short-append : (xs ys : List Text) → Short xs → Short ys → Short (xs ++ ys)
 short-append xs ys p q x m = elim (List·Memᴰ·append-cases xs m) [ inl a ↦ p x a | inr b ↦ q x b ]
@@ -64,10 +60,6 @@ unfolding flatten variable-names side-texts
 flatten-short s l = pairs-read-by (λ es ps. All (PartOf s) (side-texts es) → Short (variable-names-in (flatten ps))) (λ h x m. absurd (List·Memᴰ·not-nil m))
     (λ e es p ps f g ih h. short-append (variable-names (p .0)) (variable-names (p .1) ++ variable-names-in (flatten ps)) (short-read s (e .0) (p .0) l (h .0) f)
     (short-append (variable-names (p .1)) (variable-names-in (flatten ps)) (short-read s (e .1) (p .1) l (h .1 .0) g) (ih (h .1 .1))))
-
-pub fit-sides : (qs : List Pair) → BuiltPairs qs → Sides (Upto 4096) (Upto 4096) qs → FitPairs qs
-fit-sides [] b h = tt
-fit-sides (q ∷ qs) b h = (record { built = b .0; small = h .0 }, record { built = b .1; small = h .1 }, fit-sides qs (b .2) (h .2))
 
 -- a pair weighs less than its pattern has nodes and its subject may have
 weight-sides : (qs : List Pair) → Sides (Upto 4096) (Upto 4096) qs → weight qs ≤ pattern-nodes qs + 4094 * length qs
@@ -106,7 +98,7 @@ module _ (x t k n c b at top weigh : ℕ) (colons : x + k ≤ c) (texts : n + t 
 
 -- ---- a sheet of kind `cover`
 
-module _ {s : Text} {w : List ℕ} {free stack at : ℕ} (k : Asks s w free stack at) where
+module _ {s : Text} {w : List ℕ} {free stack at : ℕ} (k : CoverInput s w free stack at) where
   abbrev ps : List Pair
   ps = pairs-at s w stack
 
@@ -116,9 +108,9 @@ module _ {s : Text} {w : List ℕ} {free stack at : ℕ} (k : Asks s w free stac
   pub asked-nodes : sizes (trees-at s w stack) ≡ size-pairs ps
   asked-nodes = ap sizes (sym (k .whole)) ∙ flatten-size ps
 
-  pub asked-spelled : SpelledAll (trees-at s w stack)
+  pub asked-spelled : ReadableAll (trees-at s w stack)
   unfolding sheet-texts
-  asked-spelled = subst SpelledAll (k .whole) record {
+  asked-spelled = subst ReadableAll (k .whole) record {
     built = flatten-built ps (pairs-read (k .entries) ps (k .pairs) .0);
     short = flatten-short s (k .short) (k .entries) ps (k .pairs) (all-left (PartOf s) (side-texts (k .entries)) (member-texts (k .members)) (sheet-parts s sheet (k .reads)));
   }

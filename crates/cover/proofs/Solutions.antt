@@ -1,4 +1,4 @@
--- The pairs of a sheet unified in a part of the work area, and the members matched in all of it. Assumes nothing.
+-- The pairs of a sheet unified in a part of the work area, and the members matched in all of it.
 use Prim.Native.Nat.{ℕ, _+_, _*_, _-_, _<_, _≤_, _^_}
 use mathlib.Core.Path.{_≡_, sym, ap, subst, _∙_}
 use mathlib.Core.Bool.{Bool}
@@ -31,12 +31,12 @@ use Rattle.unifier.specs.declared.unifying.Outcome.{Outcome}
 use Rattle.unifier.specs.declared.unifying.Outcome.the-variants as outcome
 use Rattle.unifier.proofs.unifying.Outcome.{the-type}
 use Rattle.unifier.proofs.Fitting.{pairs-fit}
-use Rattle.cover.specs.Listing.{backwards}
-use Rattle.cover.specs.Generals.{names-of, names-at, OfVariables}
+use Rattle.variables.specs.Listing.{backwards}
+use Rattle.variables.specs.Pairing.{names-of, names-at, OfVariables}
 use Rattle.cover.specs.Covering.{AllMatchable, CoversAny}
-use Rattle.cover.specs.Covered.{Names, Asks}
-use Rattle.cover.proofs.CoveredLaws.{names-count}
-use Rattle.cover.proofs.Parts.{part-agrees, part-arena, back-agrees, back-arena, back-below}
+use Rattle.cover.specs.Covered.{Names, CoverInput}
+use Rattle.variables.proofs.Listed.{names-count}
+use Rattle.unifier.proofs.Parts.{part-agrees, part-arena, back-agrees, back-arena, back-below}
 use Rattle.cover.proofs.Rooms.{run-end, asked-nodes, asked-few, asked-names, asked-colons, asked-over, asked-matched}
 
 -- what is covered, by the verdict over the pairs
@@ -50,7 +50,7 @@ covered-by ps ms e =
 abbrev pub run-words : ℕ → ℕ → ℕ → ℕ
 run-words end n c = 4 * (end + n + 131072 + 12293 * c) + 204802
 
-module _ {s : Text} {w v : List ℕ} {free stack at names end : ℕ} (a : Arena s w free) (p : stack < free) (k : Asks s w free stack at) (h : Names s w v free stack names end) where
+module _ {s : Text} {w v : List ℕ} {free stack at names end : ℕ} (a : Arena s w free) (p : stack < free) (k : CoverInput s w free stack at) (h : Names s w v free stack names end) where
   abbrev ps : List Pair
   ps = pairs-at s w stack
 

@@ -1,4 +1,4 @@
--- A variable found by its name, and the value of an entry read or passed over. Assumes nothing.
+-- A variable found by its name, and the value of an entry read or passed over.
 use Prim.Native.Nat.{ℕ, _+_, _<_}
 use mathlib.Core.Path.{_≡_, refl, sym, ap, ap₂, subst, _∙_}
 use mathlib.Core.Bool.{Bool, true, false, _||_, true≢false}
@@ -25,9 +25,9 @@ use Rattle.substitution.proofs.Chains.{bindings-pair}
 use Rattle.reading.specs.Parsing.{Read}
 use Rattle.sheet.specs.Form.{text-of}
 use Rattle.sheet.specs.declared.Place.{Place}
-use Rattle.cover.specs.Generals.{names-of, OfVariables}
-use Rattle.cover.specs.Values.{Finds, value-in, resumed, entry-of, Valued, Unread}
-use Rattle.cover.proofs.Pairings.{first-variable}
+use Rattle.variables.specs.Pairing.{names-of, OfVariables}
+use Rattle.cover.specs.Values.{FindsVariable, value-in, resumed, entry-of, Valued, Unread}
+use Rattle.variables.proofs.Pairings.{first-variable}
 
 -- ---- the loop over the variables
 
@@ -38,7 +38,7 @@ pub record Finding (s : Text) (w : List ℕ) (n names : ℕ) (x : Text) (k : ℕ
   pub are : is-one-of (names-of (trees-at s w names)) x ≡ is-one-of (names-of (trees-at s w k)) x
 
 module _ (s : Text) (w : List ℕ) (n names : ℕ) (x : Text) (a : Arena s w n) {k : ℕ} (h : Finding s w n names x k) where
-  pub finding-ends : k ≡ 0 → Finds s w n (names-of (trees-at s w names)) x 0
+  pub finding-ends : k ≡ 0 → FindsVariable s w n (names-of (trees-at s w names)) x 0
   unfolding names-of is-one-of
   finding-ends e = record {
     absent = λ z. h .are ∙ ap (λ (ts : Trees). is-one-of (names-of ts) x) (trees-none s w k e);
@@ -55,7 +55,7 @@ module _ (s : Text) (w : List ℕ) (n names : ℕ) (x : Text) (a : Arena s w n) 
     unfolding names-of is-one-of
     by-first = ap (λ (ts : Trees). is-one-of (names-of ts) x) parts ∙ ap (λ (y : Text). same x y || is-one-of (names-of (trees-at s w (next-of w k))) x) (key-name s w k (kind (kind-of w k)))
 
-    pub finding-found : same (name-at s w k) x ≡ true → Finds s w n (names-of (trees-at s w names)) x k
+    pub finding-found : same (name-at s w k) x ≡ true → FindsVariable s w n (names-of (trees-at s w names)) x k
     finding-found e = record {
       absent = λ z. absurd (omega arith);
       inside = h .left;
@@ -146,15 +146,15 @@ module _ (s : Text) (w : List ℕ) (n : ℕ) (ns : List Text) (key value : Place
         → Made s w₁ v end m b (more (tree-at s w₁ x) (more (tree-at s w₁ index) (trees-at s w₁ list))) → m ≡ end + 2 → Valued s w v n ns key value list b m
     value-read {w₁} {v} {x} {index} {end} {b} {m} a p q f r d z =
         let t = tree-at s w₁ index in
-        let name : name-at s w₁ x ≡ text-of s key = sym (same-name w w₁ (r .outside .below) x q s) ∙ f in
-        let rest : bindings-at s w₁ list ≡ bindings-at s w list = ap bindings-of (sym (frame-trees s w₁ (a .links) (r .outside .below) list p)) in
+        let name : name-at s w₁ x ≡ text-of s key = sym (same-name w w₁ (λ p q. sym (r .outside .below p q)) x q s) ∙ f in
+        let rest : bindings-at s w₁ list ≡ bindings-at s w list = ap bindings-of (sym (frame-trees s w₁ (a .links) (λ p q. sym (r .outside .below p q)) list p)) in
         let all : bindings-at s v b ≡ (text-of s key, t) ∷ bindings-at s w list = bindings-pair x index list d ∙ ap₂ (λ (y : Text) (bs : List Binding). (y, t) ∷ bs) name rest in
         let g = r .grew in
         let u = r .room in
         record {
           arena = d .arena;
           len = d .grown .len ∙ r .outside .len;
-          below = λ i l. r .outside .below i l ∙ d .grown .below i (omega arith);
+          below = λ i l. sym (r .outside .below i l) ∙ d .grown .below i (omega arith);
           grew = omega arith;
           inside = d .inside;
           used = omega arith;

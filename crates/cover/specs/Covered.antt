@@ -14,9 +14,9 @@ use Rattle.tree.specs.Cells.{trees-at}
 use Rattle.tree.specs.Arena.{Arena, Below}
 use Rattle.sheet.specs.Members.{members-at}
 use Rattle.steps.specs.Stack.{Whole, pairs-at}
-use Rattle.variants.specs.Soundness.{claim}
-use Rattle.variants.specs.declared.soundness.Claim.{Claim}
-use Rattle.cover.specs.Generals.{names-at, OfVariables}
+use Rattle.sheet.specs.Claims.{truth}
+use Rattle.sheet.specs.declared.claims.Claim.{Claim}
+use Rattle.variables.specs.Pairing.{names-at, OfVariables}
 
 -- from w, with the free end n, to v, with the free end m: the list from cell i on is that of the variables of the pairs, the last first
 pub record Names (s : Text) (w v : List ℕ) (n stack i m : ℕ) : Type 0 where
@@ -28,7 +28,7 @@ pub record Names (s : Text) (w v : List ℕ) (n stack i m : ℕ) : Type 0 where
   pub used : m ≡ n + count (trees-at s v i)
 
 -- the sheet is one of kind `cover`: its pairs are those from cell stack on, read from the lines before `at`; its members stand from `at` on
-pub record Asks (s : Text) (w : List ℕ) (free stack at : ℕ) : Type 0 where
+pub record CoverInput (s : Text) (w : List ℕ) (free stack at : ℕ) : Type 0 where
   pub entries : List Entry
   pub members : List Member
   pub reads : read-sheet s ≡ some (asks-cover entries members)
@@ -42,4 +42,4 @@ pub record Asks (s : Text) (w : List ℕ) (free stack at : ℕ) : Type 0 where
 
 -- whether one of the members from `at` on covers the solution of the pairs
 abbrev pub ClaimsCovered : Text → List ℕ → List ℕ → ℕ → ℕ → ℕ → Claim → Type 0
-ClaimsCovered s w v n stack at r = ((ms : List Member) → members-at s at ≡ some ms → claim r ≡ covered (pairs-at s w stack) ms) × Below w v n
+ClaimsCovered s w v n stack at r = ((ms : List Member) → members-at s at ≡ some ms → truth r ≡ covered (pairs-at s w stack) ms) × Below w v n

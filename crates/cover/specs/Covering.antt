@@ -1,5 +1,5 @@
 -- Whether members cover: the pairs of each can be matched with the fuel and the room there are. Definitions only.
-use Prim.Native.Nat.{ℕ, _+_, _*_, _<_, _≤_}
+use Prim.Native.Nat.{ℕ, _≤_}
 use mathlib.Core.Path.{_≡_}
 use mathlib.Core.Bool.{Bool, true, false}
 use mathlib.Core.List.{List, map, List·Memᴰ}
@@ -10,23 +10,15 @@ use Rattle.rules.specs.Maybe.{every}
 use Rattle.rules.specs.Substitution.{Pair}
 use Rattle.rules.specs.Sheet.{Entry, Member}
 use Rattle.rules.specs.Cover.{pair-at, covers, any-covers}
-use Rattle.laws.specs.Memory.{weight, pattern-nodes}
 use Rattle.substitution.specs.Bindings.{bindings-at}
 use Rattle.sheet.specs.Lines.{lines-at}
 use Rattle.sheet.specs.Members.{members-at}
-use Rattle.steps.specs.Stack.{FitPairs}
 use Rattle.tree.specs.Arena.{Below}
-use Rattle.steps.specs.Area.{Room}
-use Rattle.cover.specs.Generals.{names-at}
+use Rattle.unifier.specs.Matched.{Matched}
+use Rattle.variables.specs.Pairing.{names-at}
 use Rattle.cover.specs.Values.{EntriesThen, EntriesFrom}
 use Rattle.cover.specs.declared.covering.Covering.{Covering}
 use Rattle.cover.specs.declared.covering.Covering.the-variants.{Yes, No}
-
--- the pairs of a member are fit, have fewer pattern nodes than the sheet has bytes, and there is room for n cells and their match
-pub record Matched (s : Text) (w : List ℕ) (n : ℕ) (qs : List Pair) : Type 0 where
-  pub fit : FitPairs qs
-  pub few : pattern-nodes qs < length s
-  pub room : Room w (n + weight qs + 2 * length s)
 
 abbrev pub PairsOf : Text → List ℕ → ℕ → ℕ → Member → List Pair → Type 0
 PairsOf s w names bindings m qs = every (map (pair-at (bindings-at s w bindings) m) (names-at s w names)) ≡ some qs

@@ -14,7 +14,7 @@ use Rattle.sheet.specs.Lines.{lines-at}
 use Rattle.tree.specs.Cells.{trees-at}
 use Rattle.tree.specs.Arena.{Arena, Below}
 use Rattle.substitution.specs.Bindings.{bindings-at}
-use Rattle.cover.specs.Generals.{names-at}
+use Rattle.variables.specs.Pairing.{names-at}
 use Rattle.cover.specs.Values.{EntriesThen, EntriesFrom}
 use Rattle.cover.specs.declared.members.Sides.{Sides}
 use Rattle.cover.specs.declared.members.Sides.the-variants.{Stack, Unreadable}

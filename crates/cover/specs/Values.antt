@@ -27,7 +27,7 @@ use Rattle.cover.specs.declared.values.Read.{Read}
 use Rattle.cover.specs.declared.values.Read.the-variants as read
 
 -- cell r is the variable x, which is one of ns; 0 where it is none of them
-pub record Finds (s : Text) (w : List ℕ) (n : ℕ) (ns : List Text) (x : Text) (r : ℕ) : Type 0 where
+pub record FindsVariable (s : Text) (w : List ℕ) (n : ℕ) (ns : List Text) (x : Text) (r : ℕ) : Type 0 where
   pub absent : r ≡ 0 → is-one-of ns x ≡ false
   pub inside : r < n
   pub named : 0 < r → name-at s w r ≡ x

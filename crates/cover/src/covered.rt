@@ -1,44 +1,29 @@
 // Kind `cover`: the pairs are unified, and a member is looked for that covers the solution (unifier.rs, `Principal::covered`).
 use crate::covering::any_covers;
-use crate::listing::list_variables;
-use crate::variables::variables_of;
+use reduction::building::nodes_in;
 use sheet::Cursor;
+use sheet::claims::Claim;
 use substitution::bindings::Pushed;
 use text::count_of;
-use tree::cells::count_of as nodes_of;
-use tree::cells::next_of;
+use unifier::room::NAME_CELLS;
+use unifier::room::STEP_WORDS;
 use unifier::unifying::Outcome;
 use unifier::unifying::unify;
-use variants::soundness::Claim;
-ghost use mathlib.Core.Path.{_≡_};
+use variables::gathering::variables_of;
+use variables::listing::list_variables;
 ghost use Prim.Native.Nat.{_+_, _*_, _<_, _≤_, _^_};
 ghost use lib.ListN.{length};
 ghost use Rattle.rules.specs.Tree.{sizes};
 ghost use Rattle.tree.specs.Cells.{trees-at};
 ghost use Rattle.tree.specs.Arena.{Arena};
 ghost use Rattle.steps.specs.Stack.{Whole};
-ghost use Rattle.cover.specs.Variables.{SpelledAll};
-ghost use Rattle.cover.specs.Covered.{Names, Asks, ClaimsCovered};
-
-// The nodes of all trees of the list from cell `list` on.
-pub fn nodes_in(sheet: &[u8], work: &[u32], free: usize, list: usize) -> usize
-    requires { ⌜ Arena (now sheet) (now work) free ⌝ }
-    requires { ⌜ (list < free) × (sizes (trees-at (now sheet) (now work) list) < 2 ^ 32) ⌝ }
-    ensures { λ r. ⌜ r ≡ sizes (trees-at (now (sheet .entry)) (now (work .entry)) list) ⌝ }
-{
-    let mut k = list;
-    let mut nodes: usize = 0;
-    while k != 0 {
-        nodes += nodes_of(work, k);
-        k = next_of(work, free, k);
-    }
-    nodes
-}
+ghost use Rattle.variables.specs.Variables.{ReadableAll};
+ghost use Rattle.cover.specs.Covered.{Names, CoverInput, ClaimsCovered};
 
 // The variables of the pairs from cell stack on as a list of cells. Their places are written above as many cells as the sheet has bytes.
 fn names_of(sheet: &[u8], work: &mut [u32], free: usize, stack: usize) -> Pushed
     requires { ⌜ Arena (now sheet) (now work) free × (length (now sheet) ≤ 65536) ⌝ }
-    requires { ⌜ (stack < free) × Whole (trees-at (now sheet) (now work) stack) × SpelledAll (trees-at (now sheet) (now work) stack) × (sizes (trees-at (now sheet) (now work) stack) ≤ length (now sheet)) ⌝ }
+    requires { ⌜ (stack < free) × Whole (trees-at (now sheet) (now work) stack) × ReadableAll (trees-at (now sheet) (now work) stack) × (sizes (trees-at (now sheet) (now work) stack) ≤ length (now sheet)) ⌝ }
     requires { ⌜ (4 * (free + length (now sheet)) + 2 * length (now sheet) ≤ length (now work)) × (free + length (now sheet) < 2 ^ 32) ⌝ }
     ensures { λ r. ⌜ Names (now (sheet .entry)) (now (work .entry)) (now (work .exit)) free stack (r .index) (r .free) ⌝ }
 {
@@ -51,14 +36,14 @@ fn names_of(sheet: &[u8], work: &mut [u32], free: usize, stack: usize) -> Pushed
 // words above those that the unification needs are left for the matches.
 pub fn covered(sheet: &[u8], work: &mut [u32], free: usize, stack: usize, members: Cursor) -> Claim
     requires { ⌜ Arena (now sheet) (now work) free ⌝ }
-    requires { ⌜ (stack < free) × Asks (now sheet) (now work) free stack (members .at) ⌝ }
+    requires { ⌜ (stack < free) × CoverInput (now sheet) (now work) free stack (members .at) ⌝ }
     ensures { λ r. ⌜ ClaimsCovered (now (sheet .entry)) (now (work .entry)) (now (work .exit)) free stack (members .at) r ⌝ }
 {
     let listed = names_of(sheet, work, free, stack);
     let names = listed.index;
     let end = listed.free;
     let nodes = nodes_in(sheet, work, end, stack);
-    let limit = 4 * (end + nodes + 131072 + 12293 * count_of(sheet, 58)) + 204802;
+    let limit = 4 * (end + nodes + 131072 + NAME_CELLS * count_of(sheet, 58)) + STEP_WORDS;
     let outcome = unify(sheet, &mut work[..limit], end, stack, 65536);
     let Outcome::Solved {
         bindings,

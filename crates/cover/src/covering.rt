@@ -1,10 +1,10 @@
 // Whether one member covers, and whether one of the members does (unifier.rs, `Principal::covered`).
 use crate::members::Sides;
 use crate::members::member_pairs;
+use matching::matcher;
 use sheet::Cursor;
 use sheet::Line;
 use sheet::next_member;
-use unifier::matching::matcher;
 use unifier::unifying::Outcome;
 ghost use mathlib.Core.Path.{_≡_};
 ghost use Prim.Native.Nat.{_+_, _*_, _-_, _<_, _≤_, _^_};
@@ -12,11 +12,11 @@ ghost use lib.ListN.{length};
 ghost use Rattle.rules.specs.Tree.{count};
 ghost use Rattle.tree.specs.Cells.{trees-at};
 ghost use Rattle.tree.specs.Arena.{Arena};
-ghost use Rattle.cover.specs.Generals.{OfVariables};
+ghost use Rattle.variables.specs.Pairing.{OfVariables};
 ghost use Rattle.cover.specs.Covering.{Matchable, AllMatchable, CoversMember, CoversAny};
 
 // A member covers, or it does not and the lines after it begin at a cursor.
-pub enum Covering {
+enum Covering {
     Yes,
     No { next: Cursor },
 }
@@ -55,7 +55,7 @@ fn covers(
 }
 
 // Whether one of the members from a cursor on covers.
-pub fn any_covers(
+pub(crate) fn any_covers(
     sheet: &[u8],
     work: &mut [u32],
     free: usize,

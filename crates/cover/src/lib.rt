@@ -1,7 +1,4 @@
 // Kind `cover`: whether a member covers the solved pairs of a sheet (unifier.rs, `Principal::covered`).
-pub mod variables; // variables.rt: the variables of trees in byte order
-pub mod listing; // listing.rt: variables as a list of cells
-pub mod generals; // generals.rt: the pairs that a member covers by
 pub mod values; // values.rt: the values of a member as bindings
 pub mod members; // members.rt: the pairs by which one member covers
 pub mod covering; // covering.rt: whether one of the members covers

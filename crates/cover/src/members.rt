@@ -1,19 +1,19 @@
 // The pairs by which one member covers.
-use crate::generals::pair_variables;
 use crate::values::Read;
 use crate::values::read_values;
 use sheet::Cursor;
+use variables::pairing::pair_variables;
 ghost use mathlib.Core.Path.{_≡_};
 ghost use Prim.Native.Nat.{_+_, _*_, _<_, _≤_, _^_};
 ghost use lib.ListN.{length};
 ghost use Rattle.rules.specs.Tree.{count};
 ghost use Rattle.tree.specs.Cells.{trees-at};
 ghost use Rattle.tree.specs.Arena.{Arena};
-ghost use Rattle.cover.specs.Generals.{OfVariables};
+ghost use Rattle.variables.specs.Pairing.{OfVariables};
 ghost use Rattle.cover.specs.Members.{PairsMember};
 
 // A list of sides, the free end after it and where the member ends, or a value that cannot be read.
-pub enum Sides {
+pub(crate) enum Sides {
     Stack {
         index: usize,
         free: usize,
@@ -23,7 +23,7 @@ pub enum Sides {
 }
 
 // At each variable of the list from cell `names` on: the tree that the entries from a cursor on give it, and that of the bindings.
-pub fn member_pairs(
+pub(crate) fn member_pairs(
     sheet: &[u8],
     work: &mut [u32],
     free: usize,

@@ -19,8 +19,8 @@ ghost use Rattle.tree.specs.Arena.{Arena};
 ghost use Rattle.reading.specs.Parsing.{stack-end};
 ghost use Rattle.sheet.specs.Lines.{part-of};
 ghost use Rattle.sheet.specs.Form.{Inside};
-ghost use Rattle.cover.specs.Generals.{names-of, OfVariables};
-ghost use Rattle.cover.specs.Values.{Finds, ReadsValue, ReadsValues};
+ghost use Rattle.variables.specs.Pairing.{names-of, OfVariables};
+ghost use Rattle.cover.specs.Values.{FindsVariable, ReadsValue, ReadsValues};
 
 // The cell of the variable of the list from cell `names` on whose name is the text from `from` to `to`, 0 for none.
 fn find_variable(
@@ -33,7 +33,7 @@ fn find_variable(
 ) -> usize
     requires { ⌜ Arena (now sheet) (now work) free ⌝ }
     requires { ⌜ (names < free) × (from ≤ to) × (to ≤ length (now sheet)) × OfVariables (trees-at (now sheet) (now work) names) ⌝ }
-    ensures { λ r. ⌜ Finds (now (sheet .entry)) (now (work .entry)) free (names-of (trees-at (now (sheet .entry)) (now (work .entry)) names)) (part-of from to (now (sheet .entry))) r ⌝ }
+    ensures { λ r. ⌜ FindsVariable (now (sheet .entry)) (now (work .entry)) free (names-of (trees-at (now (sheet .entry)) (now (work .entry)) names)) (part-of from to (now (sheet .entry))) r ⌝ }
 {
     let mut k = names;
     while k != 0 {
@@ -46,7 +46,7 @@ fn find_variable(
 }
 
 // Bindings and the free end after them, or a value that cannot be read.
-pub enum Values {
+enum Values {
     Bound { bindings: usize, free: usize },
     Unreadable,
 }
@@ -99,7 +99,7 @@ fn read_value(
 }
 
 // The bindings of a member's values, the free end after them and where its entries end, or a value that cannot be read.
-pub enum Read {
+pub(crate) enum Read {
     Bound {
         bindings: usize,
         free: usize,
@@ -109,7 +109,13 @@ pub enum Read {
 }
 
 // The values of the entries from a cursor on, those whose keys are variables of the list from cell `names` on, as bindings.
-pub fn read_values(sheet: &[u8], work: &mut [u32], free: usize, names: usize, start: Cursor) -> Read
+pub(crate) fn read_values(
+    sheet: &[u8],
+    work: &mut [u32],
+    free: usize,
+    names: usize,
+    start: Cursor,
+) -> Read
     requires { ⌜ Arena (now sheet) (now work) free ⌝ }
     requires { ⌜ (names < free) × OfVariables (trees-at (now sheet) (now work) names) ⌝ }
     requires { ⌜ (start .at ≤ length (now sheet)) × (length (now sheet) ≤ 65536) ⌝ }

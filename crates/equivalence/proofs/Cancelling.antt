@@ -1,4 +1,4 @@
--- Cancelling of the cells of two sums. Assumes nothing.
+-- Cancelling of the cells of two sums.
 use Prim.Native.Nat.{ℕ, suc, _+_, _-_, _*_, _<_, _≤_}
 use mathlib.Core.Path.{_≡_, refl, sym, ap, ap₂, subst, _∙_}
 use mathlib.Core.Bool.{Bool, true, false, not, _&&_, _||_}
@@ -20,8 +20,8 @@ use Rattle.tree.specs.Cells.{tree-at}
 use Rattle.tree.specs.Arena.{Arena}
 use Rattle.tree.proofs.Decoding.{Agree}
 use Rattle.tree.proofs.Areas.{arena-frame}
-use Rattle.certificate.proofs.Settling.{slice-at}
-use Rattle.equivalence.specs.Sums.{remaining, Cells, Run, Lasting, index, test, ahead, Zeroed, TookOne, Cancelled}
+use Rattle.runs.proofs.Each.{slice-at}
+use Rattle.equivalence.specs.Sums.{remaining, Cells, CellRun, Lasting, index, test, ahead, Zeroed, TookOne, Cancelled}
 use Rattle.equivalence.proofs.Gathering.{remaining-some, remaining-zero, remaining-append, remaining-frame}
 use Rattle.equivalence.proofs.Describing.{run-frame}
 
@@ -247,7 +247,7 @@ module _ (s w : List ℕ) (n d base at mid end : ℕ) (b : Bool) (a : Arena s w 
           let e = zeroed-there (h .zeroed) q z in
           let i = h .zeroed .len in
           let out = zeroed-outside (h .zeroed) in
-          subst (λ (x : ℕ). Run s v d base x q) (sym i) (run-frame (rs q (omega arith) y (omega arith)) (a .links) agree i (omega arith) (c .0) (c .1) e (out (q + d) (inr (omega arith))) (out (q + d + 1) (inr (omega arith))) (out (q + (2 * d + 1)) (inr (omega arith))) (λ x f g. out x (inr (omega arith))))
+          subst (λ (x : ℕ). CellRun s v d base x q) (sym i) (run-frame (rs q (omega arith) y (omega arith)) (a .links) agree i (omega arith) (c .0) (c .1) e (out (q + d) (inr (omega arith))) (out (q + d + 1) (inr (omega arith))) (out (q + (2 * d + 1)) (inr (omega arith))) (λ x f g. out x (inr (omega arith))))
 
       pub cancelling-next : (u : List ℕ) → TookOne s v u p mid end b → Cancelling s w at mid end b u (p + 1)
       cancelling-next u g =

@@ -1,4 +1,4 @@
--- The words of a tree, once its sums are sorted, have its canonical text. Assumes nothing.
+-- The words of a tree, once its sums are sorted, have its canonical text.
 use Prim.Native.Nat.{ℕ, _+_, _-_, _*_, _<_, _≤_}
 use mathlib.Core.Path.{_≡_, sym, ap, _∙_}
 use mathlib.Core.Bool.{false}
@@ -7,15 +7,15 @@ use lib.ListN.{length, getD}
 use lib.Seq.{slice}
 use native.Mathlib.Omega.{arith}
 use Rattle.rules.specs.Tree.{Tree, size}
-use Rattle.certificate.specs.Texts.{texts, Token, Tokens}
-use Rattle.certificate.specs.Settle.{Arranges, settled}
-use Rattle.certificate.specs.Terms.{words}
-use Rattle.certificate.specs.Spelling.{flatten}
-use Rattle.certificate.proofs.Settling.{each-at, slice-at}
-use Rattle.certificate.proofs.NameWords.{spelled-tokens, spelled-settled}
-use Rattle.equivalence.specs.Words.{Spelled, Canon}
+use Rattle.runs.specs.Texts.{texts, Token, Tokens}
+use Rattle.settling.specs.Settle.{Arranges, sums-sorted}
+use Rattle.flattening.specs.Terms.{words}
+use Rattle.flattening.specs.Spelling.{flatten}
+use Rattle.runs.proofs.Each.{each-at, slice-at}
+use Rattle.settling.proofs.NameWords.{spelled-tokens, spelled-settled}
+use Rattle.equivalence.specs.Words.{TermWritten, Canon}
 
-module _ (s w v : List ℕ) (t : Tree) (base end : ℕ) (g : Spelled s w v false t base end) (small : 5 * size t < 65536) (room : base + 15 * size t ≤ length w) where
+module _ (s w v : List ℕ) (t : Tree) (base end : ℕ) (g : TermWritten s w v false t base end) (small : 5 * size t < 65536) (room : base + 15 * size t ≤ length w) where
   written : slice base end v ≡ words (flatten s (g .term))
   written = ap (λ (e : ℕ). slice base e v) (g .end) ∙ g .wrote .words
 
@@ -31,7 +31,7 @@ module _ (s w v : List ℕ) (t : Tree) (base end : ℕ) (g : Spelled s w v false
       ap (λ (l : List ℕ). getD l (p - base) 0) (sym written) ∙ slice-at base end (p - base) v (omega arith) ∙ ap (λ (i : ℕ). getD v i 0) z in
       rw x at (each-at (Token s) (p - base) (spelled-tokens s (g .spells)) q)
 
-  pub canon-of : (u : List ℕ) → Arranges v u base end end (settled s 16777216 base (end - base) (slice base end v)) × Tokens s u base end → Canon s w u t base end
+  pub canon-of : (u : List ℕ) → Arranges v u base end end (sums-sorted s 16777216 base (end - base) (slice base end v)) × Tokens s u base end → Canon s w u t base end
   canon-of u (a, k) =
       let e = g .end in
       let f = g .short in

@@ -1,4 +1,4 @@
--- Two trees are equivalent where the texts of their canonical words are one. Assumes nothing.
+-- Two trees are equivalent where the texts of their canonical words are one.
 use Prim.Native.Nat.{ℕ, _+_, _*_, _<_, _≤_}
 use mathlib.Core.Path.{_≡_, refl, sym, ap, ap₂, _∙_}
 use mathlib.Core.Bool.{Bool, true, false}
@@ -18,12 +18,12 @@ use Rattle.tree.specs.Cells.{tree-at}
 use Rattle.tree.specs.Arena.{Arena}
 use Rattle.tree.proofs.Decoding.{Agree, frame-tree}
 use Rattle.tree.proofs.Areas.{arena-frame}
-use Rattle.certificate.specs.Texts.{texts, Tokens, lex}
-use Rattle.certificate.specs.Writer.{Kept}
-use Rattle.certificate.specs.declared.order.Order.{Order}
-use Rattle.certificate.proofs.order.Order.{the-type}
-use Rattle.certificate.specs.declared.order.Order.the-variants.{Less, Equal, Greater}
-use Rattle.certificate.proofs.Comparisons.{equal-as, same-lex}
+use Rattle.runs.specs.Texts.{texts, Tokens, lex}
+use Rattle.text.specs.Frames.{Outside}
+use Rattle.runs.specs.declared.order.Order.{Order}
+use Rattle.runs.proofs.order.Order.{the-type}
+use Rattle.runs.specs.declared.order.Order.the-variants.{Less, Equal, Greater}
+use Rattle.runs.proofs.RunLaws.{equal-as, same-lex}
 use Rattle.equivalence.specs.Words.{Canon}
 
 -- ---- the order of two texts
@@ -52,7 +52,7 @@ equivalent-one {t} e = equivalent-self t ∙ ap (equivalent t) e
 pub equivalent-same : (t u : Tree) → true ≡ same-tree t u → true ≡ equivalent t u
 equivalent-same t u e = equivalent-one (tree-eq t u (sym e))
 
-pub kept-none : (w : List ℕ) (a b : ℕ) → Kept w w a b
+pub kept-none : (w : List ℕ) (a b : ℕ) → Outside w w a b
 kept-none w a b = record { len = refl; below = λ p q. refl; above = λ p q. refl }
 
 -- ---- two runs, one after the other
@@ -92,7 +92,7 @@ module _ (s w v : List ℕ) (n i j at mid : ℕ) (a : Arena s w n) (pj : 0 < j) 
     unfolding equivalent
     compared e = e ∙ ap₂ same (ap (texts s) left-same ∙ g .text) (h .text ∙ ap canonical (sym second-kept))
 
-    pub both-kept : Kept w u at (at + 15 * (size (tree-at s w i) + size (tree-at s w j)))
+    pub both-kept : Outside w u at (at + 15 * (size (tree-at s w i) + size (tree-at s w j)))
     both-kept =
         let e₁ = g .low in
         let e₂ = g .room in

@@ -1,4 +1,4 @@
--- The runs of canonical words of summands: how they are written, compared and searched. Assumes nothing.
+-- The runs of canonical words of summands: how they are written, compared and searched.
 use Prim.Native.Nat.{ℕ, zero, suc, _+_, _-_, _*_, _<_, _≤_}
 use mathlib.Core.Path.{_≡_, refl, sym, ap, ap₂, subst, _∙_}
 use mathlib.Core.Bool.{Bool, true, false, cond, not, _&&_}
@@ -19,14 +19,14 @@ use Rattle.tree.specs.Cells.{tree-at}
 use Rattle.tree.specs.Arena.{Links, Arena}
 use Rattle.tree.proofs.Decoding.{Agree, frame-tree, size-pos}
 use Rattle.tree.proofs.Areas.{arena-frame}
-use Rattle.certificate.specs.Texts.{texts, Tokens}
-use Rattle.certificate.specs.Writer.{Kept}
+use Rattle.runs.specs.Texts.{texts, Tokens}
+use Rattle.text.specs.Frames.{Outside}
 use Rattle.equivalence.specs.Fingerprints.{fingerprint, Marked}
-use Rattle.equivalence.specs.Sums.{heft, Cells, Run, Described, index}
+use Rattle.equivalence.specs.Sums.{heft, Cells, CellRun, Described, index}
 
 -- ---- two runs
 
-module _ (s w : List ℕ) (d base p a b : ℕ) (h : Run s w d base (length w) p) (ea : a ≡ getD w (p + d) 0) (eb : b ≡ getD w (p + d + 1) 0) where
+module _ (s w : List ℕ) (d base p a b : ℕ) (h : CellRun s w d base (length w) p) (ea : a ≡ getD w (p + d) 0) (eb : b ≡ getD w (p + d + 1) 0) where
   pub run-room : (base + a ≤ base + b) × (base + b ≤ length w)
   run-room = let k = h .low in let m = h .high in (omega arith, omega arith)
 
@@ -41,7 +41,7 @@ unfolding equivalent
 runs-equal t u e f g = e ∙ ap₂ same f g
 
 -- trees with two fingerprints are two
-pub marks-differ : {s w : List ℕ} {d base lim p q : ℕ} → Run s w d base lim p → Run s w d base lim q → (getD w (q + (2 * d + 1)) 0 ≡ getD w (p + (2 * d + 1)) 0 → ⊥)
+pub marks-differ : {s w : List ℕ} {d base lim p q : ℕ} → CellRun s w d base lim p → CellRun s w d base lim q → (getD w (q + (2 * d + 1)) 0 ≡ getD w (p + (2 * d + 1)) 0 → ⊥)
     → false ≡ equivalent (tree-at s w (getD w p 0)) (tree-at s w (getD w q 0))
 unfolding equivalent
 marks-differ h k n = sym (differ-of-ne (λ e. n (k .mark ∙ sym (h .mark ∙ ap fingerprint e))))
@@ -74,7 +74,7 @@ module _ (f : Tree → Bool) (s w : List ℕ) (q end : ℕ) where
   unfolding index
   index-end p = let z : index f s w (slice q end w) ≡ 0 = ap (index f s w) (slice-none q end w p) in omega arith
 
-pub index-unmarked : (s w : List ℕ) (d base p q end : ℕ) → Run s w d base (length w) p → (0 < getD w q 0 → Run s w d base (length w) q) → q < end → end ≤ length w
+pub index-unmarked : (s w : List ℕ) (d base p q end : ℕ) → CellRun s w d base (length w) p → (0 < getD w q 0 → CellRun s w d base (length w) q) → q < end → end ≤ length w
     → (getD w (q + (2 * d + 1)) 0 ≡ getD w (p + (2 * d + 1)) 0 → ⊥)
     → q + index (equivalent (tree-at s w (getD w p 0))) s w (slice q end w) ≡ q + 1 + index (equivalent (tree-at s w (getD w p 0))) s w (slice (q + 1) end w)
 index-unmarked s w d base p q end h k l r n = elim (decLt 0 (getD w q 0)) [
@@ -84,9 +84,9 @@ index-unmarked s w d base p q end h k l r n = elim (decLt 0 (getD w q 0)) [
 
 -- ---- an area that agrees with another on a run
 
-pub run-frame : {s v u : List ℕ} {n d base lim q : ℕ} → Run s v d base lim q → Links v n → Agree v u n → length u ≡ length v → lim ≤ length v → 0 < getD v q 0 → getD v q 0 < n
+pub run-frame : {s v u : List ℕ} {n d base lim q : ℕ} → CellRun s v d base lim q → Links v n → Agree v u n → length u ≡ length v → lim ≤ length v → 0 < getD v q 0 → getD v q 0 < n
     → getD u q 0 ≡ getD v q 0 → getD u (q + d) 0 ≡ getD v (q + d) 0 → getD u (q + d + 1) 0 ≡ getD v (q + d + 1) 0 → getD u (q + (2 * d + 1)) 0 ≡ getD v (q + (2 * d + 1)) 0
-    → ((x : ℕ) → base ≤ x → x < lim → getD u x 0 ≡ getD v x 0) → Run s u d base lim q
+    → ((x : ℕ) → base ≤ x → x < lim → getD u x 0 ≡ getD v x 0) → CellRun s u d base lim q
 run-frame {s} {v} {u} {n} {d} {base} {lim} {q} h l g e m p r e₀ e₁ e₂ e₃ f =
     let k = h .low in
     let o = h .high in
@@ -104,7 +104,7 @@ run-frame {s} {v} {u} {n} {d} {base} {lim} {q} h l g e m p r e₀ e₁ e₂ e₃
       mark = e₃ ∙ h .mark ∙ ap (λ (t : Tree). fingerprint (canonical t)) t;
     }
 
-pub run-later : {s v : List ℕ} {d base lim lim₁ q : ℕ} → Run s v d base lim q → lim ≤ lim₁ → Run s v d base lim₁ q
+pub run-later : {s v : List ℕ} {d base lim lim₁ q : ℕ} → CellRun s v d base lim q → lim ≤ lim₁ → CellRun s v d base lim₁ q
 run-later h l = let o = h .high in record { inside = h .inside; low = h .low; high = omega arith; text = h .text; tokens = h .tokens; mark = h .mark }
 
 -- ---- the runs are written one after another
@@ -122,12 +122,12 @@ module _ (s w : List ℕ) (at end d base : ℕ) where
   pub record Describing (v : List ℕ) (p out : ℕ) : Type 0 where
     pub low : at ≤ p
     pub high : p ≤ end
-    pub kept : Kept w v end lim
+    pub kept : Outside w v end lim
     pub since : base ≤ out
     pub start : base + getD v (p + d) 0 ≡ out
     pub left : out + 15 * heft s w (slice p end w) + (p - at) ≤ base + 15 * heft s w (slice at end w)
     pub short : out + 5 * heft s w (slice p end w) ≤ base + 5 * heft s w (slice at end w)
-    pub runs : (q : ℕ) → at ≤ q → q < p → Run s v d base out q
+    pub runs : (q : ℕ) → at ≤ q → q < p → CellRun s v d base out q
 
 module _ (s w : List ℕ) (n at end d base : ℕ) (a : Arena s w n) (l : 4 * n ≤ at) (o : at ≤ end) (ed : end ≤ at + d) (eb : end + 2 * d < base) (cs : Cells w n at end) (zero : getD w (at + d) 0 ≡ 0)
     (small : 5 * heft s w (slice at end w) < 65536) (room : base + 15 * heft s w (slice at end w) + 1 ≤ length w + (end - at)) where
@@ -263,7 +263,7 @@ module _ (s w : List ℕ) (n at end d base : ℕ) (a : Arena s w n) (l : 4 * n �
                     let vq = h .kept .below q (omega arith) in
                     run-later (run-frame (h .runs q y i) (cells-arena .links) ag (lu ∙ lx ∙ sym lv) (omega arith) (omega arith) (omega arith) (below q (omega arith) (λ j. omega arith) (λ j. omega arith)) (below (q + d) (omega arith) (λ j. omega arith) (λ j. omega arith)) (below (q + d + 1) (omega arith) (λ j. omega arith) (λ j. omega arith)) (below (q + (2 * d + 1)) (omega arith) (λ j. omega arith) (λ j. omega arith)) (λ y z j. below y j (λ t. omega arith) (λ t. omega arith))) (omega arith))
                 | no i ↦ (let z : p ≡ q = omega arith in
-                    subst (Run s u d base r) z (record {
+                    subst (CellRun s u d base r) z (record {
                       inside = omega arith;
                       low = omega arith;
                       high = omega arith;

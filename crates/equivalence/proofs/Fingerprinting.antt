@@ -1,4 +1,4 @@
--- Fingerprints, carried on through a text byte by byte and word by word. Assumes nothing.
+-- Fingerprints, carried on through a text byte by byte and word by word.
 use Prim.Native.Nat.{ℕ, zero, suc, _+_, _*_, _<_, _≤_, _%_}
 use mathlib.Core.Path.{_≡_, refl, sym, ap, _∙_}
 use mathlib.Core.List.{List, [], _∷_, _++_}
@@ -11,8 +11,8 @@ use Rattle.rules.specs.Text.{bytes}
 use Rattle.rules.specs.Tree.{Tree}
 use Rattle.laws.specs.Unspelled.{zeros, zeros-name}
 use Rattle.text.proofs.Slices.{slice-none}
-use Rattle.certificate.specs.Texts.{word-text, width-of, texts, Token, Tokens}
-use Rattle.certificate.proofs.WordTexts.{width-text, width-pos, rest-split}
+use Rattle.runs.specs.Texts.{word-text, width-of, texts, Token, Tokens}
+use Rattle.runs.proofs.WordTexts.{width-text, width-pos, rest-split}
 use Rattle.equivalence.specs.Words.{Canon}
 use Rattle.equivalence.specs.Fingerprints.{mixed-byte, mixed, fingerprint, Marked}
 

@@ -1,4 +1,4 @@
--- The summands of a sum, gathered as the numbers of their cells. Assumes nothing.
+-- The summands of a sum, gathered as the numbers of their cells.
 use Prim.Native.Nat.{ℕ, zero, suc, _+_, _-_, _*_, _<_, _≤_}
 use mathlib.Core.Path.{_≡_, refl, sym, ap, ap₂, _∙_}
 use mathlib.Core.Bool.{Bool, true, false, cond, _&&_}
@@ -18,7 +18,7 @@ use Rattle.tree.specs.Cells.{kind-of, first-of, next-of, name-at, tree-at, tree
 use Rattle.tree.specs.Arena.{Links, Arena}
 use Rattle.tree.proofs.Decoding.{Agree, Kind, application, a-variable, an-atom, kind, same-next, trees-none, trees-more, tree-variable, tree-atom, tree-apply, size-pos, size-apply, sizes-more, frame-tree, frame-trees}
 use Rattle.tree.proofs.Areas.{arena-frame}
-use Rattle.equivalence.specs.Sums.{remaining, heft, Cells, Gathered}
+use Rattle.equivalence.specs.Sums.{remaining, heft, Cells, SummandsGathered}
 
 -- ---- lists of cells
 
@@ -105,7 +105,7 @@ module _ (s w : List ℕ) (i : ℕ) where
   summands-sum j k f e = ap summands (tree-apply s w i k) ∙ rw (← f, e)
 
   pub gathered-leaf : (n at r : ℕ) → 0 < i → i < n → at < length w → (kind-of w i ≡ 0 → same (name-at s w i) tamtplus ≡ false) → r ≡ at + 1
-      → Gathered s w (set w at i) n at r (size (tree-at s w i)) (summands (tree-at s w i))
+      → SummandsGathered s w (set w at i) n at r (size (tree-at s w i)) (summands (tree-at s w i))
   unfolding heft remaining summands
   gathered-leaf n at r p q room f e =
       let v = set w at i in
@@ -122,7 +122,7 @@ module _ (s w : List ℕ) (i : ℕ) where
       }
 
   pub gathered-sum : {v : List ℕ} {n at end : ℕ} (j : ℕ) → kind-of w i ≡ 0 → true ≡ same (name-at s w i) tamtplus → j ≡ first-of w i
-      → Gathered s w v n at end (sizes (trees-at s w j)) (summands-of (trees-at s w j)) → Gathered s w v n at end (size (tree-at s w i)) (summands (tree-at s w i))
+      → SummandsGathered s w v n at end (sizes (trees-at s w j)) (summands-of (trees-at s w j)) → SummandsGathered s w v n at end (size (tree-at s w i)) (summands (tree-at s w i))
   gathered-sum j k f e g =
       let z = size-apply s w i k in
       let y = ap (λ (j : ℕ). sizes (trees-at s w j)) e in
@@ -130,7 +130,7 @@ module _ (s w : List ℕ) (i : ℕ) where
       let b = g .light in
       record { kept = g .kept; grew = g .grew; most-is = omega arith; cells = g .cells; light = omega arith; are = g .are ∙ sym (summands-sum j k f e) }
 
-  pub gathered-none : (n at r : ℕ) → i ≡ 0 → r ≡ at → Gathered s w w n at r (sizes (trees-at s w i)) (summands-of (trees-at s w i))
+  pub gathered-none : (n at r : ℕ) → i ≡ 0 → r ≡ at → SummandsGathered s w w n at r (sizes (trees-at s w i)) (summands-of (trees-at s w i))
   unfolding summands heft remaining
   gathered-none n at r z e =
       let y : slice at r w ≡ [] = slice-none at r w (omega arith) in
@@ -145,7 +145,7 @@ module _ (s w : List ℕ) (i : ℕ) where
 
 -- the list after its first tree
 module _ (s w v : List ℕ) (n i j at mid : ℕ) (a : Arena s w n) (p : 0 < i) (q : i < n) (l : 4 * n ≤ at) (e : j ≡ next-of v i)
-    (g : Gathered s w v n at mid (size (tree-at s w i)) (summands (tree-at s w i))) where
+    (g : SummandsGathered s w v n at mid (size (tree-at s w i)) (summands (tree-at s w i))) where
   pub cells-kept : Agree w v n
   cells-kept x h = sym (g .kept .below x (omega arith))
 
@@ -164,8 +164,8 @@ module _ (s w v : List ℕ) (n i j at mid : ℕ) (a : Arena s w n) (p : 0 < i) (
   pub rest-sizes : size (tree-at s w i) + sizes (trees-at s v j) ≡ sizes (trees-at s w i)
   rest-sizes = omega (arith, sizes-more s (a .links) i p q, ap sizes rest-is)
 
-  pub gathered-more : (u : List ℕ) (end : ℕ) → at + sizes (trees-at s w i) ≤ length w → Gathered s v u n mid end (sizes (trees-at s v j)) (summands-of (trees-at s v j))
-      → Gathered s w u n at end (sizes (trees-at s w i)) (summands-of (trees-at s w i))
+  pub gathered-more : (u : List ℕ) (end : ℕ) → at + sizes (trees-at s w i) ≤ length w → SummandsGathered s v u n mid end (sizes (trees-at s v j)) (summands-of (trees-at s v j))
+      → SummandsGathered s w u n at end (sizes (trees-at s w i)) (summands-of (trees-at s w i))
   unfolding summands
   gathered-more u end room h =
       let e₁ = g .grew in

@@ -1,4 +1,4 @@
--- Two sums, gathered, described and cancelled one after the other. Assumes nothing.
+-- Two sums, gathered, described and cancelled one after the other.
 use Prim.Native.Nat.{ℕ, _+_, _-_, _*_, _<_, _≤_}
 use mathlib.Core.Path.{_≡_, sym, ap, ap₂, _∙_}
 use mathlib.Core.Bool.{Bool}
@@ -16,7 +16,7 @@ use Rattle.tree.specs.Cells.{tree-at}
 use Rattle.tree.specs.Arena.{Links, Arena}
 use Rattle.tree.proofs.Decoding.{Agree, frame-tree}
 use Rattle.tree.proofs.Areas.{arena-frame}
-use Rattle.equivalence.specs.Sums.{remaining, heft, Cells, Gathered, Described, Lasting, test, Cancelled, Ready}
+use Rattle.equivalence.specs.Sums.{remaining, heft, Cells, SummandsGathered, Described, Lasting, test, Cancelled, SumsCancelled}
 use Rattle.equivalence.proofs.Gathering.{heft-append, remaining-frame, heft-frame}
 use Rattle.equivalence.proofs.Describing.{run-later}
 use Rattle.equivalence.proofs.Cancelling.{zeroed-outside, zeroed-below}
@@ -28,7 +28,7 @@ remaining-move s w x y n a e l g o r q h k = ap (remaining s w) (sym (slice-same
 
 module _ (s w v₁ v₂ : List ℕ) (n i j at mid end : ℕ) (b : Bool) (a : Arena s w n) (pj : 0 < j) (qj : j < n) (l : 4 * n ≤ at)
     (room : at + 17 * (size (tree-at s w i) + size (tree-at s w j)) + 2 ≤ length w)
-    (g : Gathered s w v₁ n at mid (size (tree-at s w i)) (summands (tree-at s w i))) where
+    (g : SummandsGathered s w v₁ n at mid (size (tree-at s w i)) (summands (tree-at s w i))) where
   agree₁ : Agree w v₁ n
   agree₁ x y = sym (g .kept .below x (omega arith))
 
@@ -41,7 +41,7 @@ module _ (s w v₁ v₂ : List ℕ) (n i j at mid end : ℕ) (b : Bool) (a : Are
   pub second-room : mid + size (tree-at s v₁ j) ≤ length v₁
   second-room = omega (arith, g .most-is, g .kept .len, ap size second-same)
 
-  module _ (h : Gathered s v₁ v₂ n mid end (size (tree-at s v₁ j)) (summands (tree-at s v₁ j))) where
+  module _ (h : SummandsGathered s v₁ v₂ n mid end (size (tree-at s v₁ j)) (summands (tree-at s v₁ j))) where
     sizes-bound : end ≤ at + (size (tree-at s w i) + size (tree-at s w j))
     sizes-bound = omega (arith, g .most-is, h .most-is, ap size second-same)
 
@@ -148,7 +148,7 @@ module _ (s w v₁ v₂ : List ℕ) (n i j at mid end : ℕ) (b : Bool) (a : Are
             ap summands second-same ∙ sym (h .are)
             ∙ remaining-move s v₁ v₂ v₄ n mid end (first-arena .links) ag q (omega arith) (omega arith) (λ p x y. same₄ p y ∙ getD-set-other v₂ end p 0 0 (λ z. omega arith)) (λ p x y. cells₄ p (omega arith) y .1)
 
-        pub readied : (u : List ℕ) → Cancelled s v₄ u at mid end b → Ready s w u n at mid end (size (tree-at s w i) + size (tree-at s w j)) (tree-at s w i) (tree-at s w j) b
+        pub readied : (u : List ℕ) → Cancelled s v₄ u at mid end b → SumsCancelled s w u n at mid end (size (tree-at s w i) + size (tree-at s w j)) (tree-at s w i) (tree-at s w j) b
         readied u c =
             let o = g .grew in
             let q = h .grew in

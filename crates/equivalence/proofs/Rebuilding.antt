@@ -1,4 +1,4 @@
--- The right-nested sum of cells that are not taken out. Assumes nothing.
+-- The right-nested sum of cells that are not taken out.
 use Prim.Native.Nat.{ℕ, suc, _+_, _-_, _*_, _<_, _≤_}
 use mathlib.Core.Path.{_≡_, sym, ap, ap₂, subst, _∙_}
 use mathlib.Core.Bool.{Bool, true, false, cond}
@@ -11,11 +11,11 @@ use Rattle.rules.specs.Tree.{Tree, apply, none, more, size, tamtplus, plus}
 use Rattle.rules.specs.Sums.{rebuild}
 use Rattle.text.proofs.Slices.{slice-join, slice-none}
 use Rattle.tree.specs.Cells.{start-of, length-of, kind-of, nodes-of, next-of, name-at, made, tree-at, trees-at}
-use Rattle.tree.specs.Arena.{Arena, Wrote, Linked}
+use Rattle.tree.specs.Arena.{Arena, WroteCell, Linked}
 use Rattle.tree.proofs.Decoding.{Agree, made-apply, same-kind, same-name, trees-none, trees-more, frame-tree}
 use Rattle.tree.proofs.Pushing.{linked-like}
 use Rattle.tree.proofs.Areas.{grown-same, grown-then}
-use Rattle.equivalence.specs.Sums.{remaining, heavy, Added, Rebuilt}
+use Rattle.equivalence.specs.Sums.{remaining, heavy, SummandAdded, Rebuilt}
 use Rattle.equivalence.proofs.Gathering.{remaining-some, remaining-zero, remaining-append}
 
 -- ---- a sum of two cells
@@ -37,8 +37,8 @@ module _ (s w v : List ℕ) (n p a b : ℕ) (o : Arena s w n) (pp : 0 < p) (qp :
   sum : made (kind-of v p) (name-at s v p) (trees-at s v n) ≡ plus (tree-at s w a) (tree-at s w b)
   sum = made-apply (kind-of v p) (name-at s v p) (trees-at s v n) (sym (same-kind w v agree p qp) ∙ kp) ∙ ap₂ apply (sym (same-name w v agree p qp s) ∙ np) kids
 
-  pub added : (u : List ℕ) (m c : ℕ) → m ≡ n + 1 → c ≡ nodes-of v n + nodes-of v b + 1 → Wrote v u m (start-of v p) (length-of v p) (kind-of v p) n 0 c
-      → Added s w u n (plus (tree-at s w a) (tree-at s w b))
+  pub added : (u : List ℕ) (m c : ℕ) → m ≡ n + 1 → c ≡ nodes-of v n + nodes-of v b + 1 → WroteCell v u m (start-of v p) (length-of v p) (kind-of v p) n 0 c
+      → SummandAdded s w u n (plus (tree-at s w a) (tree-at s w b))
   unfolding size
   added u m c e f x =
       let av : Arena s v m = subst (Arena s v) (sym e) (l .arena) in
@@ -130,7 +130,7 @@ module _ (s w : List ℕ) (n at end : ℕ) (r : end ≤ length w) where
             used = omega arith;
           }
 
-      pub more-built : (a : Arena s w n) (u : List ℕ) (m₁ : ℕ) → 0 < i → m₁ ≡ m + 2 → Added s v u m (plus (tree-at s v c) (tree-at s v i)) → Rebuilt s w u n m₁ (m + 1) (remaining s w (slice (k - 1) end w))
+      pub more-built : (a : Arena s w n) (u : List ℕ) (m₁ : ℕ) → 0 < i → m₁ ≡ m + 2 → SummandAdded s v u m (plus (tree-at s v c) (tree-at s v i)) → Rebuilt s w u n m₁ (m + 1) (remaining s w (slice (k - 1) end w))
       unfolding rebuild
       more-built a u m₁ p e l =
           let (b, bs, f, t, x) = h .full p in

@@ -1,5 +1,5 @@
 -- Words after the cells: what is written there leaves the cells as they are, and one after another the words of two writers are one
--- list. Assumes nothing.
+-- list.
 use Prim.Native.Nat.{ℕ, _+_, _*_, _≤_}
 use mathlib.Core.Path.{_≡_, sym, ap, ap₂, _∙_}
 use mathlib.Core.List.{List, _++_}
@@ -12,10 +12,10 @@ use Rattle.text.proofs.Slices.{slice-same, slice-join}
 use Rattle.tree.specs.Arena.{Arena, Below}
 use Rattle.tree.proofs.Decoding.{Agree}
 use Rattle.tree.proofs.Areas.{arena-frame}
-use Rattle.certificate.specs.Writer.{Kept}
+use Rattle.text.specs.Frames.{Outside}
 
 -- scratch from the free end on leaves the cells
-pub below-kept : {w v : List ℕ} {n at lim : ℕ} → Kept w v at lim → 4 * n ≤ at → Below w v n
+pub below-kept : {w v : List ℕ} {n at lim : ℕ} → Outside w v at lim → 4 * n ≤ at → Below w v n
 below-kept k h = record { len = k .len; words = λ p q. sym (k .below p (omega arith)) }
 
 module _ {w v : List ℕ} {to : ℕ} {l : List ℕ} (g : Wrote w v to l) where

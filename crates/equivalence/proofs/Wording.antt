@@ -1,4 +1,4 @@
--- The words of a tree by its cells. Assumes nothing.
+-- The words of a tree by its cells.
 use Prim.Native.Nat.{ℕ, _+_, _-_, _*_, _<_, _≤_, _/_, _%_}
 use mathlib.Core.Path.{_≡_, refl, sym, ap, ap₂, subst, _∙_}
 use mathlib.Core.Bool.{Bool, true, false, cond, not}
@@ -14,15 +14,15 @@ use Rattle.text.specs.Sorting.{Wrote}
 use Rattle.tree.specs.Cells.{start-of, length-of, kind-of, first-of, next-of, fixed-name, named, name-at, tree-at, trees-at}
 use Rattle.tree.specs.Arena.{Cell, Arena}
 use Rattle.tree.proofs.Decoding.{Kind, application, a-variable, an-atom, kind, same-next, trees-none, trees-more, tree-variable, tree-atom, tree-apply, size-pos, size-apply, sizes-more, frame-trees}
-use Rattle.certificate.specs.Texts.{word-text}
-use Rattle.certificate.specs.Terms.{node, none, more}
-use Rattle.certificate.specs.Items.{adds, opening, bracket, closing}
-use Rattle.certificate.specs.Spelling.{Word, Spells, as-variable, as-atom, as-apply, SpellsAll, spell-none, spell-more, term-words, list-words}
-use Rattle.certificate.proofs.WordTexts.{name-fixed, code-named, code-byte, text-mark, text-place}
-use Rattle.certificate.proofs.Flattening.{atom-adds}
-use Rattle.certificate.proofs.ItemWords.{leaf-words, one-words, more-words, node-words}
-use Rattle.certificate.proofs.WriterSteps.{opening-short, wrote-one}
-use Rattle.equivalence.specs.Words.{Spelled, SpelledAll}
+use Rattle.runs.specs.Texts.{word-text}
+use Rattle.flattening.specs.Terms.{node, none, more}
+use Rattle.flattening.specs.Items.{adds, opening, bracket, closing}
+use Rattle.flattening.specs.Spelling.{Word, Spells, as-variable, as-atom, as-apply, SpellsAll, spell-none, spell-more, term-words, list-words}
+use Rattle.runs.proofs.WordTexts.{name-fixed, code-named, code-byte, text-mark, text-place}
+use Rattle.flattening.proofs.Flattening.{atom-adds}
+use Rattle.flattening.proofs.ItemWords.{leaf-words, one-words, more-words, node-words}
+use Rattle.flattening.proofs.WriterSteps.{opening-short, wrote-one}
+use Rattle.equivalence.specs.Words.{TermWritten, TermsWritten}
 use Rattle.equivalence.proofs.Scratch.{wrote-agree, wrote-arena, wrote-append}
 
 -- ---- the word of a name
@@ -87,7 +87,7 @@ module _ (s w : List ℕ) (n i out x : ℕ) (a : Arena s w n) (p : 0 < i) (q : i
   named-spells (a-variable k m) l f = subst (Spells s (node x none)) (sym (tree-variable s w i k m)) (as-variable h e)
   named-spells (an-atom k) l f = absurd (omega arith)
 
-  pub leaf-spelled : out < length w → kind-of w i < 7 → (kind-of w i ≡ 0 → first-of w i ≡ 0) → (r : ℕ) → r ≡ out + 1 → (b : Bool) → Spelled s w (set w out x) b (tree-at s w i) out r
+  pub leaf-spelled : out < length w → kind-of w i < 7 → (kind-of w i ≡ 0 → first-of w i ≡ 0) → (r : ℕ) → r ≡ out + 1 → (b : Bool) → TermWritten s w (set w out x) b (tree-at s w i) out r
   leaf-spelled room l f r g b =
       let z = leaf-words s b x in
       let k : length (term-words s b (node x none)) ≡ 1 = ap length z in
@@ -100,7 +100,7 @@ module _ (s w : List ℕ) (n i out x : ℕ) (a : Arena s w n) (p : 0 < i) (q : i
       }
 
   pub atom-spelled : out + 4 ≤ length w → 7 ≤ kind-of w i → (y : ℕ) → y ≡ (512 + kind-of w i) * 65536 → (r : ℕ) → r ≡ out + 4 → (b : Bool)
-      → Spelled s w (set (set (set (set w out y) (out + 1) 2621440) (out + 2) x) (out + 3) 2686976) b (tree-at s w i) out r
+      → TermWritten s w (set (set (set (set w out y) (out + 1) 2621440) (out + 2) x) (out + 3) 2686976) b (tree-at s w i) out r
   atom-spelled room l y f r g b =
       let c = kind-of w i in
       let lw = letter-word s c y f (a .cell i p q .small) in
@@ -155,11 +155,11 @@ module _ (s w v : List ℕ) (n i first x out start : ℕ) (sum inside : Bool) (a
   pub list-room : start + 5 * sizes (trees-at s v first) ≤ length v
   list-room = omega (arith, children-size, ap sizes children-kept, opening-short sum inside x, op .len)
 
-  module _ (u : List ℕ) (end : ℕ) (g : SpelledAll s v u sum (trees-at s v first) start end) where
+  module _ (u : List ℕ) (end : ℕ) (g : TermsWritten s v u sum (trees-at s v first) start end) where
     pub close-room : end + 1 ≤ length u
     close-room = omega (arith, g .end, g .short, g .wrote .len, list-room)
 
-    pub node-spelled : (y : List ℕ) (c r : ℕ) → c ≡ bracket sum inside → Wrote u y end (closing c) → r ≡ end + length (closing c) → Spelled s w y inside (tree-at s w i) out r
+    pub node-spelled : (y : List ℕ) (c r : ℕ) → c ≡ bracket sum inside → Wrote u y end (closing c) → r ≡ end + length (closing c) → TermWritten s w y inside (tree-at s w i) out r
     node-spelled y c r ec cl er =
         let t = g .term in
         let ts = g .terms in
@@ -191,7 +191,7 @@ module _ (s w v : List ℕ) (n i first x out start : ℕ) (sum inside : Bool) (a
 -- ---- a list
 
 module _ (s w v : List ℕ) (n i next out end : ℕ) (b : Bool) (a : Arena s w n) (p : 0 < i) (q : i < n) (l : 4 * n ≤ out)
-    (g : Spelled s w v b (tree-at s w i) out end) (f : next ≡ next-of v i) where
+    (g : TermWritten s w v b (tree-at s w i) out end) (f : next ≡ next-of v i) where
   pub next-kept : next ≡ next-of w i
   next-kept = f ∙ sym (same-next w v (wrote-agree (g .wrote) n l) i q)
 
@@ -201,7 +201,7 @@ module _ (s w v : List ℕ) (n i next out end : ℕ) (b : Bool) (a : Arena s w n
   whole : trees-at s w i ≡ T.more (tree-at s w i) (trees-at s w next)
   whole = trees-more s (a .links) i p q ∙ ap (λ (j : ℕ). T.more (tree-at s w i) (trees-at s w j)) (sym next-kept)
 
-  pub one-spelled : next ≡ 0 → SpelledAll s w v b (trees-at s w i) out end
+  pub one-spelled : next ≡ 0 → TermsWritten s w v b (trees-at s w i) out end
   one-spelled z =
       let t = g .term in
       let o = one-words s b t in
@@ -241,7 +241,7 @@ module _ (s w v : List ℕ) (n i next out end : ℕ) (b : Bool) (a : Arena s w n
     pub rest-room : end + 1 + 5 * sizes (trees-at s (set v end 2883584) next) ≤ length (set v end 2883584)
     rest-room = omega (arith, g .end, g .short, g .wrote .len, sizes-are, ap sizes rest-kept, length-set v end 2883584)
 
-    pub more-spelled : (u : List ℕ) (at r : ℕ) → at ≡ end + 1 → SpelledAll s (set v end 2883584) u b (trees-at s (set v end 2883584) next) at r → SpelledAll s w u b (trees-at s w i) out r
+    pub more-spelled : (u : List ℕ) (at r : ℕ) → at ≡ end + 1 → TermsWritten s (set v end 2883584) u b (trees-at s (set v end 2883584) next) at r → TermsWritten s w u b (trees-at s w i) out r
     more-spelled u at r ea d =
         let t = g .term in
         let o = term-words s b t in

@@ -12,8 +12,8 @@ use Rattle.rules.specs.Sums.{canonical, equivalent, summands, rebuild}
 use Rattle.rules.specs.Solving.{cancel}
 use Rattle.tree.specs.Cells.{next-of, tree-at}
 use Rattle.tree.specs.Arena.{Arena, Grown}
-use Rattle.certificate.specs.Texts.{texts, Tokens}
-use Rattle.certificate.specs.Writer.{Kept}
+use Rattle.runs.specs.Texts.{texts, Tokens}
+use Rattle.text.specs.Frames.{Outside}
 use Rattle.equivalence.specs.Fingerprints.{fingerprint}
 
 -- the trees of the cells with these numbers, but 0
@@ -31,8 +31,8 @@ abbrev pub Cells : List ℕ → ℕ → ℕ → ℕ → Type 0
 Cells w n a e = (p : ℕ) → a ≤ p → p < e → (0 < getD w p 0) × (getD w p 0 < n)
 
 -- the cells of the summands, from `at` to `end`
-pub record Gathered (s w v : List ℕ) (n at end most : ℕ) (ts : List Tree) : Type 0 where
-  pub kept : Kept w v at end
+pub record SummandsGathered (s w v : List ℕ) (n at end most : ℕ) (ts : List Tree) : Type 0 where
+  pub kept : Outside w v at end
   pub grew : at ≤ end
   pub most-is : end ≤ at + most
   pub cells : Cells v n at end
@@ -41,7 +41,7 @@ pub record Gathered (s w v : List ℕ) (n at end most : ℕ) (ts : List Tree) : 
 
 -- the canonical words of the tree of the cell at q: where they start and end is in the words at q + d and after it, from base on, and
 -- their fingerprint is in the word at q + 2 * d + 1
-pub record Run (s v : List ℕ) (d base lim q : ℕ) : Type 0 where
+pub record CellRun (s v : List ℕ) (d base lim q : ℕ) : Type 0 where
   pub inside : q + (2 * d + 1) < length v
   pub low : getD v (q + d) 0 ≤ getD v (q + d + 1) 0
   pub high : base + getD v (q + d + 1) 0 ≤ lim
@@ -51,12 +51,12 @@ pub record Run (s v : List ℕ) (d base lim q : ℕ) : Type 0 where
 
 -- the runs of the cells from `at` to `end`
 pub record Described (s w v : List ℕ) (at end d base lim : ℕ) : Type 0 where
-  pub kept : Kept w v end lim
-  pub runs : (q : ℕ) → at ≤ q → q < end → Run s v d base lim q
+  pub kept : Outside w v end lim
+  pub runs : (q : ℕ) → at ≤ q → q < end → CellRun s v d base lim q
 
 -- those of the cells that are not taken out
 abbrev pub Lasting : List ℕ → List ℕ → ℕ → ℕ → ℕ → ℕ → Type 0
-Lasting s v d base a e = (q : ℕ) → a ≤ q → q < e → 0 < getD v q 0 → Run s v d base (length v) q
+Lasting s v d base a e = (q : ℕ) → a ≤ q → q < e → 0 < getD v q 0 → CellRun s v d base (length v) q
 
 -- the place of the first of the cells, but 0, whose tree passes the test
 unfoldable pub index : (Tree → Bool) → List ℕ → List ℕ → List ℕ → ℕ
@@ -87,9 +87,9 @@ pub record Cancelled (s w v : List ℕ) (at mid end : ℕ) (b : Bool) : Type 0 w
   pub are : cancel (test b) (remaining s w (slice at mid w)) (remaining s w (slice mid end w)) ≡ (remaining s w (slice at mid v), remaining s w (slice mid end v))
 
 -- the cells of the summands of l and r, cancelled, from `at` to mid and from mid to `end`; k is the nodes of both
-pub record Ready (s w v : List ℕ) (n at mid end k : ℕ) (l r : Tree) (b : Bool) : Type 0 where
+pub record SumsCancelled (s w v : List ℕ) (n at mid end k : ℕ) (l r : Tree) (b : Bool) : Type 0 where
   pub arena : Arena s v n
-  pub kept : Kept w v at (at + 17 * k + 2)
+  pub kept : Outside w v at (at + 17 * k + 2)
   pub low : at ≤ mid
   pub high : mid ≤ end
   pub bound : end ≤ at + k
@@ -102,7 +102,7 @@ heavy [] = 0
 heavy (t ∷ ts) = size t + 1 + heavy ts
 
 -- from w, with the free end n, two cells are written: the last is the tree t, and has no next sibling
-pub record Added (s w v : List ℕ) (n : ℕ) (t : Tree) : Type 0 where
+pub record SummandAdded (s w v : List ℕ) (n : ℕ) (t : Tree) : Type 0 where
   pub arena : Arena s v (n + 2)
   pub grown : Grown w v n (n + 2)
   pub tree : tree-at s v (n + 1) ≡ t

@@ -1,8 +1,8 @@
 // Fingerprints of texts: texts that are one have one fingerprint.
 use crate::words::tree_words;
-use certificate::order::byte_of;
-use certificate::order::width_of;
-use certificate::order::zeros_of;
+use runs::order::byte_of;
+use runs::order::width_of;
+use runs::order::zeros_of;
 use text::places::wide;
 ghost use mathlib.Core.Path.{_≡_};
 ghost use Prim.Native.Nat.{_+_, _*_, _<_, _≤_};
@@ -12,8 +12,15 @@ ghost use Rattle.rules.specs.Tree.{size};
 ghost use Rattle.laws.specs.Unspelled.{zeros-name};
 ghost use Rattle.tree.specs.Cells.{tree-at};
 ghost use Rattle.tree.specs.Arena.{Arena};
-ghost use Rattle.certificate.specs.Texts.{word-text, texts, Token, Tokens};
+ghost use Rattle.runs.specs.Texts.{word-text, texts, Token, Tokens};
 ghost use Rattle.equivalence.specs.Fingerprints.{mixed-byte, mixed, fingerprint, Marked};
+
+// The fingerprint of no bytes, what it is multiplied by at each byte, and what a zero adds to it.
+const BASIS: usize = 2166136261;
+
+const PRIME: usize = 16777619;
+
+const ZERO: usize = 2654435769;
 
 // The fingerprint h, carried on through the byte b.
 fn mix_byte(h: usize, b: u8) -> usize
@@ -21,10 +28,10 @@ fn mix_byte(h: usize, b: u8) -> usize
     ensures { λ r. ⌜ (r < 4294967296) × (r ≡ mixed-byte h b) ⌝ }
 {
     if b == 48 {
-        return (h + 2654435769) % 4294967296;
+        return (h + ZERO) % 4294967296;
     }
     let wide = b as usize;
-    (h * 16777619 + wide) % 4294967296
+    (h * PRIME + wide) % 4294967296
 }
 
 // The same through an x, n zeros, a colon and Msg.
@@ -33,7 +40,7 @@ fn mix_zeros(n: usize, h: usize) -> usize
     ensures { λ r. ⌜ (r < 4294967296) × (r ≡ mixed h (zeros-name n)) ⌝ }
 {
     let first = mix_byte(h, 120);
-    let zeros = (first + n * 2654435769) % 4294967296;
+    let zeros = (first + n * ZERO) % 4294967296;
     let colon = mix_byte(zeros, 58);
     let m = mix_byte(colon, 77);
     let s = mix_byte(m, 115);
@@ -68,7 +75,7 @@ fn fingerprint(sheet: &[u8], work: &[u32], from: usize, to: usize) -> u32
     ensures { λ r. ⌜ r ≡ fingerprint (texts (now (sheet .entry)) (slice from to (now (work .entry)))) ⌝ }
 {
     let mut p = from;
-    let mut r: usize = 2166136261;
+    let mut r: usize = BASIS;
     while p < to {
         r = mix(sheet, wide(work[p]), r);
         p += 1;
@@ -77,7 +84,7 @@ fn fingerprint(sheet: &[u8], work: &[u32], from: usize, to: usize) -> u32
 }
 
 // Writes the canonical words of the tree of cell i from `base` on and their fingerprint into the word k, and answers where they end.
-pub fn marked_words(
+pub(crate) fn marked_words(
     sheet: &[u8],
     work: &mut [u32],
     free: usize,

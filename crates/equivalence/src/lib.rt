@@ -1,7 +1,7 @@
 // Equality of trees up to order and grouping of sums, and cancelling of sums (unifier.rs, `equivalent`, `cancel_sums`).
-pub mod fingerprints; // fingerprints.rt: fingerprints of texts
+mod fingerprints; // fingerprints.rt: fingerprints of texts
 pub mod sums; // sums.rt: summands and cancelling
-pub mod words; // words.rt: the words of a tree
+mod words; // words.rt: the words of a tree
 
 ghost use mathlib.Core.Path.{_≡_};
 ghost use Prim.Native.Nat.{_+_, _*_, _<_, _≤_};
@@ -10,7 +10,7 @@ ghost use Rattle.rules.specs.Tree.{size};
 ghost use Rattle.rules.specs.Sums.{equivalent};
 ghost use Rattle.tree.specs.Cells.{tree-at};
 ghost use Rattle.tree.specs.Arena.{Arena};
-ghost use Rattle.certificate.specs.Writer.{Kept};
+ghost use Rattle.text.specs.Frames.{Outside};
 use tree::equality::same_tree;
 use words::same_text;
 use words::tree_words;
@@ -30,7 +30,7 @@ pub fn equivalent(
     requires { ⌜ (5 * size (tree-at (now sheet) (now work) i) < 65536) × (5 * size (tree-at (now sheet) (now work) j) < 65536) ⌝ }
     requires { ⌜ at + 15 * (size (tree-at (now sheet) (now work) i) + size (tree-at (now sheet) (now work) j)) ≤ length (now work) ⌝ }
     ensures { λ r. ⌜ r ≡ equivalent (tree-at (now (sheet .entry)) (now (work .entry)) i) (tree-at (now (sheet .entry)) (now (work .entry)) j) ⌝ }
-    ensures { λ _. ⌜ Kept (now (work .entry)) (now (work .exit)) at (at + 15 * (size (tree-at (now (sheet .entry)) (now (work .entry)) i) + size (tree-at (now (sheet .entry)) (now (work .entry)) j))) ⌝ }
+    ensures { λ _. ⌜ Outside (now (work .entry)) (now (work .exit)) at (at + 15 * (size (tree-at (now (sheet .entry)) (now (work .entry)) i) + size (tree-at (now (sheet .entry)) (now (work .entry)) j))) ⌝ }
 {
     if i == j {
         return true;

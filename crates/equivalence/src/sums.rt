@@ -3,6 +3,7 @@ use crate::fingerprints::marked_words;
 use crate::words::same_text;
 use substitution::ground::ground;
 use text::places::wide;
+use tree::cells::APPLICATION;
 use tree::cells::count_of;
 use tree::cells::first_of;
 use tree::cells::kind_of;
@@ -21,7 +22,7 @@ ghost use Rattle.rules.specs.Tree.{size, sizes, ground, tamtplus, plus};
 ghost use Rattle.rules.specs.Sums.{summands, summands-of, equivalent};
 ghost use Rattle.tree.specs.Cells.{kind-of, next-of, name-at, tree-at, trees-at};
 ghost use Rattle.tree.specs.Arena.{Arena};
-ghost use Rattle.equivalence.specs.Sums.{Gathered, Cells, Lasting, heft, Described, Run, index, TookOne, Cancelled, Ready, remaining, heavy, Added, Rebuilt};
+ghost use Rattle.equivalence.specs.Sums.{SummandsGathered, Cells, Lasting, heft, Described, CellRun, index, TookOne, Cancelled, SumsCancelled, remaining, heavy, SummandAdded, Rebuilt};
 
 // Whether the tree of cell i is a sum.
 pub fn is_sum(sheet: &[u8], work: &[u32], free: usize, i: usize) -> bool
@@ -29,18 +30,18 @@ pub fn is_sum(sheet: &[u8], work: &[u32], free: usize, i: usize) -> bool
     requires { ⌜ (0 < i) × (i < free) ⌝ }
     ensures { λ r. ⌜ r ≡ eqb (kind-of (now (work .entry)) i) 0 && same (name-at (now (sheet .entry)) (now (work .entry)) i) tamtplus ⌝ }
 {
-    if kind_of(work, i) == 0 {
+    if kind_of(work, i) == APPLICATION {
         return name_is(sheet, work, free, i, b"tamtplus");
     }
     false
 }
 
 // Writes the cells of the summands of cell i from `at` on, and answers where they end.
-pub fn gather(sheet: &[u8], work: &mut [u32], free: usize, i: usize, at: usize) -> usize
+fn gather(sheet: &[u8], work: &mut [u32], free: usize, i: usize, at: usize) -> usize
     requires { ⌜ Arena (now sheet) (now work) free ⌝ }
     requires { ⌜ (0 < i) × (i < free) × (free < 2 ^ 32) ⌝ }
     requires { ⌜ (4 * free ≤ at) × (at + size (tree-at (now sheet) (now work) i) ≤ length (now work)) ⌝ }
-    ensures { λ r. ⌜ Gathered (now (sheet .entry)) (now (work .entry)) (now (work .exit)) free at r (size (tree-at (now (sheet .entry)) (now (work .entry)) i)) (summands (tree-at (now (sheet .entry)) (now (work .entry)) i)) ⌝ }
+    ensures { λ r. ⌜ SummandsGathered (now (sheet .entry)) (now (work .entry)) (now (work .exit)) free at r (size (tree-at (now (sheet .entry)) (now (work .entry)) i)) (summands (tree-at (now (sheet .entry)) (now (work .entry)) i)) ⌝ }
 {
     if is_sum(sheet, work, free, i) {
         let first = first_of(work, free, i);
@@ -55,7 +56,7 @@ fn gather_list(sheet: &[u8], work: &mut [u32], free: usize, i: usize, at: usize)
     requires { ⌜ Arena (now sheet) (now work) free ⌝ }
     requires { ⌜ (i < free) × (free < 2 ^ 32) ⌝ }
     requires { ⌜ (4 * free ≤ at) × (at + sizes (trees-at (now sheet) (now work) i) ≤ length (now work)) ⌝ }
-    ensures { λ r. ⌜ Gathered (now (sheet .entry)) (now (work .entry)) (now (work .exit)) free at r (sizes (trees-at (now (sheet .entry)) (now (work .entry)) i)) (summands-of (trees-at (now (sheet .entry)) (now (work .entry)) i)) ⌝ }
+    ensures { λ r. ⌜ SummandsGathered (now (sheet .entry)) (now (work .entry)) (now (work .exit)) free at r (sizes (trees-at (now (sheet .entry)) (now (work .entry)) i)) (summands-of (trees-at (now (sheet .entry)) (now (work .entry)) i)) ⌝ }
 {
     if i == 0 {
         return at;
@@ -69,7 +70,7 @@ fn gather_list(sheet: &[u8], work: &mut [u32], free: usize, i: usize, at: usize)
 // start is in the word at p + d, and where they end in the word after it, both from `base` on; the first of these words is 0. Their
 // fingerprint is in the word at p + 2 * d + 1. From `base` on, fifteen words for each node, less one for each cell after the first, are
 // scratch.
-pub fn describe(
+fn describe(
     sheet: &[u8],
     work: &mut [u32],
     free: usize,
@@ -97,7 +98,7 @@ pub fn describe(
 
 // Whether the trees of the cells at p and q are equal up to order and grouping of sums, by their words.
 fn alike(sheet: &[u8], work: &[u32], d: usize, base: usize, p: usize, q: usize) -> bool
-    requires { ⌜ Run (now sheet) (now work) d base (length (now work)) p × Run (now sheet) (now work) d base (length (now work)) q ⌝ }
+    requires { ⌜ CellRun (now sheet) (now work) d base (length (now work)) p × CellRun (now sheet) (now work) d base (length (now work)) q ⌝ }
     ensures { λ r. ⌜ r ≡ equivalent (tree-at (now (sheet .entry)) (now (work .entry)) (getD (now (work .entry)) p 0)) (tree-at (now (sheet .entry)) (now (work .entry)) (getD (now (work .entry)) q 0)) ⌝ }
 {
     same_text(
@@ -121,7 +122,7 @@ fn find(
     start: usize,
     end: usize,
 ) -> usize
-    requires { ⌜ Run (now sheet) (now work) d base (length (now work)) p × Lasting (now sheet) (now work) d base start end ⌝ }
+    requires { ⌜ CellRun (now sheet) (now work) d base (length (now work)) p × Lasting (now sheet) (now work) d base start end ⌝ }
     requires { ⌜ (start ≤ end) × (end + 2 * d < length (now work)) ⌝ }
     ensures { λ r. ⌜ r ≡ start + index (equivalent (tree-at (now (sheet .entry)) (now (work .entry)) (getD (now (work .entry)) p 0))) (now (sheet .entry)) (now (work .entry)) (slice start end (now (work .entry))) ⌝ }
 {
@@ -187,7 +188,7 @@ fn take_one(
 }
 
 // The same of each cell from `at` to mid.
-pub fn cancel(
+fn cancel(
     sheet: &[u8],
     work: &mut [u32],
     free: usize,
@@ -230,7 +231,7 @@ pub fn prepare(
     requires { ⌜ Arena (now sheet) (now work) free ⌝ }
     requires { ⌜ (0 < left) × (left < free) × (0 < right) × (right < free) × (free < 2 ^ 32) × (4 * free ≤ at) ⌝ }
     requires { ⌜ (5 * (size (tree-at (now sheet) (now work) left) + size (tree-at (now sheet) (now work) right)) < 65536) × (at + 17 * (size (tree-at (now sheet) (now work) left) + size (tree-at (now sheet) (now work) right)) + 2 ≤ length (now work)) ⌝ }
-    ensures { λ r. ⌜ Ready (now (sheet .entry)) (now (work .entry)) (now (work .exit)) free at (r .mid) (r .end) (size (tree-at (now (sheet .entry)) (now (work .entry)) left) + size (tree-at (now (sheet .entry)) (now (work .entry)) right)) (tree-at (now (sheet .entry)) (now (work .entry)) left) (tree-at (now (sheet .entry)) (now (work .entry)) right) every ⌝ }
+    ensures { λ r. ⌜ SumsCancelled (now (sheet .entry)) (now (work .entry)) (now (work .exit)) free at (r .mid) (r .end) (size (tree-at (now (sheet .entry)) (now (work .entry)) left) + size (tree-at (now (sheet .entry)) (now (work .entry)) right)) (tree-at (now (sheet .entry)) (now (work .entry)) left) (tree-at (now (sheet .entry)) (now (work .entry)) right) every ⌝ }
 {
     let mid = gather(sheet, work, free, left, at);
     let end = gather(sheet, work, free, right, mid);
@@ -249,7 +250,7 @@ fn add(sheet: &[u8], work: &mut [u32], free: usize, like: usize, a: usize, b: us
     requires { ⌜ (0 < like) × (like < free) × (kind-of (now work) like ≡ 0) × (name-at (now sheet) (now work) like ≡ tamtplus) ⌝ }
     requires { ⌜ (0 < a) × (a < free) × (0 < b) × (b < free) × (next-of (now work) b ≡ 0) ⌝ }
     requires { ⌜ (4 * (free + 2) ≤ length (now work)) × (free + 2 < 2 ^ 32) × (size (tree-at (now sheet) (now work) a) + size (tree-at (now sheet) (now work) b) + 1 < 65536) ⌝ }
-    ensures { λ r. ⌜ (r ≡ free + 2) × Added (now (sheet .entry)) (now (work .entry)) (now (work .exit)) free (plus (tree-at (now (sheet .entry)) (now (work .entry)) a) (tree-at (now (sheet .entry)) (now (work .entry)) b)) ⌝ }
+    ensures { λ r. ⌜ (r ≡ free + 2) × SummandAdded (now (sheet .entry)) (now (work .entry)) (now (work .exit)) free (plus (tree-at (now (sheet .entry)) (now (work .entry)) a) (tree-at (now (sheet .entry)) (now (work .entry)) b)) ⌝ }
 {
     let top = share(sheet, work, free, a, b);
     let nodes = count_of(work, free) + count_of(work, b) + 1;

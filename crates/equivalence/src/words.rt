@@ -1,13 +1,19 @@
 // The words of a tree: the tokens of its text, in which a sum inside a sum loses its name and brackets, and its canonical words.
-use certificate::order::Order;
-use certificate::order::compare;
-use certificate::sums::settle;
-use certificate::writer::bracket_of;
-use certificate::writer::put_closing;
-use certificate::writer::put_opening;
-use tree::cells::first_of;
+use flattening::bracket_of;
+use flattening::put_closing;
+use flattening::put_opening;
+use runs::COMMA;
+use runs::OPEN;
+use runs::PLUS;
+use runs::SHUT;
+use runs::order::BYTES;
+use runs::order::Order;
+use runs::order::compare;
+use settling::settle;
+use tree::cells::ATOMS;
 use tree::cells::kind_of;
 use tree::cells::next_of;
+use tree::children::child_of;
 use tree::names::name_is;
 ghost use mathlib.Core.Path.{_≡_};
 ghost use mathlib.Core.Bool.{Bool};
@@ -17,10 +23,10 @@ ghost use lib.Seq.{slice};
 ghost use Rattle.rules.specs.Bytes.{same};
 ghost use Rattle.rules.specs.Tree.{size, sizes};
 ghost use Rattle.tree.specs.Cells.{kind-of, first-of, name-at, tree-at, trees-at};
-ghost use Rattle.tree.specs.Arena.{Links, Arena};
-ghost use Rattle.certificate.specs.Texts.{word-text, texts, Tokens};
-ghost use Rattle.certificate.specs.Spelling.{Word};
-ghost use Rattle.equivalence.specs.Words.{Spelled, SpelledAll, Canon};
+ghost use Rattle.tree.specs.Arena.{Arena};
+ghost use Rattle.runs.specs.Texts.{word-text, texts, Tokens};
+ghost use Rattle.flattening.specs.Spelling.{Word};
+ghost use Rattle.equivalence.specs.Words.{TermWritten, TermsWritten, Canon};
 
 // The word of the name of cell k: its place, or the code of a fixed name.
 fn word_of(sheet: &[u8], work: &[u32], free: usize, k: usize) -> u32
@@ -30,21 +36,9 @@ fn word_of(sheet: &[u8], work: &[u32], free: usize, k: usize) -> u32
 {
     let place = work[4 * k];
     if place % 65536 == 0 {
-        return place + 16777216;
+        return place + PLUS;
     }
     place
-}
-
-// The first child of cell k, 0 for a leaf.
-fn child_of(work: &[u32], free: usize, k: usize) -> usize
-    requires { ⌜ Links (now work) free ⌝ }
-    requires { ⌜ (0 < k) × (k < free) ⌝ }
-    ensures { λ r. ⌜ (r < k) × (0 < r → (kind-of (now (work .entry)) k ≡ 0) × (r ≡ first-of (now (work .entry)) k)) × (r ≡ 0 → kind-of (now (work .entry)) k ≡ 0 → first-of (now (work .entry)) k ≡ 0) ⌝ }
-{
-    if kind_of(work, k) == 0 {
-        return first_of(work, free, k);
-    }
-    0
 }
 
 // Writes the words of the tree of cell i, which is a leaf.
@@ -52,15 +46,15 @@ fn put_leaf(sheet: &[u8], work: &mut [u32], free: usize, i: usize, out: usize) -
     requires { ⌜ Arena (now sheet) (now work) free ⌝ }
     requires { ⌜ (0 < i) × (i < free) × (out + 4 ≤ length (now work)) ⌝ }
     requires { ⌜ (kind-of (now work) i ≡ 0 → first-of (now work) i ≡ 0) ⌝ }
-    ensures { λ r. ⌜ ((b : Bool) → Spelled (now (sheet .entry)) (now (work .entry)) (now (work .exit)) b (tree-at (now (sheet .entry)) (now (work .entry)) i) out r) ⌝ }
+    ensures { λ r. ⌜ ((b : Bool) → TermWritten (now (sheet .entry)) (now (work .entry)) (now (work .exit)) b (tree-at (now (sheet .entry)) (now (work .entry)) i) out r) ⌝ }
 {
     let kind = kind_of(work, i);
     let word = word_of(sheet, work, free, i);
-    if 7 <= kind {
-        work[out] = ((512 + kind) * 65536) as u32;
-        work[out + 1] = 2621440;
+    if ATOMS <= kind {
+        work[out] = ((BYTES + kind) * 65536) as u32;
+        work[out + 1] = OPEN;
         work[out + 2] = word;
-        work[out + 3] = 2686976;
+        work[out + 3] = SHUT;
         return out + 4;
     }
     work[out] = word;
@@ -79,7 +73,7 @@ fn put_term(
     requires { ⌜ Arena (now sheet) (now work) free ⌝ }
     requires { ⌜ (0 < i) × (i < free) ⌝ }
     requires { ⌜ (4 * free ≤ out) × (out + 5 * size (tree-at (now sheet) (now work) i) ≤ length (now work)) ⌝ }
-    ensures { λ r. ⌜ Spelled (now (sheet .entry)) (now (work .entry)) (now (work .exit)) inside (tree-at (now (sheet .entry)) (now (work .entry)) i) out r ⌝ }
+    ensures { λ r. ⌜ TermWritten (now (sheet .entry)) (now (work .entry)) (now (work .exit)) inside (tree-at (now (sheet .entry)) (now (work .entry)) i) out r ⌝ }
 {
     let first = child_of(work, free, i);
     if first == 0 {
@@ -104,32 +98,38 @@ fn put_list(
     requires { ⌜ Arena (now sheet) (now work) free ⌝ }
     requires { ⌜ (0 < i) × (i < free) ⌝ }
     requires { ⌜ (4 * free ≤ out) × (out + 5 * sizes (trees-at (now sheet) (now work) i) ≤ length (now work)) ⌝ }
-    ensures { λ r. ⌜ SpelledAll (now (sheet .entry)) (now (work .entry)) (now (work .exit)) inside (trees-at (now (sheet .entry)) (now (work .entry)) i) out r ⌝ }
+    ensures { λ r. ⌜ TermsWritten (now (sheet .entry)) (now (work .entry)) (now (work .exit)) inside (trees-at (now (sheet .entry)) (now (work .entry)) i) out r ⌝ }
 {
     let end = put_term(sheet, work, free, i, inside, out);
     let next = next_of(work, free, i);
     if next == 0 {
         return end;
     }
-    work[end] = 2883584;
+    work[end] = COMMA;
     put_list(sheet, work, free, next, inside, end + 1)
 }
 
 // Writes the canonical words of the tree of cell i from `base` on, and answers where they end. Fifteen words for each node, from `base`
 // on, may change.
-pub fn tree_words(sheet: &[u8], work: &mut [u32], free: usize, i: usize, base: usize) -> usize
+pub(crate) fn tree_words(
+    sheet: &[u8],
+    work: &mut [u32],
+    free: usize,
+    i: usize,
+    base: usize,
+) -> usize
     requires { ⌜ Arena (now sheet) (now work) free ⌝ }
     requires { ⌜ (0 < i) × (i < free) × (4 * free ≤ base) ⌝ }
     requires { ⌜ (5 * size (tree-at (now sheet) (now work) i) < 65536) × (base + 15 * size (tree-at (now sheet) (now work) i) ≤ length (now work)) ⌝ }
     ensures { λ r. ⌜ Canon (now (sheet .entry)) (now (work .entry)) (now (work .exit)) (tree-at (now (sheet .entry)) (now (work .entry)) i) base r ⌝ }
 {
     let end = put_term(sheet, work, free, i, false, base);
-    settle(sheet, work, 16777216, base, end, end);
+    settle(sheet, work, PLUS, base, end, end);
     end
 }
 
 // Whether the words from `from` to `to` have the text of the words from `start` to `end`.
-pub fn same_text(
+pub(crate) fn same_text(
     sheet: &[u8],
     work: &[u32],
     from: usize,

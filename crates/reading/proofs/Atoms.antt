@@ -1,4 +1,4 @@
--- Atoms: a letter around one application of digits. Assumes nothing.
+-- Atoms: a letter around one application of digits.
 use Prim.Native.Nat.{ℕ, zero, suc, _+_, _*_, _-_, _<_, _≤_}
 use native.Mathlib.Omega.{arith}
 use mathlib.Core.Path.{_≡_, refl, sym, ap, ap₂, _∙_, subst}
@@ -17,7 +17,7 @@ use Rattle.rules.specs.Tree.{Tree, atom, apply, Trees, none, more, size}
 use Rattle.rules.specs.Reading.{single, constant-name, atom-of}
 use Rattle.laws.specs.Unspelled.{unspelled}
 use Rattle.tree.specs.Cells.{start-of, length-of, kind-of, fixed-name, named, name-at, first-of, next-of, made, tree-at, trees-at}
-use Rattle.tree.specs.Arena.{Place, Arena, Wrote, Linked}
+use Rattle.tree.specs.Arena.{Place, Arena, WroteCell, Linked}
 use Rattle.tree.proofs.Bounded.{every-below, below-holds}
 use Rattle.tree.proofs.FixedNames.{fixed-unspelled}
 use Rattle.tree.proofs.Decoding.{Kind, application, a-variable, an-atom, kind, tree-variable, tree-atom, tree-apply, trees-none, trees-more, made-atom}
@@ -132,7 +132,7 @@ module _ (s : Text) {w : List ℕ} {free : ℕ} (a : Arena s w free) (k : ℕ) (
 
 -- the cell of an atom
 pub atom-done : (s : Text) {w v : List ℕ} {free limit letter chain next r x y : ℕ} → Arena s w free → chain < free → next < free → free + 1 ≤ limit → 4 * limit ≤ length w → 7 ≤ letter → letter < 256
-    → Alone s w chain true → x ≡ start-of w chain → y ≡ length-of w chain → r ≡ free + 1 → Wrote w v free x y letter 0 next 1 → Done s w v free r limit next (atom-of (letter ∷ []) (back (trees-at s w chain) none))
+    → Alone s w chain true → x ≡ start-of w chain → y ≡ length-of w chain → r ≡ free + 1 → WroteCell w v free x y letter 0 next 1 → Done s w v free r limit next (atom-of (letter ∷ []) (back (trees-at s w chain) none))
 unfolding size atom-of name-at
 atom-done s {w} {v} {free} {limit} {letter} {chain} {next} {r} {x} {y} a q g o room l m h e f i z =
     let c = a .cell chain (h .0) q in

@@ -13,7 +13,7 @@ use Rattle.rules.specs.Maybe.{_>>=_, guard}
 use Rattle.rules.specs.Tree.{Tree, Trees, none, more}
 use Rattle.rules.specs.Tokens.{tokens}
 use Rattle.rules.specs.Reading.{leaf, close, after-token, wholly, read-term, read-list, read-text}
-use Rattle.reading.specs.Machine.{Stack, bottom, level, add, back, wants, named, has, given, machine, reading}
+use Rattle.reading.specs.Machine.{Stack, bottom, level, add, back, wants, named, has, machine-after, machine, machine-reading}
 
 abbrev Term : Type 0
 Term = Tree × List Text
@@ -115,7 +115,7 @@ unfolding machine after-token
 name-runs f h n k [] l = refl
 name-runs f h n k (x ∷ us) l = go (same (bytes "(") x)
   where
-    go : (b : Bool) → (cond b (some (wants (level n none k))) (given (add (leaf n) k) x) >>= machine us)
+    go : (b : Bool) → (cond b (some (wants (level n none k))) (machine-after (add (leaf n) k) x) >>= machine us)
         ≡ with-term k (elim (cond b (some us) nothing) [ nothing ↦ some (leaf n, x ∷ us) | some us ↦ read-list close f us >>= λ (children, vs). close n children >>= λ t. some (t, vs) ])
     go true = h us n none k (omega arith) ∙ list-closes n k (read-list close f us)
     go false = refl
@@ -167,7 +167,7 @@ ends (some (t, [])) = refl
 ends (some (t, x ∷ r)) = refl
 
 -- the machine from the start reads what the grammar reads
-pub reads : (s : Text) → reading s 0 (wants (bottom none)) ≡ read-text close s
+pub reads : (s : Text) → machine-reading s 0 (wants (bottom none)) ≡ read-text close s
 unfolding read-text
 reads s = go (tokens s)
   where

@@ -1,4 +1,4 @@
--- The kinds of leaves, and the names of atoms. Assumes nothing.
+-- The kinds of leaves, and the names of atoms.
 use Prim.Native.Nat.{ℕ, _+_, _-_, _<_, _≤_}
 use native.Mathlib.Omega.{arith}
 use mathlib.Core.Path.{_≡_, refl, sym, ap, _∙_}

@@ -1,4 +1,4 @@
--- New cells: with a name's place, and after other new cells; and an application of trees in their order. Assumes nothing.
+-- New cells: with a name's place, and after other new cells; and an application of trees in their order.
 use Prim.Native.Nat.{ℕ, _+_, _*_, _<_, _≤_}
 use native.Mathlib.Omega.{arith}
 use mathlib.Core.Path.{_≡_, refl, sym, ap, _∙_, subst}
@@ -9,26 +9,26 @@ use borrow.Author.Tests.{ne-eqb}
 use Rattle.rules.specs.Bytes.{Text}
 use Rattle.rules.specs.Tree.{Tree, Trees, apply, none, more, size, sizes}
 use Rattle.tree.specs.Cells.{named, part, variable-kind, made, trees-at}
-use Rattle.tree.specs.Arena.{Links, Place, Arena, Grown, Wrote, Linked}
+use Rattle.tree.specs.Arena.{Links, Place, Arena, Grown, WroteCell, Linked}
 use Rattle.tree.proofs.Decoding.{frame-trees, made-apply}
 use Rattle.tree.proofs.Pushing.{name-push, arena-push, linked}
 use Rattle.tree.proofs.Areas.{grown-on}
 use Rattle.reading.specs.Machine.{back}
-use Rattle.reading.specs.Words.{Placed, Made}
+use Rattle.reading.specs.Words.{NamePlaced, LastCell}
 use Rattle.reading.specs.declared.closing.Ordered.{Ordered}
 use Rattle.reading.specs.declared.closing.Closed.{Closed}
 use Rattle.reading.specs.Closing.{InOrder, Orders, Done, NoTree, Closes}
 use Rattle.reading.proofs.Turns.{back-sizes}
 
-pub named-part : {s : Text} {a n : ℕ} → Placed s a n → named s a n ≡ part s a n
+pub named-part : {s : Text} {a n : ℕ} → NamePlaced s a n → named s a n ≡ part s a n
 unfolding named
 named-part {s} {a} {n} p = let h = p .some in rw (ne-eqb n 0 (omega arith))
 
-pub place-of : {s : Text} {a n : ℕ} → Placed s a n → Place s a n
+pub place-of : {s : Text} {a n : ℕ} → NamePlaced s a n → Place s a n
 place-of p = record { inside = λ h. p .inside; code = λ e. absurd (let h = p .some in omega arith) }
 
 -- a cell written with a place
-module _ {w v : List ℕ} {n a l kind first next nodes : ℕ} (x : Wrote w v n a l kind first next nodes) (s : Text) (h : Arena s w n) where
+module _ {w v : List ℕ} {n a l kind first next nodes : ℕ} (x : WroteCell w v n a l kind first next nodes) (s : Text) (h : Arena s w n) where
   pub linked-at : 4 * n + 4 ≤ length w → first < n → next < n → Place s a l → kind < 256 → (0 < kind → kind < 7 → kind ≡ variable-kind (named s a l))
       → (kind < 7 → getD (named s a l) 1 0 ≡ 40 → ⊥) → nodes ≡ size (made kind (named s a l) (trees-at s w first)) → Linked s w v n next (made kind (named s a l) (trees-at s w first))
   linked-at room f g p small sorted plain counted =
@@ -37,8 +37,8 @@ module _ {w v : List ℕ} {n a l kind first next nodes : ℕ} (x : Wrote w v n a
       linked x s (h .links) g f (arena-push x s h room f g p small (rw m sorted) (rw m plain) (counted ∙ ap size (sym e))) e
 
 -- an application
-module _ {w v : List ℕ} {n a l first next nodes : ℕ} (x : Wrote w v n a l 0 first next nodes) (s : Text) (h : Arena s w n) where
-  pub linked-apply : 4 * n + 4 ≤ length w → first < n → next < n → Placed s a l → nodes ≡ 1 + sizes (trees-at s w first) → Linked s w v n next (apply (part s a l) (trees-at s w first))
+module _ {w v : List ℕ} {n a l first next nodes : ℕ} (x : WroteCell w v n a l 0 first next nodes) (s : Text) (h : Arena s w n) where
+  pub linked-apply : 4 * n + 4 ≤ length w → first < n → next < n → NamePlaced s a l → nodes ≡ 1 + sizes (trees-at s w first) → Linked s w v n next (apply (part s a l) (trees-at s w first))
   unfolding size
   linked-apply room f g p counted =
       let m = made-apply 0 (named s a l) (trees-at s w first) refl ∙ ap (λ (y : Text). apply y (trees-at s w first)) (named-part p) in
@@ -47,7 +47,7 @@ module _ {w v : List ℕ} {n a l first next nodes : ℕ} (x : Wrote w v n a l 0 
       (counted ∙ ap size (sym m)))
 
 -- a cell after other new cells
-pub made-on : (s : Text) {w v u : List ℕ} {n m r next : ℕ} {t : Tree} → Links w n → next < n → n ≤ m → Grown w v n m → r ≡ m + 1 → Linked s v u m next t → Made s w u n r next t
+pub made-on : (s : Text) {w v u : List ℕ} {n m r next : ℕ} {t : Tree} → Links w n → next < n → n ≤ m → Grown w v n m → r ≡ m + 1 → Linked s v u m next t → LastCell s w u n r next t
 made-on s {w} {v} {u} {n} {m} {r} {next} {t} l q f g e x =
     rw e
     record {
@@ -60,8 +60,8 @@ made-on s {w} {v} {u} {n} {m} {r} {next} {t} l q f g e x =
     }
 
 -- the trees in order make an application
-module _ (s : Text) {w v u : List ℕ} {n m limit chain first next nodes a l : ℕ} (h : Arena s w n) (q : next < n) (i : InOrder s w v n m chain first nodes) (p : Placed s a l) where
-  pub list-done : {r : ℕ} → 4 * m + 4 ≤ length v → m + 1 ≤ limit → r ≡ m + 1 → Wrote v u m a l 0 first next (nodes + 1) → Done s w u n r limit next (some (apply (part s a l) (back (trees-at s w chain) none)))
+module _ (s : Text) {w v u : List ℕ} {n m limit chain first next nodes a l : ℕ} (h : Arena s w n) (q : next < n) (i : InOrder s w v n m chain first nodes) (p : NamePlaced s a l) where
+  pub list-done : {r : ℕ} → 4 * m + 4 ≤ length v → m + 1 ≤ limit → r ≡ m + 1 → WroteCell v u m a l 0 first next (nodes + 1) → Done s w u n r limit next (some (apply (part s a l) (back (trees-at s w chain) none)))
   unfolding size
   list-done {r} room o e x =
       let c = i .counted in

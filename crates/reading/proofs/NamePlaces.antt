@@ -1,4 +1,4 @@
--- A name among the symbols of a text is a place in the sheet, and its second byte is no bracket. Assumes nothing.
+-- A name among the symbols of a text is a place in the sheet, and its second byte is no bracket.
 use Prim.Native.Nat.{ℕ, suc, _+_, _-_, _<_, _≤_}
 use native.Mathlib.Omega.{arith}
 use mathlib.Core.Path.{_≡_, sym, ap, _∙_, subst}
@@ -23,7 +23,7 @@ use Rattle.syntax.specs.declared.Symbol.{Symbol}
 use Rattle.syntax.specs.declared.Symbol.the-variants.{Begin, Shut, Comma, Name, Stop, Bad}
 use Rattle.syntax.proofs.TokenList.{placed}
 use Rattle.syntax.proofs.SymbolLaws.{means-is}
-use Rattle.reading.specs.Words.{Placed}
+use Rattle.reading.specs.Words.{NamePlaced}
 
 pub part-within : (s : Text) (a e to : ℕ) → a ≤ e → e ≤ to → to ≤ length s → take (e - a) (drop a (take to s)) ≡ part s a (e - a)
 part-within s a e to p q r = ap (take (e - a)) (drop-take a to s) ∙ take-take (e - a) (to - a) (drop a s) (omega arith)
@@ -67,7 +67,7 @@ pub record NameAt (s : Text) (to at a e : ℕ) : Type 0 where
   pub past : at ≤ a
   pub some : a < e
   pub within : e ≤ to
-  pub name : Placed s a (e - a)
+  pub name : NamePlaced s a (e - a)
   pub bytes : take (e - a) (drop a (take to s)) ≡ part s a (e - a)
 
 -- where a mark ends

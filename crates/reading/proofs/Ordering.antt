@@ -1,4 +1,4 @@
--- The trees of a chain put in their order: the loop's invariant and its turns. Assumes nothing.
+-- The trees of a chain put in their order: the loop's invariant and its turns.
 use Prim.Native.Nat.{ℕ, suc, _+_, _<_, _≤_}
 use native.Mathlib.Omega.{arith}
 use mathlib.Core.Path.{_≡_, refl, sym, ap, ap₂, _∙_}

@@ -1,4 +1,4 @@
--- The two nested rounds of the term reader: their invariants and turns. Assumes nothing.
+-- The two nested rounds of the term reader: their invariants and turns.
 use Prim.Native.Nat.{ℕ, zero, suc, _+_, _*_, _-_, _<_, _≤_}
 use native.Mathlib.Omega.{arith}
 use mathlib.Core.Path.{_≡_, refl, sym, ap, _∙_, subst}
@@ -21,8 +21,9 @@ use Rattle.tree.specs.Cells.{part, next-of, tree-at, trees-at}
 use Rattle.tree.specs.Arena.{Links, Arena}
 use Rattle.tree.proofs.Decoding.{trees-none, trees-more}
 use Rattle.tree.proofs.Areas.{arena-frame}
-use Rattle.reading.specs.Machine.{Stack, bottom, level, add, wants, named, has, reading, Bare, HasOne, weight}
-use Rattle.reading.specs.Words.{stack-at, Held, Outside, Added, Opened}
+use Rattle.reading.specs.Machine.{Stack, bottom, level, add, wants, named, has, machine-reading, Bare, HasOne, closing-room}
+use Rattle.text.specs.Frames.{Outside}
+use Rattle.reading.specs.Words.{stack-at, Held, Added, Opened}
 use Rattle.reading.specs.declared.closing.Closed.{Closed}
 use Rattle.reading.specs.Closing.{most, NoTree, closed-level, Popped, Pops}
 use Rattle.reading.specs.declared.Parsed.{Parsed}
@@ -35,7 +36,7 @@ use Rattle.reading.proofs.NamePlaces.{NameAt, mark-past}
 
 -- On stacks
 
-add-weight : (t : Tree) (k : Stack) → weight (add t k) ≤ weight k + 2
+add-weight : (t : Tree) (k : Stack) → closing-room (add t k) ≤ closing-room k + 2
 add-weight t (bottom ts) = omega arith
 add-weight t (level n ts k) = omega arith
 
@@ -49,8 +50,8 @@ outside-same w a b = record { len = refl; below = λ p q. refl; above = λ p q. 
 pub outside-on : {w v u : List ℕ} {a b c d : ℕ} → a ≤ c → d ≤ b → Outside w v a b → Outside v u c d → Outside w u a b
 outside-on x y g h = record {
   len = h .len ∙ g .len;
-  below = λ p q. g .below p q ∙ h .below p (omega arith);
-  above = λ p q. g .above p q ∙ h .above p (omega arith);
+  below = λ p q. h .below p (omega arith) ∙ g .below p q;
+  above = λ p q. h .above p (omega arith) ∙ g .above p q;
 }
 
 -- what the reader is given
@@ -74,16 +75,16 @@ pub record Stands (s : Text) (v : List ℕ) (start limit from to : ℕ) (w : Lis
 pub record Wants (s : Text) (v : List ℕ) (start limit from to : ℕ) (w : List ℕ) (free depth at : ℕ) : Type 0 where
   pub stands : Stands s v start limit from to w free depth at
   pub bare : Bare (stack-at s w limit depth)
-  pub room : free + weight (stack-at s w limit depth) + 2 * from ≤ start + 2 * at
-  pub reads : limited (reading (take to s) at (wants (stack-at s w limit depth))) ≡ parse (part s from (to - from))
+  pub room : free + closing-room (stack-at s w limit depth) + 2 * from ≤ start + 2 * at
+  pub reads : limited (machine-reading (take to s) at (wants (stack-at s w limit depth))) ≡ parse (part s from (to - from))
 
 -- a term is there, read since the position v-at
 pub record Has (s : Text) (v : List ℕ) (start limit from to v-at : ℕ) (w : List ℕ) (free depth at : ℕ) : Type 0 where
   pub stands : Stands s v start limit from to w free depth at
   pub past : v-at ≤ at
   pub one : HasOne (stack-at s w limit depth)
-  pub room : free + weight (stack-at s w limit depth) + 2 * from ≤ start + 2 * at + 1
-  pub reads : limited (reading (take to s) at (has (stack-at s w limit depth))) ≡ parse (part s from (to - from))
+  pub room : free + closing-room (stack-at s w limit depth) + 2 * from ≤ start + 2 * at + 1
+  pub reads : limited (machine-reading (take to s) at (has (stack-at s w limit depth))) ≡ parse (part s from (to - from))
 
 -- the top level, where there is one
 pub top-level : (s : Text) (w : List ℕ) (limit depth : ℕ) → (depth ≡ 0 → ⊥)
@@ -118,7 +119,7 @@ module _ {s : Text} {start limit from to : ℕ} (k : Task s start limit from to)
         bare = b;
         room = omega arith;
         reads =
-            ap (λ (ts : Trees). limited (reading (take to s) from (wants (bottom ts)))) b
+            ap (λ (ts : Trees). limited (machine-reading (take to s) from (wants (bottom ts)))) b
             ∙ ap limited (reads (drop from (take to s)))
             ∙ sym (parse-limited (drop from (take to s)))
             ∙ ap parse (drop-take from to s);
@@ -130,9 +131,9 @@ module _ {s : Text} {start limit from to : ℕ} (k : Task s start limit from to)
     wants-out f o = sym (h .reads) ∙ ap limited (not-name (take to s) at f (stack-at s w limit depth) o)
 
     module _ {a e : ℕ} (n : NameAt s to at a e) {r : Symbol} (f : r ≡ symbol-at (take to s) at) (g : r ≡ Name a e) where
-      read-name : limited (reading (take to s) e (named (part s a (e - a)) (stack-at s w limit depth))) ≡ parse (part s from (to - from))
+      read-name : limited (machine-reading (take to s) e (named (part s a (e - a)) (stack-at s w limit depth))) ≡ parse (part s from (to - from))
       read-name =
-          ap (λ (m : Text). limited (reading (take to s) e (named m (stack-at s w limit depth)))) (sym (n .bytes))
+          ap (λ (m : Text). limited (machine-reading (take to s) e (named m (stack-at s w limit depth)))) (sym (n .bytes))
           ∙ sym (ap limited (name-turn (take to s) at f a e (stack-at s w limit depth) g))
           ∙ h .reads
 
@@ -147,7 +148,7 @@ module _ {s : Text} {start limit from to : ℕ} (k : Task s start limit from to)
           let li = k .limit-is in
           let de = st .deep in
           let en : 4 * limit + 3 * depth + 4 ≤ stack-end start from to = omega (arith, st .after) in
-          let we : weight (stack-at s u limit (depth + 1)) ≡ 2 + weight (stack-at s w limit depth) = ap weight (x .stack) in
+          let we : closing-room (stack-at s u limit (depth + 1)) ≡ 2 + closing-room (stack-at s w limit depth) = ap closing-room (x .stack) in
           record {
             stands = record {
               held = x .held;
@@ -160,7 +161,7 @@ module _ {s : Text} {start limit from to : ℕ} (k : Task s start limit from to)
             bare = rw (x .stack) (h .bare);
             room = omega arith;
             reads =
-                ap (λ (y : Stack). limited (reading (take to s) i (wants y))) (x .stack)
+                ap (λ (y : Stack). limited (machine-reading (take to s) i (wants y))) (x .stack)
                 ∙ sym (ap limited (open-turn (take to s) e j i (part s a (e - a)) (stack-at s w limit depth) b))
                 ∙ read-name;
           }
@@ -174,7 +175,7 @@ module _ {s : Text} {start limit from to : ℕ} (k : Task s start limit from to)
           let so = n .some in
           let ro = h .room in
           let de = st .deep in
-          let we = ap weight (x .stack) in
+          let we = ap closing-room (x .stack) in
           record {
             stands = record {
               held = x .held;
@@ -188,7 +189,7 @@ module _ {s : Text} {start limit from to : ℕ} (k : Task s start limit from to)
             one = rw (x .stack) (add-has (leaf (part s a (e - a))) (stack-at s w limit depth) (h .bare) (omega (arith, leaf-size (part s a (e - a)))));
             room = omega (arith, add-weight (leaf (part s a (e - a))) (stack-at s w limit depth));
             reads =
-                ap (λ (y : Stack). limited (reading (take to s) e (has y))) (x .stack)
+                ap (λ (y : Stack). limited (machine-reading (take to s) e (has y))) (x .stack)
                 ∙ sym (ap limited (leaf-turn (take to s) e j (part s a (e - a)) (stack-at s w limit depth) o))
                 ∙ read-name;
           }
@@ -204,16 +205,16 @@ module _ {s : Text} {start limit from to : ℕ} (k : Task s start limit from to)
 
     pub comma-out : (t : ℕ) → depth ≡ 0 → r ≡ Comma t → parse (part s from (to - from)) ≡ nothing
     comma-out t e g =
-        sym (h .reads) ∙ ap (λ (y : Stack). limited (reading (take to s) at (has y))) (bare-bottom e) ∙ ap limited (comma-bare (take to s) at f t (trees-at s w (getD w (4 * limit) 0)) g)
+        sym (h .reads) ∙ ap (λ (y : Stack). limited (machine-reading (take to s) at (has y))) (bare-bottom e) ∙ ap limited (comma-bare (take to s) at f t (trees-at s w (getD w (4 * limit) 0)) g)
 
     pub shut-alone : (t : ℕ) → depth ≡ 0 → r ≡ Shut t → parse (part s from (to - from)) ≡ nothing
     shut-alone t e g =
-        sym (h .reads) ∙ ap (λ (y : Stack). limited (reading (take to s) at (has y))) (bare-bottom e) ∙ ap limited (shut-bare (take to s) at f t (trees-at s w (getD w (4 * limit) 0)) g)
+        sym (h .reads) ∙ ap (λ (y : Stack). limited (machine-reading (take to s) at (has y))) (bare-bottom e) ∙ ap limited (shut-bare (take to s) at f t (trees-at s w (getD w (4 * limit) 0)) g)
 
     -- the end
     pub stop-out : (depth ≡ 0 → ⊥) → r ≡ Stop → parse (part s from (to - from)) ≡ nothing
     stop-out e g =
-        sym (h .reads) ∙ ap (λ (y : Stack). limited (reading (take to s) at (has y))) (top-level s w limit depth e) ∙ ap limited (stop-turn (take to s) at f (has (level _ _ _)) g)
+        sym (h .reads) ∙ ap (λ (y : Stack). limited (machine-reading (take to s) at (has y))) (top-level s w limit depth e) ∙ ap limited (stop-turn (take to s) at f (has (level _ _ _)) g)
 
     pub stop-in : {x : List ℕ} {index : ℕ} → depth ≡ 0 → r ≡ Stop → index ≡ getD w (4 * limit) 0 → Outside x w (4 * start) (stack-end start from to) → Read s x w start from to index free
     stop-in {x} {index} e g i o =
@@ -230,7 +231,7 @@ module _ {s : Text} {start limit from to : ℕ} (k : Task s start limit from to)
         let tt : tree-at s w index ≡ t = (let y = sym m ∙ ts in cc) in
         record {
           reads =
-              sym (h .reads) ∙ ap (λ (y : Stack). limited (reading (take to s) at (has y))) b ∙ ap limited (stop-turn (take to s) at f (has (bottom (trees-at s w (getD w (4 * limit) 0)))) g)
+              sym (h .reads) ∙ ap (λ (y : Stack). limited (machine-reading (take to s) at (has y))) b ∙ ap limited (stop-turn (take to s) at f (has (bottom (trees-at s w (getD w (4 * limit) 0)))) g)
               ∙ ap (λ (y : Trees). limited (single y)) (one .1) ∙ small-enough t (one .2) ∙ ap some (sym tt);
           link = no-cell l (next-of w index) (omega (arith, l .next index p (omega arith))) (let y = sym m ∙ ts in cc);
           placed = (p, omega arith);
@@ -266,9 +267,9 @@ module _ {s : Text} {start limit from to : ℕ} (k : Task s start limit from to)
           bare = subst Bare (sym lv) (subst HasOne lv (h .one));
           room = omega (arith, h .room);
           reads =
-              ap (λ (y : Stack). limited (reading (take to s) t (wants y))) lv
+              ap (λ (y : Stack). limited (machine-reading (take to s) t (wants y))) lv
               ∙ sym (ap limited (comma-turn (take to s) at f t _ _ (stack-at s w limit (depth - 1)) g))
-              ∙ sym (ap (λ (y : Stack). limited (reading (take to s) at (has y))) lv)
+              ∙ sym (ap (λ (y : Stack). limited (machine-reading (take to s) at (has y))) lv)
               ∙ h .reads;
         }
 
@@ -286,8 +287,8 @@ module _ {s : Text} {start limit from to : ℕ} (k : Task s start limit from to)
         let de = st .deep in
         let ss = st .starts in
         let li = k .limit-is in
-        let wl = ap weight lv in
-        let wu = ap weight (y .stack) in
+        let wl = ap closing-room lv in
+        let wu = ap closing-room (y .stack) in
         record {
           stands = record {
             held = y .held;
@@ -301,22 +302,22 @@ module _ {s : Text} {start limit from to : ℕ} (k : Task s start limit from to)
           one = rw (y .stack) (add-has (x .tree) (stack-at s w limit (depth - 1)) (subst HasOne lv (h .one)) (x .small));
           room = omega (arith, add-weight (x .tree) (stack-at s w limit (depth - 1)));
           reads =
-              ap (λ (y : Stack). limited (reading (take to s) t (has y))) (y .stack)
+              ap (λ (y : Stack). limited (machine-reading (take to s) t (has y))) (y .stack)
               ∙ sym (ap limited (shut-turn (take to s) at f t _ _ (stack-at s w limit (depth - 1)) (x .tree) g (x .is)))
-              ∙ sym (ap (λ (y : Stack). limited (reading (take to s) at (has y))) lv)
+              ∙ sym (ap (λ (y : Stack). limited (machine-reading (take to s) at (has y))) lv)
               ∙ h .reads;
         }
 
     pub shut-refused : (t : ℕ) → (depth ≡ 0 → ⊥) → r ≡ Shut t → NoTree (closed-level s w limit (depth - 1)) → parse (part s from (to - from)) ≡ nothing
     shut-refused t e g x =
-        sym (h .reads) ∙ ap (λ (y : Stack). limited (reading (take to s) at (has y))) (top-level s w limit depth e) ∙ shut-out (take to s) at f t _ _ (stack-at s w limit (depth - 1)) g x
+        sym (h .reads) ∙ ap (λ (y : Stack). limited (machine-reading (take to s) at (has y))) (top-level s w limit depth e) ∙ shut-out (take to s) at f t _ _ (stack-at s w limit (depth - 1)) g x
 
     -- room to close the top level
     pub shut-room : (t : ℕ) → (depth ≡ 0 → ⊥) → r ≡ Shut t → most s w free (getD w (4 * limit + 3 * (depth - 1) + 3) 0) ≤ limit
     shut-room t e g =
         let st = h .stands in
         let p = mark-past s at to (k .within) f t (Shut t) g refl in
-        let wl = ap weight (top-level s w limit depth e) in
+        let wl = ap closing-room (top-level s w limit depth e) in
         omega (arith, h .room, st .after, k .limit-is)
 
 pub task : (s : Text) {start limit from to : ℕ} → limit ≡ limit-of start from to → from ≤ to → to ≤ length s → length s ≤ 65536 → to < from + 65536 → Task s start limit from to
@@ -345,8 +346,8 @@ module _ {s : Text} {w : List ℕ} {free : ℕ} (from to : ℕ) (a : Arena s w f
   pub bottom-outside : Outside w (set w (4 * limit-of free from to) 0) (4 * free) (stack-end free from to)
   bottom-outside = record {
     len = length-set w (4 * limit-of free from to) 0;
-    below = λ p q. sym (getD-set-other w (4 * limit-of free from to) p 0 0 (omega arith));
-    above = λ p q. sym (getD-set-other w (4 * limit-of free from to) p 0 0 (omega arith));
+    below = λ p q. getD-set-other w (4 * limit-of free from to) p 0 0 (omega arith);
+    above = λ p q. getD-set-other w (4 * limit-of free from to) p 0 0 (omega arith);
   }
 
 pub parses-on : (s : Text) {w v : List ℕ} (u : List ℕ) (free from to : ℕ) (r : Parsed) → Outside w v (4 * free) (stack-end free from to) → Parses s v u free from to r → Parses s w u free from to r

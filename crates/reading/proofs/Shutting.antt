@@ -1,4 +1,4 @@
--- What a closed list is, by its name. Assumes nothing.
+-- What a closed list is, by its name.
 use Prim.Native.Nat.{ℕ, _+_, _-_, _≤_}
 use native.Mathlib.Omega.{arith}
 use mathlib.Core.Path.{_≡_, refl, sym, ap, ap₂, _∙_}
@@ -13,13 +13,13 @@ use Rattle.rules.specs.Tree.{Trees, apply, tamtplus}
 use Rattle.rules.specs.Reading.{close, atom-of, sum-of}
 use Rattle.laws.proofs.Basics.Tests.{same-eq}
 use Rattle.tree.specs.Cells.{part}
-use Rattle.reading.specs.Words.{Placed}
+use Rattle.reading.specs.Words.{NamePlaced}
 use Rattle.reading.proofs.Atoms.{letter-only}
 
 pub part-is : (s : Text) (a n : ℕ) → take (a + n - a) (drop a s) ≡ part s a n
 part-is s a n = let d : a + n - a ≡ n = omega arith in rw d
 
-pub part-first : {s : Text} {a n : ℕ} → Placed s a n → getD (part s a n) 0 0 ≡ getD s a 0
+pub part-first : {s : Text} {a n : ℕ} → NamePlaced s a n → getD (part s a n) 0 0 ≡ getD s a 0
 part-first {s} {a} {n} p = getD-take n (drop a s) 0 0 (p .some) ∙ getD-drop a s 0 0 ∙ ap (λ (k : ℕ). getD s k 0) (omega arith)
 
 close-by : (n : Text) (ts : Trees) {b c : Bool} → letter-name n ≡ b → same n tamtplus ≡ c → close n ts ≡ elim b [ true ↦ atom-of n ts | false ↦ elim c [ true ↦ sum-of ts | false ↦ some (apply n ts) ] ]
@@ -27,7 +27,7 @@ unfolding close
 close-by n ts e f = ap₂ (λ (x y : Bool). elim x [ true ↦ atom-of n ts | false ↦ elim y [ true ↦ sum-of ts | false ↦ some (apply n ts) ] ]) e f
 
 -- the tests of the name, at the numbers that the code holds
-module _ {s : Text} {a n : ℕ} (p : Placed s a n) (ts : Trees) {r : Bool} (e : r ≡ letter-name (take (a + n - a) (drop a s))) where
+module _ {s : Text} {a n : ℕ} (p : NamePlaced s a n) (ts : Trees) {r : Bool} (e : r ≡ letter-name (take (a + n - a) (drop a s))) where
   is-letter : {q : Bool} → r ≡ q → letter-name (part s a n) ≡ q
   is-letter f = sym (e ∙ ap letter-name (part-is s a n)) ∙ f
 

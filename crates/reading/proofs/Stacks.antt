@@ -1,4 +1,4 @@
--- The stack in words: words that stay, a tree put on the top, a level opened. Assumes nothing.
+-- The stack in words: words that stay, a tree put on the top, a level opened.
 use Prim.Native.Nat.{ℕ, zero, suc, _+_, _*_, _<_, _≤_}
 use native.Mathlib.Omega.{arith}
 use native.Mathlib.Numerals.{add-one}
@@ -13,12 +13,13 @@ use Rattle.rules.specs.Tree.{Tree, Trees, none, more, size}
 use Rattle.rules.specs.Reading.{leaf, close}
 use Rattle.laws.proofs.Reading.Colons.{leaf-size}
 use Rattle.tree.specs.Cells.{named, part, variable-kind, made, trees-at}
-use Rattle.tree.specs.Arena.{Links, Arena, Grown, Wrote, Linked}
+use Rattle.tree.specs.Arena.{Links, Arena, Grown, WroteCell, Linked}
 use Rattle.tree.proofs.Decoding.{Agree, frame-trees, trees-none}
 use Rattle.tree.proofs.Areas.{arena-frame, grown-same}
 use Rattle.reading.specs.Machine.{Stack, bottom, level, add, back}
 use Rattle.reading.specs.Leaves.{leaf-kind}
-use Rattle.reading.specs.Words.{stack-at, Placed, Held, Outside, Made, Added, Opened}
+use Rattle.text.specs.Frames.{Outside}
+use Rattle.reading.specs.Words.{stack-at, NamePlaced, Held, LastCell, Added, Opened}
 use Rattle.reading.specs.Closing.{most, Done, NoTree, closed-level, Popped}
 use Rattle.reading.proofs.LeafLaws.{leaf-made, leaf-sorted}
 use Rattle.reading.proofs.Making.{named-part, place-of, linked-at, made-on}
@@ -49,7 +50,7 @@ module _ (s : Text) {w : List ℕ} (v : List ℕ) {n : ℕ} (l : Links w n) (g :
 abbrev top-set : List ℕ → ℕ → ℕ → ℕ → List ℕ
 top-set v limit d k = set v (4 * limit + 3 * d) k
 
-module _ {s : Text} {w v : List ℕ} {n m limit d : ℕ} {t : Tree} (k : ℕ) (h : Held s w n limit d) (b : m ≤ limit) (x : Made s w v n m (getD w (4 * limit + 3 * d) 0) t) (e : k + 1 ≡ m) where
+module _ {s : Text} {w v : List ℕ} {n m limit d : ℕ} {t : Tree} (k : ℕ) (h : Held s w n limit d) (b : m ≤ limit) (x : LastCell s w v n m (getD w (4 * limit + 3 * d) 0) t) (e : k + 1 ≡ m) where
   -- words of v other than the level's
   kept : (p : ℕ) → (p ≡ 4 * limit + 3 * d → ⊥) → getD v p 0 ≡ getD (top-set v limit d k) p 0
   kept p f = sym (getD-set-other v (4 * limit + 3 * d) p k 0 f)
@@ -100,8 +101,8 @@ module _ {s : Text} {w v : List ℕ} {n m limit d : ℕ} {t : Tree} (k : ℕ) (h
     stack = added-stack d refl;
     outside = record {
       len = length-set v (4 * limit + 3 * d) k ∙ x .grown .len;
-      below = λ p q. old-cells p q;
-      above = λ p q. x .grown .above p (omega arith) ∙ kept p (omega arith);
+      below = λ p q. sym (old-cells p q);
+      above = λ p q. sym (x .grown .above p (omega arith) ∙ kept p (omega arith));
     };
   }
 
@@ -122,7 +123,7 @@ unfolding stack-at
 stack-top s w limit d = rw (add-one d)
 
 -- a leaf's cell
-pub leaf-linked : {s : Text} {w v : List ℕ} {n a l kind next : ℕ} → Wrote w v n a l kind 0 next 1 → Arena s w n → 4 * n + 4 ≤ length w → next < n → Placed s a l → kind ≡ leaf-kind (part s a l) → kind < 7
+pub leaf-linked : {s : Text} {w v : List ℕ} {n a l kind next : ℕ} → WroteCell w v n a l kind 0 next 1 → Arena s w n → 4 * n + 4 ≤ length w → next < n → NamePlaced s a l → kind ≡ leaf-kind (part s a l) → kind < 7
     → Linked s w v n next (leaf (part s a l))
 leaf-linked {s} {w} {v} {n} {a} {l} {kind} {next} x h room q p e small =
     let m = named-part p in
@@ -131,8 +132,8 @@ leaf-linked {s} {w} {v} {n} {a} {l} {kind} {next} x h room q p e small =
     (linked-at x s h room (h .links .some) q (place-of p) (omega arith) (λ f g. e ∙ leaf-sorted (part s a l) (omega arith) ∙ ap variable-kind (sym m))
     (λ f g. p .plain (ap (λ (y : Text). getD y 1 0) (sym m) ∙ g)) (sym (ap size t ∙ leaf-size (part s a l))))
 
-pub leaf-added : {s : Text} {w v : List ℕ} {n limit d r a l kind next : ℕ} → Held s w n limit d → n < limit → Placed s a l → next ≡ getD w (4 * limit + 3 * d) 0 → kind ≡ leaf-kind (part s a l) → kind < 7
-    → r ≡ n + 1 → Wrote w v n a l kind 0 next 1 → Added s w (set v (4 * limit + 3 * d) n) n r limit d (leaf (part s a l))
+pub leaf-added : {s : Text} {w v : List ℕ} {n limit d r a l kind next : ℕ} → Held s w n limit d → n < limit → NamePlaced s a l → next ≡ getD w (4 * limit + 3 * d) 0 → kind ≡ leaf-kind (part s a l) → kind < 7
+    → r ≡ n + 1 → WroteCell w v n a l kind 0 next 1 → Added s w (set v (4 * limit + 3 * d) n) n r limit d (leaf (part s a l))
 leaf-added {s} {w} {v} {n} {limit} {d} {r} {a} {l} {kind} {next} h b p e f small g x =
     let q = h .trees d (omega arith) in
     let o = h .room in
@@ -140,7 +141,7 @@ leaf-added {s} {w} {v} {n} {limit} {d} {r} {a} {l} {kind} {next} h b p e f small
     added n h (omega arith) (made-on s (h .arena .links) q (omega arith) (grown-same w n n) g y) (sym g)
 
 -- a level opened
-module _ {s : Text} {w : List ℕ} {n limit d a l : ℕ} (h : Held s w n limit d) (room : 4 * limit + 3 * d + 3 < length w) (p : Placed s a l) where
+module _ {s : Text} {w : List ℕ} {n limit d a l : ℕ} (h : Held s w n limit d) (room : 4 * limit + 3 * d + 3 < length w) (p : NamePlaced s a l) where
   abbrev top : ℕ
   top = 4 * limit + 3 * d
 
@@ -180,7 +181,7 @@ module _ {s : Text} {w : List ℕ} {n limit d a l : ℕ} (h : Held s w n limit d
     | no f ↦ (let t = h .trees i (omega arith) in let e = lower-words (4 * limit + 3 * i) (omega arith) in omega arith)
   ]
 
-  opened-names : (i : ℕ) → i < d + 1 → Placed s (getD opening (4 * limit + 3 * i + 1) 0) (getD opening (4 * limit + 3 * i + 2) 0)
+  opened-names : (i : ℕ) → i < d + 1 → NamePlaced s (getD opening (4 * limit + 3 * i + 1) 0) (getD opening (4 * limit + 3 * i + 2) 0)
   opened-names i q = elim (ℕ-discrete i d) [
     | yes f ↦ rw (f, word-1, word-2) p
     | no f ↦ rw (← lower-words (4 * limit + 3 * i + 1) (omega arith), ← lower-words (4 * limit + 3 * i + 2) (omega arith)) (h .names i (omega arith))
@@ -201,8 +202,8 @@ module _ {s : Text} {w : List ℕ} {n limit d a l : ℕ} (h : Held s w n limit d
         (sym (stack-frame s opening (h .arena .links) opened-cells limit d (λ q b c. lower-words q c) (h .trees)));
     outside = record {
       len = opening-length;
-      below = λ q r. opened-cells q r;
-      above = λ q r. other q (omega arith) (omega arith) (omega arith);
+      below = λ q r. sym (opened-cells q r);
+      above = λ q r. sym (other q (omega arith) (omega arith) (omega arith));
     };
   }
 
@@ -225,11 +226,11 @@ module _ (s : Text) (w : List ℕ) (limit d : ℕ) {a l chain : ℕ} (e₁ : a �
         small = x .small;
         grows = x .made .some;
         room = omega arith;
-        added = added k (held-below h) (omega arith) (subst (λ (q : ℕ). Made s w v n m q (x .tree)) e₀ (x .made)) e;
+        added = added k (held-below h) (omega arith) (subst (λ (q : ℕ). LastCell s w v n m q (x .tree)) e₀ (x .made)) e;
       }
 
   -- the name of the level
-  pub placed-at : {n : ℕ} → Held s w n limit (d + 1) → Placed s a l
+  pub placed-at : {n : ℕ} → Held s w n limit (d + 1) → NamePlaced s a l
   placed-at h = rw (e₁, e₂) (h .names d (omega arith))
 
   pub most-is : (n : ℕ) → most s w n chain ≡ most s w n (getD w (4 * limit + 3 * d + 3) 0)
@@ -243,4 +244,4 @@ module _ (s : Text) (w : List ℕ) (limit d : ℕ) {a l chain : ℕ} (e₁ : a �
 
 -- new cells alone leave the stack's words
 pub outside-grown : {w v : List ℕ} {n m limit : ℕ} → m ≤ limit → Grown w v n m → Outside w v (4 * n) (4 * limit)
-outside-grown b g = record { len = g .len; below = g .below; above = λ p q. g .above p (omega arith) }
+outside-grown b g = record { len = g .len; below = λ p q. sym (g .below p q); above = λ p q. sym (g .above p (omega arith)) }

@@ -1,4 +1,4 @@
--- A sum of trees that stand last first: the loop's invariant and its turns. Assumes nothing.
+-- A sum of trees that stand last first: the loop's invariant and its turns.
 use Prim.Native.Nat.{ℕ, _+_, _*_, _<_, _≤_}
 use native.Mathlib.Omega.{arith}
 use mathlib.Core.Path.{_≡_, refl, sym, ap, ap₂, _∙_, subst}
@@ -10,11 +10,11 @@ use Rattle.rules.specs.Bytes.{Text}
 use Rattle.rules.specs.Tree.{Tree, Trees, apply, none, more, size, sizes, count, tamtplus, plus}
 use Rattle.rules.specs.Reading.{nested, sum-of}
 use Rattle.tree.specs.Cells.{part, nodes-of, next-of, tree-at, trees-at}
-use Rattle.tree.specs.Arena.{Links, Arena, Grown, Wrote, Linked}
+use Rattle.tree.specs.Arena.{Links, Arena, Grown, WroteCell, Linked}
 use Rattle.tree.proofs.Decoding.{frame-tree, frame-trees, trees-none, trees-more, same-next}
 use Rattle.tree.proofs.Areas.{grown-same, grown-on}
 use Rattle.reading.specs.Machine.{back}
-use Rattle.reading.specs.Words.{Placed}
+use Rattle.reading.specs.Words.{NamePlaced}
 use Rattle.reading.specs.Closing.{summed, Done, NoTree}
 use Rattle.reading.proofs.Ordering.{count-more}
 use Rattle.reading.proofs.Making.{linked-apply, made-on}
@@ -127,9 +127,9 @@ module _ (s : Text) (w₀ : List ℕ) (tail chain : ℕ) (a : Arena s w₀ (tail
           omega (arith, summed-size (plus (tree-at s w₀ k) (h .tree)) (trees-at s w₀ (next-of w₀ k)))
 
       -- one summand more
-      module _ {u v : List ℕ} {x y pair before name len : ℕ} (e : x ≡ nodes-of w k) (f : y ≡ nodes-of w last) (o : 1 + x + y ≤ 4096) (placed : Placed s name len) (plus-name : part s name len ≡ tamtplus)
+      module _ {u v : List ℕ} {x y pair before name len : ℕ} (e : x ≡ nodes-of w k) (f : y ≡ nodes-of w last) (o : 1 + x + y ≤ 4096) (placed : NamePlaced s name len) (plus-name : part s name len ≡ tamtplus)
           (g : before ≡ next-of w k) (i : pair ≡ last + 1 + 1) (l : Linked s w u (last + 1) last (tree-at s w k)) where
-        pub summing-turn : 4 * (tail + 1 + 2 * count (trees-at s w₀ chain)) ≤ length w₀ → Wrote u v pair name len 0 (last + 1) 0 (1 + x + y) → Summing s w₀ tail chain v pair before
+        pub summing-turn : 4 * (tail + 1 + 2 * count (trees-at s w₀ chain)) ≤ length w₀ → WroteCell u v pair name len 0 (last + 1) 0 (1 + x + y) → Summing s w₀ tail chain v pair before
         unfolding summed size
         summing-turn room z =
             let q = h .at in

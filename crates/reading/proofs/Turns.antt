@@ -27,12 +27,12 @@ use Rattle.syntax.specs.declared.Symbol.the-variants.{Begin, Shut, Comma, Name,
 use Rattle.syntax.proofs.Symbol.{the-type}
 use Rattle.syntax.proofs.TokenList.{joined}
 use Rattle.syntax.proofs.SymbolLaws.{means-is}
-use Rattle.reading.specs.Machine.{Stack, bottom, level, add, back, State, wants, named, has, given, step, ended, finish, machine, reading, total}
+use Rattle.reading.specs.Machine.{Stack, bottom, level, add, back, State, wants, named, has, machine-after, machine-step, ended, machine-end, machine, machine-reading, total}
 
 -- One token
 
 module _ (s : Text) (at to : ℕ) (m : Text) (first : tokens (drop at s) ≡ joined m (tokens (drop to s))) where
-  pub turn : (st st′ : State) → step st m ≡ some st′ → reading s at st ≡ reading s to st′
+  pub turn : (st st′ : State) → machine-step st m ≡ some st′ → machine-reading s at st ≡ machine-reading s to st′
   unfolding machine
   turn st st′ e = ap (λ (o : Option (List Text)). o >>= λ ts. machine ts st) first ∙ go (tokens (drop to s))
     where
@@ -40,7 +40,7 @@ module _ (s : Text) (at to : ℕ) (m : Text) (first : tokens (drop at s) ≡ joi
       go nothing = refl
       go (some ts) = ap (λ (x : Option State). x >>= machine ts) e
 
-  pub refused : (st : State) → step st m ≡ nothing → reading s at st ≡ nothing
+  pub refused : (st : State) → machine-step st m ≡ nothing → machine-reading s at st ≡ nothing
   unfolding machine
   refused st e = ap (λ (o : Option (List Text)). o >>= λ ts. machine ts st) first ∙ go (tokens (drop to s))
     where
@@ -49,7 +49,7 @@ module _ (s : Text) (at to : ℕ) (m : Text) (first : tokens (drop at s) ≡ joi
       go (some ts) = ap (λ (x : Option State). x >>= machine ts) e
 
   -- two states that the token makes one
-  pub alike : (st st′ : State) → step st m ≡ step st′ m → reading s at st ≡ reading s at st′
+  pub alike : (st st′ : State) → machine-step st m ≡ machine-step st′ m → machine-reading s at st ≡ machine-reading s at st′
   unfolding machine
   alike st st′ e = ap (λ (o : Option (List Text)). o >>= λ ts. machine ts st) first ∙ go (tokens (drop to s)) ∙ sym (ap (λ (o : Option (List Text)). o >>= λ ts. machine ts st′) first)
     where
@@ -77,51 +77,51 @@ no-mark n e =
     swap : (m : Text) → same n m ≡ false → same m n ≡ false
     swap m h = differ-of-ne {x = m} {y = n} (λ p. ne-of-differ {x = n} {y = m} h (sym p))
 
-not-given : (k : Stack) (n : Text) → same (bytes ",") n ≡ false → same (bytes ")") n ≡ false → given k n ≡ nothing
+not-given : (k : Stack) (n : Text) → same (bytes ",") n ≡ false → same (bytes ")") n ≡ false → machine-after k n ≡ nothing
 not-given (bottom ts) n a b = refl
 not-given (level m ts k) n a b = rw (a, b)
 
 -- The next symbol
 
 module _ (s : Text) (at : ℕ) {r : Symbol} (e : r ≡ symbol-at s at) where
-  pub name-turn : (f t : ℕ) (k : Stack) → r ≡ Name f t → reading s at (wants k) ≡ reading s t (named (take (t - f) (drop f s)) k)
+  pub name-turn : (f t : ℕ) (k : Stack) → r ≡ Name f t → machine-reading s at (wants k) ≡ machine-reading s t (named (take (t - f) (drop f s)) k)
   name-turn f t k q =
       let m = means-is s at e (Name f t) q in
       turn s at t (take (t - f) (drop f s)) (m .first) (wants k) (named (take (t - f) (drop f s)) k) (rw (m .no-mark))
 
-  pub open-turn : (t : ℕ) (n : Text) (k : Stack) → r ≡ Begin t → reading s at (named n k) ≡ reading s t (wants (level n none k))
+  pub open-turn : (t : ℕ) (n : Text) (k : Stack) → r ≡ Begin t → machine-reading s at (named n k) ≡ machine-reading s t (wants (level n none k))
   unfolding same
   open-turn t n k q = turn s at t (bytes "(") (means-is s at e (Begin t) q .first) (named n k) (wants (level n none k)) refl
 
-  pub comma-turn : (t : ℕ) (n : Text) (ts : Trees) (k : Stack) → r ≡ Comma t → reading s at (has (level n ts k)) ≡ reading s t (wants (level n ts k))
+  pub comma-turn : (t : ℕ) (n : Text) (ts : Trees) (k : Stack) → r ≡ Comma t → machine-reading s at (has (level n ts k)) ≡ machine-reading s t (wants (level n ts k))
   unfolding same
   comma-turn t n ts k q = turn s at t (bytes ",") (means-is s at e (Comma t) q .first) (has (level n ts k)) (wants (level n ts k)) refl
 
-  pub shut-turn : (t : ℕ) (n : Text) (ts : Trees) (k : Stack) (u : Tree) → r ≡ Shut t → close n (back ts none) ≡ some u → reading s at (has (level n ts k)) ≡ reading s t (has (add u k))
+  pub shut-turn : (t : ℕ) (n : Text) (ts : Trees) (k : Stack) (u : Tree) → r ≡ Shut t → close n (back ts none) ≡ some u → machine-reading s at (has (level n ts k)) ≡ machine-reading s t (has (add u k))
   unfolding same
   shut-turn t n ts k u q c =
       turn s at t (bytes ")") (means-is s at e (Shut t) q .first) (has (level n ts k)) (has (add u k)) (ap (λ (o : Option Tree). o >>= λ t. some (has (add t k))) c)
 
-  pub shut-none : (t : ℕ) (n : Text) (ts : Trees) (k : Stack) → r ≡ Shut t → close n (back ts none) ≡ nothing → reading s at (has (level n ts k)) ≡ nothing
+  pub shut-none : (t : ℕ) (n : Text) (ts : Trees) (k : Stack) → r ≡ Shut t → close n (back ts none) ≡ nothing → machine-reading s at (has (level n ts k)) ≡ nothing
   unfolding same
   shut-none t n ts k q c = refused s at t (bytes ")") (means-is s at e (Shut t) q .first) (has (level n ts k)) (ap (λ (o : Option Tree). o >>= λ t. some (has (add t k))) c)
 
-  pub comma-bare : (t : ℕ) (ts : Trees) → r ≡ Comma t → reading s at (has (bottom ts)) ≡ nothing
+  pub comma-bare : (t : ℕ) (ts : Trees) → r ≡ Comma t → machine-reading s at (has (bottom ts)) ≡ nothing
   comma-bare t ts q = refused s at t (bytes ",") (means-is s at e (Comma t) q .first) (has (bottom ts)) refl
 
-  pub shut-bare : (t : ℕ) (ts : Trees) → r ≡ Shut t → reading s at (has (bottom ts)) ≡ nothing
+  pub shut-bare : (t : ℕ) (ts : Trees) → r ≡ Shut t → machine-reading s at (has (bottom ts)) ≡ nothing
   shut-bare t ts q = refused s at t (bytes ")") (means-is s at e (Shut t) q .first) (has (bottom ts)) refl
 
-  pub stop-turn : (st : State) → r ≡ Stop → reading s at st ≡ finish st
+  pub stop-turn : (st : State) → r ≡ Stop → machine-reading s at st ≡ machine-end st
   unfolding machine
   stop-turn st q = ap (λ (o : Option (List Text)). o >>= λ ts. machine ts st) (means-is s at e Stop q)
 
   -- where a branch is left to several variants, by their numbers
-  pub not-name : (k : Stack) → OneOf (0 ∷ 1 ∷ 2 ∷ 4 ∷ 5 ∷ []) (tagOf the-type r) → reading s at (wants k) ≡ nothing
+  pub not-name : (k : Stack) → OneOf (0 ∷ 1 ∷ 2 ∷ 4 ∷ 5 ∷ []) (tagOf the-type r) → machine-reading s at (wants k) ≡ nothing
   unfolding is-one-of same machine
   not-name k o = go r refl o
     where
-      go : (q : Symbol) → r ≡ q → OneOf (0 ∷ 1 ∷ 2 ∷ 4 ∷ 5 ∷ []) (tagOf the-type q) → reading s at (wants k) ≡ nothing
+      go : (q : Symbol) → r ≡ q → OneOf (0 ∷ 1 ∷ 2 ∷ 4 ∷ 5 ∷ []) (tagOf the-type q) → machine-reading s at (wants k) ≡ nothing
       go (Begin t) q o = refused s at t (bytes "(") (means-is s at e (Begin t) q .first) (wants k) refl
       go (Shut t) q o = refused s at t (bytes ")") (means-is s at e (Shut t) q .first) (wants k) refl
       go (Comma t) q o = refused s at t (bytes ",") (means-is s at e (Comma t) q .first) (wants k) refl
@@ -129,11 +129,11 @@ module _ (s : Text) (at : ℕ) {r : Symbol} (e : r ≡ symbol-at s at) where
       go Stop q o = stop-turn (wants k) q
       go Bad q o = ap (λ (o : Option (List Text)). o >>= λ ts. machine ts (wants k)) (means-is s at e Bad q)
 
-  pub no-delimiter : (k : Stack) → OneOf (0 ∷ 3 ∷ 5 ∷ []) (tagOf the-type r) → reading s at (has k) ≡ nothing
+  pub no-delimiter : (k : Stack) → OneOf (0 ∷ 3 ∷ 5 ∷ []) (tagOf the-type r) → machine-reading s at (has k) ≡ nothing
   unfolding machine same
   no-delimiter k o = go r refl o
     where
-      go : (q : Symbol) → r ≡ q → OneOf (0 ∷ 3 ∷ 5 ∷ []) (tagOf the-type q) → reading s at (has k) ≡ nothing
+      go : (q : Symbol) → r ≡ q → OneOf (0 ∷ 3 ∷ 5 ∷ []) (tagOf the-type q) → machine-reading s at (has k) ≡ nothing
       go (Begin t) q o = refused s at t (bytes "(") (means-is s at e (Begin t) q .first) (has k) (not-given k (bytes "(") refl refl)
       go (Shut t) q o = absurd (⊎-elim (λ a. omega arith) (⊎-elim (λ a. omega arith) (λ a. omega arith)) o)
       go (Comma t) q o = absurd (⊎-elim (λ a. omega arith) (⊎-elim (λ a. omega arith) (λ a. omega arith)) o)
@@ -145,11 +145,11 @@ module _ (s : Text) (at : ℕ) {r : Symbol} (e : r ≡ symbol-at s at) where
       go Bad q o = ap (λ (o : Option (List Text)). o >>= λ ts. machine ts (has k)) (means-is s at e Bad q)
 
   -- a name that no bracket follows is a leaf
-  pub leaf-turn : (n : Text) (k : Stack) → OneOf (1 ∷ 2 ∷ 3 ∷ 4 ∷ 5 ∷ []) (tagOf the-type r) → reading s at (named n k) ≡ reading s at (has (add (leaf n) k))
+  pub leaf-turn : (n : Text) (k : Stack) → OneOf (1 ∷ 2 ∷ 3 ∷ 4 ∷ 5 ∷ []) (tagOf the-type r) → machine-reading s at (named n k) ≡ machine-reading s at (has (add (leaf n) k))
   unfolding machine same
   leaf-turn n k o = go r refl o
     where
-      go : (q : Symbol) → r ≡ q → OneOf (1 ∷ 2 ∷ 3 ∷ 4 ∷ 5 ∷ []) (tagOf the-type q) → reading s at (named n k) ≡ reading s at (has (add (leaf n) k))
+      go : (q : Symbol) → r ≡ q → OneOf (1 ∷ 2 ∷ 3 ∷ 4 ∷ 5 ∷ []) (tagOf the-type q) → machine-reading s at (named n k) ≡ machine-reading s at (has (add (leaf n) k))
       go (Begin t) q o = absurd (⊎-elim (λ a. omega arith) (⊎-elim (λ a. omega arith) (⊎-elim (λ a. omega arith) (⊎-elim (λ a. omega arith) (λ a. omega arith)))) o)
       go (Shut t) q o = alike s at t (bytes ")") (means-is s at e (Shut t) q .first) (named n k) (has (add (leaf n) k)) refl
       go (Comma t) q o = alike s at t (bytes ",") (means-is s at e (Comma t) q .first) (named n k) (has (add (leaf n) k)) refl
@@ -212,7 +212,7 @@ held (wants k) = total k
 held (named n k) = total k
 held (has k) = total k
 
-given-grows : (k : Stack) (x : Text) (st : State) → given k x ≡ some st → total k ≤ held st
+given-grows : (k : Stack) (x : Text) (st : State) → machine-after k x ≡ some st → total k ≤ held st
 unfolding size
 given-grows (bottom ts) x st h = absurd (Option·none-ne-some st h)
 given-grows (level n ts k) x st h = go (same (bytes ",") x) (same (bytes ")") x) h
@@ -225,7 +225,7 @@ given-grows (level n ts k) x st h = go (same (bytes ",") x) (same (bytes ")") x)
         omega (arith, close-size n (back ts none) t e, back-sizes ts none, add-total t k)
     go false false g = absurd (Option·none-ne-some st g)
 
-step-grows : (st st′ : State) (x : Text) → step st x ≡ some st′ → held st ≤ held st′
+step-grows : (st st′ : State) (x : Text) → machine-step st x ≡ some st′ → held st ≤ held st′
 unfolding size
 step-grows (wants k) st x h =
     let (u, e, f) = bound (guard (not (is-one-of (bytes "(" ∷ bytes ")" ∷ bytes "," ∷ []) x))) _ st h in
@@ -233,7 +233,7 @@ step-grows (wants k) st x h =
     omega arith
 step-grows (named n k) st x h = go (same (bytes "(") x) h
   where
-    go : (b : Bool) → cond b (some (wants (level n none k))) (given (add (leaf n) k) x) ≡ some st → total k ≤ held st
+    go : (b : Bool) → cond b (some (wants (level n none k))) (machine-after (add (leaf n) k) x) ≡ some st → total k ≤ held st
     go true g = let p = ap held (Option·some-injective _ st g) in omega arith
     go false g = omega (arith, given-grows (add (leaf n) k) x st g, add-total (leaf n) k)
 step-grows (has k) st x h = given-grows k x st h
@@ -249,7 +249,7 @@ machine-size [] (wants k) t h = absurd (Option·none-ne-some t h)
 machine-size [] (named n k) t h = omega (arith, ended-size (add (leaf n) k) t h, add-total (leaf n) k)
 machine-size [] (has k) t h = ended-size k t h
 machine-size (x ∷ ts) st t h =
-    let (st′, e, f) = bound (step st x) (machine ts) t h in
+    let (st′, e, f) = bound (machine-step st x) (machine ts) t h in
     let p = step-grows st st′ x e in
     let q = machine-size ts st′ t f in
     omega arith
@@ -263,7 +263,7 @@ over : (o : Option Tree) → ((t : Tree) → o ≡ some t → 4096 < size t) →
 over nothing h = refl
 over (some t) h = ap (λ (b : Bool). guard b >>= λ _. some t) (false-leb (size t) 4096 (h t refl))
 
-pub too-big : (s : Text) (at : ℕ) (k : Stack) → 4096 < total k → limited (reading s at (has k)) ≡ nothing
+pub too-big : (s : Text) (at : ℕ) (k : Stack) → 4096 < total k → limited (machine-reading s at (has k)) ≡ nothing
 too-big s at k h = go (tokens (drop at s))
   where
     go : (o : Option (List Text)) → limited (o >>= λ ts. machine ts (has k)) ≡ nothing
@@ -275,10 +275,10 @@ small-enough t h = ap (λ (b : Bool). guard b >>= λ _. some t) (true-leb (size 
 
 -- a list that closes as nothing, or as too large a tree
 pub shut-out : (s : Text) (at : ℕ) {r : Symbol} → r ≡ symbol-at s at → (t : ℕ) (n : Text) (ts : Trees) (k : Stack) → r ≡ Shut t
-    → ((u : Tree) → close n (back ts none) ≡ some u → 4096 < size u) → limited (reading s at (has (level n ts k))) ≡ nothing
+    → ((u : Tree) → close n (back ts none) ≡ some u → 4096 < size u) → limited (machine-reading s at (has (level n ts k))) ≡ nothing
 shut-out s at e t n ts k q h = go (close n (back ts none)) refl
   where
-    go : (o : Option Tree) → close n (back ts none) ≡ o → limited (reading s at (has (level n ts k))) ≡ nothing
+    go : (o : Option Tree) → close n (back ts none) ≡ o → limited (machine-reading s at (has (level n ts k))) ≡ nothing
     go nothing f = ap limited (shut-none s at e t n ts k q f)
     go (some u) f = ap limited (shut-turn s at e t n ts k u q f) ∙ too-big s t (add u k) (omega (arith, h u f, add-total u k))
 

@@ -16,7 +16,8 @@ use Rattle.reading.specs.declared.closing.Ordered.the-variants.{Upto, Ov
 use Rattle.reading.specs.declared.closing.Closed.{Closed}
 use Rattle.reading.specs.declared.closing.Closed.the-variants.{At, Refused}
 use Rattle.reading.specs.Machine.{back}
-use Rattle.reading.specs.Words.{Made, Added, Outside}
+use Rattle.text.specs.Frames.{Outside}
+use Rattle.reading.specs.Words.{LastCell, Added}
 
 -- the cells that closing a list may take, with those below n
 abbrev pub most : Text → List ℕ → ℕ → ℕ → ℕ
@@ -42,7 +43,7 @@ pub record Done (s : Text) (w v : List ℕ) (n m limit next : ℕ) (o : Option T
   pub tree : Tree
   pub is : o ≡ some tree
   pub small : size tree ≤ 4096
-  pub made : Made s w v n m next tree
+  pub made : LastCell s w v n m next tree
   pub room : m ≤ limit
 
 -- no tree, or too large a one

@@ -34,32 +34,32 @@ pub data State : Type 0 where
   has : Stack → State
 
 -- a token where a term is there
-abbrev pub given : Stack → Text → Option State
-given (bottom ts) x = nothing
-given (level n ts k) x = cond (same (bytes ",") x) (some (wants (level n ts k))) (cond (same (bytes ")") x) (close n (back ts none) >>= λ t. some (has (add t k))) nothing)
+abbrev pub machine-after : Stack → Text → Option State
+machine-after (bottom ts) x = nothing
+machine-after (level n ts k) x = cond (same (bytes ",") x) (some (wants (level n ts k))) (cond (same (bytes ")") x) (close n (back ts none) >>= λ t. some (has (add t k))) nothing)
 
-abbrev pub step : State → Text → Option State
-step (wants k) x = guard (not (is-one-of (bytes "(" ∷ bytes ")" ∷ bytes "," ∷ []) x)) >>= λ _. some (named x k)
-step (named n k) x = cond (same (bytes "(") x) (some (wants (level n none k))) (given (add (leaf n) k) x)
-step (has k) x = given k x
+abbrev pub machine-step : State → Text → Option State
+machine-step (wants k) x = guard (not (is-one-of (bytes "(" ∷ bytes ")" ∷ bytes "," ∷ []) x)) >>= λ _. some (named x k)
+machine-step (named n k) x = cond (same (bytes "(") x) (some (wants (level n none k))) (machine-after (add (leaf n) k) x)
+machine-step (has k) x = machine-after k x
 
 -- at the end the only tree of the bottom is the term
 abbrev pub ended : Stack → Option Tree
 ended (bottom ts) = single ts
 ended (level n ts k) = nothing
 
-abbrev pub finish : State → Option Tree
-finish (wants k) = nothing
-finish (named n k) = ended (add (leaf n) k)
-finish (has k) = ended k
+abbrev pub machine-end : State → Option Tree
+machine-end (wants k) = nothing
+machine-end (named n k) = ended (add (leaf n) k)
+machine-end (has k) = ended k
 
 unfoldable pub machine : List Text → State → Option Tree
-machine [] st = finish st
-machine (x ∷ ts) st = step st x >>= machine ts
+machine [] st = machine-end st
+machine (x ∷ ts) st = machine-step st x >>= machine ts
 
 -- what the text from a position on reads as, in a state
-abbrev pub reading : Text → ℕ → State → Option Tree
-reading s at st = tokens (drop at s) >>= λ ts. machine ts st
+abbrev pub machine-reading : Text → ℕ → State → Option Tree
+machine-reading s at st = tokens (drop at s) >>= λ ts. machine ts st
 
 -- the nodes of all trees of a stack
 abbrev pub total : Stack → ℕ
@@ -77,6 +77,6 @@ HasOne (bottom ts) = (t : Tree) × (ts ≡ more t none) × (size t ≤ 4096)
 HasOne (level n ts k) = Bare k
 
 -- the cells that closing the open lists may take
-abbrev pub weight : Stack → ℕ
-weight (bottom ts) = 0
-weight (level n ts k) = 2 * count ts + 2 + weight k
+abbrev pub closing-room : Stack → ℕ
+closing-room (bottom ts) = 0
+closing-room (level n ts k) = 2 * count ts + 2 + closing-room k

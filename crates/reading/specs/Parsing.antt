@@ -10,7 +10,7 @@ use Rattle.tree.specs.Cells.{part, next-of, tree-at}
 use Rattle.tree.specs.Arena.{Arena}
 use Rattle.reading.specs.declared.Parsed.{Parsed}
 use Rattle.reading.specs.declared.Parsed.the-variants.{Tree, Unreadable}
-use Rattle.reading.specs.Words.{Outside}
+use Rattle.text.specs.Frames.{Outside}
 
 -- the tree of the bottom, where no list is open
 abbrev pub ended-at : List ℕ → ℕ → ℕ → ℕ → Parsed

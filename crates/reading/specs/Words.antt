@@ -7,6 +7,7 @@ use mathlib.Core.List.{List}
 use lib.ListN.{length, getD}
 use Rattle.rules.specs.Bytes.{Text}
 use Rattle.rules.specs.Tree.{Tree, none, more}
+use Rattle.text.specs.Frames.{Outside}
 use Rattle.tree.specs.Cells.{part, trees-at}
 use Rattle.tree.specs.Arena.{Arena, Grown}
 use Rattle.reading.specs.Machine.{Stack, bottom, level, add}
@@ -17,7 +18,7 @@ stack-at s w limit (suc d) =
     level (part s (getD w (4 * limit + 3 * d + 1) 0) (getD w (4 * limit + 3 * d + 2) 0)) (trees-at s w (getD w (4 * limit + 3 * d + 3) 0)) (stack-at s w limit d)
 
 -- a name in the sheet
-pub record Placed (s : Text) (a n : ℕ) : Type 0 where
+pub record NamePlaced (s : Text) (a n : ℕ) : Type 0 where
   pub some : 0 < n
   pub inside : a + n ≤ length s
   pub short : n < 65536
@@ -29,16 +30,10 @@ pub record Held (s : Text) (w : List ℕ) (n limit d : ℕ) : Type 0 where
   pub below : n ≤ limit
   pub room : 4 * limit + 3 * d < length w
   pub trees : (i : ℕ) → i ≤ d → getD w (4 * limit + 3 * i) 0 < n
-  pub names : (i : ℕ) → i < d → Placed s (getD w (4 * limit + 3 * i + 1) 0) (getD w (4 * limit + 3 * i + 2) 0)
-
--- v is w but for words from one position up to another
-pub record Outside (w v : List ℕ) (from to : ℕ) : Type 0 where
-  pub len : length v ≡ length w
-  pub below : (p : ℕ) → p < from → getD w p 0 ≡ getD v p 0
-  pub above : (p : ℕ) → to ≤ p → getD w p 0 ≡ getD v p 0
+  pub names : (i : ℕ) → i < d → NamePlaced s (getD w (4 * limit + 3 * i + 1) 0) (getD w (4 * limit + 3 * i + 2) 0)
 
 -- the cells n to m - 1 are new, and the last of them is a tree, before the list at a link
-pub record Made (s : Text) (w v : List ℕ) (n m next : ℕ) (t : Tree) : Type 0 where
+pub record LastCell (s : Text) (w v : List ℕ) (n m next : ℕ) (t : Tree) : Type 0 where
   pub some : n < m
   pub arena : Arena s v m
   pub grown : Grown w v n m

@@ -2,6 +2,7 @@
 use crate::leaves::all_digits;
 use crate::leaves::is_letter_name;
 use text::same;
+use tree::cells::APPLICATION;
 use tree::cells::count_of;
 use tree::cells::first_of;
 use tree::cells::kind_of;
@@ -21,17 +22,17 @@ ghost use Rattle.rules.specs.Reading.{close, atom-of, sum-of};
 ghost use Rattle.tree.specs.Cells.{part, name-at, next-of, tree-at, trees-at};
 ghost use Rattle.tree.specs.Arena.{Arena};
 ghost use Rattle.reading.specs.Machine.{back};
-ghost use Rattle.reading.specs.Words.{Placed};
+ghost use Rattle.reading.specs.Words.{NamePlaced};
 ghost use Rattle.reading.specs.Closing.{most, Orders, Closes, Alone, summed};
 
 // The first of the new cells, the free end after them and their count of nodes.
-pub enum Ordered {
+enum Ordered {
     Upto(usize, usize, usize),
     Over,
 }
 
 // The free end after the closed list's cell, which is the last.
-pub enum Closed {
+pub(crate) enum Closed {
     At(usize),
     Refused,
 }
@@ -74,14 +75,14 @@ fn list(
     requires { ⌜ Arena (now sheet) (now work) free ⌝ }
     requires { ⌜ (chain < free) × (next < free) ⌝ }
     requires { ⌜ (4 * most (now sheet) (now work) free chain ≤ length (now work)) × (most (now sheet) (now work) free chain < 2 ^ 32) ⌝ }
-    requires { ⌜ Placed (now sheet) start len × (length (now sheet) ≤ 65536) ⌝ }
+    requires { ⌜ NamePlaced (now sheet) start len × (length (now sheet) ≤ 65536) ⌝ }
     ensures { λ r. ⌜ Closes (now (sheet .entry)) (now (work .entry)) (now (work .exit)) free (most (now (sheet .entry)) (now (work .entry)) free chain) next (some (apply (part (now (sheet .entry)) start len) (back (trees-at (now (sheet .entry)) (now (work .entry)) chain) none))) r ⌝ }
 {
     let children = in_order(sheet, work, free, chain);
     let Ordered::Upto(first, end, nodes) = children else {
         return Closed::Refused;
     };
-    Closed::At(push_cell(work, end, start, len, 0, first, next, nodes + 1))
+    Closed::At(push_cell(work, end, start, len, APPLICATION, first, next, nodes + 1))
 }
 
 // Summands put in front of the tree of the last cell, which has no link, one after another.
@@ -89,7 +90,7 @@ fn nest(sheet: &[u8], work: &mut [u32], tail: usize, at: usize, len: usize, chai
     requires { ⌜ Arena (now sheet) (now work) (tail + 1) ⌝ }
     requires { ⌜ (0 < tail) × (next-of (now work) tail ≡ 0) × (0 < chain) × (chain < tail + 1) ⌝ }
     requires { ⌜ (4 * (tail + 1 + 2 * count (trees-at (now sheet) (now work) chain)) ≤ length (now work)) × (tail + 1 + 2 * count (trees-at (now sheet) (now work) chain) < 2 ^ 32) ⌝ }
-    requires { ⌜ Placed (now sheet) at len × (length (now sheet) ≤ 65536) × (part (now sheet) at len ≡ tamtplus) ⌝ }
+    requires { ⌜ NamePlaced (now sheet) at len × (length (now sheet) ≤ 65536) × (part (now sheet) at len ≡ tamtplus) ⌝ }
     ensures { λ r. ⌜ Closes (now (sheet .entry)) (now (work .entry)) (now (work .exit)) (tail + 1) (tail + 1 + 2 * count (trees-at (now (sheet .entry)) (now (work .entry)) chain)) 0 (some (summed (tree-at (now (sheet .entry)) (now (work .entry)) tail) (trees-at (now (sheet .entry)) (now (work .entry)) chain))) r ⌝ }
 {
     let mut last = tail;
@@ -101,7 +102,7 @@ fn nest(sheet: &[u8], work: &mut [u32], tail: usize, at: usize, len: usize, chai
         }
         let before = next_of(work, last + 1, k);
         let pair = share(sheet, work, last + 1, k, last);
-        let _ = push_cell(work, pair, at, len, 0, last + 1, 0, nodes);
+        let _ = push_cell(work, pair, at, len, APPLICATION, last + 1, 0, nodes);
         last = pair;
         k = before;
     }
@@ -121,7 +122,7 @@ fn sum(
     requires { ⌜ Arena (now sheet) (now work) start ⌝ }
     requires { ⌜ (chain < start) × (next < start) ⌝ }
     requires { ⌜ (4 * most (now sheet) (now work) start chain ≤ length (now work)) × (most (now sheet) (now work) start chain < 2 ^ 32) ⌝ }
-    requires { ⌜ Placed (now sheet) at len × (length (now sheet) ≤ 65536) × (part (now sheet) at len ≡ tamtplus) ⌝ }
+    requires { ⌜ NamePlaced (now sheet) at len × (length (now sheet) ≤ 65536) × (part (now sheet) at len ≡ tamtplus) ⌝ }
     ensures { λ r. ⌜ Closes (now (sheet .entry)) (now (work .entry)) (now (work .exit)) start (most (now (sheet .entry)) (now (work .entry)) start chain) next (sum-of (back (trees-at (now (sheet .entry)) (now (work .entry)) chain) none)) r ⌝ }
 {
     if chain == 0 {
@@ -152,7 +153,7 @@ fn is_number(sheet: &[u8], work: &[u32], free: usize, k: usize) -> bool
     if 0 < next_of(work, free, k) {
         return false;
     }
-    if 0 < kind_of(work, k) {
+    if APPLICATION < kind_of(work, k) {
         return false;
     }
     if 0 < first_of(work, free, k) {
@@ -190,14 +191,15 @@ fn atom(
     Closed::At(push_cell(work, free, a, n, letter, 0, next, 1))
 }
 
-fn wide(b: u8) -> usize
+// The kind of an atom: its letter.
+fn letter_kind(b: u8) -> usize
     ensures { λ r. ⌜ (r ≡ b) × (r < 256) ⌝ }
 {
     b as usize
 }
 
 // What a name and its list are (unifier.rs, `close`), before the list at a link.
-pub fn shut(
+pub(crate) fn shut(
     sheet: &[u8],
     work: &mut [u32],
     free: usize,
@@ -209,12 +211,12 @@ pub fn shut(
     requires { ⌜ Arena (now sheet) (now work) free ⌝ }
     requires { ⌜ (chain < free) × (next < free) ⌝ }
     requires { ⌜ (4 * most (now sheet) (now work) free chain ≤ length (now work)) × (most (now sheet) (now work) free chain < 2 ^ 32) ⌝ }
-    requires { ⌜ Placed (now sheet) at len × (length (now sheet) ≤ 65536) ⌝ }
+    requires { ⌜ NamePlaced (now sheet) at len × (length (now sheet) ≤ 65536) ⌝ }
     ensures { λ r. ⌜ Closes (now (sheet .entry)) (now (work .entry)) (now (work .exit)) free (most (now (sheet .entry)) (now (work .entry)) free chain) next (close (part (now (sheet .entry)) at len) (back (trees-at (now (sheet .entry)) (now (work .entry)) chain) none)) r ⌝ }
 {
     let end = at + len;
     if is_letter_name(&sheet[at..end]) {
-        return atom(sheet, work, free, wide(sheet[at]), chain, next);
+        return atom(sheet, work, free, letter_kind(sheet[at]), chain, next);
     }
     if same(&sheet[at..end], b"tamtplus") {
         return sum(sheet, work, free, at, len, chain, next);

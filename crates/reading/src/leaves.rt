@@ -1,5 +1,12 @@
 // Names of leaves and of atoms.
 use text::same;
+use tree::cells::APPLICATION;
+use tree::cells::VARIABLE_FRESH;
+use tree::cells::VARIABLE_MSG;
+use tree::cells::VARIABLE_NODE;
+use tree::cells::VARIABLE_OTHER;
+use tree::cells::VARIABLE_PUB;
+use tree::cells::VARIABLE_TAM_NAT;
 ghost use mathlib.Core.Path.{_≡_};
 ghost use Prim.Native.Nat.{_<_};
 ghost use Rattle.rules.specs.Names.{digit, letter, letter-name, all};
@@ -12,21 +19,21 @@ fn sort_kind(sort: &[u8]) -> usize
     ensures { λ r. ⌜ (r ≡ kind-of-sort (sort-named (now (sort .entry)))) × (r < 7) ⌝ }
 {
     if same(sort, b"Pub") {
-        return 1;
+        return VARIABLE_PUB;
     }
     if same(sort, b"Fresh") {
-        return 2;
+        return VARIABLE_FRESH;
     }
     if same(sort, b"Msg") {
-        return 3;
+        return VARIABLE_MSG;
     }
     if same(sort, b"TamNat") {
-        return 4;
+        return VARIABLE_TAM_NAT;
     }
     if same(sort, b"Node") {
-        return 5;
+        return VARIABLE_NODE;
     }
-    6
+    VARIABLE_OTHER
 }
 
 // The kind of a leaf: 0 for a name without a colon, else that of a variable.
@@ -40,20 +47,20 @@ pub fn leaf_kind(name: &[u8]) -> usize
         }
         i += 1;
     }
-    0
+    APPLICATION
 }
 
 fn is_letter(b: u8) -> bool
     ensures { λ r. ⌜ r ≡ letter b ⌝ }
 {
     match b {
-        112 | 102 | 99 | 116 | 110 => true,
+        b'p' | b'f' | b'c' | b't' | b'n' => true,
         _ => false,
     }
 }
 
 // Whether a name is one of the letters of atoms.
-pub fn is_letter_name(name: &[u8]) -> bool
+pub(crate) fn is_letter_name(name: &[u8]) -> bool
     ensures { λ r. ⌜ r ≡ letter-name (now (name .entry)) ⌝ }
 {
     if name.len() != 1 {
@@ -62,7 +69,7 @@ pub fn is_letter_name(name: &[u8]) -> bool
     is_letter(name[0])
 }
 
-pub fn all_digits(name: &[u8]) -> bool
+pub(crate) fn all_digits(name: &[u8]) -> bool
     ensures { λ r. ⌜ r ≡ all digit (now (name .entry)) ⌝ }
 {
     let mut i = 0;

@@ -2,6 +2,7 @@
 use crate::closing::Closed;
 use crate::closing::shut;
 use crate::leaves::leaf_kind;
+use text::places::wide;
 use tree::cells::push_cell;
 ghost use mathlib.Core.Path.{_≡_};
 ghost use mathlib.Core.List.{[], _∷_};
@@ -10,18 +11,11 @@ ghost use lib.ListN.{length, getD};
 ghost use Rattle.rules.specs.Tree.{none};
 ghost use Rattle.rules.specs.Reading.{leaf, close};
 ghost use Rattle.tree.specs.Cells.{part};
-ghost use Rattle.reading.specs.Words.{Placed, Held, Added, Opened};
+ghost use Rattle.reading.specs.Words.{NamePlaced, Held, Added, Opened};
 ghost use Rattle.reading.specs.Closing.{most, Pops};
 
-// A word as an index.
-fn wide(x: u32) -> usize
-    ensures { λ r. ⌜ r ≡ x ⌝ }
-{
-    x as usize
-}
-
 // The cell of the last tree of the bottom.
-pub fn top_of(work: &[u32], limit: usize) -> usize
+pub(crate) fn top_of(work: &[u32], limit: usize) -> usize
     requires { ⌜ 4 * limit < length (now work) ⌝ }
     ensures { λ r. ⌜ r ≡ getD (now (work .entry)) (4 * limit) 0 ⌝ }
 {
@@ -29,7 +23,7 @@ pub fn top_of(work: &[u32], limit: usize) -> usize
 }
 
 // A leaf, put on the level `depth`, which is the top.
-pub fn leaf(
+pub(crate) fn leaf(
     sheet: &[u8],
     work: &mut [u32],
     free: usize,
@@ -40,7 +34,7 @@ pub fn leaf(
 ) -> usize
     requires { ⌜ Held (now sheet) (now work) free limit depth ⌝ }
     requires { ⌜ (free < limit) × (limit < 2 ^ 32) ⌝ }
-    requires { ⌜ (from ≤ to) × Placed (now sheet) from (to - from) × (length (now sheet) ≤ 65536) ⌝ }
+    requires { ⌜ (from ≤ to) × NamePlaced (now sheet) from (to - from) × (length (now sheet) ≤ 65536) ⌝ }
     ensures { λ r. ⌜ (r ≡ free + 1) × Added (now (sheet .entry)) (now (work .entry)) (now (work .exit)) free r limit depth (leaf (part (now (sheet .entry)) from (to - from))) ⌝ }
 {
     let top = 4 * limit + 3 * depth;
@@ -52,7 +46,7 @@ pub fn leaf(
 }
 
 // A list opened: the level `depth + 1`.
-pub fn begin(
+pub(crate) fn begin(
     sheet: &[u8],
     work: &mut [u32],
     free: usize,
@@ -63,7 +57,7 @@ pub fn begin(
 )
     requires { ⌜ Held (now sheet) (now work) free limit depth ⌝ }
     requires { ⌜ 4 * limit + 3 * depth + 3 < length (now work) ⌝ }
-    requires { ⌜ (from ≤ to) × Placed (now sheet) from (to - from) × (length (now sheet) ≤ 65536) ⌝ }
+    requires { ⌜ (from ≤ to) × NamePlaced (now sheet) from (to - from) × (length (now sheet) ≤ 65536) ⌝ }
     ensures { λ _. ⌜ Opened (now (sheet .entry)) (now (work .entry)) (now (work .exit)) free limit depth (part (now (sheet .entry)) from (to - from)) ⌝ }
 {
     let top = 4 * limit + 3 * depth;
@@ -73,7 +67,13 @@ pub fn begin(
 }
 
 // The list of the level `depth + 1` closed, and its tree put on the level `depth`.
-pub fn close(sheet: &[u8], work: &mut [u32], free: usize, limit: usize, depth: usize) -> Closed
+pub(crate) fn close(
+    sheet: &[u8],
+    work: &mut [u32],
+    free: usize,
+    limit: usize,
+    depth: usize,
+) -> Closed
     requires { ⌜ Held (now sheet) (now work) free limit (depth + 1) ⌝ }
     requires { ⌜ (most (now sheet) (now work) free (getD (now work) (4 * limit + 3 * depth + 3) 0) ≤ limit) × (limit < 2 ^ 32) ⌝ }
     requires { ⌜ length (now sheet) ≤ 65536 ⌝ }

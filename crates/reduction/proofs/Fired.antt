@@ -1,4 +1,4 @@
--- What the rules make of the children under their names, found one after the other. Assumes nothing.
+-- What the rules make of the children under their names, found one after the other.
 use Prim.Native.Nat.{ℕ, zero, suc, _+_, _<_, _≤_}
 use mathlib.Core.Path.{_≡_, refl, ap, _∙_}
 use mathlib.Core.Bool.{Bool, true, false, cond, _&&_}

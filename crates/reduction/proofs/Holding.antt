@@ -1,4 +1,4 @@
--- The rule of a name, and the children of a cell, as the code finds them. Assumes nothing.
+-- The rule of a name, and the children of a cell, as the code finds them.
 use Prim.Native.Nat.{ℕ, zero, suc, _<_}
 use mathlib.Core.Path.{_≡_, refl, sym, ap, _∙_}
 use mathlib.Core.Bool.{Bool, true, false}

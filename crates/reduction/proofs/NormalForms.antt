@@ -1,4 +1,4 @@
--- One step at the root, and normal forms, over cells; normal forms have no more nodes. Assumes nothing.
+-- One step at the root, and normal forms, over cells; normal forms have no more nodes.
 use Prim.Native.Nat.{ℕ, zero, suc, _+_, _<_, _≤_}
 use mathlib.Core.Path.{_≡_, refl, sym, ap, ap₂, _∙_}
 use mathlib.Core.List.{List}
@@ -14,7 +14,7 @@ use Rattle.tree.specs.Arena.{Links, Arena, Below}
 use Rattle.tree.proofs.Decoding.{Agree, Kind, application, a-variable, an-atom, kind, same-name, tree-variable, tree-atom, tree-apply, trees-none, trees-more, frame-tree, frame-trees, size-leaf, size-apply, sizes-more}
 use Rattle.tree.proofs.Areas.{below-same, below-then}
 use Rattle.reduction.specs.Building.{NewTree, NewTrees}
-use Rattle.reduction.specs.Held.{coded, held, fixed}
+use Rattle.reduction.specs.Held.{coded-rule, held, fixed}
 use Rattle.reduction.specs.declared.naming.RuleName.{RuleName}
 use Rattle.reduction.specs.declared.naming.RuleName.the-variants.{Fst, Snd, Flip, Sdec, Kdec, None}
 use Rattle.reduction.proofs.Placing.{new-later}
@@ -28,7 +28,7 @@ decoded Sdec = some sdec
 decoded Kdec = some kdec
 decoded None = nothing
 
-decoded-coded : (o : Option Rule) → decoded (coded o) ≡ o
+decoded-coded : (o : Option Rule) → decoded (coded-rule o) ≡ o
 decoded-coded (some fst) = refl
 decoded-coded (some snd) = refl
 decoded-coded (some flip) = refl
@@ -36,7 +36,7 @@ decoded-coded (some sdec) = refl
 decoded-coded (some kdec) = refl
 decoded-coded nothing = refl
 
-pub rule-is : {y z : RuleName} (o : Option Rule) → y ≡ coded o → y ≡ z → o ≡ decoded z
+pub rule-is : {y z : RuleName} (o : Option Rule) → y ≡ coded-rule o → y ≡ z → o ≡ decoded z
 rule-is o e f = sym (decoded-coded o) ∙ ap decoded (sym e ∙ f)
 
 -- the root by its rule

@@ -1,4 +1,4 @@
--- Trees and lists at the free end, before others. Assumes nothing.
+-- Trees and lists at the free end, before others.
 use Prim.Native.Nat.{ℕ, _+_, _*_, _<_, _≤_}
 use mathlib.Core.Path.{_≡_, refl, sym, ap, _∙_}
 use mathlib.Core.List.{List}
@@ -8,7 +8,7 @@ use Rattle.rules.specs.Bytes.{Text}
 use Rattle.rules.specs.Tree.{Tree, apply, more, size, sizes}
 use Rattle.rules.specs.Reduction.{constant}
 use Rattle.tree.specs.Cells.{start-of, length-of, kind-of, nodes-of, next-of, name-at, fixed-name, made, trees-at}
-use Rattle.tree.specs.Arena.{Arena, Wrote, Linked, Below}
+use Rattle.tree.specs.Arena.{Arena, WroteCell, Linked, Below}
 use Rattle.tree.proofs.Decoding.{made-apply, trees-none, frame-trees, sizes-more}
 use Rattle.tree.proofs.Pushing.{linked-like, linked-fixed as linked-coded}
 use Rattle.tree.proofs.Areas.{below-grown, below-then}
@@ -47,13 +47,13 @@ new-later {s} {w} {v} {next = next} {t = t} a q k p r x = record {
 
 -- a fixed name over the list from cell first on
 pub linked-fixed-over : (s : Text) {w v : List ℕ} {n code first next count : ℕ} → Arena s w n → 0 < code → code < 7 → first < n → next < n → 4 * n + 4 ≤ length w
-    → count ≡ sizes (trees-at s w first) → Wrote w v n code 0 0 first next (1 + count) → Linked s w v n next (apply (fixed-name code) (trees-at s w first))
+    → count ≡ sizes (trees-at s w first) → WroteCell w v n code 0 0 first next (1 + count) → Linked s w v n next (apply (fixed-name code) (trees-at s w first))
 unfolding made size
 linked-fixed-over s a p q f g room c x = linked-coded s x a p (omega arith) (omega arith) (λ h. absurd (omega arith)) room f g refl (ap (λ (k : ℕ). 1 + k) c)
 
 -- a fixed name without children
 pub linked-fixed : (s : Text) {w v : List ℕ} {n code next : ℕ} → Arena s w n → 0 < code → code < 7 → next < n → 4 * n + 4 ≤ length w
-    → Wrote w v n code 0 0 0 next 1 → Linked s w v n next (constant (fixed-name code))
+    → WroteCell w v n code 0 0 0 next 1 → Linked s w v n next (constant (fixed-name code))
 unfolding size
 linked-fixed s {w} {v} {n} {code} {next} a p q g room x =
     let e = trees-none s w 0 refl in
@@ -61,7 +61,7 @@ linked-fixed s {w} {v} {n} {code} {next} a p q g room x =
 
 -- the name of cell i over other children
 pub linked-over : (s : Text) {w v : List ℕ} {n first next count : ℕ} (i : ℕ) → Arena s w n → 0 < i → i < n → kind-of w i ≡ 0 → first < n → next < n → 4 * n + 4 ≤ length w
-    → count ≡ sizes (trees-at s w first) → Wrote w v n (start-of w i) (length-of w i) (kind-of w i) first next (1 + count) → Linked s w v n next (apply (name-at s w i) (trees-at s w first))
+    → count ≡ sizes (trees-at s w first) → WroteCell w v n (start-of w i) (length-of w i) (kind-of w i) first next (1 + count) → Linked s w v n next (apply (name-at s w i) (trees-at s w first))
 unfolding size
 linked-over s {w} {v} {n} {first} i a p q k f g room c x =
     linked-like s i x a p q room f g (made-apply (kind-of w i) (name-at s w i) (trees-at s w first) k) (ap (λ (m : ℕ). 1 + m) c)

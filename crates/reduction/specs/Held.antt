@@ -12,13 +12,13 @@ use Rattle.tree.specs.Cells.{fixed-name, tree-at}
 use Rattle.reduction.specs.declared.naming.RuleName.{RuleName}
 use Rattle.reduction.specs.declared.naming.RuleName.the-variants.{Fst, Snd, Flip, Sdec, Kdec, None}
 
-abbrev pub coded : Option Rule → RuleName
-coded (some fst) = Fst
-coded (some snd) = Snd
-coded (some flip) = Flip
-coded (some sdec) = Sdec
-coded (some kdec) = Kdec
-coded nothing = None
+abbrev pub coded-rule : Option Rule → RuleName
+coded-rule (some fst) = Fst
+coded-rule (some snd) = Snd
+coded-rule (some flip) = Flip
+coded-rule (some sdec) = Sdec
+coded-rule (some kdec) = Kdec
+coded-rule nothing = None
 
 abbrev pub given-if : Bool → Trees → Option Trees
 given-if true ts = some ts

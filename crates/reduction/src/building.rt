@@ -1,6 +1,7 @@
 // What a node becomes, before the list of its later siblings: a fixed name, a tree that is there, or its name over its new children.
 use substitution::bindings::Pushed;
 use substitution::instances::keep;
+use tree::cells::APPLICATION;
 use tree::cells::count_of;
 use tree::cells::first_of;
 use tree::cells::next_of;
@@ -24,7 +25,7 @@ pub fn leaf(sheet: &[u8], work: &mut [u32], free: usize, code: usize, next: usiz
     requires { ⌜ (4 * free + 4 ≤ length (now work)) × (free < 2 ^ 32) ⌝ }
     ensures { λ r. ⌜ NewTree (now (sheet .entry)) (now (work .entry)) (now (work .exit)) free 1 next (constant (fixed-name code)) (r .index) (r .free) ⌝ }
 {
-    let end = push_cell(work, free, code, 0, 0, 0, next, 1);
+    let end = push_cell(work, free, code, 0, APPLICATION, 0, next, 1);
     Pushed {
         index: free,
         free: end,
@@ -32,9 +33,9 @@ pub fn leaf(sheet: &[u8], work: &mut [u32], free: usize, code: usize, next: usiz
 }
 
 // The number of nodes of the list from cell i on, by the counts of its cells.
-pub fn nodes(sheet: &[u8], work: &[u32], free: usize, i: usize) -> usize
+pub fn nodes_in(sheet: &[u8], work: &[u32], free: usize, i: usize) -> usize
     requires { ⌜ Arena (now sheet) (now work) free ⌝ }
-    requires { ⌜ (i < free) × (sizes (trees-at (now sheet) (now work) i) < 65536) ⌝ }
+    requires { ⌜ (i < free) × (sizes (trees-at (now sheet) (now work) i) < 2 ^ 32) ⌝ }
     ensures { λ r. ⌜ r ≡ sizes (trees-at (now (sheet .entry)) (now (work .entry)) i) ⌝ }
 {
     let mut sum: usize = 0;
@@ -64,7 +65,7 @@ pub fn stay(
     if first_of(work, free, i) == first {
         return keep(sheet, work, free, i, next);
     }
-    let count = nodes(sheet, work, free, first);
+    let count = nodes_in(sheet, work, free, first);
     let end = push_like(work, free, i, first, next, 1 + count);
     Pushed {
         index: free,
@@ -73,7 +74,7 @@ pub fn stay(
 }
 
 // The tree of cell k, or, where k is 0, the name of cell i over the list from cell first on.
-pub fn becomes(
+pub(crate) fn becomes(
     sheet: &[u8],
     work: &mut [u32],
     free: usize,

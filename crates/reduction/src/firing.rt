@@ -13,7 +13,7 @@ ghost use Rattle.tree.specs.Arena.{Arena};
 ghost use Rattle.reduction.specs.Held.{held, held-two, fixed, side, sealed};
 
 // The first or the second of the pair, the one child from cell i on: its cell, 0 where the rule does not fire.
-pub fn part_of(sheet: &[u8], work: &[u32], free: usize, i: usize, first: bool) -> usize
+pub(crate) fn part_of(sheet: &[u8], work: &[u32], free: usize, i: usize, first: bool) -> usize
     requires { ⌜ Arena (now sheet) (now work) free ⌝ }
     requires { ⌜ i < free ⌝ }
     ensures { λ r. ⌜ (r < free) × (fire (side first) (trees-at (now (sheet .entry)) (now (work .entry)) i) ≡ held (now (sheet .entry)) (now (work .entry)) r) ⌝ }
@@ -40,7 +40,7 @@ pub fn part_of(sheet: &[u8], work: &[u32], free: usize, i: usize, first: bool) -
 }
 
 // The other role than the one child from cell i on: the code of its name, 0 where the rule does not fire.
-pub fn flipped(sheet: &[u8], work: &[u32], free: usize, i: usize) -> usize
+pub(crate) fn flipped(sheet: &[u8], work: &[u32], free: usize, i: usize) -> usize
     requires { ⌜ Arena (now sheet) (now work) free ⌝ }
     requires { ⌜ i < free ⌝ }
     ensures { λ r. ⌜ (r < 3) × (fire flip (trees-at (now (sheet .entry)) (now (work .entry)) i) ≡ fixed r) ⌝ }
@@ -59,7 +59,7 @@ pub fn flipped(sheet: &[u8], work: &[u32], free: usize, i: usize) -> usize
 }
 
 // The cell of the key that the cipher of cell k is sealed by, boxed or not, 0 if it is no such cipher. The payload is its first child.
-pub fn key_of(sheet: &[u8], work: &[u32], free: usize, k: usize, boxed: bool) -> usize
+pub(crate) fn key_of(sheet: &[u8], work: &[u32], free: usize, k: usize, boxed: bool) -> usize
     requires { ⌜ Arena (now sheet) (now work) free ⌝ }
     requires { ⌜ (0 < k) × (k < free) ⌝ }
     ensures { λ r. ⌜ (r < free) × (0 < r → 0 < first-of (now (work .entry)) k) × (sealed boxed (tree-at (now (sheet .entry)) (now (work .entry)) k) ≡ held-two (now (sheet .entry)) (now (work .entry)) (first-of (now (work .entry)) k) r) ⌝ }

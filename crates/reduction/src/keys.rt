@@ -15,7 +15,7 @@ ghost use Rattle.reduction.specs.Building.{key-room};
 ghost use Rattle.reduction.specs.Held.{held, opener};
 
 // Whether payload and key are messages and the keys equivalent. The words above the free end are scratch.
-pub fn opens(
+fn opens(
     sheet: &[u8],
     work: &mut [u32],
     free: usize,
@@ -41,7 +41,7 @@ pub fn opens(
 
 // The payload of the cipher, the first of two children from cell i on, under the key, the second: its cell, 0 where the rule does
 // not fire.
-pub fn decrypted(sheet: &[u8], work: &mut [u32], free: usize, i: usize, boxed: bool) -> usize
+pub(crate) fn decrypted(sheet: &[u8], work: &mut [u32], free: usize, i: usize, boxed: bool) -> usize
     requires { ⌜ Arena (now sheet) (now work) free ⌝ }
     requires { ⌜ (i < free) × (sizes (trees-at (now sheet) (now work) i) ≤ 4096) ⌝ }
     requires { ⌜ 4 * free + key-room ≤ length (now work) ⌝ }

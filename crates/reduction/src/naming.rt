@@ -1,4 +1,5 @@
 // The rule of a name, and the children of a tree where they are as many as a rule asks for.
+use tree::cells::APPLICATION;
 use tree::cells::first_of;
 use tree::cells::kind_of;
 use tree::cells::next_of;
@@ -9,7 +10,7 @@ ghost use Rattle.rules.specs.Reduction.{rule-named, arguments1, arguments2, arg
 ghost use Rattle.rules.specs.Maybe.{guard};
 ghost use Rattle.tree.specs.Cells.{first-of, name-at, tree-at, trees-at};
 ghost use Rattle.tree.specs.Arena.{Arena};
-ghost use Rattle.reduction.specs.Held.{coded, given-if, held, held-two};
+ghost use Rattle.reduction.specs.Held.{coded-rule, given-if, held, held-two};
 
 // The rule of a name.
 pub enum RuleName {
@@ -25,7 +26,7 @@ pub enum RuleName {
 pub fn rule_named(sheet: &[u8], work: &[u32], free: usize, k: usize) -> RuleName
     requires { ⌜ Arena (now sheet) (now work) free ⌝ }
     requires { ⌜ (0 < k) × (k < free) ⌝ }
-    ensures { λ r. ⌜ r ≡ coded (rule-named (name-at (now (sheet .entry)) (now (work .entry)) k)) ⌝ }
+    ensures { λ r. ⌜ r ≡ coded-rule (rule-named (name-at (now (sheet .entry)) (now (work .entry)) k)) ⌝ }
 {
     if name_is(sheet, work, free, k, b"tamXCfst") {
         return RuleName::Fst;
@@ -80,19 +81,19 @@ pub fn two_arguments(sheet: &[u8], work: &[u32], free: usize, i: usize) -> usize
 }
 
 // Whether cell k is an application with a name.
-pub fn applies(sheet: &[u8], work: &[u32], free: usize, k: usize, text: &[u8]) -> bool
+fn applies(sheet: &[u8], work: &[u32], free: usize, k: usize, text: &[u8]) -> bool
     requires { ⌜ Arena (now sheet) (now work) free ⌝ }
     requires { ⌜ (0 < k) × (k < free) ⌝ }
     ensures { λ r. ⌜ arguments-of (now (text .entry)) (tree-at (now (sheet .entry)) (now (work .entry)) k) ≡ given-if r (trees-at (now (sheet .entry)) (now (work .entry)) (first-of (now (work .entry)) k)) ⌝ }
 {
-    if 0 < kind_of(work, k) {
+    if APPLICATION < kind_of(work, k) {
         return false;
     }
     name_is(sheet, work, free, k, text)
 }
 
 // Whether the tree of cell k is a name without arguments.
-pub fn is_constant(sheet: &[u8], work: &[u32], free: usize, k: usize, text: &[u8]) -> bool
+pub(crate) fn is_constant(sheet: &[u8], work: &[u32], free: usize, k: usize, text: &[u8]) -> bool
     requires { ⌜ Arena (now sheet) (now work) free ⌝ }
     requires { ⌜ (0 < k) × (k < free) ⌝ }
     ensures { λ r. ⌜ is-constant (now (text .entry)) (tree-at (now (sheet .entry)) (now (work .entry)) k) ≡ guard r ⌝ }
@@ -104,7 +105,7 @@ pub fn is_constant(sheet: &[u8], work: &[u32], free: usize, k: usize, text: &[u8
 }
 
 // The cell of the one argument under a name at cell k, 0 for none.
-pub fn is_one(sheet: &[u8], work: &[u32], free: usize, k: usize, text: &[u8]) -> usize
+pub(crate) fn is_one(sheet: &[u8], work: &[u32], free: usize, k: usize, text: &[u8]) -> usize
     requires { ⌜ Arena (now sheet) (now work) free ⌝ }
     requires { ⌜ (0 < k) × (k < free) ⌝ }
     ensures { λ r. ⌜ (r < free) × (is-one (now (text .entry)) (tree-at (now (sheet .entry)) (now (work .entry)) k) ≡ held (now (sheet .entry)) (now (work .entry)) r) ⌝ }
@@ -116,7 +117,7 @@ pub fn is_one(sheet: &[u8], work: &[u32], free: usize, k: usize, text: &[u8]) ->
 }
 
 // The cell of the second of the two arguments under a name at cell k, 0 for none.
-pub fn is_two(sheet: &[u8], work: &[u32], free: usize, k: usize, text: &[u8]) -> usize
+pub(crate) fn is_two(sheet: &[u8], work: &[u32], free: usize, k: usize, text: &[u8]) -> usize
     requires { ⌜ Arena (now sheet) (now work) free ⌝ }
     requires { ⌜ (0 < k) × (k < free) ⌝ }
     ensures { λ r. ⌜ (r < free) × (0 < r → 0 < first-of (now (work .entry)) k) × (is-two (now (text .entry)) (tree-at (now (sheet .entry)) (now (work .entry)) k) ≡ held-two (now (sheet .entry)) (now (work .entry)) (first-of (now (work .entry)) k) r) ⌝ }

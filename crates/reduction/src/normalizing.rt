@@ -8,6 +8,7 @@ use crate::naming::RuleName;
 use crate::naming::rule_named;
 use substitution::bindings::Pushed;
 use substitution::instances::keep;
+use tree::cells::APPLICATION;
 use tree::cells::first_of;
 use tree::cells::kind_of;
 use tree::cells::next_of;
@@ -73,7 +74,7 @@ fn normalize_list(sheet: &[u8], work: &mut [u32], free: usize, i: usize) -> Push
     let rest = normalize_list(sheet, work, free, next_of(work, free, i));
     let next = rest.index;
     let end = rest.free;
-    if 0 < kind_of(work, i) {
+    if APPLICATION < kind_of(work, i) {
         return keep(sheet, work, end, i, next);
     }
     let children = normalize_list(sheet, work, end, first_of(work, end, i));
@@ -90,7 +91,7 @@ pub fn normalize(sheet: &[u8], work: &mut [u32], free: usize, i: usize, next: us
     ensures { λ r. ⌜ NewTree (now (sheet .entry)) (now (work .entry)) (now (work .exit)) free (size (tree-at (now (sheet .entry)) (now (work .entry)) i)) next (normalize (tree-at (now (sheet .entry)) (now (work .entry)) i)) (r .index) (r .free) ⌝ }
 {
     let kind = kind_of(work, i);
-    if 0 < kind {
+    if APPLICATION < kind {
         return keep(sheet, work, free, i, next);
     }
     let children = normalize_list(sheet, work, free, first_of(work, free, i));

@@ -11,7 +11,7 @@ use borrow.Author.Tests.{le-leb, leb-true}
 use Rattle.rules.specs.Bytes.{Text, same}
 use Rattle.laws.proofs.Basics.Tests.{and-left, and-right}
 use Rattle.rules.specs.Call.{Reply, refused, passed, call, refusal-number, written, overwritten}
-use Rattle.archive.specs.Answering.{Calls}
+use Rattle.yukhtsami.specs.Answering.{Calls}
 use Rattle.replay.specs.Replaying.{agreeing, Compares, Replays, lends, outcome, sheet-in, answer-in}
 use Rattle.replay.specs.declared.call.Record.{Record}
 use Rattle.replay.specs.declared.call.Outcome.the-variants.{Skipped}

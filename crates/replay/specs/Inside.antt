@@ -4,7 +4,7 @@ use mathlib.Core.List.{List}
 use lib.ListN.{length}
 use Rattle.replay.specs.declared.call.Record.{Record}
 
-pub record Inside (list : List ℕ) (r : Record) : Type 0 where
+pub record RecordInside (list : List ℕ) (r : Record) : Type 0 where
   pub label : r .label ≤ r .sheet
   pub sheet : r .sheet ≤ r .answer
   pub answer : r .answer ≤ r .end

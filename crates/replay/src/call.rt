@@ -1,18 +1,18 @@
 // One record of the list through the call.
-use archive::yukhtsami_answer;
 use text::places::wide;
 use text::same;
+use yukhtsami::yukhtsami_answer;
 ghost use mathlib.Core.Path.{_≡_};
 ghost use mathlib.Core.Bool.{_&&_};
 ghost use lib.Dec.{eqb, leb};
 ghost use lib.ListN.{length, take};
 ghost use Rattle.rules.specs.Bytes.{same};
-ghost use Rattle.replay.specs.Inside.{Inside};
+ghost use Rattle.replay.specs.Inside.{RecordInside};
 ghost use Rattle.replay.specs.Replaying.{lends, Compares, Replays};
 
 // A record: the words and bytes of output lent, the refusal, where its label, its sheet and its
 // answer start, and where its answer ends.
-pub struct Record {
+pub(crate) struct Record {
     pub words: usize,
     pub room: usize,
     pub refusal: usize,
@@ -22,7 +22,7 @@ pub struct Record {
     pub end: usize,
 }
 
-pub enum Outcome {
+pub(crate) enum Outcome {
     Agrees,
     Differs,
     Skipped,
@@ -69,8 +69,8 @@ fn agrees(sheet: &[u8], work: &mut [u32], output: &mut [u8], refusal: usize, ans
 }
 
 // Replays a record, if it lends what is there.
-pub fn replay(list: &[u8], work: &mut [u32], output: &mut [u8], stored: Record) -> Outcome
-    requires { ⌜ Inside (now list) stored ⌝ }
+pub(crate) fn replay(list: &[u8], work: &mut [u32], output: &mut [u8], stored: Record) -> Outcome
+    requires { ⌜ RecordInside (now list) stored ⌝ }
     ensures { λ r. ⌜ Replays (now (list .entry)) stored (now (work .entry)) (now (work .exit)) (now (output .entry)) (now (output .exit)) r ⌝ }
 {
     let from = stored.sheet;

@@ -16,7 +16,7 @@ ghost use mathlib.Core.Path.{_≡_};
 ghost use Prim.Native.Nat.{_<_, _≤_};
 ghost use lib.Dec.{eqb};
 ghost use lib.ListN.{length};
-ghost use Rattle.replay.specs.Inside.{Inside};
+ghost use Rattle.replay.specs.Inside.{RecordInside};
 ghost use Rattle.replay.specs.Replaying.{closed-at};
 
 // A number, and the place after the byte that ends it.
@@ -95,7 +95,7 @@ fn number(list: &[u8], at: usize) -> Numeral
 // The record that starts at a place.
 fn record_at(list: &[u8], at: usize) -> Record
     requires { ⌜ at ≤ length (now list) ⌝ }
-    ensures { λ r. ⌜ Inside (now (list .entry)) r × (at ≤ r .end) ⌝ }
+    ensures { λ r. ⌜ RecordInside (now (list .entry)) r × (at ≤ r .end) ⌝ }
 {
     let words = number(list, ahead(list, at, 6));
     let room = number(list, words.next);
@@ -179,7 +179,7 @@ fn room() -> [u8; 600000]
 
 // Writes the label of a record that differs.
 fn report(list: &[u8], stored: Record, outcome: Outcome)
-    requires { ⌜ Inside (now list) stored ⌝ }
+    requires { ⌜ RecordInside (now list) stored ⌝ }
 {
     let from = stored.label;
     let to = stored.sheet;

@@ -9,6 +9,7 @@ use lib.ListN.{length, getD}
 use Rattle.rules.specs.Bytes.{Text}
 use Rattle.rules.specs.Sheet.{Sheet, read-sheet, words-needed}
 use Rattle.rules.specs.Answer.{answer-of}
+use Rattle.rules.specs.RefusalNumbers.{number-for, TooLong, ForeignByte, LineOutOfPlace, UnreadableTerm, ShortWorkArea, ShortOutput}
 use Rattle.rules.specs.Call.{Reply, refused, passed}
 
 -- 10, or 32 to 126
@@ -28,12 +29,12 @@ pub record Admitted (s : Text) (words : ℕ) (sheet : Sheet) : Type 0 where
 
 -- a sheet, the number of words of the work area and of bytes of the output, and what the call gives
 pub data Outcome (s : Text) (words room : ℕ) : Reply Text → Type 0 where
-  too-long : 65536 < length s → Outcome s words room (refused 1)
-  foreign-byte : length s ≤ 65536 → (p : ℕ) → p < length s → ¬ Allowed (getD s p 0) → Outcome s words room (refused 2)
-  out-of-place : Screened s → read-sheet s ≡ none → Outcome s words room (refused 3)
-  short-work : {sheet : Sheet} → Screened s → read-sheet s ≡ some sheet → words < words-needed s sheet → Outcome s words room (refused 11)
-  unreadable : {sheet : Sheet} → Admitted s words sheet → answer-of sheet ≡ none → Outcome s words room (refused 4)
-  short-output : {sheet : Sheet} {answer : Text} → Admitted s words sheet → answer-of sheet ≡ some answer → room < length answer → Outcome s words room (refused 12)
+  too-long : 65536 < length s → Outcome s words room (refused (number-for TooLong))
+  foreign-byte : length s ≤ 65536 → (p : ℕ) → p < length s → ¬ Allowed (getD s p 0) → Outcome s words room (refused (number-for ForeignByte))
+  out-of-place : Screened s → read-sheet s ≡ none → Outcome s words room (refused (number-for LineOutOfPlace))
+  short-work : {sheet : Sheet} → Screened s → read-sheet s ≡ some sheet → words < words-needed s sheet → Outcome s words room (refused (number-for ShortWorkArea))
+  unreadable : {sheet : Sheet} → Admitted s words sheet → answer-of sheet ≡ none → Outcome s words room (refused (number-for UnreadableTerm))
+  short-output : {sheet : Sheet} {answer : Text} → Admitted s words sheet → answer-of sheet ≡ some answer → room < length answer → Outcome s words room (refused (number-for ShortOutput))
   answered : {sheet : Sheet} {answer : Text} → Admitted s words sheet → answer-of sheet ≡ some answer → length answer ≤ room → Outcome s words room (passed answer)
 
 -- an answer changes only the first bytes of the output
@@ -45,7 +46,7 @@ pub record Overwritten (answer output after : List ℕ) : Type 0 where
 
 -- 1, 2, 3, 11, which keep the work area
 abbrev pub KeepsWork : Reply Text → Type 0
-KeepsWork (refused n) = (n ≡ 1) ⊎ (n ≡ 2) ⊎ (n ≡ 3) ⊎ (n ≡ 11)
+KeepsWork (refused n) = (n ≡ number-for TooLong) ⊎ (n ≡ number-for ForeignByte) ⊎ (n ≡ number-for LineOutOfPlace) ⊎ (n ≡ number-for ShortWorkArea)
 KeepsWork (passed answer) = ⊥
 
 -- the first words, as many as needed, are zero, and later words unchanged

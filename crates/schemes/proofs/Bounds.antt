@@ -1,4 +1,4 @@
--- Schemes are no larger than their trees; a site adds two fresh variables and two equations at most. Assumes nothing.
+-- Schemes are no larger than their trees; a site adds two fresh variables and two equations at most.
 use Prim.Native.Nat.{ℕ, zero, suc, _+_, _*_, _/_, _%_, _≤_}
 use native.Mathlib.Omega.{arith}
 use mathlib.Core.Path.{_≡_, refl, ap}

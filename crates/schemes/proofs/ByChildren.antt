@@ -1,4 +1,4 @@
--- A scheme's choices: those of the children, then the root's. Assumes nothing.
+-- A scheme's choices: those of the children, then the root's.
 use Prim.Native.Nat.{ℕ, zero, suc, _+_, _*_, _/_, _%_, _<_}
 use native.Mathlib.Omega.{arith}
 use mathlib.Core.Path.{_≡_, refl, ap, subst}

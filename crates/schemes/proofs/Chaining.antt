@@ -1,4 +1,4 @@
--- Lists one after the other, a tree with its children, and a value before later ones. Assumes nothing.
+-- Lists one after the other, a tree with its children, and a value before later ones.
 use Prim.Native.Nat.{ℕ, suc, _+_, _<_, _≤_}
 use native.Mathlib.Omega.{arith}
 use mathlib.Core.Path.{_≡_, refl, sym, ap, ap₂, _∙_}
@@ -12,7 +12,7 @@ use Rattle.tree.proofs.Areas.{below-grown}
 use Rattle.substitution.specs.Building.{Before}
 use Rattle.reduction.specs.Building.{NewTree}
 use Rattle.schemes.specs.Choices.{appended}
-use Rattle.schemes.specs.Building.{Written, Keeps, Appends, Follows}
+use Rattle.schemes.specs.Building.{Written, KeptAs, Appends, Follows}
 use Rattle.schemes.specs.declared.choosing.Chosen.{Chosen}
 use Rattle.schemes.proofs.Writing.{written-same, written-then, lists-later, appended-none}
 use Rattle.schemes.proofs.Patterns.{cell-written}
@@ -58,10 +58,10 @@ module _ {s : Text} {w : List ℕ} {n : ℕ} (a b : ℕ) (o : Arena s w n) where
       }
 
 -- a tree that stays
-pub keeps-leaf : {s : Text} {w : List ℕ} {n : ℕ} {t : Tree} (i : ℕ) → Arena s w n → 0 < i → i < n → tree-at s w i ≡ t → Keeps s w w n t i n
+pub keeps-leaf : {s : Text} {w : List ℕ} {n : ℕ} {t : Tree} (i : ℕ) → Arena s w n → 0 < i → i < n → tree-at s w i ≡ t → KeptAs s w w n t i n
 keeps-leaf i a p q e = record { written = written-same 1 a; value = record { some-cell = p; inside = q; tree = e } }
 
-pub keeps-node : {s : Text} {w v : List ℕ} {n next i m : ℕ} {t u : Tree} → NewTree s w v n 1 next t i m → t ≡ u → Keeps s w v n u i m
+pub keeps-node : {s : Text} {w v : List ℕ} {n next i m : ℕ} {t u : Tree} → NewTree s w v n 1 next t i m → t ≡ u → KeptAs s w v n u i m
 keeps-node x e = record {
   written = record { arena = x .arena; kept = x .kept; grew = x .grew; used = x .used };
   value = record { some-cell = x .some-cell; inside = x .inside; tree = x .tree ∙ e };

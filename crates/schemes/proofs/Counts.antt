@@ -1,4 +1,4 @@
--- The choices at the root of a cell, and counts up to 4,096. Assumes nothing.
+-- The choices at the root of a cell, and counts up to 4,096.
 use Prim.Native.Nat.{ℕ, _*_, _<_, _≤_}
 use native.Mathlib.Nat.{mul-assoc, mul-pos, le-mul-of-pos-right, mul-le-mul}
 use native.Mathlib.Omega.{arith}
@@ -13,10 +13,10 @@ use Rattle.rules.specs.Tree.{Tree, variable, atom, apply, Trees, none, more, ch
 use Rattle.rules.specs.Reduction.{Rule, fst, snd, flip, sdec, kdec, rule-named, arguments1, arguments2}
 use Rattle.rules.specs.Variants.{firing-count, with-one, with-two, scheme-count, scheme-counts}
 use Rattle.laws.specs.Schemes.{root-count}
-use Rattle.tree.specs.Cells.{kind-of, name-at, first-of, tree-at, trees-at}
-use Rattle.tree.proofs.Decoding.{Kind, application, a-variable, an-atom, kind, tree-variable, tree-atom, tree-apply, trees-none}
+use Rattle.tree.specs.Cells.{kind-of, name-at, tree-at}
+use Rattle.tree.proofs.Decoding.{Kind, application, a-variable, an-atom, kind, tree-variable, tree-atom, tree-apply}
 use Rattle.schemes.specs.Choices.{over, ways-of}
-use Rattle.schemes.specs.Counting.{capped, counted}
+use Rattle.schemes.specs.Counting.{capped, counted-schemes}
 use Rattle.schemes.specs.declared.counting.Counted.the-variants.{Schemes, Over}
 use Rattle.schemes.proofs.ByChildren.{count-children, over-same}
 
@@ -70,31 +70,24 @@ ways-few (apply f ts) = (omega arith, omega (arith, firings-few (rule-named f) t
 
 -- a cell by its kind
 module _ (s : Text) (w : List ℕ) (k : ℕ) where
-  leaf-facts : (us : Trees) → 0 < kind-of w k → (children (tree-at s w k) ≡ none) × (over (tree-at s w k) us ≡ tree-at s w k) × (ways-of (over (tree-at s w k) us) ≡ 1)
-  unfolding children ways-of
+  leaf-facts : (us : Trees) → 0 < kind-of w k → (over (tree-at s w k) us ≡ tree-at s w k) × (ways-of (over (tree-at s w k) us) ≡ 1)
+  unfolding ways-of
   leaf-facts us p = go (kind (kind-of w k))
     where
-      go : Kind (kind-of w k) → (children (tree-at s w k) ≡ none) × (over (tree-at s w k) us ≡ tree-at s w k) × (ways-of (over (tree-at s w k) us) ≡ 1)
+      go : Kind (kind-of w k) → (over (tree-at s w k) us ≡ tree-at s w k) × (ways-of (over (tree-at s w k) us) ≡ 1)
       go (application e) = absurd (omega arith)
       go (a-variable h q) =
           let e = tree-variable s w k h q in
-          (ap children e, ap (λ (t : Tree). over t us) e ∙ sym e, ap (λ (t : Tree). ways-of (over t us)) e)
+          (ap (λ (t : Tree). over t us) e ∙ sym e, ap (λ (t : Tree). ways-of (over t us)) e)
       go (an-atom h) =
           let e = tree-atom s w k h in
-          (ap children e, ap (λ (t : Tree). over t us) e ∙ sym e, ap (λ (t : Tree). ways-of (over t us)) e)
-
-  pub leaf-children : 0 < kind-of w k → trees-at s w 0 ≡ children (tree-at s w k)
-  leaf-children p = trees-none s w 0 refl ∙ sym (leaf-facts none p .0)
+          (ap (λ (t : Tree). over t us) e ∙ sym e, ap (λ (t : Tree). ways-of (over t us)) e)
 
   pub leaf-over : (us : Trees) → 0 < kind-of w k → over (tree-at s w k) us ≡ tree-at s w k
-  leaf-over us p = leaf-facts us p .1
+  leaf-over us p = leaf-facts us p .0
 
   pub leaf-ways : (us : Trees) → 0 < kind-of w k → ways-of (over (tree-at s w k) us) ≡ 1
-  leaf-ways us p = leaf-facts us p .2
-
-  pub node-children : (j : ℕ) → kind-of w k ≡ 0 → j ≡ first-of w k → trees-at s w j ≡ children (tree-at s w k)
-  unfolding children
-  node-children j e f = ap (trees-at s w) f ∙ sym (ap children (tree-apply s w k e))
+  leaf-ways us p = leaf-facts us p .1
 
   pub node-over : (us : Trees) → kind-of w k ≡ 0 → over (tree-at s w k) us ≡ apply (name-at s w k) us
   node-over us e = ap (λ (t : Tree). over t us) (tree-apply s w k e)
@@ -158,15 +151,15 @@ pub count-more : {here all : ℕ} (c : ℕ) (t : Tree) (ts : Trees) → here ≡
 unfolding scheme-count
 count-more {here} c t ts e f = f ∙ capped-step here (c * scheme-count t) (scheme-counts ts) e (counts-positive ts) ∙ ap capped (mul-assoc c (scheme-count t) (scheme-counts ts))
 
-pub counted-over : (c n : ℕ) → 4096 < c → c ≡ capped (1 * n) → Over ≡ counted n
-unfolding counted
+pub counted-over : (c n : ℕ) → 4096 < c → c ≡ capped (1 * n) → Over ≡ counted-schemes n
+unfolding counted-schemes
 counted-over c n h e = elim (decLt 4096 n) [
   | yes p ↦ sym (ap (λ (b : Bool). cond b (Schemes n) Over) (false-leb n 4096 p))
   | no p ↦ absurd (omega (arith, e, ap capped (let f : 1 * n ≡ n = omega arith in f), capped-within n (omega arith)))
 ]
 
-pub counted-some : (c n : ℕ) → c ≤ 4096 → c ≡ capped (1 * n) → Schemes c ≡ counted n
-unfolding counted
+pub counted-some : (c n : ℕ) → c ≤ 4096 → c ≡ capped (1 * n) → Schemes c ≡ counted-schemes n
+unfolding counted-schemes
 counted-some c n h e = elim (decLt 4096 n) [
   | yes p ↦ absurd (omega (arith, e, ap capped (let f : 1 * n ≡ n = omega arith in f), capped-over n p))
   | no p ↦ ap Schemes (e ∙ ap capped (let f : 1 * n ≡ n = omega arith in f) ∙ capped-within n (omega arith)) ∙ sym (ap (λ (b : Bool). cond b (Schemes n) Over) (true-leb n 4096 (omega arith)))

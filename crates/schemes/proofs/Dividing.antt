@@ -1,4 +1,4 @@
--- An index below a number of ways, divided by a product. Assumes nothing.
+-- An index below a number of ways, divided by a product.
 use Prim.Native.Nat.{ℕ, zero, suc, _+_, _*_, _/_, _%_, _<_}
 use native.Mathlib.Nat.{mul-comm, mul-assoc, zero-mul, mod-lt, mod-eq-of-lt, div-add-mod', div-lt-iff-lt-mul, add-mul-div-left, add-mul-mod-self-left, div-div-eq-div-mul, div-eq-of-eq-mul-right, mod-mod-of-dvd, dvd-mul-left, add-comm}
 use native.Mathlib.Omega.{arith}

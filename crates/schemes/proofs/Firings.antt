@@ -1,4 +1,4 @@
--- The choices at a root by its rule: the children that a firing needs, and what it makes. Assumes nothing.
+-- The choices at a root by its rule: the children that a firing needs, and what it makes.
 use Prim.Native.Nat.{ℕ, zero, suc, _+_, _-_, _<_}
 use native.Mathlib.Omega.{arith}
 use mathlib.Core.Path.{_≡_, refl, sym, ap, _∙_, subst}

@@ -1,4 +1,4 @@
--- The scheme of one term and its system. Assumes nothing.
+-- The scheme of one term and its system.
 use Prim.Native.Nat.{ℕ, zero, suc, _+_, _*_, _/_, _<_, _≤_, _^_}
 use native.Mathlib.Nat.{mul-one, div-one, div-eq-of-eq-mul-right}
 use native.Mathlib.Omega.{arith}
@@ -19,7 +19,7 @@ use Rattle.tree.proofs.Areas.{below-grown}
 use Rattle.substitution.specs.Building.{Made}
 use Rattle.substitution.proofs.Chains.{head-more, none-more}
 use Rattle.schemes.specs.Choices.{appended, Shared}
-use Rattle.schemes.specs.Building.{Fresh, Named, Written, Holds, Lists, Ready, Chooses, Appends, Systems}
+use Rattle.schemes.specs.Building.{Fresh, SomeFresh, Written, Holds, HoldsList, ChoicesReady, Chooses, Appends, Systems}
 use Rattle.schemes.specs.declared.choosing.Chosen.{Chosen}
 use Rattle.schemes.proofs.Bounds.{scheme-fits}
 use Rattle.schemes.proofs.Counts.{count-positive}
@@ -31,7 +31,7 @@ append-none [] = refl
 append-none (a ∷ l) = ap (λ r. a ∷ r) (append-none l)
 
 -- the first tree of a list that has one
-first-holds : {w : List ℕ} {n : ℕ} (s : Text) → Links w n → (k : ℕ) {t : Tree} {ts : Trees} → Lists s w n k (more t ts) → Holds s w n k t
+first-holds : {w : List ℕ} {n : ℕ} (s : Text) → Links w n → (k : ℕ) {t : Tree} {ts : Trees} → HoldsList s w n k (more t ts) → Holds s w n k t
 first-holds {w} s l zero h = absurd (none-more (sym (trees-none s w 0 refl) ∙ h .trees))
 first-holds {w} s l (suc k) h = record { some-cell = omega arith; inside = h .inside; tree = head-more (sym (trees-more s l (suc k) (omega arith) (h .inside)) ∙ h .trees) }
 
@@ -49,7 +49,7 @@ one-scheme name t i =
     let e = ap (scheme-at name t 0) (div-one i) in
     (ap (λ (x : Scheme). more (x .value) none) e, ap (λ (x : Scheme). x .equations ++ []) e ∙ append-none (scheme-at name t 0 i .equations))
 
-module _ {s : Text} {w v : List ℕ} {n fresh : ℕ} (term c i m : ℕ) (a : Arena s w n) (names : Named s w n fresh) (p : 0 < term) (q : term < n) (small : size (tree-at s w term) ≤ 4096)
+module _ {s : Text} {w v : List ℕ} {n fresh : ℕ} (term c i m : ℕ) (a : Arena s w n) (names : SomeFresh s w n fresh) (p : 0 < term) (q : term < n) (small : size (tree-at s w term) ≤ 4096)
     (ce : c ≡ scheme-count (tree-at s w term)) (few : c ≤ 4096) (below : i < c)
     (room : 4 * (n + 2 * size (tree-at s w term) + 1024) ≤ length w) (bits : n + 2 * size (tree-at s w term) + 1024 < 2 ^ 32)
     (me : m ≡ n + 1) (x : Linked s w v n 0 (tree-at s w term)) where
@@ -77,7 +77,7 @@ module _ {s : Text} {w v : List ℕ} {n fresh : ℕ} (term c i m : ℕ) (a : Are
     below = below;
   }
 
-  pub ready-term : Ready s v m fresh 0 i c n
+  pub ready-term : ChoicesReady s v m fresh 0 i c n
   ready-term =
       let wx = cell-written m me x in
       record {
@@ -105,10 +105,10 @@ module _ {s : Text} {w v : List ℕ} {n fresh : ℕ} (term c i m : ℕ) (a : Are
     index-is : i / (c / scheme-counts (more t₀ none)) ≡ i
     index-is = ap (λ (k : ℕ). i / k) (one-ways t₀ c ce) ∙ div-one i
 
-    values-are : Lists s u (r .free) (r .values) (more (the-scheme .value) none)
+    values-are : HoldsList s u (r .free) (r .values) (more (the-scheme .value) none)
     values-are = record { inside = chosen .values .inside; trees = chosen .values .trees ∙ ap (λ (k : ℕ). joined-at name (more t₀ none) 0 k .values) index-is ∙ one-scheme name t₀ i .0 }
 
-    equations-are : Lists s u (r .free) (r .equations) (flatten (the-scheme .equations))
+    equations-are : HoldsList s u (r .free) (r .equations) (flatten (the-scheme .equations))
     equations-are = record {
       inside = chosen .equations .inside;
       trees = chosen .equations .trees ∙ ap (λ (k : ℕ). flatten (joined-at name (more t₀ none) 0 k .equations)) index-is ∙ ap flatten (one-scheme name t₀ i .1);
@@ -147,13 +147,13 @@ module _ {s : Text} {w v : List ℕ} {n fresh : ℕ} (term c i m : ℕ) (a : Are
       written₂ : Written s w x₂ n e₂ (2 * size t₀ + 804)
       written₂ = pair-written written₁ d₂ f₂ (2 * size t₀ + 804) (omega arith)
 
-      last-list : Lists s x₂ e₂ k₂ (flatten ((t₀, t₀) ∷ (the-scheme .value, the-scheme .value) ∷ []))
+      last-list : HoldsList s x₂ e₂ k₂ (flatten ((t₀, t₀) ∷ (the-scheme .value, the-scheme .value) ∷ []))
       unfolding flatten
       last-list =
           let g = sym (frame-tree s x₁ (a .links) (written₁ .kept .words) term p q) in
           pair-lists term term k₁ d₂ g g (pair-lists (r .values) (r .values) 0 {ts = none} d₁ (value-is .tree) (value-is .tree) (trees-none s u 0 refl) .trees)
 
-      equations-later : Lists s x₂ e₂ (r .equations) (flatten (the-scheme .equations))
+      equations-later : HoldsList s x₂ e₂ (r .equations) (flatten (the-scheme .equations))
       equations-later = lists-later (written₁ .arena) (below-grown (d₂ .grown)) (d₂ .grew) (lists-later (chosen .written .arena) (below-grown (d₁ .grown)) (d₁ .grew) equations-are)
 
       value-later : Holds s x₂ e₂ (r .values) (the-scheme .value)

@@ -1,4 +1,4 @@
--- Patterns over leaves, and equations before others. Assumes nothing.
+-- Patterns over leaves, and equations before others.
 use Prim.Native.Nat.{ℕ, _+_, _<_, _≤_}
 use native.Mathlib.Omega.{arith}
 use mathlib.Core.Path.{_≡_, refl, sym, ap, _∙_, subst}
@@ -15,7 +15,7 @@ use Rattle.tree.proofs.Decoding.{trees-none, frame-tree, frame-trees}
 use Rattle.tree.proofs.Areas.{below-grown, below-then}
 use Rattle.substitution.specs.Building.{Made}
 use Rattle.reduction.specs.Building.{NewTree}
-use Rattle.schemes.specs.Building.{Written, Holds, Lists, Opens, Fires}
+use Rattle.schemes.specs.Building.{Written, Holds, HoldsList, Opens, FiredIs}
 use Rattle.schemes.specs.declared.firing.Fired.{Fired}
 use Rattle.schemes.proofs.Writing.{written-then, holds-later}
 
@@ -104,7 +104,7 @@ module _ {s : Text} {w v u : List ℕ} {n m b e k : ℕ} {ts : Trees} (x : Writt
   pair-holds h = holds-later (x .arena) (below-grown (d .grown)) (d .grew) h
 
 pub pair-lists : {s : Text} {v u : List ℕ} {m e k : ℕ} (i j l : ℕ) {x y : Tree} {ts : Trees} → Made s v u m e k (more (tree-at s v i) (more (tree-at s v j) (trees-at s v l)))
-    → tree-at s v i ≡ x → tree-at s v j ≡ y → trees-at s v l ≡ ts → Lists s u e k (more x (more y ts))
+    → tree-at s v i ≡ x → tree-at s v j ≡ y → trees-at s v l ≡ ts → HoldsList s u e k (more x (more y ts))
 pair-lists i j l d f g h = record { inside = d .inside; trees = d .trees ∙ (rw (f, g, h)) }
 
 -- a tree and a list of before
@@ -131,13 +131,13 @@ module _ {s : Text} {v : List ℕ} {m k : ℕ} (x y : Tree) {b : Bool} where
   pub picked-second : b ≡ false → Holds s v m k y → Holds s v m k (pick b x y)
   picked-second e h = rw e h
 
-pub fires-as : {s : Text} {w v : List ℕ} {n : ℕ} {x y : Scheme} {r : Fired} → x ≡ y → Fires s w v n y r → Fires s w v n x r
-fires-as {s} {w} {v} {n} {r = r} e h = subst (λ (z : Scheme). Fires s w v n z r) (sym e) h
+pub fires-as : {s : Text} {w v : List ℕ} {n : ℕ} {x y : Scheme} {r : Fired} → x ≡ y → FiredIs s w v n y r → FiredIs s w v n x r
+fires-as {s} {w} {v} {n} {r = r} e h = subst (λ (z : Scheme). FiredIs s w v n z r) (sym e) h
 
 -- a firing with one equation, and one with two
 module _ {s : Text} {w v u : List ℕ} {n m b e c : ℕ} (i list : ℕ) (a : Arena s w n) (p : 0 < i) (q : i < n) (r : list < n) (x : Written s w v n m b) where
   pub fires-one : {k l : ℕ} {y t : Tree} (j : ℕ) → Holds s v m k y → Holds s v m l t → Made s v u m e c (more (tree-at s v i) (more (tree-at s v l) (trees-at s v list))) → e ≡ m + 2 → b + 2 ≤ 10
-      → (es : List Pair) → trees-at s w list ≡ flatten es → Fires s w u n (scheme y ((tree-at s w i, t) ∷ es) j) (record { value = k; equations = c; next = j; free = e })
+      → (es : List Pair) → trees-at s w list ≡ flatten es → FiredIs s w u n (scheme y ((tree-at s w i, t) ∷ es) j) (record { value = k; equations = c; next = j; free = e })
   unfolding flatten
   fires-one {k} {l} j h g d f o es z = record {
     written = pair-written x d f 10 o;
@@ -149,7 +149,7 @@ module _ {s : Text} {w v u : List ℕ} {n m b e c : ℕ} (i list : ℕ) (a : Are
   pub fires-two : {u₂ : List ℕ} {k l o e₂ c₂ : ℕ} {y t z : Tree} (j g : ℕ) → 0 < g → g < n → Holds s v m k y → Holds s v m l t → Holds s v m o z
       → Made s v u m e c (more (tree-at s v g) (more (tree-at s v o) (trees-at s v list))) → e ≡ m + 2
       → Made s u u₂ e e₂ c₂ (more (tree-at s u i) (more (tree-at s u l) (trees-at s u c))) → e₂ ≡ e + 2 → b + 4 ≤ 10
-      → (es : List Pair) → trees-at s w list ≡ flatten es → Fires s w u₂ n (scheme y ((tree-at s w i, t) ∷ (tree-at s w g, z) ∷ es) j) (record { value = k; equations = c₂; next = j; free = e₂ })
+      → (es : List Pair) → trees-at s w list ≡ flatten es → FiredIs s w u₂ n (scheme y ((tree-at s w i, t) ∷ (tree-at s w g, z) ∷ es) j) (record { value = k; equations = c₂; next = j; free = e₂ })
   unfolding flatten
   fires-two {l = l} {o = v₁} j g gp gq hy ht hz d f d₂ f₂ o es ze =
       let x₁ = pair-written x d f (b + 2) (omega arith) in

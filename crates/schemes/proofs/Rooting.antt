@@ -1,4 +1,4 @@
--- The choice at the root of a cell, after those of its children. Assumes nothing.
+-- The choice at the root of a cell, after those of its children.
 use Prim.Native.Nat.{ℕ, _+_, _/_, _%_, _<_}
 use native.Mathlib.Nat.{div-lt-iff-lt-mul}
 use native.Mathlib.Omega.{arith}
@@ -14,7 +14,7 @@ use Rattle.laws.specs.Schemes.{root-count, root-at}
 use Rattle.tree.specs.Cells.{kind-of, name-at, tree-at, trees-at}
 use Rattle.tree.proofs.Decoding.{frame-trees}
 use Rattle.schemes.specs.Choices.{over, ways-of, root-of, Shared}
-use Rattle.schemes.specs.Building.{Holds, Lists, Keeps, RootReady, Roots, Fires, joined-as}
+use Rattle.schemes.specs.Building.{Holds, HoldsList, KeptAs, RootReady, Roots, FiredIs, joined-as}
 use Rattle.schemes.specs.declared.choosing.Chosen.{Chosen}
 use Rattle.schemes.specs.declared.firing.Fired.{Fired}
 use Rattle.schemes.proofs.Dividing.{factor-positive, rest-positive}
@@ -53,17 +53,17 @@ module _ {s : Text} {w : List ℕ} {fresh : ℕ} {below : Chosen} {i : ℕ} (d :
   index-is : below .index % (below .ways / k) ≡ below .index % (below .ways / ways-of here)
   index-is = ap (λ (m : ℕ). below .index % m) left-is
 
-  pub root-stays : {v : List ℕ} {j m : ℕ} (name : ℕ → Text) → below .index / (below .ways / k) ≡ 0 → Keeps s w v (below .free) here j m → (es : List Pair) → trees-at s w (below .equations) ≡ flatten es
+  pub root-stays : {v : List ℕ} {j m : ℕ} (name : ℕ → Text) → below .index / (below .ways / k) ≡ 0 → KeptAs s w v (below .free) here j m → (es : List Pair) → trees-at s w (below .equations) ≡ flatten es
       → Roots s w v name below here es (record { values = j; equations = below .equations; next = below .next; index = below .index % (below .ways / k); ways = below .ways / k; free = m })
   root-stays {v} {j} {m} name z x es h =
       let g : root-of name here (joined-as (children here) es (below .next)) (below .index / (below .ways / ways-of here)) ≡ scheme here es (below .next) =
       ap (root-of name here (joined-as (children here) es (below .next))) (sym choice-is ∙ z) ∙ root-stay name here es (below .next) in
       let o = x .written in
-      let list : Lists s v m (below .equations) (flatten es) = record { inside = omega (arith, d .equations, o .grew); trees = sym (frame-trees s v (d .arena .links) (o .kept .words) (below .equations) (d .equations)) ∙ h } in
+      let list : HoldsList s v m (below .equations) (flatten es) = record { inside = omega (arith, d .equations, o .grew); trees = sym (frame-trees s v (d .arena .links) (o .kept .words) (below .equations) (d .equations)) ∙ h } in
       record {
         written = record { arena = o .arena; kept = o .kept; grew = o .grew; used = omega (arith, o .used) };
         value = subst (λ (y : Scheme). Holds s v m j (y .value)) (sym g) (x .value);
-        equations = subst (λ (y : Scheme). Lists s v m (below .equations) (flatten (y .equations))) (sym g) list;
+        equations = subst (λ (y : Scheme). HoldsList s v m (below .equations) (flatten (y .equations))) (sym g) list;
         next = sym (ap (λ (y : Scheme). y .next) g);
         ways = left-is;
         index = index-is;
@@ -85,7 +85,7 @@ module _ {s : Text} {w : List ℕ} {fresh : ℕ} {below : Chosen} {i : ℕ} (d :
     names-left = omega (arith, d .names, a-site (ways-of here) many-ways)
 
     pub root-fires : {v : List ℕ} {r : Fired} (name : ℕ → Text)
-        → ((es : List Pair) → trees-at s w (below .equations) ≡ flatten es → Fires s w v (below .free) (root-at name (name-at s w i) (joined-as (trees-at s w (below .values)) es (below .next)) (below .index / (below .ways / k))) r)
+        → ((es : List Pair) → trees-at s w (below .equations) ≡ flatten es → FiredIs s w v (below .free) (root-at name (name-at s w i) (joined-as (trees-at s w (below .values)) es (below .next)) (below .index / (below .ways / k))) r)
         → (es : List Pair) → trees-at s w (below .equations) ≡ flatten es
         → Roots s w v name below here es (record { values = r .value; equations = r .equations; next = r .next; index = below .index % (below .ways / k); ways = below .ways / k; free = r .free })
     root-fires {v} {r} name x es h =
@@ -99,7 +99,7 @@ module _ {s : Text} {w : List ℕ} {fresh : ℕ} {below : Chosen} {i : ℕ} (d :
         record {
           written = y .written;
           value = subst (λ (z : Scheme). Holds s v (r .free) (r .value) (z .value)) (sym g) (y .value);
-          equations = subst (λ (z : Scheme). Lists s v (r .free) (r .equations) (flatten (z .equations))) (sym g) (y .equations);
+          equations = subst (λ (z : Scheme). HoldsList s v (r .free) (r .equations) (flatten (z .equations))) (sym g) (y .equations);
           next = y .next ∙ sym (ap (λ (z : Scheme). z .next) g);
           ways = left-is;
           index = index-is;

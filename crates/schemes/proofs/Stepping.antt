@@ -1,4 +1,4 @@
--- The choices for a list of cells: for the first tree's children, for its root, for the later trees. Assumes nothing.
+-- The choices for a list of cells: for the first tree's children, for its root, for the later trees.
 use Prim.Native.Nat.{ℕ, _+_, _*_, _/_, _%_, _<_, _≤_, _^_}
 use native.Mathlib.Nat.{div-one, mod-eq-of-lt}
 use native.Mathlib.Omega.{arith}
@@ -16,7 +16,7 @@ use Rattle.tree.specs.Cells.{next-of, tree-at, trees-at}
 use Rattle.tree.specs.Arena.{Arena}
 use Rattle.tree.proofs.Decoding.{same-next, trees-none, trees-more, frame-tree, frame-trees, size-pos}
 use Rattle.schemes.specs.Choices.{over, appended, ways-of, root-of, Shared}
-use Rattle.schemes.specs.Building.{Fresh, Written, Holds, Lists, Ready, RootReady, Roots, Follows, Chooses, joined-as}
+use Rattle.schemes.specs.Building.{Fresh, Written, Holds, HoldsList, ChoicesReady, RootReady, Roots, Follows, Chooses, joined-as}
 use Rattle.schemes.specs.declared.choosing.Chosen.{Chosen}
 use Rattle.schemes.proofs.Dividing.{Split}
 use Rattle.schemes.proofs.ByChildren.{count-children, scheme-children, sites-children, size-children, over-children, over-ways, over-root, joined-count, a-site, tree-split, child-split}
@@ -29,7 +29,7 @@ pub record Picks (s : Text) (w v : List ℕ) (n : ℕ) (name : ℕ → Text) (k 
   pub room : r .free + 1 ≤ n + 2 * size t + 64 * sites t
   pub spare : (r .equations ≡ 0) ⊎ (r .free + 49 ≤ n + 2 * size t + 64 * sites t)
   pub value : Holds s v (r .free) (r .values) (scheme-at name t k (i / (c / scheme-count t)) .value)
-  pub equations : Lists s v (r .free) (r .equations) (flatten (scheme-at name t k (i / (c / scheme-count t)) .equations))
+  pub equations : HoldsList s v (r .free) (r .equations) (flatten (scheme-at name t k (i / (c / scheme-count t)) .equations))
   pub next : r .next ≡ scheme-at name t k (i / (c / scheme-count t)) .next
   pub ways : r .ways ≡ c / scheme-count t
   pub index : r .index ≡ i % (c / scheme-count t)
@@ -42,7 +42,7 @@ sites-of : {ts us : Trees} {t : Tree} → ts ≡ more t us → sites-in ts ≡ s
 unfolding sites
 sites-of e = ap sites-in e
 
-module _ {s : Text} {w : List ℕ} {n fresh next index ways : ℕ} (i first : ℕ) (d : Ready s w n fresh next index ways i) (p : 0 < i) (q : first < i)
+module _ {s : Text} {w : List ℕ} {n fresh next index ways : ℕ} (i first : ℕ) (d : ChoicesReady s w n fresh next index ways i) (p : 0 < i) (q : first < i)
     (f : trees-at s w first ≡ children (tree-at s w i)) where
   parts : trees-at s w i ≡ more (tree-at s w i) (trees-at s w (next-of w i))
   parts = trees-more s (d .arena .links) i p (d .inside)
@@ -53,7 +53,7 @@ module _ {s : Text} {w : List ℕ} {n fresh next index ways : ℕ} (i first : �
   pub first-falls : sizes (trees-at s w first) < sizes (trees-at s w i)
   first-falls = omega (arith, ap sizes f, size-children (tree-at s w i), sizes-of parts)
 
-  pub ready-children : Ready s w n fresh next index ways first
+  pub ready-children : ChoicesReady s w n fresh next index ways first
   ready-children =
       let t = tree-at s w i in
       let z = sizes-of parts in
@@ -176,7 +176,7 @@ module _ {s : Text} {w : List ℕ} {n fresh next index ways : ℕ} (i first : �
         room = room-is;
         spare = go (x .cells) (chosen .spare);
         value = subst (λ (y : Scheme). Holds s u (here .free) (here .values) (y .value)) scheme-is (x .value);
-        equations = subst (λ (y : Scheme). Lists s u (here .free) (here .equations) (flatten (y .equations))) scheme-is (x .equations);
+        equations = subst (λ (y : Scheme). HoldsList s u (here .free) (here .equations) (flatten (y .equations))) scheme-is (x .equations);
         next = x .next ∙ ap (λ (y : Scheme). y .next) scheme-is;
         ways = x .ways ∙ here-ways;
         index = x .index ∙ ap₂ _%_ (chosen .index) here-ways ∙ sym (by-count (λ q. index % (ways / scheme-counts (children t₀)) % q)) ∙ splits .left ∙ by-count (λ q. index % q);
@@ -190,7 +190,7 @@ module _ {s : Text} {w : List ℕ} {n fresh next index ways : ℕ} (i first : �
           go (inr h) k = inr (omega (arith, x .written .used, chosen .written .used, size-children t₀, sites-children t₀, a-site (ways-of t₀) (omega (arith, ways-are))))
 
 -- after the first tree
-module _ {s : Text} {w u : List ℕ} {n fresh next index ways : ℕ} (i : ℕ) (d : Ready s w n fresh next index ways i) (p : 0 < i) (name : ℕ → Text) (k : Fresh s w n fresh name) (here : Chosen)
+module _ {s : Text} {w u : List ℕ} {n fresh next index ways : ℕ} (i : ℕ) (d : ChoicesReady s w n fresh next index ways i) (p : 0 < i) (name : ℕ → Text) (k : Fresh s w n fresh name) (here : Chosen)
     (h : Picks s w u n name next index ways (tree-at s w i) here) where
   abbrev first-tree : Tree
   first-tree = tree-at s w i
@@ -213,7 +213,7 @@ module _ {s : Text} {w u : List ℕ} {n fresh next index ways : ℕ} (i : ℕ) (
   pub later-falls : {later : ℕ} → later ≡ next-of u i → sizes (trees-at s u later) < sizes (trees-at s w i)
   later-falls e = omega (arith, ap sizes (later-is e), sizes-of list-is, size-pos first-tree)
 
-  pub ready-later : {later : ℕ} → later ≡ next-of u i → later < i → Ready s u (here .free) fresh (here .next) (here .index) (here .ways) later
+  pub ready-later : {later : ℕ} → later ≡ next-of u i → later < i → ChoicesReady s u (here .free) fresh (here .next) (here .index) (here .ways) later
   ready-later {later} e l =
       let z = sizes-of list-is in
       let y = sites-of list-is in
@@ -238,7 +238,7 @@ module _ {s : Text} {w u : List ℕ} {n fresh next index ways : ℕ} (i : ℕ) (
     value-later : Holds s v (rest .free) (here .values) (scheme-at name first-tree next (index / (ways / scheme-count first-tree)) .value)
     value-later = holds-later (h .written .arena) (rest-chosen .written .kept) (rest-chosen .written .grew) (h .value)
 
-    equations-later : Lists s v (rest .free) (here .equations) (flatten (scheme-at name first-tree next (index / (ways / scheme-count first-tree)) .equations))
+    equations-later : HoldsList s v (rest .free) (here .equations) (flatten (scheme-at name first-tree next (index / (ways / scheme-count first-tree)) .equations))
     equations-later = lists-later (h .written .arena) (rest-chosen .written .kept) (rest-chosen .written .grew) (h .equations)
 
     few : count (trees-at s v (here .equations)) ≤ 48
@@ -344,7 +344,7 @@ chosen-nothing {s} {w} {n} {next} {index} {ways} name a l = record {
   index = sym (ap (λ (m : ℕ). index % m) (div-one ways) ∙ mod-eq-of-lt l);
 }
 
-pub chosen-none : {s : Text} {w : List ℕ} {n fresh next index ways i : ℕ} → Ready s w n fresh next index ways i → i ≡ 0 → (name : ℕ → Text)
+pub chosen-none : {s : Text} {w : List ℕ} {n fresh next index ways i : ℕ} → ChoicesReady s w n fresh next index ways i → i ≡ 0 → (name : ℕ → Text)
     → Chooses s w w n name next index ways (trees-at s w i) (record { values = 0; equations = 0; next = next; index = index; ways = ways; free = n })
 chosen-none {s} {w} {n} {next = next} {index = index} {ways = ways} {i = i} d e name =
     subst (λ (ts : Trees). Chooses s w w n name next index ways ts (record { values = 0; equations = 0; next = next; index = index; ways = ways; free = n })) (sym (trees-none s w i e)) (chosen-nothing name (d .arena) (d .shared .below))

@@ -1,4 +1,4 @@
--- What was written stays, and lists of equations one after the other. Assumes nothing.
+-- What was written stays, and lists of equations one after the other.
 use Prim.Native.Nat.{ℕ, _+_, _*_, _<_, _≤_}
 use native.Mathlib.Omega.{arith}
 use mathlib.Core.Path.{_≡_, refl, sym, ap, _∙_}
@@ -11,7 +11,7 @@ use Rattle.tree.specs.Arena.{Arena, Below}
 use Rattle.tree.proofs.Decoding.{frame-tree, frame-trees}
 use Rattle.tree.proofs.Areas.{below-same, below-then}
 use Rattle.schemes.specs.Choices.{appended, Shared}
-use Rattle.schemes.specs.Building.{Fresh, Named, Single, Written, Holds, Lists}
+use Rattle.schemes.specs.Building.{Fresh, SomeFresh, Single, Written, Holds, HoldsList}
 
 pub written-same : {s : Text} {w : List ℕ} {n : ℕ} (b : ℕ) → Arena s w n → Written s w w n n b
 written-same {s} {w} {n} b a = record { arena = a; kept = below-same w n; grew = omega arith; used = omega arith }
@@ -32,7 +32,7 @@ module _ {s : Text} {v u : List ℕ} {m e : ℕ} (a : Arena s v m) (k : Below v 
     tree = sym (frame-tree s u (a .links) (k .words) i (h .some-cell) (h .inside)) ∙ h .tree;
   }
 
-  pub lists-later : {i : ℕ} {ts : Trees} → Lists s v m i ts → Lists s u e i ts
+  pub lists-later : {i : ℕ} {ts : Trees} → HoldsList s v m i ts → HoldsList s u e i ts
   lists-later {i} h = record {
     inside = omega (arith, h .inside);
     trees = sym (frame-trees s u (a .links) (k .words) i (h .inside)) ∙ h .trees;
@@ -47,11 +47,11 @@ module _ {s : Text} {v u : List ℕ} {m e fresh : ℕ} (a : Arena s v m) (k : Be
     trees = λ i h. sym (frame-tree s u (a .links) (k .words) (fresh + i) (omega (arith, f .some-cell)) (omega (arith, f .inside))) ∙ f .trees i h;
   }
 
-  pub named-later : Named s v m fresh → Named s u e fresh
+  pub named-later : SomeFresh s v m fresh → SomeFresh s u e fresh
   named-later f = record { name = f .name; cells = fresh-later (f .cells) }
 
 -- a fresh variable is one node
-pub fresh-single : {s : Text} {w : List ℕ} {n fresh : ℕ} → Named s w n fresh → (k : ℕ) → k < 24 → Single s w n (fresh + k)
+pub fresh-single : {s : Text} {w : List ℕ} {n fresh : ℕ} → SomeFresh s w n fresh → (k : ℕ) → k < 24 → Single s w n (fresh + k)
 unfolding size
 fresh-single f k h = record {
   some-cell = omega (arith, f .cells .some-cell);

@@ -25,7 +25,7 @@ pub record Fresh (s : Text) (w : List ℕ) (n fresh : ℕ) (name : ℕ → Text)
   pub trees : (k : ℕ) → k < 24 → tree-at s w (fresh + k) ≡ variable (name k)
 
 -- the 24 cells from `fresh` on are variables
-pub record Named (s : Text) (w : List ℕ) (n fresh : ℕ) : Type 0 where
+pub record SomeFresh (s : Text) (w : List ℕ) (n fresh : ℕ) : Type 0 where
   pub name : ℕ → Text
   pub cells : Fresh s w n fresh name
 
@@ -43,7 +43,7 @@ pub record Holds (s : Text) (v : List ℕ) (m k : ℕ) (t : Tree) : Type 0 where
   pub tree : tree-at s v k ≡ t
 
 -- the list from cell k, below m, on is ts
-pub record Lists (s : Text) (v : List ℕ) (m k : ℕ) (ts : Trees) : Type 0 where
+pub record HoldsList (s : Text) (v : List ℕ) (m k : ℕ) (ts : Trees) : Type 0 where
   pub inside : k < m
   pub trees : trees-at s v k ≡ ts
 
@@ -61,10 +61,10 @@ pub record Opens (s : Text) (w v : List ℕ) (n : ℕ) (t a b : Tree) (r : Patte
   pub right : Holds s v (r .free) (r .right) b
 
 -- the scheme x of a rule that fires, its equations left, right, left, right
-pub record Fires (s : Text) (w v : List ℕ) (n : ℕ) (x : Scheme) (r : Fired) : Type 0 where
+pub record FiredIs (s : Text) (w v : List ℕ) (n : ℕ) (x : Scheme) (r : Fired) : Type 0 where
   pub written : Written s w v n (r .free) 10
   pub value : Holds s v (r .free) (r .value) (x .value)
-  pub equations : Lists s v (r .free) (r .equations) (flatten (x .equations))
+  pub equations : HoldsList s v (r .free) (r .equations) (flatten (x .equations))
   pub next : r .next ≡ x .next
 
 -- children with their equations and the next fresh variable
@@ -72,9 +72,9 @@ abbrev pub joined-as : Trees → List Pair → ℕ → Joined
 joined-as ts es n = record { values = ts; equations = es; next = n }
 
 -- the choices for the list from cell i on can be made: its trees are small, the index is below the ways, and names and cells suffice
-pub record Ready (s : Text) (w : List ℕ) (n fresh next index ways i : ℕ) : Type 0 where
+pub record ChoicesReady (s : Text) (w : List ℕ) (n fresh next index ways i : ℕ) : Type 0 where
   pub arena : Arena s w n
-  pub named : Named s w n fresh
+  pub named : SomeFresh s w n fresh
   pub inside : i < n
   pub small : sizes (trees-at s w i) ≤ 4096
   pub shared : Shared (scheme-counts (trees-at s w i)) ways index
@@ -83,14 +83,14 @@ pub record Ready (s : Text) (w : List ℕ) (n fresh next index ways i : ℕ) : T
   pub bits : n + 2 * sizes (trees-at s w i) + 64 * sites-in (trees-at s w i) + 64 < 2 ^ 32
 
 -- cell i is t, by one new cell at most
-pub record Keeps (s : Text) (w v : List ℕ) (n : ℕ) (t : Tree) (i m : ℕ) : Type 0 where
+pub record KeptAs (s : Text) (w v : List ℕ) (n : ℕ) (t : Tree) (i m : ℕ) : Type 0 where
   pub written : Written s w v n m 1
   pub value : Holds s v m i t
 
 -- the choice at the root of cell i can be made, after those of its children
 pub record RootReady (s : Text) (w : List ℕ) (fresh : ℕ) (below : Chosen) (i : ℕ) : Type 0 where
   pub arena : Arena s w (below .free)
-  pub named : Named s w (below .free) fresh
+  pub named : SomeFresh s w (below .free) fresh
   pub some-cell : 0 < i
   pub inside : i < below .free
   pub values : below .values < below .free
@@ -106,7 +106,7 @@ pub record RootReady (s : Text) (w : List ℕ) (fresh : ℕ) (below : Chosen) (i
 pub record Roots (s : Text) (w v : List ℕ) (name : ℕ → Text) (below : Chosen) (t : Tree) (es : List Pair) (r : Chosen) : Type 0 where
   pub written : Written s w v (below .free) (r .free) 10
   pub value : Holds s v (r .free) (r .values) (root-of name t (joined-as (children t) es (below .next)) (below .index / (below .ways / ways-of t)) .value)
-  pub equations : Lists s v (r .free) (r .equations) (flatten (root-of name t (joined-as (children t) es (below .next)) (below .index / (below .ways / ways-of t)) .equations))
+  pub equations : HoldsList s v (r .free) (r .equations) (flatten (root-of name t (joined-as (children t) es (below .next)) (below .index / (below .ways / ways-of t)) .equations))
   pub next : r .next ≡ root-of name t (joined-as (children t) es (below .next)) (below .index / (below .ways / ways-of t)) .next
   pub ways : r .ways ≡ below .ways / ways-of t
   pub index : r .index ≡ below .index % (below .ways / ways-of t)
@@ -115,15 +115,15 @@ pub record Roots (s : Text) (w v : List ℕ) (name : ℕ → Text) (below : Chos
 -- the list from cell a on before the list from cell b on; nothing is copied where one of them is empty
 pub record Appends (s : Text) (w v : List ℕ) (n a b i m : ℕ) : Type 0 where
   pub written : Written s w v n m (count (trees-at s w a))
-  pub list : Lists s v m i (appended (trees-at s w a) (trees-at s w b))
+  pub list : HoldsList s v m i (appended (trees-at s w a) (trees-at s w b))
   pub first-none : a ≡ 0 → (m ≡ n) × (i ≡ b)
   pub second-none : b ≡ 0 → (m ≡ n) × (i ≡ a)
 
 -- a value with its equations before the choices for later trees
 pub record Follows (s : Text) (w v : List ℕ) (value equations : ℕ) (rest r : Chosen) : Type 0 where
   pub written : Written s w v (rest .free) (r .free) (1 + count (trees-at s w equations))
-  pub values : Lists s v (r .free) (r .values) (more (tree-at s w value) (trees-at s w (rest .values)))
-  pub list : Lists s v (r .free) (r .equations) (appended (trees-at s w equations) (trees-at s w (rest .equations)))
+  pub values : HoldsList s v (r .free) (r .values) (more (tree-at s w value) (trees-at s w (rest .values)))
+  pub list : HoldsList s v (r .free) (r .equations) (appended (trees-at s w equations) (trees-at s w (rest .equations)))
   pub next : r .next ≡ rest .next
   pub ways : r .ways ≡ rest .ways
   pub index : r .index ≡ rest .index
@@ -136,8 +136,8 @@ pub record Follows (s : Text) (w v : List ℕ) (value equations : ℕ) (rest r :
 pub record Chooses (s : Text) (w v : List ℕ) (n : ℕ) (name : ℕ → Text) (k i c : ℕ) (ts : Trees) (r : Chosen) : Type 0 where
   pub written : Written s w v n (r .free) (2 * sizes ts + 64 * sites-in ts)
   pub spare : (r .equations ≡ 0) ⊎ (r .free + 48 ≤ n + 2 * sizes ts + 64 * sites-in ts)
-  pub values : Lists s v (r .free) (r .values) (joined-at name ts k (i / (c / scheme-counts ts)) .values)
-  pub equations : Lists s v (r .free) (r .equations) (flatten (joined-at name ts k (i / (c / scheme-counts ts)) .equations))
+  pub values : HoldsList s v (r .free) (r .values) (joined-at name ts k (i / (c / scheme-counts ts)) .values)
+  pub equations : HoldsList s v (r .free) (r .equations) (flatten (joined-at name ts k (i / (c / scheme-counts ts)) .equations))
   pub next : r .next ≡ joined-at name ts k (i / (c / scheme-counts ts)) .next
   pub ways : r .ways ≡ c / scheme-counts ts
   pub index : r .index ≡ i % (c / scheme-counts ts)
@@ -146,4 +146,4 @@ pub record Chooses (s : Text) (w v : List ℕ) (n : ℕ) (name : ℕ → Text) (
 pub record Systems (s : Text) (w v : List ℕ) (n : ℕ) (name : ℕ → Text) (i : ℕ) (term : Tree) (r : code.System) : Type 0 where
   pub written : Written s w v n (r .free) (2 * size term + 1024)
   pub value : Holds s v (r .free) (r .value) (scheme-at name term 0 i .value)
-  pub stack : Lists s v (r .free) (r .stack) (flatten (system term (scheme-at name term 0 i)))
+  pub stack : HoldsList s v (r .free) (r .stack) (flatten (system term (scheme-at name term 0 i)))

@@ -9,5 +9,5 @@ use Rattle.schemes.specs.declared.counting.Counted.the-variants.{Schemes
 unfoldable pub capped : ℕ → ℕ
 capped n = cond (leb n 4096) n 4097
 
-unfoldable pub counted : ℕ → Counted
-counted n = cond (leb n 4096) (Schemes n) Over
+unfoldable pub counted-schemes : ℕ → Counted
+counted-schemes n = cond (leb n 4096) (Schemes n) Over

@@ -1,13 +1,14 @@
 // The choices for a list of trees, by an index: the first choice varies slowest. Cells of what does not change are used again.
-use crate::counting::children_of;
 use crate::counting::ways_of;
 use crate::firing::fire;
 use reduction::building::stay;
 use substitution::bindings::Pushed;
 use substitution::instances::keep;
+use tree::cells::APPLICATION;
 use tree::cells::kind_of;
 use tree::cells::next_of;
 use tree::cells::share;
+use tree::children::child_of;
 ghost use mathlib.Core.Path.{_≡_};
 ghost use mathlib.Core.List.{List};
 ghost use Prim.Native.Nat.{ℕ, _+_, _*_, _<_, _≤_, _^_};
@@ -18,10 +19,10 @@ ghost use Rattle.rules.specs.Substitution.{Pair, flatten};
 ghost use Rattle.tree.specs.Cells.{tree-at, trees-at};
 ghost use Rattle.tree.specs.Arena.{Arena};
 ghost use Rattle.schemes.specs.Choices.{over};
-ghost use Rattle.schemes.specs.Building.{Fresh, Appends, Keeps, RootReady, Roots, Follows, Ready, Chooses};
+ghost use Rattle.schemes.specs.Building.{Fresh, Appends, KeptAs, RootReady, Roots, Follows, ChoicesReady, Chooses};
 
 // Values, equations, the next fresh variable, what is left of the index and of the number of ways, and the free end.
-pub struct Chosen {
+pub(crate) struct Chosen {
     pub values: usize,
     pub equations: usize,
     pub next: usize,
@@ -31,7 +32,7 @@ pub struct Chosen {
 }
 
 // The list from cell a on before the list from cell b on.
-pub fn append(sheet: &[u8], work: &mut [u32], free: usize, a: usize, b: usize) -> Pushed
+pub(crate) fn append(sheet: &[u8], work: &mut [u32], free: usize, a: usize, b: usize) -> Pushed
     requires { ⌜ Arena (now sheet) (now work) free ⌝ }
     requires { ⌜ (a < free) × (b < free) ⌝ }
     requires { ⌜ (4 * (free + count (trees-at (now sheet) (now work) a)) ≤ length (now work)) × (free + count (trees-at (now sheet) (now work) a) < 2 ^ 32) ⌝ }
@@ -63,9 +64,9 @@ fn unchanged(sheet: &[u8], work: &mut [u32], free: usize, i: usize, first: usize
     requires { ⌜ (0 < i) × (i < free) × (first < free) ⌝ }
     requires { ⌜ sizes (trees-at (now sheet) (now work) first) < 65535 ⌝ }
     requires { ⌜ (4 * free + 4 ≤ length (now work)) × (free < 2 ^ 32) ⌝ }
-    ensures { λ r. ⌜ Keeps (now (sheet .entry)) (now (work .entry)) (now (work .exit)) free (over (tree-at (now (sheet .entry)) (now (work .entry)) i) (trees-at (now (sheet .entry)) (now (work .entry)) first)) (r .index) (r .free) ⌝ }
+    ensures { λ r. ⌜ KeptAs (now (sheet .entry)) (now (work .entry)) (now (work .exit)) free (over (tree-at (now (sheet .entry)) (now (work .entry)) i) (trees-at (now (sheet .entry)) (now (work .entry)) first)) (r .index) (r .free) ⌝ }
 {
-    if 0 < kind_of(work, i) {
+    if APPLICATION < kind_of(work, i) {
         return Pushed {
             index: i,
             free: free,
@@ -135,7 +136,7 @@ fn join(sheet: &[u8], work: &mut [u32], value: usize, equations: usize, rest: Ch
 }
 
 // The choices for the trees of the list from cell i on. One frame for each node: a term may be 4,096 deep.
-pub fn choose(
+pub(crate) fn choose(
     sheet: &[u8],
     work: &mut [u32],
     free: usize,
@@ -145,7 +146,7 @@ pub fn choose(
     index: usize,
     ways: usize,
 ) -> Chosen
-    requires { ⌜ Ready (now sheet) (now work) free fresh next index ways i ⌝ }
+    requires { ⌜ ChoicesReady (now sheet) (now work) free fresh next index ways i ⌝ }
     ensures { λ r. ⌜ ((name : ℕ → Text) → Fresh (now (sheet .entry)) (now (work .entry)) free fresh name → Chooses (now (sheet .entry)) (now (work .entry)) (now (work .exit)) free name next index ways (trees-at (now (sheet .entry)) (now (work .entry)) i) r) ⌝ }
 {
     if i == 0 {
@@ -158,7 +159,7 @@ pub fn choose(
             free: free,
         };
     }
-    let first = children_of(sheet, work, free, i);
+    let first = child_of(work, free, i);
     let below = choose(sheet, work, free, first, fresh, next, index, ways);
     let here = root(sheet, work, i, fresh, below);
     let later = next_of(work, here.free, i);

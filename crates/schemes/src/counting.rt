@@ -3,30 +3,18 @@ use reduction::naming::RuleName;
 use reduction::naming::one_argument;
 use reduction::naming::rule_named;
 use reduction::naming::two_arguments;
-use tree::cells::first_of;
+use tree::cells::APPLICATION;
 use tree::cells::kind_of;
 use tree::cells::next_of;
+use tree::children::child_of;
 ghost use mathlib.Core.Path.{_≡_};
 ghost use Prim.Native.Nat.{_+_, _*_, _<_, _≤_};
-ghost use Rattle.rules.specs.Tree.{children};
 ghost use Rattle.rules.specs.Variants.{with-one, with-two, scheme-count, scheme-counts};
 ghost use Rattle.laws.specs.Schemes.{root-count};
 ghost use Rattle.tree.specs.Cells.{name-at, tree-at, trees-at};
 ghost use Rattle.tree.specs.Arena.{Arena};
 ghost use Rattle.schemes.specs.Choices.{over, ways-of};
-ghost use Rattle.schemes.specs.Counting.{capped, counted};
-
-// The first child of cell i, 0 for none and for a leaf.
-pub fn children_of(sheet: &[u8], work: &[u32], free: usize, i: usize) -> usize
-    requires { ⌜ Arena (now sheet) (now work) free ⌝ }
-    requires { ⌜ (0 < i) × (i < free) ⌝ }
-    ensures { λ r. ⌜ (r < i) × (trees-at (now (sheet .entry)) (now (work .entry)) r ≡ children (tree-at (now (sheet .entry)) (now (work .entry)) i)) ⌝ }
-{
-    if 0 < kind_of(work, i) {
-        return 0;
-    }
-    first_of(work, free, i)
-}
+ghost use Rattle.schemes.specs.Counting.{capped, counted-schemes};
 
 // One choice more than k where the list from cell first on has one tree, else one.
 fn one_ways(sheet: &[u8], work: &[u32], free: usize, first: usize, k: usize) -> usize
@@ -70,12 +58,12 @@ fn name_ways(sheet: &[u8], work: &[u32], free: usize, i: usize, first: usize) ->
 }
 
 // How many choices there are at the root of cell i with the children from cell first on.
-pub fn ways_of(sheet: &[u8], work: &[u32], free: usize, i: usize, first: usize) -> usize
+pub(crate) fn ways_of(sheet: &[u8], work: &[u32], free: usize, i: usize, first: usize) -> usize
     requires { ⌜ Arena (now sheet) (now work) free ⌝ }
     requires { ⌜ (0 < i) × (i < free) × (first < free) ⌝ }
     ensures { λ r. ⌜ r ≡ ways-of (over (tree-at (now (sheet .entry)) (now (work .entry)) i) (trees-at (now (sheet .entry)) (now (work .entry)) first)) ⌝ }
 {
-    if 0 < kind_of(work, i) {
+    if APPLICATION < kind_of(work, i) {
         return 1;
     }
     name_ways(sheet, work, free, i, first)
@@ -102,7 +90,7 @@ fn count_list(sheet: &[u8], work: &[u32], free: usize, i: usize, count: usize) -
     if i == 0 {
         return count;
     }
-    let first = children_of(sheet, work, free, i);
+    let first = child_of(work, free, i);
     let below = count_list(sheet, work, free, first, count);
     let here = times(below, ways_of(sheet, work, free, i, first));
     count_list(sheet, work, free, next_of(work, free, i), here)
@@ -118,9 +106,9 @@ pub enum Counted {
 pub fn count_schemes(sheet: &[u8], work: &[u32], free: usize, i: usize) -> Counted
     requires { ⌜ Arena (now sheet) (now work) free ⌝ }
     requires { ⌜ (0 < i) × (i < free) ⌝ }
-    ensures { λ r. ⌜ r ≡ counted (scheme-count (tree-at (now (sheet .entry)) (now (work .entry)) i)) ⌝ }
+    ensures { λ r. ⌜ r ≡ counted-schemes (scheme-count (tree-at (now (sheet .entry)) (now (work .entry)) i)) ⌝ }
 {
-    let first = children_of(sheet, work, free, i);
+    let first = child_of(work, free, i);
     let below = count_list(sheet, work, free, first, 1);
     let count = times(below, ways_of(sheet, work, free, i, first));
     if 4096 < count {

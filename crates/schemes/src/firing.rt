@@ -3,6 +3,7 @@ use reduction::building::leaf;
 use reduction::naming::RuleName;
 use reduction::naming::rule_named;
 use substitution::bindings::push_pair;
+use tree::cells::APPLICATION;
 use tree::cells::next_of;
 use tree::cells::push_cell;
 use tree::cells::share;
@@ -19,10 +20,10 @@ ghost use Rattle.laws.specs.Schemes.{root-count, root-at};
 ghost use Rattle.tree.specs.Cells.{name-at, fixed-name, tree-at, trees-at};
 ghost use Rattle.tree.specs.Arena.{Arena, Linked};
 ghost use Rattle.schemes.specs.Choices.{cipher};
-ghost use Rattle.schemes.specs.Building.{Fresh, Named, Single, Opens, Fires, joined-as};
+ghost use Rattle.schemes.specs.Building.{Fresh, SomeFresh, Single, Opens, FiredIs, joined-as};
 
 // A tree over two fresh variables, and their cells.
-pub struct Pattern {
+struct Pattern {
     pub tree: usize,
     pub left: usize,
     pub right: usize,
@@ -45,7 +46,7 @@ fn named(
     requires { ⌜ (4 * free + 4 ≤ length (now work)) × (free < 2 ^ 32) ⌝ }
     ensures { λ r. ⌜ (r ≡ free + 1) × Linked (now (sheet .entry)) (now (work .entry)) (now (work .exit)) free next (apply (fixed-name code) (trees-at (now (sheet .entry)) (now (work .entry)) first)) ⌝ }
 {
-    push_cell(work, free, code, 0, 0, first, next, 1 + count)
+    push_cell(work, free, code, 0, APPLICATION, first, next, 1 + count)
 }
 
 // The name of a code over the variables of cells x and y.
@@ -86,7 +87,7 @@ fn boxed(sheet: &[u8], work: &mut [u32], free: usize, x: usize, y: usize) -> Pat
 }
 
 // What a rule makes of a root: the value, the equations and the next fresh variable.
-pub struct Fired {
+pub(crate) struct Fired {
     pub value: usize,
     pub equations: usize,
     pub next: usize,
@@ -104,10 +105,10 @@ fn take_part(
     list: usize,
     first: bool,
 ) -> Fired
-    requires { ⌜ Arena (now sheet) (now work) free × Named (now sheet) (now work) free fresh ⌝ }
+    requires { ⌜ Arena (now sheet) (now work) free × SomeFresh (now sheet) (now work) free fresh ⌝ }
     requires { ⌜ (0 < i) × (i < free) × (list < free) × (n + 1 < 24) ⌝ }
     requires { ⌜ (4 * (free + 10) ≤ length (now work)) × (free + 10 < 2 ^ 32) ⌝ }
-    ensures { λ r. ⌜ ((es : List Pair) → trees-at (now (sheet .entry)) (now (work .entry)) list ≡ flatten es → Fires (now (sheet .entry)) (now (work .entry)) (now (work .exit)) free (scheme (pick first (tree-at (now (sheet .entry)) (now (work .entry)) (fresh + n)) (tree-at (now (sheet .entry)) (now (work .entry)) (fresh + (n + 1)))) ((tree-at (now (sheet .entry)) (now (work .entry)) i, two (fixed-name 3) (tree-at (now (sheet .entry)) (now (work .entry)) (fresh + n)) (tree-at (now (sheet .entry)) (now (work .entry)) (fresh + (n + 1)))) ∷ es) (n + 2)) r) ⌝ }
+    ensures { λ r. ⌜ ((es : List Pair) → trees-at (now (sheet .entry)) (now (work .entry)) list ≡ flatten es → FiredIs (now (sheet .entry)) (now (work .entry)) (now (work .exit)) free (scheme (pick first (tree-at (now (sheet .entry)) (now (work .entry)) (fresh + n)) (tree-at (now (sheet .entry)) (now (work .entry)) (fresh + (n + 1)))) ((tree-at (now (sheet .entry)) (now (work .entry)) i, two (fixed-name 3) (tree-at (now (sheet .entry)) (now (work .entry)) (fresh + n)) (tree-at (now (sheet .entry)) (now (work .entry)) (fresh + (n + 1)))) ∷ es) (n + 2)) r) ⌝ }
 {
     let pair = plain(sheet, work, free, 3, fresh + n, fresh + (n + 1));
     let pushed = push_pair(sheet, work, pair.free, i, pair.tree, list);
@@ -140,7 +141,7 @@ fn take_role(
     requires { ⌜ Arena (now sheet) (now work) free ⌝ }
     requires { ⌜ (0 < i) × (i < free) × (list < free) × (0 < code) × (code < 3) ⌝ }
     requires { ⌜ (4 * (free + 10) ≤ length (now work)) × (free + 10 < 2 ^ 32) ⌝ }
-    ensures { λ r. ⌜ ((es : List Pair) → trees-at (now (sheet .entry)) (now (work .entry)) list ≡ flatten es → Fires (now (sheet .entry)) (now (work .entry)) (now (work .exit)) free (scheme (constant (fixed-name (3 - code))) ((tree-at (now (sheet .entry)) (now (work .entry)) i, constant (fixed-name code)) ∷ es) n) r) ⌝ }
+    ensures { λ r. ⌜ ((es : List Pair) → trees-at (now (sheet .entry)) (now (work .entry)) list ≡ flatten es → FiredIs (now (sheet .entry)) (now (work .entry)) (now (work .exit)) free (scheme (constant (fixed-name (3 - code))) ((tree-at (now (sheet .entry)) (now (work .entry)) i, constant (fixed-name code)) ∷ es) n) r) ⌝ }
 {
     let value = leaf(sheet, work, free, 3 - code, 0);
     let role = leaf(sheet, work, value.free, code, 0);
@@ -178,10 +179,10 @@ fn take_payload(
     list: usize,
     kem: bool,
 ) -> Fired
-    requires { ⌜ Arena (now sheet) (now work) free × Named (now sheet) (now work) free fresh ⌝ }
+    requires { ⌜ Arena (now sheet) (now work) free × SomeFresh (now sheet) (now work) free fresh ⌝ }
     requires { ⌜ (0 < i) × (i < free) × (0 < j) × (j < free) × (list < free) × (n + 1 < 24) ⌝ }
     requires { ⌜ (4 * (free + 10) ≤ length (now work)) × (free + 10 < 2 ^ 32) ⌝ }
-    ensures { λ r. ⌜ ((es : List Pair) → trees-at (now (sheet .entry)) (now (work .entry)) list ≡ flatten es → Fires (now (sheet .entry)) (now (work .entry)) (now (work .exit)) free (scheme (tree-at (now (sheet .entry)) (now (work .entry)) (fresh + n)) ((tree-at (now (sheet .entry)) (now (work .entry)) i, cipher kem (tree-at (now (sheet .entry)) (now (work .entry)) (fresh + n)) (tree-at (now (sheet .entry)) (now (work .entry)) (fresh + (n + 1)))) ∷ (tree-at (now (sheet .entry)) (now (work .entry)) j, tree-at (now (sheet .entry)) (now (work .entry)) (fresh + (n + 1))) ∷ es) (n + 2)) r) ⌝ }
+    ensures { λ r. ⌜ ((es : List Pair) → trees-at (now (sheet .entry)) (now (work .entry)) list ≡ flatten es → FiredIs (now (sheet .entry)) (now (work .entry)) (now (work .exit)) free (scheme (tree-at (now (sheet .entry)) (now (work .entry)) (fresh + n)) ((tree-at (now (sheet .entry)) (now (work .entry)) i, cipher kem (tree-at (now (sheet .entry)) (now (work .entry)) (fresh + n)) (tree-at (now (sheet .entry)) (now (work .entry)) (fresh + (n + 1)))) ∷ (tree-at (now (sheet .entry)) (now (work .entry)) j, tree-at (now (sheet .entry)) (now (work .entry)) (fresh + (n + 1))) ∷ es) (n + 2)) r) ⌝ }
 {
     let sealed = sealing(sheet, work, free, fresh + n, fresh + (n + 1), kem);
     let key = push_pair(sheet, work, sealed.free, j, sealed.right, list);
@@ -195,7 +196,7 @@ fn take_payload(
 }
 
 // The choice, other than the first, at the root: the name of cell i over the list from cell first on, whose equations are `list`.
-pub fn fire(
+pub(crate) fn fire(
     sheet: &[u8],
     work: &mut [u32],
     free: usize,
@@ -206,11 +207,11 @@ pub fn fire(
     list: usize,
     choice: usize,
 ) -> Fired
-    requires { ⌜ Arena (now sheet) (now work) free × Named (now sheet) (now work) free fresh ⌝ }
+    requires { ⌜ Arena (now sheet) (now work) free × SomeFresh (now sheet) (now work) free fresh ⌝ }
     requires { ⌜ (0 < i) × (i < free) × (first < free) × (list < free) × (n + 1 < 24) ⌝ }
     requires { ⌜ (0 < choice) × (choice < root-count (name-at (now sheet) (now work) i) (trees-at (now sheet) (now work) first)) ⌝ }
     requires { ⌜ (4 * (free + 10) ≤ length (now work)) × (free + 10 < 2 ^ 32) ⌝ }
-    ensures { λ r. ⌜ ((name : ℕ → Text) → Fresh (now (sheet .entry)) (now (work .entry)) free fresh name → (es : List Pair) → trees-at (now (sheet .entry)) (now (work .entry)) list ≡ flatten es → Fires (now (sheet .entry)) (now (work .entry)) (now (work .exit)) free (root-at name (name-at (now (sheet .entry)) (now (work .entry)) i) (joined-as (trees-at (now (sheet .entry)) (now (work .entry)) first) es n) choice) r) ⌝ }
+    ensures { λ r. ⌜ ((name : ℕ → Text) → Fresh (now (sheet .entry)) (now (work .entry)) free fresh name → (es : List Pair) → trees-at (now (sheet .entry)) (now (work .entry)) list ≡ flatten es → FiredIs (now (sheet .entry)) (now (work .entry)) (now (work .exit)) free (root-at name (name-at (now (sheet .entry)) (now (work .entry)) i) (joined-as (trees-at (now (sheet .entry)) (now (work .entry)) first) es n) choice) r) ⌝ }
 {
     let rule = rule_named(sheet, work, free, i);
     match rule {

@@ -11,7 +11,7 @@ ghost use Rattle.rules.specs.Tree.{size};
 ghost use Rattle.rules.specs.Variants.{scheme-count};
 ghost use Rattle.tree.specs.Cells.{tree-at};
 ghost use Rattle.tree.specs.Arena.{Arena};
-ghost use Rattle.schemes.specs.Building.{Fresh, Named, Systems};
+ghost use Rattle.schemes.specs.Building.{Fresh, SomeFresh, Systems};
 
 // The value of a scheme, its system as a list of cells (left, right, left, right, ..), and the free end.
 pub struct System {
@@ -30,7 +30,7 @@ pub fn system_at(
     count: usize,
     index: usize,
 ) -> System
-    requires { ⌜ Arena (now sheet) (now work) free × Named (now sheet) (now work) free fresh ⌝ }
+    requires { ⌜ Arena (now sheet) (now work) free × SomeFresh (now sheet) (now work) free fresh ⌝ }
     requires { ⌜ (0 < term) × (term < free) × (size (tree-at (now sheet) (now work) term) ≤ 4096) ⌝ }
     requires { ⌜ (count ≡ scheme-count (tree-at (now sheet) (now work) term)) × (count ≤ 4096) × (index < count) ⌝ }
     requires { ⌜ (4 * (free + 2 * size (tree-at (now sheet) (now work) term) + 1024) ≤ length (now work)) × (free + 2 * size (tree-at (now sheet) (now work) term) + 1024 < 2 ^ 32) ⌝ }

@@ -1,4 +1,4 @@
--- Texts of which none stands twice: sorted, they are those of which none stands next to itself. Assumes nothing.
+-- Texts of which none stands twice: sorted, they are those of which none stands next to itself.
 use mathlib.Core.Path.{_≡_, refl, ap, ap₂, sym, _∙_}
 use mathlib.Core.Bool.{Bool, true, false, cond, not, _&&_, _||_, true≢false}
 use mathlib.Core.List.{List, [], _∷_}

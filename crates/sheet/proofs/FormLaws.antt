@@ -1,4 +1,4 @@
--- The kinds of sheet: what each reading gives from the lines that were found. Assumes nothing.
+-- The kinds of sheet: what each reading gives from the lines that were found.
 use mathlib.Core.Path.{_≡_, refl, ap, sym, subst, _∙_}
 use mathlib.Core.Logic.{⊎-elim}
 use mathlib.Core.Bool.{Bool, true, false, cond, _&&_}
@@ -18,30 +18,26 @@ use Rattle.laws.proofs.Basics.Tests.{leb-true}
 use Rattle.text.specs.Numbers.{number-of}
 use Rattle.text.specs.declared.decimal.Number.the-variants.{Is, Not}
 use Rattle.sheet.specs.Lines.{part-of, lines-at, value-at}
-use Rattle.sheet.specs.Pairs.{place, with-line, pair-at, entries-by}
+use Rattle.sheet.specs.Pairs.{place-between, with-line, two-lines-at, entries-by}
 use Rattle.sheet.specs.Members.{members-at, counted}
-use Rattle.sheet.specs.Form.{solving, reading, text-of, sheet-of, Within, ReadsAs, Walked}
+use Rattle.sheet.specs.Form.{solving, read-kind-at, text-of, sheet-of, Within, FormStands, ReadsAs, Walked, term-members}
 use Rattle.sheet.specs.declared.Cursor.{Cursor}
 use Rattle.sheet.specs.declared.Place.{Place}
 use Rattle.sheet.specs.declared.Line.{Line}
 use Rattle.sheet.specs.declared.Line.the-variants.{Whole, Missing}
 use Rattle.sheet.specs.declared.PairLine.the-variants.{Sides, End}
 use Rattle.sheet.specs.declared.form.Form.{Form}
-use Rattle.sheet.specs.declared.form.Form.the-variants as form
+use Rattle.sheet.specs.declared.form.ReadForm.{ReadForm}
 use Rattle.sheet.proofs.LineLaws.{Keyed, Unkeyed, keyed, unkeyed, then, then-none, lines-end, lines-more}
 use Rattle.sheet.proofs.PairLaws.{paired, Stops, stops, pairs-are, then-rest, then-half, then-end}
 
 -- ---- what was read
 
-pub reads-three : {s : Text} {o : Option Sheet} → o ≡ none → ReadsAs s o form.Three
-unfolding sheet-of
-reads-three e = record { decodes = sym e; three = λ z. refl; within = tt }
+pub reads-form : {s : Text} {o : Option Sheet} {r : Form} → sheet-of s r ≡ o → (sheet : Sheet) → o ≡ some sheet → Within s r → FormStands s o r
+reads-form d sheet e w = record { sheet = sheet; reads = e; decodes = d ∙ e; within = w }
 
-pub reads-form : {s : Text} {o : Option Sheet} {r : Form} → sheet-of s r ≡ o → (sheet : Sheet) → o ≡ some sheet → Within s r → ReadsAs s o r
-reads-form d sheet e w = record { decodes = d; three = λ z. absurd (let y : _≡_ {A = ℕ} 0 1 = cc in omega arith); within = w }
-
-pub reads-also : {s : Text} {o p : Option Sheet} {r : Form} → o ≡ p → ReadsAs s o r → ReadsAs s p r
-reads-also {s} {o} {p} {r} e h = subst (λ (q : Option Sheet). ReadsAs s q r) e h
+pub reads-also : (s : Text) (r : ReadForm) {o p : Option Sheet} → o ≡ p → ReadsAs s o r → ReadsAs s p r
+reads-also s r e h = subst (λ (q : Option Sheet). ReadsAs s q r) e h
 
 -- ---- no line is left
 
@@ -62,23 +58,23 @@ module _ (s : Text) (at : ℕ) where
   abbrev left-then : Text × List Text → Option Sheet
   left-then p = value (bytes "right=") (p .1) >>= λ q. at-end (q .1) (asks-equal (p .0) (q .0))
 
-  equal-is : reading Equal s at ≡ (lines-at s at >>= λ ls. value (bytes "left=") ls >>= left-then)
-  unfolding reading read-kind
+  equal-is : read-kind-at Equal s at ≡ (lines-at s at >>= λ ls. value (bytes "left=") ls >>= left-then)
+  unfolding read-kind-at read-kind
   equal-is = refl
 
-  pub equal-there : (l r : Place) (n : Cursor) → Sides l r n ≡ pair-at (bytes "left=") (bytes "right=") s at
-      → reading Equal s at ≡ (lines-at s (n .at) >>= λ ls. at-end ls (asks-equal (text-of s l) (text-of s r)))
+  pub equal-there : (l r : Place) (n : Cursor) → Sides l r n ≡ two-lines-at (bytes "left=") (bytes "right=") s at
+      → read-kind-at Equal s at ≡ (lines-at s (n .at) >>= λ ls. at-end ls (asks-equal (text-of s l) (text-of s r)))
   equal-there l r n e =
       let h = paired (bytes "left=") (bytes "right=") s at l r n e in
       equal-is ∙ then s (bytes "left=") at left-then (l .from) (l .to) (h .middle) (h .one)
       ∙ then s (bytes "right=") (h .middle .at) (λ q. at-end (q .1) (asks-equal (text-of s l) (q .0))) (r .from) (r .to) n (h .two)
 
-  pub equal-missing : End ≡ pair-at (bytes "left=") (bytes "right=") s at → reading Equal s at ≡ none
-  unfolding pair-at
+  pub equal-missing : End ≡ two-lines-at (bytes "left=") (bytes "right=") s at → read-kind-at Equal s at ≡ none
+  unfolding two-lines-at
   equal-missing e = equal-is ∙ one (value-at s (bytes "left=") at) refl e
     where
       two : (f t : ℕ) (n : Cursor) (x : Line) → Whole f t n ≡ value-at s (bytes "left=") at → x ≡ value-at s (bytes "right=") (n .at)
-          → End ≡ with-line x (λ r m. Sides (place f t) r m) → (lines-at s at >>= λ ls. value (bytes "left=") ls >>= left-then) ≡ none
+          → End ≡ with-line x (λ r m. Sides (place-between f t) r m) → (lines-at s at >>= λ ls. value (bytes "left=") ls >>= left-then) ≡ none
       two f t n (Whole g u m) h k e = let z : _≡_ {A = ℕ} 0 1 = cc in absurd (omega arith)
       two f t n Missing h k e =
           then s (bytes "left=") at left-then f t n (keyed s (bytes "left=") at f t n h)
@@ -95,14 +91,14 @@ module _ (s : Text) (at : ℕ) where
   abbrev term-then : Text × List Text → Option Sheet
   term-then p = at-end (p .1) (asks-reduce (p .0))
 
-  reduce-is : reading Reduce s at ≡ (lines-at s at >>= λ ls. value (bytes "term=") ls >>= term-then)
-  unfolding reading read-kind
+  reduce-is : read-kind-at Reduce s at ≡ (lines-at s at >>= λ ls. value (bytes "term=") ls >>= term-then)
+  unfolding read-kind-at read-kind
   reduce-is = refl
 
-  pub reduce-there : (f t : ℕ) (n : Cursor) → Keyed s (bytes "term=") at f t n → reading Reduce s at ≡ (lines-at s (n .at) >>= λ ls. at-end ls (asks-reduce (part-of f t s)))
+  pub reduce-there : (f t : ℕ) (n : Cursor) → Keyed s (bytes "term=") at f t n → read-kind-at Reduce s at ≡ (lines-at s (n .at) >>= λ ls. at-end ls (asks-reduce (part-of f t s)))
   reduce-there f t n h = reduce-is ∙ then s (bytes "term=") at term-then f t n h
 
-  pub reduce-missing : Unkeyed (bytes "term=") (lines-at s at) → reading Reduce s at ≡ none
+  pub reduce-missing : Unkeyed (bytes "term=") (lines-at s at) → read-kind-at Reduce s at ≡ none
   reduce-missing h = reduce-is ∙ then-none s (bytes "term=") at term-then h
 
 -- the members from a position on, and what is made of them
@@ -122,37 +118,45 @@ pub counted-is : (n : ℕ) (o : Option (List Member)) → Is n ≡ counted 0 o �
 counted-is n none e = let z : _≡_ {A = ℕ} 0 1 = cc in absurd (omega arith)
 counted-is n (some ms) e = (ms, refl, (let z : n ≡ 0 + length ms = cc in omega arith))
 
--- ---- `sound` and `complete`
+-- ---- a term, then members: `sound` and `complete`
 
 module _ (s : Text) (at : ℕ) where
-  abbrev sound-of : Text → List Member → Option Sheet
-  sound-of t ms = one-member ms >>= λ m. some (asks-sound t m)
+  abbrev then-some : Text × List Text → Option (Text × List Member)
+  then-some p = none-waiting (members-from (p .1)) >>= λ ms. some (p .0, ms)
 
-  abbrev complete-of : Text → List Member → Option Sheet
-  complete-of t ms = some (asks-complete t ms)
+  parts-are : term-members s at ≡ (lines-at s at >>= λ ls. value (bytes "term=") ls >>= then-some)
+  unfolding term-members
+  parts-are = refl
 
-  sound-is : reading Sound s at ≡ (lines-at s at >>= λ ls. value (bytes "term=") ls >>= λ p. none-waiting (members-from (p .1)) >>= sound-of (p .0))
-  unfolding reading read-kind
-  sound-is = refl
+  pub term-missing : Unkeyed (bytes "term=") (lines-at s at) → term-members s at ≡ none
+  term-missing h = parts-are ∙ then-none s (bytes "term=") at then-some h
 
-  complete-is : reading Complete s at ≡ (lines-at s at >>= λ ls. value (bytes "term=") ls >>= λ p. none-waiting (members-from (p .1)) >>= complete-of (p .0))
-  unfolding reading read-kind
-  complete-is = refl
+  pub term-there : (f t : ℕ) (n : Cursor) → Keyed s (bytes "term=") at f t n → term-members s at ≡ (members-at s (n .at) >>= λ ms. some (part-of f t s, ms))
+  term-there f t n h = parts-are ∙ then s (bytes "term=") at then-some f t n h ∙ members-then s (n .at) (λ ms. some (part-of f t s, ms))
 
-  pub sound-missing : Unkeyed (bytes "term=") (lines-at s at) → reading Sound s at ≡ none
-  sound-missing h = sound-is ∙ then-none s (bytes "term=") at (λ p. none-waiting (members-from (p .1)) >>= sound-of (p .0)) h
+  parts-then : (make : Text × List Member → Option Sheet)
+      → (lines-at s at >>= λ ls. value (bytes "term=") ls >>= λ p. none-waiting (members-from (p .1)) >>= λ ms. make (p .0, ms)) ≡ (term-members s at >>= make)
+  parts-then make = go (lines-at s at) ∙ ap (λ (o : Option (Text × List Member)). o >>= make) (sym parts-are)
+    where
+      third : (t : Text) (o : Option (List Member)) → (o >>= λ ms. make (t, ms)) ≡ ((o >>= λ ms. some (t, ms)) >>= make)
+      third t none = refl
+      third t (some ms) = refl
 
-  pub complete-missing : Unkeyed (bytes "term=") (lines-at s at) → reading Complete s at ≡ none
-  complete-missing h = complete-is ∙ then-none s (bytes "term=") at (λ p. none-waiting (members-from (p .1)) >>= complete-of (p .0)) h
+      second : (o : Option (Text × List Text)) → (o >>= λ p. none-waiting (members-from (p .1)) >>= λ ms. make (p .0, ms)) ≡ ((o >>= then-some) >>= make)
+      second none = refl
+      second (some p) = third (p .0) (none-waiting (members-from (p .1)))
 
-  module _ (f t : ℕ) (n : Cursor) (h : Keyed s (bytes "term=") at f t n) where
-    pub sound-there : reading Sound s at ≡ (members-at s (n .at) >>= sound-of (part-of f t s))
-    sound-there =
-        sound-is ∙ then s (bytes "term=") at (λ p. none-waiting (members-from (p .1)) >>= sound-of (p .0)) f t n h ∙ members-then s (n .at) (sound-of (part-of f t s))
+      go : (o : Option (List Text)) → (o >>= λ ls. value (bytes "term=") ls >>= λ p. none-waiting (members-from (p .1)) >>= λ ms. make (p .0, ms)) ≡ ((o >>= λ ls. value (bytes "term=") ls >>= then-some) >>= make)
+      go none = refl
+      go (some ls) = second (value (bytes "term=") ls)
 
-    pub complete-there : reading Complete s at ≡ (members-at s (n .at) >>= complete-of (part-of f t s))
-    complete-there =
-        complete-is ∙ then s (bytes "term=") at (λ p. none-waiting (members-from (p .1)) >>= complete-of (p .0)) f t n h ∙ members-then s (n .at) (complete-of (part-of f t s))
+  pub sound-is : read-kind-at Sound s at ≡ (term-members s at >>= λ p. one-member (p .1) >>= λ m. some (asks-sound (p .0) m))
+  unfolding read-kind-at read-kind
+  sound-is = parts-then (λ p. one-member (p .1) >>= λ m. some (asks-sound (p .0) m))
+
+  pub complete-is : read-kind-at Complete s at ≡ (term-members s at >>= λ p. some (asks-complete (p .0) (p .1)))
+  unfolding read-kind-at read-kind
+  complete-is = parts-then (λ p. some (asks-complete (p .0) (p .1)))
 
 -- one member, or not
 pub not-one : (ms : List Member) → (length ms ≡ 1 → ⊥) → one-member ms ≡ none
@@ -200,22 +204,22 @@ module _ (m : Bool) (s : Text) (at : ℕ) where
   abbrev fuel-then : Text × List Text → Option Sheet
   fuel-then p = number-up-to 65536 (p .0) >>= λ fuel. pairs (p .1) >>= pairs-then fuel
 
-  solving-is : reading (solving m) s at ≡ (lines-at s at >>= λ ls. value (bytes "fuel=") ls >>= fuel-then)
-  unfolding reading read-kind
+  solving-is : read-kind-at (solving m) s at ≡ (lines-at s at >>= λ ls. value (bytes "fuel=") ls >>= fuel-then)
+  unfolding read-kind-at read-kind
   solving-is = go m
     where
       go : (m : Bool) → (lines-at s at >>= read-kind (solving m)) ≡ (lines-at s at >>= λ ls. value (bytes "fuel=") ls >>= λ p. number-up-to 65536 (p .0) >>= λ fuel. pairs (p .1) >>= λ q. at-end (q .1) (asks m fuel (q .0)))
       go true = refl
       go false = refl
 
-  pub solving-missing : Unkeyed (bytes "fuel=") (lines-at s at) → reading (solving m) s at ≡ none
+  pub solving-missing : Unkeyed (bytes "fuel=") (lines-at s at) → read-kind-at (solving m) s at ≡ none
   solving-missing h = solving-is ∙ then-none s (bytes "fuel=") at fuel-then h
 
   module _ (f t : ℕ) (n : Cursor) (h : Keyed s (bytes "fuel=") at f t n) where
-    solving-there : reading (solving m) s at ≡ (lines-at s (n .at) >>= λ ls. number-up-to 65536 (part-of f t s) >>= λ fuel. pairs ls >>= pairs-then fuel)
+    solving-there : read-kind-at (solving m) s at ≡ (lines-at s (n .at) >>= λ ls. number-up-to 65536 (part-of f t s) >>= λ fuel. pairs ls >>= pairs-then fuel)
     solving-there = solving-is ∙ then s (bytes "fuel=") at fuel-then f t n h
 
-    pub solving-number : Not ≡ number-of (number-up-to 65536 (part-of f t s)) → reading (solving m) s at ≡ none
+    pub solving-number : Not ≡ number-of (number-up-to 65536 (part-of f t s)) → read-kind-at (solving m) s at ≡ none
     solving-number e = solving-there ∙ go (number-up-to 65536 (part-of f t s)) e (lines-at s (n .at))
       where
         go : (x : Option ℕ) → Not ≡ number-of x → (o : Option (List Text)) → (o >>= λ ls. x >>= λ fuel. pairs ls >>= pairs-then fuel) ≡ none
@@ -223,19 +227,19 @@ module _ (m : Bool) (s : Text) (at : ℕ) where
         go none e none = refl
         go none e (some ls) = refl
 
-    pub solving-fuel : (fuel : ℕ) → Is fuel ≡ number-of (number-up-to 65536 (part-of f t s)) → reading (solving m) s at ≡ (lines-at s (n .at) >>= λ ls. pairs ls >>= pairs-then fuel)
+    pub solving-fuel : (fuel : ℕ) → Is fuel ≡ number-of (number-up-to 65536 (part-of f t s)) → read-kind-at (solving m) s at ≡ (lines-at s (n .at) >>= λ ls. pairs ls >>= pairs-then fuel)
     solving-fuel fuel e = solving-there ∙ go (number-up-to 65536 (part-of f t s)) e
       where
         go : (x : Option ℕ) → Is fuel ≡ number-of x → (lines-at s (n .at) >>= λ ls. x >>= λ fuel. pairs ls >>= pairs-then fuel) ≡ (lines-at s (n .at) >>= λ ls. pairs ls >>= pairs-then fuel)
         go none e = let z : _≡_ {A = ℕ} 0 1 = cc in absurd (omega arith)
         go (some k) e = let z : k ≡ fuel = cc in ap (λ (k : ℕ). lines-at s (n .at) >>= λ ls. pairs ls >>= pairs-then k) z
 
-    pub solving-more : (fuel c : ℕ) → Is fuel ≡ number-of (number-up-to 65536 (part-of f t s)) → Walked s (n .at) c → c < length s → reading (solving m) s at ≡ none
+    pub solving-more : (fuel c : ℕ) → Is fuel ≡ number-of (number-up-to 65536 (part-of f t s)) → Walked s (n .at) c → c < length s → read-kind-at (solving m) s at ≡ none
     solving-more fuel c e w l =
         solving-fuel fuel e
         ∙ ⊎-elim (λ u. pairs-rest s (n .at) c w (pairs-then fuel) u ∙ end-none s c (asks m fuel (w .walk .es ++ [])) l) (λ u. pairs-half s (n .at) c w (pairs-then fuel) u) (pairs-stop s (n .at) c w (pairs-then fuel))
 
-    pub solving-end : (fuel c : ℕ) → Is fuel ≡ number-of (number-up-to 65536 (part-of f t s)) → (w : Walked s (n .at) c) → length s ≤ c → reading (solving m) s at ≡ some (asks m fuel (w .walk .es ++ []))
+    pub solving-end : (fuel c : ℕ) → Is fuel ≡ number-of (number-up-to 65536 (part-of f t s)) → (w : Walked s (n .at) c) → length s ≤ c → read-kind-at (solving m) s at ≡ some (asks m fuel (w .walk .es ++ []))
     solving-end fuel c e w l = solving-fuel fuel e ∙ pairs-end s (n .at) c w (pairs-then fuel) l
 
 pub number-small : (bound : ℕ) (s : Text) (n : ℕ) → Is n ≡ number-of (number-up-to bound s) → n ≤ bound

@@ -1,4 +1,4 @@
--- The keys of a member as places: gathering them, and the test that none stands twice. Assumes nothing.
+-- The keys of a member as places: gathering them, and the test that none stands twice.
 use Prim.Native.Nat.{ℕ, suc, _+_, _-_, _*_, _/_, _%_, _<_, _≤_}
 use mathlib.Core.Path.{_≡_, refl, ap, ap₂, sym, _∙_}
 use mathlib.Core.Bool.{Bool, true, false, not, _&&_}

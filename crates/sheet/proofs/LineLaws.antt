@@ -1,4 +1,4 @@
--- The line reader at a position of a sheet, and the lines of the sheet from there on. Assumes nothing.
+-- The line reader at a position of a sheet, and the lines of the sheet from there on.
 use mathlib.Core.Path.{_≡_, refl, ap, ap₂, sym, _∙_}
 use mathlib.Core.List.{List, [], _∷_}
 use mathlib.Core.Option.{Option, some, none, Option·map}

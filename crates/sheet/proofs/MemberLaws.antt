@@ -1,4 +1,4 @@
--- Members: what reading them from the last gives, told from the first. Assumes nothing.
+-- Members: what reading them from the last gives, told from the first.
 use mathlib.Core.Path.{_≡_, refl, ap, sym, _∙_}
 use mathlib.Core.Logic.{_⊎_, inl, inr, ⊎-elim}
 use mathlib.Core.Bool.{Bool, true, false}

@@ -1,4 +1,4 @@
--- Pairs of lines: two lines at a position, and a walk over as many as there are. Assumes nothing.
+-- Pairs of lines: two lines at a position, and a walk over as many as there are.
 use mathlib.Core.Path.{_≡_, refl, ap, sym, subst, _∙_}
 use mathlib.Core.Logic.{_⊎_, inl, inr}
 use mathlib.Core.List.{List, [], _∷_, _++_, append-assoc}
@@ -12,7 +12,7 @@ use Rattle.rules.specs.Maybe.{_>>=_}
 use Rattle.rules.specs.Lines.{after-key}
 use Rattle.rules.specs.Sheet.{Entry, with-entry, pairs}
 use Rattle.sheet.specs.Lines.{part-of, lines-at, value-at}
-use Rattle.sheet.specs.Pairs.{place, with-line, pair-at, entries-by, before}
+use Rattle.sheet.specs.Pairs.{place-between, with-line, two-lines-at, entries-by, entries-before}
 use Rattle.sheet.specs.Members.{Walks}
 use Rattle.sheet.specs.declared.Cursor.{Cursor}
 use Rattle.sheet.specs.declared.Place.{Place}
@@ -59,7 +59,7 @@ module _ (first second : Text) where
 
   -- a pair in front
   pair-first : (l r v w : Text) (o : Option (List Text)) → after-key first l ≡ some v → after-key second r ≡ some w
-      → ((o >>= λ ls. some (l ∷ r ∷ ls)) >>= entries-by first second) ≡ ((o >>= entries-by first second) >>= before ((v, w) ∷ []))
+      → ((o >>= λ ls. some (l ∷ r ∷ ls)) >>= entries-by first second) ≡ ((o >>= entries-by first second) >>= entries-before ((v, w) ∷ []))
   unfolding entries-by
   pair-first l r v w none h g = refl
   pair-first l r v w (some ls) h g =
@@ -70,7 +70,7 @@ module _ (first second : Text) where
       ∙ ap (λ (o : Option Text). o >>= λ w. with-entry (v, w) (entries-by first second ls)) g
       ∙ go (entries-by first second ls)
     where
-      go : (o : Option (List Entry × List Text)) → with-entry (v, w) o ≡ (o >>= before ((v, w) ∷ []))
+      go : (o : Option (List Entry × List Text)) → with-entry (v, w) o ≡ (o >>= entries-before ((v, w) ∷ []))
       go none = refl
       go (some p) = refl
 
@@ -83,11 +83,11 @@ pub record Paired (first second s : Text) (at : ℕ) (l r : Place) (n : Cursor) 
 
 module _ (first second s : Text) (at : ℕ) where
   paired-by-two : (l r : Place) (n : Cursor) (f t : ℕ) (m : Cursor) (x : Line) → Whole f t m ≡ value-at s first at → x ≡ value-at s second (m .at)
-      → Sides l r n ≡ with-line x (λ r n. Sides (place f t) r n) → Paired first second s at l r n
+      → Sides l r n ≡ with-line x (λ r n. Sides (place-between f t) r n) → Paired first second s at l r n
   paired-by-two l r n f t m Missing e g q = let z : _≡_ {A = ℕ} 0 1 = cc in absurd (omega arith)
   paired-by-two l r n f t m (Whole h u k) e g q =
-      let z : place f t ≡ l = cc in
-      let y : place h u ≡ r = cc in
+      let z : place-between f t ≡ l = cc in
+      let y : place-between h u ≡ r = cc in
       let x : k ≡ n = cc in
       record {
         middle = m;
@@ -102,8 +102,8 @@ module _ (first second s : Text) (at : ℕ) where
   paired-by-one l r n Missing e q = let z : _≡_ {A = ℕ} 0 1 = cc in absurd (omega arith)
   paired-by-one l r n (Whole f t m) e q = paired-by-two l r n f t m (value-at s second (m .at)) e refl q
 
-  pub paired : (l r : Place) (n : Cursor) → Sides l r n ≡ pair-at first second s at → Paired first second s at l r n
-  unfolding pair-at
+  pub paired : (l r : Place) (n : Cursor) → Sides l r n ≡ two-lines-at first second s at → Paired first second s at l r n
+  unfolding two-lines-at
   paired l r n q = paired-by-one l r n (value-at s first at) refl q
 
   -- no first line, or a first line without its second
@@ -111,7 +111,7 @@ module _ (first second s : Text) (at : ℕ) where
   Stops = Unkeyed first (lines-at s at) ⊎ ((lines-at s at >>= entries-by first second) ≡ none)
 
   stops-two : (f t : ℕ) (m : Cursor) (x : Line) → Whole f t m ≡ value-at s first at → x ≡ value-at s second (m .at)
-      → End ≡ with-line x (λ r n. Sides (place f t) r n) → Stops
+      → End ≡ with-line x (λ r n. Sides (place-between f t) r n) → Stops
   stops-two f t m (Whole h u k) e g q = let z : _≡_ {A = ℕ} 0 1 = cc in absurd (omega arith)
   stops-two f t m Missing e g q =
       let k = keyed s first at f t m e in
@@ -121,8 +121,8 @@ module _ (first second s : Text) (at : ℕ) where
   stops-one Missing e q = inl (unkeyed s first at e)
   stops-one (Whole f t m) e q = stops-two f t m (value-at s second (m .at)) e refl q
 
-  pub stops : End ≡ pair-at first second s at → Stops
-  unfolding pair-at
+  pub stops : End ≡ two-lines-at first second s at → Stops
+  unfolding two-lines-at
   stops q = stops-one (value-at s first at) refl q
 
   -- the entries from a pair on
@@ -139,7 +139,7 @@ module _ (first second s : Text) (at : ℕ) where
       go (some ls) = refl
 
   pub entries-then : {l r : Place} {n : Cursor} → Paired first second s at l r n
-      → (lines-at s at >>= entries-by first second) ≡ ((lines-at s (n .at) >>= entries-by first second) >>= before (entry l r ∷ []))
+      → (lines-at s at >>= entries-by first second) ≡ ((lines-at s (n .at) >>= entries-by first second) >>= entries-before (entry l r ∷ []))
   entries-then {l} {r} {n} h =
       ap (λ (o : Option (List Text)). o >>= entries-by first second) (two-lines h)
       ∙ pair-first first second (h .one .line) (h .two .line) (part-of (l .from) (l .to) s) (part-of (r .from) (r .to) s) (lines-at s (n .at)) (h .one .has) (h .two .has)
@@ -150,11 +150,11 @@ module _ (first second s : Text) (at : ℕ) where
   unfoldable pub walk-starts : Walks first second s at at
   walk-starts = record { es = []; chain = go (lines-at s at >>= entries-by first second); low = omega arith; high = λ h. h }
     where
-      go : (o : Option (List Entry × List Text)) → o ≡ (o >>= before [])
+      go : (o : Option (List Entry × List Text)) → o ≡ (o >>= entries-before [])
       go none = refl
       go (some p) = refl
 
-  pub joins : (es fs : List Entry) (o : Option (List Entry × List Text)) → ((o >>= before fs) >>= before es) ≡ (o >>= before (es ++ fs))
+  pub joins : (es fs : List Entry) (o : Option (List Entry × List Text)) → ((o >>= entries-before fs) >>= entries-before es) ≡ (o >>= entries-before (es ++ fs))
   joins es fs none = refl
   joins es fs (some (gs, ls)) = ap (λ (l : List Entry). some (l, ls)) (sym (append-assoc es fs gs))
 
@@ -164,7 +164,7 @@ module _ (first second s : Text) (at : ℕ) where
       record {
         es = w .es ++ (e ∷ []);
         chain =
-            w .chain ∙ ap (λ (o : Option (List Entry × List Text)). o >>= before (w .es)) (entries-then first second s c h)
+            w .chain ∙ ap (λ (o : Option (List Entry × List Text)). o >>= entries-before (w .es)) (entries-then first second s c h)
             ∙ joins (w .es) (e ∷ []) (lines-at s (n .at) >>= entries-by first second);
         low = omega (arith, w .low, h .one .begins, h .one .ends, h .one .after, h .two .begins, h .two .ends, h .two .after);
         high = λ k. omega (arith, h .two .ends, h .two .after);
@@ -177,21 +177,21 @@ module _ {A : Type 0} (first second s : Text) (at c : ℕ) (w : Walks first seco
   read-on none = refl
   read-on (some ls) = refl
 
-  walked : (lines-at s at >>= λ ls. entries-by first second ls >>= go-on) ≡ (((lines-at s c >>= entries-by first second) >>= before (w .es)) >>= go-on)
+  walked : (lines-at s at >>= λ ls. entries-by first second ls >>= go-on) ≡ (((lines-at s c >>= entries-by first second) >>= entries-before (w .es)) >>= go-on)
   walked = read-on (lines-at s at) ∙ ap (λ (o : Option (List Entry × List Text)). o >>= go-on) (w .chain)
 
   -- where the lines after them begin with no pair
   pub then-rest : Unkeyed first (lines-at s c) → (lines-at s at >>= λ ls. entries-by first second ls >>= go-on) ≡ (lines-at s c >>= λ ls. go-on (w .es ++ [], ls))
   then-rest u = walked ∙ go (lines-at s c) u
     where
-      go : (o : Option (List Text)) → Unkeyed first o → (((o >>= entries-by first second) >>= before (w .es)) >>= go-on) ≡ (o >>= λ ls. go-on (w .es ++ [], ls))
+      go : (o : Option (List Text)) → Unkeyed first o → (((o >>= entries-by first second) >>= entries-before (w .es)) >>= go-on) ≡ (o >>= λ ls. go-on (w .es ++ [], ls))
       go none u = refl
-      go (some ls) u = ap (λ (o : Option (List Entry × List Text)). (o >>= before (w .es)) >>= go-on) (none-first first second ls u)
+      go (some ls) u = ap (λ (o : Option (List Entry × List Text)). (o >>= entries-before (w .es)) >>= go-on) (none-first first second ls u)
 
   -- where a second line is missing
   pub then-half : (lines-at s c >>= entries-by first second) ≡ none → (lines-at s at >>= λ ls. entries-by first second ls >>= go-on) ≡ none
-  then-half h = walked ∙ ap (λ (o : Option (List Entry × List Text)). (o >>= before (w .es)) >>= go-on) h
+  then-half h = walked ∙ ap (λ (o : Option (List Entry × List Text)). (o >>= entries-before (w .es)) >>= go-on) h
 
   pub then-end : length s ≤ c → (lines-at s at >>= λ ls. entries-by first second ls >>= go-on) ≡ go-on (w .es ++ [], [])
   unfolding entries-by
-  then-end h = walked ∙ ap (λ (o : Option (List Text)). ((o >>= entries-by first second) >>= before (w .es)) >>= go-on) (lines-end s c h)
+  then-end h = walked ∙ ap (λ (o : Option (List Text)). ((o >>= entries-by first second) >>= entries-before (w .es)) >>= go-on) (lines-end s c h)

@@ -1,4 +1,4 @@
--- What the walk over pairs, members and entries finds, told from the lists that a sheet holds. Assumes nothing.
+-- What the walk over pairs, members and entries finds, told from the lists that a sheet holds.
 use mathlib.Core.Path.{_≡_, refl, ap, sym, subst, _∙_}
 use mathlib.Core.Logic.{⊎-elim}
 use mathlib.Core.Bool.{true}
@@ -14,7 +14,7 @@ use Rattle.rules.specs.Sheet.{Entry, Member, Sheet, asks-unify, asks-match, ask
 use Rattle.laws.proofs.Basics.Options.{bound, guarded}
 use Rattle.laws.proofs.Sheets.SheetTexts.{the-member}
 use Rattle.sheet.specs.Lines.{part-of, lines-at, value-at}
-use Rattle.sheet.specs.Pairs.{pair-at, entries-by, before}
+use Rattle.sheet.specs.Pairs.{two-lines-at, entries-by, entries-before}
 use Rattle.sheet.specs.Members.{members-at}
 use Rattle.sheet.specs.Form.{text-of, sheet-of, Walked}
 use Rattle.sheet.specs.declared.Cursor.{Cursor}
@@ -44,18 +44,18 @@ pairs-by s at = go (lines-at s at)
 
 module _ (first second s : Text) (at : ℕ) (es : List Entry) (rest : List Text) (h : (lines-at s at >>= entries-by first second) ≡ some (es, rest)) where
   -- two lines that are found are the first pair
-  pub two-there : (l r : Place) (n : Cursor) → Sides l r n ≡ pair-at first second s at
+  pub two-there : (l r : Place) (n : Cursor) → Sides l r n ≡ two-lines-at first second s at
       → (fs : List Entry) × (es ≡ (text-of s l, text-of s r) ∷ fs) × ((lines-at s (n .at) >>= entries-by first second) ≡ some (fs, rest))
   two-there l r n e = go (lines-at s (n .at) >>= entries-by first second) refl (sym (entries-then first second s at (paired first second s at l r n e)) ∙ h)
     where
       go : (o : Option (List Entry × List Text)) → (lines-at s (n .at) >>= entries-by first second) ≡ o
-          → (o >>= before ((text-of s l, text-of s r) ∷ [])) ≡ some (es, rest)
+          → (o >>= entries-before ((text-of s l, text-of s r) ∷ [])) ≡ some (es, rest)
           → (fs : List Entry) × (es ≡ (text-of s l, text-of s r) ∷ fs) × ((lines-at s (n .at) >>= entries-by first second) ≡ some (fs, rest))
       go none k g = let z : _≡_ {A = ℕ} 0 1 = cc in absurd (omega arith)
       go (some (fs, ls)) k g = let b = same-both g in (fs, sym (b .0), k ∙ ap (λ (ls : List Text). some (fs, ls)) (b .1))
 
   -- where none is found there is no pair more
-  pub two-end : End ≡ pair-at first second s at → (es ≡ []) × (lines-at s at ≡ some rest)
+  pub two-end : End ≡ two-lines-at first second s at → (es ≡ []) × (lines-at s at ≡ some rest)
   two-end e = ⊎-elim (λ u. go (lines-at s at) refl u h) (λ z. absurd (let y : _≡_ {A = ℕ} 0 1 = cc in omega arith)) (stops first second s at e)
     where
       go : (o : Option (List Text)) → lines-at s at ≡ o → Unkeyed first o → (o >>= entries-by first second) ≡ some (es, rest) → (es ≡ []) × (lines-at s at ≡ some rest)
@@ -68,7 +68,7 @@ module _ (first second s : Text) (at : ℕ) (es : List Entry) (rest : List Text)
 pub walked-rest : (s : Text) (at c : ℕ) → Walked s at c → (es : List Entry) (rest : List Text) → (lines-at s at >>= pairs) ≡ some (es, rest) → lines-at s c ≡ some rest
 walked-rest s at c w es rest h = go (lines-at s c >>= entries-by (bytes "left=") (bytes "right=")) refl (sym (w .walk .chain) ∙ sym (pairs-by s at) ∙ h)
   where
-    go : (o : Option (List Entry × List Text)) → (lines-at s c >>= entries-by (bytes "left=") (bytes "right=")) ≡ o → (o >>= before (w .walk .es)) ≡ some (es, rest) → lines-at s c ≡ some rest
+    go : (o : Option (List Entry × List Text)) → (lines-at s c >>= entries-by (bytes "left=") (bytes "right=")) ≡ o → (o >>= entries-before (w .walk .es)) ≡ some (es, rest) → lines-at s c ≡ some rest
     go none k g = let z : _≡_ {A = ℕ} 0 1 = cc in absurd (omega arith)
     go (some (fs, ls)) k g = two-end (bytes "left=") (bytes "right=") s c fs ls k (w .stops) .1 ∙ ap some (same-both g .1)
 

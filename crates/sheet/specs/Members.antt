@@ -13,7 +13,7 @@ use Rattle.text.specs.Places.{text-at}
 use Rattle.text.specs.declared.decimal.Number.{Number}
 use Rattle.text.specs.declared.decimal.Number.the-variants.{Is, Not}
 use Rattle.sheet.specs.Lines.{lines-at}
-use Rattle.sheet.specs.Pairs.{pair-at, entries-by, before}
+use Rattle.sheet.specs.Pairs.{two-lines-at, entries-by, entries-before}
 use Rattle.sheet.specs.declared.PairLine.the-variants.{End}
 
 unfoldable pub members-at : Text → ℕ → Option (List Member)
@@ -43,7 +43,7 @@ apart (a ∷ b ∷ l) = not (same a b) && apart (b ∷ l)
 -- pairs of lines that were walked over from `at` to c
 pub record Walks (first second s : Text) (at c : ℕ) : Type 0 where
   pub es : List Entry
-  pub chain : (lines-at s at >>= entries-by first second) ≡ ((lines-at s c >>= entries-by first second) >>= before es)
+  pub chain : (lines-at s at >>= entries-by first second) ≡ ((lines-at s c >>= entries-by first second) >>= entries-before es)
   pub low : at ≤ c
   pub high : at ≤ length s → c ≤ length s
 
@@ -56,5 +56,5 @@ pub record Gathers (s : Text) (at : ℕ) (words : List ℕ) (count c : ℕ) : Ty
 -- and no more of them follow
 pub record Gathered (s : Text) (at : ℕ) (words : List ℕ) (count c : ℕ) : Type 0 where
   pub all : Gathers s at words count c
-  pub stops : End ≡ pair-at (bytes "key=") (bytes "value=") s c
+  pub stops : End ≡ two-lines-at (bytes "key=") (bytes "value=") s c
   pub room : count ≤ 8192

@@ -14,16 +14,16 @@ use Rattle.sheet.specs.declared.Line.the-variants.{Whole, Missing}
 use Rattle.sheet.specs.declared.PairLine.{PairLine}
 use Rattle.sheet.specs.declared.PairLine.the-variants.{Sides, End}
 
-abbrev pub place : ℕ → ℕ → Place
-place f t = record { from = f; to = t }
+abbrev pub place-between : ℕ → ℕ → Place
+place-between f t = record { from = f; to = t }
 
 abbrev pub with-line : Line → (Place → Cursor → PairLine) → PairLine
 with-line Missing k = End
-with-line (Whole f t n) k = k (place f t) n
+with-line (Whole f t n) k = k (place-between f t) n
 
 -- the values of two lines with these keys
-unfoldable pub pair-at : Text → Text → Text → ℕ → PairLine
-pair-at first second s at =
+unfoldable pub two-lines-at : Text → Text → Text → ℕ → PairLine
+two-lines-at first second s at =
     with-line (value-at s first at) λ l n. with-line (value-at s second (n .at)) λ r m. Sides l r m
 
 -- pairs of lines with these keys, as many as there are, and the lines after them
@@ -38,5 +38,5 @@ entries-by first second (l ∷ r ∷ ls) =
     ]
 
 -- entries in front of those read later
-abbrev pub before : List Entry → List Entry × List Text → Option (List Entry × List Text)
-before es (fs, ls) = some (es ++ fs, ls)
+abbrev pub entries-before : List Entry → List Entry × List Text → Option (List Entry × List Text)
+entries-before es (fs, ls) = some (es ++ fs, ls)

@@ -14,9 +14,14 @@ ghost use mathlib.Core.Path.{_≡_};
 ghost use Prim.Native.Nat.{_≤_};
 ghost use lib.ListN.{length};
 ghost use Rattle.rules.specs.Sheet.{Equal, Reduce, Cover, Sound, Complete, read-sheet, kind-in, kinds};
-ghost use Rattle.sheet.specs.Form.{kind-read, solving, Walked, reading, ReadsAs, Within, form-raise, form-words};
+ghost use Rattle.sheet.specs.Form.{kind-read, solving, Walked, read-kind-at, ReadsTermMembers, ReadsAs, Within, RaisesBy, NeedsWords};
 
-// What a sheet asks, or refusal 3.
+// The most fuel that a sheet may give.
+const MOST_FUEL: usize = 65536;
+// The words for each colon of a sheet, and for each of 16 more.
+const BLOCK: usize = 65536;
+
+// What a sheet asks.
 pub enum Form {
     Equal { left: Place, right: Place },
     Unify { fuel: usize, pairs: Cursor },
@@ -25,11 +30,16 @@ pub enum Form {
     Cover { pairs: Cursor, members: Cursor },
     Sound { term: Place, member: Cursor },
     Complete { term: Place, members: Cursor },
-    Three,
+}
+
+// What a sheet was read as.
+pub enum ReadForm {
+    Sheet(Form),
+    LineOutOfPlace,
 }
 
 // The kinds by their names.
-pub enum Kind {
+enum Kind {
     Equal,
     Unify,
     Match,
@@ -87,122 +97,151 @@ fn after_pairs(sheet: &[u8], start: Cursor) -> Cursor
     }
 }
 
-fn read_equal(sheet: &[u8], start: Cursor) -> Form
-    ensures { λ r. ⌜ ReadsAs (now (sheet .entry)) (reading Equal (now (sheet .entry)) (start .at)) r ⌝ }
+fn read_equal(sheet: &[u8], start: Cursor) -> ReadForm
+    ensures { λ r. ⌜ ReadsAs (now (sheet .entry)) (read-kind-at Equal (now (sheet .entry)) (start .at)) r ⌝ }
 {
     let pair = next_pair(sheet, start);
     let PairLine::Sides { left, right, next } = pair else {
-        return Form::Three;
+        return ReadForm::LineOutOfPlace;
     };
     let at = next.at;
     if at < sheet.len() {
-        return Form::Three;
+        return ReadForm::LineOutOfPlace;
     }
-    Form::Equal { left, right }
+    ReadForm::Sheet(Form::Equal { left, right })
 }
 
 // Kinds `unify` and `match`.
-fn read_solving(sheet: &[u8], start: Cursor, matching: bool) -> Form
-    ensures { λ r. ⌜ ReadsAs (now (sheet .entry)) (reading (solving matching) (now (sheet .entry)) (start .at)) r ⌝ }
+fn read_solving(sheet: &[u8], start: Cursor, matching: bool) -> ReadForm
+    ensures { λ r. ⌜ ReadsAs (now (sheet .entry)) (read-kind-at (solving matching) (now (sheet .entry)) (start .at)) r ⌝ }
 {
     let line = start.keyed(sheet, b"fuel=");
     let Line::Whole { from, to, next } = line else {
-        return Form::Three;
+        return ReadForm::LineOutOfPlace;
     };
-    let number = number_up_to(part(sheet, from, to), 65536);
+    let number = number_up_to(part(sheet, from, to), MOST_FUEL);
     let Number::Is(fuel) = number else {
-        return Form::Three;
+        return ReadForm::LineOutOfPlace;
     };
     let end = after_pairs(sheet, next);
     let at = end.at;
     if at < sheet.len() {
-        return Form::Three;
+        return ReadForm::LineOutOfPlace;
     }
     if matching {
-        return Form::Match { fuel, pairs: next };
+        return ReadForm::Sheet(Form::Match { fuel, pairs: next });
     }
-    Form::Unify { fuel, pairs: next }
+    ReadForm::Sheet(Form::Unify { fuel, pairs: next })
 }
 
-fn read_reduce(sheet: &[u8], start: Cursor) -> Form
-    ensures { λ r. ⌜ ReadsAs (now (sheet .entry)) (reading Reduce (now (sheet .entry)) (start .at)) r ⌝ }
+fn read_reduce(sheet: &[u8], start: Cursor) -> ReadForm
+    ensures { λ r. ⌜ ReadsAs (now (sheet .entry)) (read-kind-at Reduce (now (sheet .entry)) (start .at)) r ⌝ }
 {
     let line = start.keyed(sheet, b"term=");
     let Line::Whole { from, to, next } = line else {
-        return Form::Three;
+        return ReadForm::LineOutOfPlace;
     };
     let at = next.at;
     if at < sheet.len() {
-        return Form::Three;
+        return ReadForm::LineOutOfPlace;
     }
-    Form::Reduce {
+    ReadForm::Sheet(Form::Reduce {
         term: Place { from, to },
-    }
+    })
 }
 
-fn read_cover(sheet: &[u8], start: Cursor) -> Form
+fn read_cover(sheet: &[u8], start: Cursor) -> ReadForm
     requires { ⌜ (length (now sheet) ≤ 65536) × (start .at ≤ length (now sheet)) ⌝ }
-    ensures { λ r. ⌜ ReadsAs (now (sheet .entry)) (reading Cover (now (sheet .entry)) (start .at)) r ⌝ }
+    ensures { λ r. ⌜ ReadsAs (now (sheet .entry)) (read-kind-at Cover (now (sheet .entry)) (start .at)) r ⌝ }
 {
     let end = after_pairs(sheet, start);
     let number = members(sheet, end);
     let Number::Is(_) = number else {
-        return Form::Three;
+        return ReadForm::LineOutOfPlace;
     };
-    Form::Cover {
+    ReadForm::Sheet(Form::Cover {
         pairs: start,
         members: end,
-    }
+    })
 }
 
-fn read_sound(sheet: &[u8], start: Cursor) -> Form
+// A `term` line and the members after it.
+enum TermMembers {
+    Read {
+        term: Place,
+        members: Cursor,
+        count: usize,
+    },
+    LineOutOfPlace,
+}
+
+// A `term` line, then members up to the sheet's end.
+fn term_then_members(sheet: &[u8], start: Cursor) -> TermMembers
     requires { ⌜ length (now sheet) ≤ 65536 ⌝ }
-    ensures { λ r. ⌜ ReadsAs (now (sheet .entry)) (reading Sound (now (sheet .entry)) (start .at)) r ⌝ }
+    ensures { λ r. ⌜ ReadsTermMembers (now (sheet .entry)) (start .at) r ⌝ }
 {
     let line = start.keyed(sheet, b"term=");
     let Line::Whole { from, to, next } = line else {
-        return Form::Three;
+        return TermMembers::LineOutOfPlace;
     };
     let number = members(sheet, next);
     let Number::Is(count) = number else {
-        return Form::Three;
+        return TermMembers::LineOutOfPlace;
     };
-    if count != 1 {
-        return Form::Three;
-    }
-    Form::Sound {
+    TermMembers::Read {
         term: Place { from, to },
-        member: next,
+        members: next,
+        count,
     }
 }
 
-fn read_complete(sheet: &[u8], start: Cursor) -> Form
+fn read_sound(sheet: &[u8], start: Cursor) -> ReadForm
     requires { ⌜ length (now sheet) ≤ 65536 ⌝ }
-    ensures { λ r. ⌜ ReadsAs (now (sheet .entry)) (reading Complete (now (sheet .entry)) (start .at)) r ⌝ }
+    ensures { λ r. ⌜ ReadsAs (now (sheet .entry)) (read-kind-at Sound (now (sheet .entry)) (start .at)) r ⌝ }
 {
-    let line = start.keyed(sheet, b"term=");
-    let Line::Whole { from, to, next } = line else {
-        return Form::Three;
+    let read = term_then_members(sheet, start);
+    let TermMembers::Read {
+        term,
+        members,
+        count,
+    } = read
+    else {
+        return ReadForm::LineOutOfPlace;
     };
-    let number = members(sheet, next);
-    let Number::Is(_) = number else {
-        return Form::Three;
-    };
-    Form::Complete {
-        term: Place { from, to },
-        members: next,
+    if count != 1 {
+        return ReadForm::LineOutOfPlace;
     }
+    ReadForm::Sheet(Form::Sound {
+        term,
+        member: members,
+    })
+}
+
+fn read_complete(sheet: &[u8], start: Cursor) -> ReadForm
+    requires { ⌜ length (now sheet) ≤ 65536 ⌝ }
+    ensures { λ r. ⌜ ReadsAs (now (sheet .entry)) (read-kind-at Complete (now (sheet .entry)) (start .at)) r ⌝ }
+{
+    let read = term_then_members(sheet, start);
+    let TermMembers::Read {
+        term,
+        members,
+        count: _,
+    } = read
+    else {
+        return ReadForm::LineOutOfPlace;
+    };
+    ReadForm::Sheet(Form::Complete { term, members })
 }
 
 // What a sheet asks.
-pub fn read_sheet(sheet: &[u8]) -> Form
+pub fn read_sheet(sheet: &[u8]) -> ReadForm
     requires { ⌜ length (now sheet) ≤ 65536 ⌝ }
     ensures { λ r. ⌜ ReadsAs (now (sheet .entry)) (read-sheet (now (sheet .entry))) r ⌝ }
 {
     let start = Cursor { at: 0 };
     let line = start.keyed(sheet, b"kind=");
     let Line::Whole { from, to, next } = line else {
-        return Form::Three;
+        return ReadForm::LineOutOfPlace;
     };
     let kind = kind_of(part(sheet, from, to));
     match kind {
@@ -213,7 +252,7 @@ pub fn read_sheet(sheet: &[u8]) -> Form
         Kind::Cover => read_cover(sheet, next),
         Kind::Sound => read_sound(sheet, next),
         Kind::Complete => read_complete(sheet, next),
-        Kind::Unknown => Form::Three,
+        Kind::Unknown => ReadForm::LineOutOfPlace,
     }
 }
 
@@ -221,13 +260,13 @@ pub fn read_sheet(sheet: &[u8]) -> Form
 fn raise_of(sheet: &[u8], form: Form) -> usize
     requires { ⌜ length (now sheet) ≤ 65536 ⌝ }
     requires { ⌜ Within (now sheet) form ⌝ }
-    ensures { λ r. ⌜ (r ≡ form-raise (now (sheet .entry)) form) × (r ≤ 131072) ⌝ }
+    ensures { λ r. ⌜ RaisesBy (now (sheet .entry)) form r × (r ≤ 131072) ⌝ }
 {
     match form {
         Form::Complete { term, members: _ } => {
             let from = term.from;
             let to = term.to;
-            2 * count_of(part(sheet, from, to), 40)
+            2 * count_of(part(sheet, from, to), b'(')
         }
         _ => 0,
     }
@@ -237,7 +276,7 @@ fn raise_of(sheet: &[u8], form: Form) -> usize
 pub fn words_needed(sheet: &[u8], form: Form) -> usize
     requires { ⌜ length (now sheet) ≤ 65536 ⌝ }
     requires { ⌜ Within (now sheet) form ⌝ }
-    ensures { λ r. ⌜ r ≡ form-words (now (sheet .entry)) form ⌝ }
+    ensures { λ r. ⌜ NeedsWords (now (sheet .entry)) form r ⌝ }
 {
-    65536 * (count_of(sheet, 58) + raise_of(sheet, form) + 16) + 16 * sheet.len()
+    BLOCK * (count_of(sheet, b':') + raise_of(sheet, form) + 16) + 16 * sheet.len()
 }

@@ -1,6 +1,7 @@
 // The lines of a sheet: a cursor that is handed on by value, lines with a key, two lines that belong together.
 pub mod form; // form.rt: the kinds of sheet
-pub mod members; // members.rt: the members of a sheet
+pub mod claims; // claims.rt: what is claimed of members
+mod members; // members.rt: the members of a sheet
 
 use text::begins;
 ghost use mathlib.Core.Path.{_≡_};
@@ -8,7 +9,7 @@ ghost use Prim.Native.Nat.{_≤_};
 ghost use lib.ListN.{length};
 ghost use Rattle.rules.specs.Text.{bytes};
 ghost use Rattle.sheet.specs.Lines.{part-of, line-at, value-at};
-ghost use Rattle.sheet.specs.Pairs.{pair-at};
+ghost use Rattle.sheet.specs.Pairs.{two-lines-at};
 
 // A position in the sheet, handed on by value after each line.
 pub struct Cursor {
@@ -38,7 +39,7 @@ impl Cursor {
         let from = self.at;
         let mut i = from;
         while i < sheet.len() {
-            if sheet[i] == 10 {
+            if sheet[i] == b'\n' {
                 return Line::Whole {
                     from,
                     to: i,
@@ -89,7 +90,7 @@ pub enum PairLine {
 
 // The values of the two lines at the cursor, if the first begins with one key and the second with the other.
 fn two_lines(sheet: &[u8], cursor: Cursor, first: &[u8], second: &[u8]) -> PairLine
-    ensures { λ r. ⌜ r ≡ pair-at (now (first .entry)) (now (second .entry)) (now (sheet .entry)) (cursor .at) ⌝ }
+    ensures { λ r. ⌜ r ≡ two-lines-at (now (first .entry)) (now (second .entry)) (now (sheet .entry)) (cursor .at) ⌝ }
 {
     let line = cursor.keyed(sheet, first);
     let Line::Whole {
@@ -124,14 +125,14 @@ fn two_lines(sheet: &[u8], cursor: Cursor, first: &[u8], second: &[u8]) -> PairL
 
 // The next pair of lines `left`, `right`.
 pub fn next_pair(sheet: &[u8], cursor: Cursor) -> PairLine
-    ensures { λ r. ⌜ r ≡ pair-at (bytes "left=") (bytes "right=") (now (sheet .entry)) (cursor .at) ⌝ }
+    ensures { λ r. ⌜ r ≡ two-lines-at (bytes "left=") (bytes "right=") (now (sheet .entry)) (cursor .at) ⌝ }
 {
     two_lines(sheet, cursor, b"left=", b"right=")
 }
 
 // The next lines `key`, `value` of a member: the key is the left side, the value the right.
 pub fn next_entry(sheet: &[u8], cursor: Cursor) -> PairLine
-    ensures { λ r. ⌜ r ≡ pair-at (bytes "key=") (bytes "value=") (now (sheet .entry)) (cursor .at) ⌝ }
+    ensures { λ r. ⌜ r ≡ two-lines-at (bytes "key=") (bytes "value=") (now (sheet .entry)) (cursor .at) ⌝ }
 {
     two_lines(sheet, cursor, b"key=", b"value=")
 }

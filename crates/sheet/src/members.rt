@@ -17,18 +17,23 @@ ghost use Rattle.rules.specs.Bytes.{same};
 ghost use Rattle.text.specs.Places.{text-at};
 ghost use Rattle.sheet.specs.Members.{members-at, counted, distinct, apart, Gathered};
 
-// A place as one word: start * 65536 + length.
-pub fn word_of(place: Place) -> u32
+// A place is one word: its start times this, and its length.
+const START: usize = 65536;
+// A member has at most so many keys, since each takes 12 bytes or more.
+const MOST_KEYS: usize = 8192;
+
+// A place as one word.
+fn word_of(place: Place) -> u32
     requires { ⌜ (place .from < 65536) × (place .from ≤ place .to) × (place .to < place .from + 65536) ⌝ }
     ensures { λ r. ⌜ r ≡ place .from * 65536 + (place .to - place .from) ⌝ }
 {
     let from = place.from;
     let to = place.to;
-    (from * 65536 + (to - from)) as u32
+    (from * START + (to - from)) as u32
 }
 
 // How many keys one member has, and where its entries end.
-pub struct Keys {
+struct Keys {
     count: usize,
     next: Cursor,
 }
@@ -86,7 +91,7 @@ fn all_distinct(sheet: &[u8], words: &mut [u32], count: usize) -> bool
     requires { ⌜ (count ≤ 8192) × (16384 ≤ length (now words)) ⌝ }
     ensures { λ r. ⌜ r ≡ distinct (map (text-at (now (sheet .entry))) (take count (now (words .entry)))) ⌝ }
 {
-    sort_places(sheet, words, 0, count, 8192);
+    sort_places(sheet, words, 0, count, MOST_KEYS);
     all_apart(sheet, words, count)
 }
 
@@ -129,7 +134,7 @@ fn key_words() -> [u32; 16384]
 }
 
 // How many members stand from a cursor to the sheet's end, if nothing else does and none repeats a key.
-pub fn members(sheet: &[u8], start: Cursor) -> Number
+pub(crate) fn members(sheet: &[u8], start: Cursor) -> Number
     requires { ⌜ length (now sheet) ≤ 65536 ⌝ }
     ensures { λ r. ⌜ r ≡ counted 0 (members-at (now (sheet .entry)) (start .at)) ⌝ }
 {

@@ -1,4 +1,4 @@
--- Sorts by their numbers, the kinds of variables, and symbols. Assumes nothing.
+-- Sorts by their numbers, the kinds of variables, and symbols.
 use Prim.Native.Nat.{ℕ, zero, suc, _+_, _-_, _<_}
 use mathlib.Core.Path.{_≡_, refl, sym, ap, _∙_}
 use mathlib.Core.Bool.{Bool, true, false, cond}
@@ -20,7 +20,7 @@ use Rattle.tree.specs.Cells.{kind-of-sort, length-of, name-at}
 use Rattle.tree.specs.Arena.{Cell}
 use Rattle.tree.proofs.Naming.{name-length}
 use Rattle.tree.proofs.Bounded.{every-below, below-holds, agree, agreeing}
-use Rattle.sorts.specs.Numbers.{numbered, coded, Plain}
+use Rattle.sorts.specs.Numbers.{numbered, coded-symbol, Itself}
 use Rattle.sorts.specs.declared.Symbol.{Symbol}
 use Rattle.sorts.specs.declared.Symbol.the-variants.{Addition, Unit, Frame, Free}
 use Rattle.sorts.proofs.Symbol.{the-type}
@@ -88,13 +88,13 @@ decoded Unit = rules.unit
 decoded Frame = rules.frame
 decoded Free = rules.free
 
-decoded-coded : (x : rules.Symbol) → decoded (coded x) ≡ x
+decoded-coded : (x : rules.Symbol) → decoded (coded-symbol x) ≡ x
 decoded-coded rules.addition = refl
 decoded-coded rules.unit = refl
 decoded-coded rules.frame = refl
 decoded-coded rules.free = refl
 
-pub symbol-is : {y z : Symbol} (x : rules.Symbol) → y ≡ coded x → y ≡ z → x ≡ decoded z
+pub symbol-is : {y z : Symbol} (x : rules.Symbol) → y ≡ coded-symbol x → y ≡ z → x ≡ decoded z
 symbol-is x e f = sym (decoded-coded x) ∙ ap decoded (sym e ∙ f)
 
 -- an arm of two variants
@@ -105,7 +105,7 @@ unit-or-free Frame o = absurd (⊎-elim (λ e. omega arith) (λ e. omega arith) 
 unit-or-free Free o = inr refl
 
 -- a name of another length than these stands for itself
-pub other-length : (s : Text) (w : List ℕ) (k : ℕ) → Cell s w k → {n : ℕ} → n ≡ length-of w k → (n ≡ 0 → ⊥) → (n ≡ 3 → ⊥) → (n ≡ 4 → ⊥) → (n ≡ 8 → ⊥) → (n ≡ 9 → ⊥) → Plain (name-at s w k)
+pub other-length : (s : Text) (w : List ℕ) (k : ℕ) → Cell s w k → {n : ℕ} → n ≡ length-of w k → (n ≡ 0 → ⊥) → (n ≡ 3 → ⊥) → (n ≡ 4 → ⊥) → (n ≡ 8 → ⊥) → (n ≡ 9 → ⊥) → Itself (name-at s w k)
 unfolding rules.symbol rules.is-frame
 other-length s w k c {n} e h0 h3 h4 h8 h9 =
     let l : length (name-at s w k) ≡ n = name-length s w k c (omega arith) ∙ sym e in

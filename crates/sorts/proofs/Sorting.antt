@@ -1,4 +1,4 @@
--- The tests of sorts at a cell, by its kind and its symbol. Assumes nothing.
+-- The tests of sorts at a cell, by its kind and its symbol.
 use Prim.Native.Nat.{ℕ, _+_, _-_, _<_, _≤_}
 use mathlib.Core.Path.{_≡_, refl, sym, ap, ap₂, _∙_}
 use mathlib.Core.Bool.{Bool, true, false, not, _&&_, _||_}

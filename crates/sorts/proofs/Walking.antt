@@ -1,4 +1,4 @@
--- The walk over a list of trees that asks something of each: what is left of the list at a cell. Assumes nothing.
+-- The walk over a list of trees that asks something of each: what is left of the list at a cell.
 use Prim.Native.Nat.{ℕ, _<_, _≤_}
 use mathlib.Core.Path.{_≡_, refl, sym, ap, _∙_}
 use mathlib.Core.Bool.{Bool, true, false, _&&_}

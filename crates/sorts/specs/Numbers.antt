@@ -15,12 +15,12 @@ numbered (suc (suc zero)) = Msg
 numbered (suc (suc (suc zero))) = TamNat
 numbered (suc (suc (suc (suc n)))) = Node
 
-abbrev pub coded : rules.Symbol → Symbol
-coded rules.addition = Addition
-coded rules.unit = Unit
-coded rules.frame = Frame
-coded rules.free = Free
+abbrev pub coded-symbol : rules.Symbol → Symbol
+coded-symbol rules.addition = Addition
+coded-symbol rules.unit = Unit
+coded-symbol rules.frame = Frame
+coded-symbol rules.free = Free
 
 -- a name that stands for itself
-abbrev pub Plain : Text → Type 0
-Plain n = rules.symbol n ≡ rules.free
+abbrev pub Itself : Text → Type 0
+Itself n = rules.symbol n ≡ rules.free

@@ -1,4 +1,9 @@
 // The five sorts: which meet, which trees have them, and which trees may have an instance of them.
+use tree::cells::APPLICATION;
+use tree::cells::ATOMS;
+use tree::cells::VARIABLE_NODE;
+use tree::cells::VARIABLE_OTHER;
+use tree::cells::VARIABLE_TAM_NAT;
 use tree::cells::first_of;
 use tree::cells::kind_of;
 use tree::cells::length_of;
@@ -10,9 +15,9 @@ ghost use Prim.Native.Nat.{_<_};
 ghost use Rattle.rules.specs.Sorts.{intersects, symbol, natural, naturals, message, messages, basic, sorted, refinable, refinables};
 ghost use Rattle.tree.specs.Cells.{kind-of, name-at, tree-at, trees-at};
 ghost use Rattle.tree.specs.Arena.{Arena};
-ghost use Rattle.sorts.specs.Numbers.{numbered, coded, Plain};
+ghost use Rattle.sorts.specs.Numbers.{numbered, coded-symbol, Itself};
 
-// Which sorts meet, by their numbers: Pub, Fresh, Msg, TamNat, Node.
+// Which sorts meet, by their numbers.
 const MEETS: [[bool; 5]; 5] = [
     [true, false, true, false, false],
     [false, true, true, false, false],
@@ -21,12 +26,27 @@ const MEETS: [[bool; 5]; 5] = [
     [false, false, false, false, true],
 ];
 
+const PUB: usize = 0;
+
+const FRESH: usize = 1;
+
 const MSG: usize = 2;
 
 const TAM_NAT: usize = 3;
 
+const NODE: usize = 4;
+
+// The letters of atoms, whose kinds they are: p, f, t, n.
+const LETTER_P: usize = 112;
+
+const LETTER_F: usize = 102;
+
+const LETTER_T: usize = 116;
+
+const LETTER_N: usize = 110;
+
 // Whether two sorts meet.
-pub fn meets(a: usize, b: usize) -> bool
+fn meets(a: usize, b: usize) -> bool
     requires { ⌜ (a < 5) × (b < 5) ⌝ }
     ensures { λ r. ⌜ r ≡ intersects (numbered a) (numbered b) ⌝ }
 {
@@ -34,7 +54,7 @@ pub fn meets(a: usize, b: usize) -> bool
 }
 
 // What a name stands for.
-pub enum Symbol {
+enum Symbol {
     Addition,
     Unit,
     Frame,
@@ -45,7 +65,7 @@ pub enum Symbol {
 fn symbol_named(sheet: &[u8], work: &[u32], free: usize, k: usize) -> Symbol
     requires { ⌜ Arena (now sheet) (now work) free ⌝ }
     requires { ⌜ (0 < k) × (k < free) ⌝ }
-    ensures { λ r. ⌜ r ≡ coded (symbol (name-at (now (sheet .entry)) (now (work .entry)) k)) ⌝ }
+    ensures { λ r. ⌜ r ≡ coded-symbol (symbol (name-at (now (sheet .entry)) (now (work .entry)) k)) ⌝ }
 {
     if name_is(sheet, work, free, k, b"tamtplus") {
         return Symbol::Addition;
@@ -69,7 +89,7 @@ fn symbol_named(sheet: &[u8], work: &[u32], free: usize, k: usize) -> Symbol
 fn plain(sheet: &[u8], work: &[u32], free: usize, k: usize) -> bool
     requires { ⌜ Arena (now sheet) (now work) free ⌝ }
     requires { ⌜ (0 < k) × (k < free) ⌝ }
-    ensures { λ r. ⌜ (r ≡ true → Plain (name-at (now (sheet .entry)) (now (work .entry)) k)) ⌝ }
+    ensures { λ r. ⌜ (r ≡ true → Itself (name-at (now (sheet .entry)) (now (work .entry)) k)) ⌝ }
 {
     let len = length_of(work, k);
     match len {
@@ -79,10 +99,10 @@ fn plain(sheet: &[u8], work: &[u32], free: usize, k: usize) -> bool
 }
 
 // What the name of cell k stands for. Most names are told apart by their length.
-pub fn symbol_of(sheet: &[u8], work: &[u32], free: usize, k: usize) -> Symbol
+fn symbol_of(sheet: &[u8], work: &[u32], free: usize, k: usize) -> Symbol
     requires { ⌜ Arena (now sheet) (now work) free ⌝ }
     requires { ⌜ (0 < k) × (k < free) ⌝ }
-    ensures { λ r. ⌜ r ≡ coded (symbol (name-at (now (sheet .entry)) (now (work .entry)) k)) ⌝ }
+    ensures { λ r. ⌜ r ≡ coded-symbol (symbol (name-at (now (sheet .entry)) (now (work .entry)) k)) ⌝ }
 {
     if plain(sheet, work, free, k) {
         return Symbol::Free;
@@ -97,14 +117,14 @@ fn leaf_natural(sheet: &[u8], work: &[u32], free: usize, i: usize, kind: usize) 
     requires { ⌜ (kind ≡ kind-of (now work) i) × (0 < kind) ⌝ }
     ensures { λ r. ⌜ r ≡ natural (tree-at (now (sheet .entry)) (now (work .entry)) i) ⌝ }
 {
-    if 7 <= kind {
-        return kind == 116;
+    if ATOMS <= kind {
+        return kind == LETTER_T;
     }
-    kind == 4
+    kind == VARIABLE_TAM_NAT
 }
 
 // Whether every tree of the list from cell `list` on is natural. The summands of a list's last tree take the list's place.
-pub fn naturals(sheet: &[u8], work: &[u32], free: usize, list: usize) -> bool
+fn naturals(sheet: &[u8], work: &[u32], free: usize, list: usize) -> bool
     requires { ⌜ Arena (now sheet) (now work) free ⌝ }
     requires { ⌜ list < free ⌝ }
     ensures { λ r. ⌜ r ≡ naturals (trees-at (now (sheet .entry)) (now (work .entry)) list) ⌝ }
@@ -113,7 +133,7 @@ pub fn naturals(sheet: &[u8], work: &[u32], free: usize, list: usize) -> bool
     while i != 0 {
         let kind = kind_of(work, i);
         let next = next_of(work, free, i);
-        if 0 < kind {
+        if APPLICATION < kind {
             if leaf_natural(sheet, work, free, i, kind) {
                 i = next;
                 continue;
@@ -152,7 +172,7 @@ pub fn natural(sheet: &[u8], work: &[u32], free: usize, i: usize) -> bool
     ensures { λ r. ⌜ r ≡ natural (tree-at (now (sheet .entry)) (now (work .entry)) i) ⌝ }
 {
     let kind = kind_of(work, i);
-    if 0 < kind {
+    if APPLICATION < kind {
         return leaf_natural(sheet, work, free, i, kind);
     }
     let first = first_of(work, free, i);
@@ -172,14 +192,14 @@ fn leaf_message(sheet: &[u8], work: &[u32], free: usize, i: usize, kind: usize) 
     requires { ⌜ (kind ≡ kind-of (now work) i) × (0 < kind) ⌝ }
     ensures { λ r. ⌜ r ≡ message (tree-at (now (sheet .entry)) (now (work .entry)) i) ⌝ }
 {
-    if 7 <= kind {
-        return kind != 110;
+    if ATOMS <= kind {
+        return kind != LETTER_N;
     }
-    kind < 5
+    kind < VARIABLE_NODE
 }
 
 // Whether every tree of the list from cell `list` on is a message. The children of a list's last tree take the list's place.
-pub fn messages(sheet: &[u8], work: &[u32], free: usize, list: usize) -> bool
+fn messages(sheet: &[u8], work: &[u32], free: usize, list: usize) -> bool
     requires { ⌜ Arena (now sheet) (now work) free ⌝ }
     requires { ⌜ list < free ⌝ }
     ensures { λ r. ⌜ r ≡ messages (trees-at (now (sheet .entry)) (now (work .entry)) list) ⌝ }
@@ -188,7 +208,7 @@ pub fn messages(sheet: &[u8], work: &[u32], free: usize, list: usize) -> bool
     while i != 0 {
         let kind = kind_of(work, i);
         let next = next_of(work, free, i);
-        if 0 < kind {
+        if APPLICATION < kind {
             if leaf_message(sheet, work, free, i, kind) {
                 i = next;
                 continue;
@@ -233,7 +253,7 @@ pub fn message(sheet: &[u8], work: &[u32], free: usize, i: usize) -> bool
     ensures { λ r. ⌜ r ≡ message (tree-at (now (sheet .entry)) (now (work .entry)) i) ⌝ }
 {
     let kind = kind_of(work, i);
-    if 0 < kind {
+    if APPLICATION < kind {
         return leaf_message(sheet, work, free, i, kind);
     }
     let first = first_of(work, free, i);
@@ -253,7 +273,7 @@ fn basic(sheet: &[u8], work: &[u32], free: usize, sort: usize, letter: usize, i:
     ensures { λ r. ⌜ r ≡ basic (numbered sort) letter (tree-at (now (sheet .entry)) (now (work .entry)) i) ⌝ }
 {
     let kind = kind_of(work, i);
-    if 7 <= kind {
+    if ATOMS <= kind {
         return kind == letter;
     }
     kind == sort + 1
@@ -267,11 +287,11 @@ pub fn sorted(sheet: &[u8], work: &[u32], free: usize, sort: usize, i: usize) ->
     ensures { λ r. ⌜ r ≡ sorted (numbered sort) (tree-at (now (sheet .entry)) (now (work .entry)) i) ⌝ }
 {
     match sort {
-        0 => basic(sheet, work, free, 0, 112, i),
-        1 => basic(sheet, work, free, 1, 102, i),
+        PUB => basic(sheet, work, free, PUB, LETTER_P, i),
+        FRESH => basic(sheet, work, free, FRESH, LETTER_F, i),
         MSG => message(sheet, work, free, i),
         TAM_NAT => natural(sheet, work, free, i),
-        _ => basic(sheet, work, free, 4, 110, i),
+        _ => basic(sheet, work, free, NODE, LETTER_N, i),
     }
 }
 
@@ -283,13 +303,13 @@ pub fn refinable(sheet: &[u8], work: &[u32], free: usize, sort: usize, i: usize)
     ensures { λ r. ⌜ r ≡ refinable (numbered sort) (tree-at (now (sheet .entry)) (now (work .entry)) i) ⌝ }
 {
     let kind = kind_of(work, i);
-    if 7 <= kind {
+    if ATOMS <= kind {
         return sorted(sheet, work, free, sort, i);
     }
-    if 6 == kind {
+    if VARIABLE_OTHER == kind {
         return false;
     }
-    if 0 < kind {
+    if APPLICATION < kind {
         return meets(kind - 1, sort);
     }
     let first = first_of(work, free, i);
@@ -318,7 +338,7 @@ pub fn refinable(sheet: &[u8], work: &[u32], free: usize, sort: usize, i: usize)
 }
 
 // Whether every tree of the list from cell i on may have an instance of the sort.
-pub fn refinables(sheet: &[u8], work: &[u32], free: usize, sort: usize, i: usize) -> bool
+fn refinables(sheet: &[u8], work: &[u32], free: usize, sort: usize, i: usize) -> bool
     requires { ⌜ Arena (now sheet) (now work) free ⌝ }
     requires { ⌜ i < free ⌝ }
     requires { ⌜ sort < 5 ⌝ }

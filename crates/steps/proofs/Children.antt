@@ -1,16 +1,16 @@
--- The children of a cell, and of two cells pairwise on the stack. Assumes nothing.
+-- The children of two cells, pairwise on the stack.
 use Prim.Native.Nat.{ℕ, suc, _+_, _*_, _<_}
 use mathlib.Core.Path.{_≡_, refl, sym, ap, ap₂, _∙_}
 use mathlib.Core.List.{List, [], _∷_}
 use native.Mathlib.Omega.{arith}
 use Rattle.rules.specs.Bytes.{Text}
-use Rattle.rules.specs.Tree.{Trees, none, more, children}
+use Rattle.rules.specs.Tree.{Trees, none, more}
 use Rattle.rules.specs.Substitution.{Pair, flatten}
 use Rattle.rules.specs.Solving.{push-children}
 use Rattle.laws.specs.Memory.{pushed}
-use Rattle.tree.specs.Cells.{kind-of, first-of, next-of, tree-at, trees-at}
+use Rattle.tree.specs.Cells.{next-of, tree-at, trees-at}
 use Rattle.tree.specs.Arena.{Links, Arena}
-use Rattle.tree.proofs.Decoding.{Kind, application, a-variable, an-atom, kind, tree-variable, tree-atom, tree-apply, trees-none, trees-more}
+use Rattle.tree.proofs.Decoding.{trees-none, trees-more}
 use Rattle.tree.proofs.Areas.{grown-then}
 use Rattle.substitution.specs.Building.{Made}
 use Rattle.substitution.proofs.Growing.{made-same, made-tree}
@@ -27,21 +27,6 @@ unfolding push-children pushes flatten
 flatten-pushes none us ps = refl
 flatten-pushes (more t ts) none ps = refl
 flatten-pushes (more t ts) (more u us) ps = ap (λ (vs : Trees). more t (more u vs)) (flatten-pushes ts us ps)
-
--- the children of cell k, with its kind r as the code holds it
-module _ (s : Text) (w : List ℕ) (k : ℕ) {r : ℕ} (e : r ≡ kind-of w k) where
-  pub children-apply : {j : ℕ} → r ≡ 0 → j ≡ first-of w k → trees-at s w j ≡ children (tree-at s w k)
-  unfolding children
-  children-apply f g = ap (trees-at s w) g ∙ sym (ap children (tree-apply s w k (sym e ∙ f)))
-
-  no-children : Kind (kind-of w k) → (r ≡ 0 → ⊥) → children (tree-at s w k) ≡ none
-  unfolding children
-  no-children (application g) f = absurd (f (e ∙ g))
-  no-children (a-variable p q) f = ap children (tree-variable s w k p q)
-  no-children (an-atom p) f = ap children (tree-atom s w k p)
-
-  pub children-leaf : (r ≡ 0 → ⊥) → trees-at s w 0 ≡ children (tree-at s w k)
-  children-leaf f = trees-none s w 0 refl ∙ sym (no-children (kind (kind-of w k)) f)
 
 -- two lists pairwise, cell by cell
 module _ (s : Text) (w : List ℕ) where

@@ -1,4 +1,4 @@
--- How many pairs are known not to be all of one tree twice: after a pair is dropped, and after children are pushed. Assumes nothing.
+-- How many pairs are known not to be all of one tree twice: after a pair is dropped, and after children are pushed.
 use Prim.Native.Nat.{ℕ, zero, suc, _+_, _-_, _<_, _≤_}
 use mathlib.Core.Path.{_≡_, refl, sym, ap, subst, _∙_}
 use mathlib.Core.Bool.{Bool, true, false, cond, _&&_, true≢false}

@@ -1,4 +1,4 @@
--- A key against a tree, by the answers of the tests at their cells. Assumes nothing.
+-- A key against a tree, by the answers of the tests at their cells.
 use Prim.Native.Nat.{ℕ, _-_, _<_}
 use mathlib.Core.Path.{_≡_, refl, sym, ap, _∙_}
 use mathlib.Core.Bool.{Bool, true, false}

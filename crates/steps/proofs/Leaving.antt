@@ -1,4 +1,4 @@
--- The cells that are left of a sum: none, one or more, as they are found one after another. Assumes nothing.
+-- The cells that are left of a sum: none, one or more, as they are found one after another.
 use Prim.Native.Nat.{ℕ, _+_, _<_, _≤_}
 use mathlib.Core.Path.{_≡_, refl, sym, ap, _∙_}
 use mathlib.Core.List.{List, _∷_}

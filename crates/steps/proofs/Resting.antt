@@ -1,4 +1,4 @@
--- What two sums leave, from the cells that are left of them. Assumes nothing.
+-- What two sums leave, from the cells that are left of them.
 use Prim.Native.Nat.{ℕ, _+_, _-_, _*_, _<_, _≤_, _^_}
 use mathlib.Core.Path.{_≡_, refl, sym, ap, ap₂, subst, _∙_}
 use mathlib.Core.Bool.{Bool, true, false}
@@ -19,7 +19,7 @@ use Rattle.tree.specs.Cells.{kind-of, nodes-of, name-at, tree-at}
 use Rattle.tree.specs.Arena.{Arena, Below}
 use Rattle.tree.proofs.Decoding.{Agree, same-kind, same-name, frame-tree}
 use Rattle.tree.proofs.Areas.{below-same, below-grown, below-then}
-use Rattle.equivalence.specs.Sums.{remaining, heavy, test, Ready, Rebuilt}
+use Rattle.equivalence.specs.Sums.{remaining, heavy, test, SumsCancelled, Rebuilt}
 use Rattle.equivalence.proofs.Gathering.{remaining-frame}
 use Rattle.equivalence.proofs.Scratch.{below-kept}
 use Rattle.steps.specs.Area.{Room}
@@ -176,7 +176,7 @@ module _ {s w : List ℕ} {n at : ℕ} {l r : Tree} (o : Arena s w n) (m : Room 
       let k = m .1 in
       (omega arith, omega arith, omega arith, omega arith)
 
-  module _ {v : List ℕ} {mid end : ℕ} {b : Bool} (h : Ready s w v n at mid end (size l + size r) l r b) where
+  module _ {v : List ℕ} {mid end : ℕ} {b : Bool} (h : SumsCancelled s w v n at mid end (size l + size r) l r b) where
     agree : Agree w v n
     agree p q = sym (h .kept .below p (omega arith))
 

@@ -1,4 +1,4 @@
--- The waiting pairs where the cells below the free end are kept, and a step at a larger weight. Assumes nothing.
+-- The waiting pairs where the cells below the free end are kept, and a step at a larger weight.
 use Prim.Native.Nat.{ℕ, _<_}
 use mathlib.Core.Path.{_≡_, sym, _∙_}
 use mathlib.Core.List.{List}
@@ -13,7 +13,7 @@ use Rattle.tree.proofs.Decoding.{frame-tree, frame-trees}
 use Rattle.tree.proofs.Areas.{arena-below, below-grown}
 use Rattle.substitution.specs.Building.{Made}
 use Rattle.steps.specs.Stack.{Whole, pairs-at}
-use Rattle.steps.specs.Stepping.{Waits, Steps}
+use Rattle.steps.specs.Stepping.{Waits, TakenIs}
 use Rattle.steps.specs.declared.elimination.Taken.{Taken}
 use Rattle.steps.specs.declared.elimination.Taken.the-variants as taken
 
@@ -44,7 +44,7 @@ waits-made d e = record {
   trees = d .trees ∙ e;
 }
 
-pub steps-more : (s : Text) (w v : List ℕ) (n h : ℕ) (d : Step) (r : Taken) → Steps s w v n 0 d r → Steps s w v n h d r
+pub steps-more : (s : Text) (w v : List ℕ) (n h : ℕ) (d : Step) (r : Taken) → TakenIs s w v n 0 d r → TakenIs s w v n h d r
 steps-more s w v n h d (taken.Next st m k) x = record { pairs = x .pairs; is = x .is; waits = x .waits; used = omega (arith, x .used); differs = x .differs }
 steps-more s w v n h d (taken.Bind key value st m) x = x
 steps-more s w v n h d taken.Fails x = x

@@ -36,7 +36,7 @@ pub record Summable (s : Text) (w : List ℕ) (n a e : ℕ) : Type 0 where
   pub light : heavy (remaining s w (slice a e w)) ≤ 65535
 
 -- the trees of cells i and j are to be paired; `kept` summands were left in all
-pub record Equates (s : Text) (w v : List ℕ) (n kept : ℕ) (d : rules.Rest) (i j m : ℕ) : Type 0 where
+pub record EquationIs (s : Text) (w v : List ℕ) (n kept : ℕ) (d : rules.Rest) (i j m : ℕ) : Type 0 where
   pub is : d ≡ rules.equation (tree-at s v i) (tree-at s v j)
   pub arena : Arena s v m
   pub below : Below w v n
@@ -48,7 +48,7 @@ pub record Equates (s : Text) (w v : List ℕ) (n kept : ℕ) (d : rules.Rest) (
 abbrev pub RestIs : Text → List ℕ → List ℕ → ℕ → ℕ → rules.Rest → Rest → Type 0
 RestIs s w v n kept d rest.Emptied = (d ≡ rules.emptied) × Below w v n
 RestIs s w v n kept d rest.Mismatch = (d ≡ rules.mismatch) × Below w v n
-RestIs s w v n kept d (rest.Equation i j m) = Equates s w v n kept d i j m
+RestIs s w v n kept d (rest.Equation i j m) = EquationIs s w v n kept d i j m
 RestIs s w v n kept d rest.Stuck = (d ≡ rules.stuck) × Below w v n
 
 -- what is left on both sides is settled

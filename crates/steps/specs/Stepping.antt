@@ -42,8 +42,8 @@ pub record Binds (s : Text) (w v : List ℕ) (n : ℕ) (d : Step) (key value st 
   pub small : size-pairs pairs ≤ 4096
   pub used : m ≤ n + 4098
 
-abbrev pub Steps : Text → List ℕ → List ℕ → ℕ → ℕ → Step → Taken → Type 0
-Steps s w v n h d (taken.Next st m k) = GoesOn s w v n h d st m k
-Steps s w v n h d (taken.Bind key value st m) = Binds s w v n d key value st m
-Steps s w v n h d taken.Fails = (d ≡ fails) × Below w v n
-Steps s w v n h d taken.Unknown = (d ≡ unknown) × Below w v n
+abbrev pub TakenIs : Text → List ℕ → List ℕ → ℕ → ℕ → Step → Taken → Type 0
+TakenIs s w v n h d (taken.Next st m k) = GoesOn s w v n h d st m k
+TakenIs s w v n h d (taken.Bind key value st m) = Binds s w v n d key value st m
+TakenIs s w v n h d taken.Fails = (d ≡ fails) × Below w v n
+TakenIs s w v n h d taken.Unknown = (d ≡ unknown) × Below w v n

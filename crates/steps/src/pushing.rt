@@ -1,32 +1,17 @@
 // The children of two trees, pairwise on the stack, and their number.
 use substitution::bindings::Pushed;
 use substitution::bindings::push_pair;
-use tree::cells::first_of;
-use tree::cells::kind_of;
 use tree::cells::next_of;
 ghost use mathlib.Core.Path.{_≡_};
 ghost use Prim.Native.Nat.{_+_, _*_, _<_, _≤_, _^_};
 ghost use lib.ListN.{length};
 ghost use Rattle.rules.specs.Bytes.{Text};
-ghost use Rattle.rules.specs.Tree.{children};
 ghost use Rattle.laws.specs.Memory.{pushed};
-ghost use Rattle.tree.specs.Cells.{tree-at, trees-at};
+ghost use Rattle.tree.specs.Cells.{trees-at};
 ghost use Rattle.tree.specs.Arena.{Links, Arena};
 ghost use Rattle.substitution.specs.Building.{Made};
 ghost use Rattle.steps.specs.Stack.{pushes};
 ghost use Rattle.steps.specs.Differing.{common-count};
-
-// The first child of cell k, 0 for a leaf.
-pub fn child_of(work: &[u32], free: usize, k: usize) -> usize
-    requires { ⌜ Links (now work) free ⌝ }
-    requires { ⌜ (0 < k) × (k < free) ⌝ }
-    ensures { λ r. ⌜ (r < k) × ((s : Text) → trees-at s (now (work .entry)) r ≡ children (tree-at s (now (work .entry)) k)) ⌝ }
-{
-    if kind_of(work, k) == 0 {
-        return first_of(work, free, k);
-    }
-    0
-}
 
 // How many pairs the lists from cells left and right on make, if both are of one length; else 0.
 pub fn paired(work: &[u32], free: usize, left: usize, right: usize) -> usize

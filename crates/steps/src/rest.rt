@@ -24,7 +24,7 @@ ghost use Rattle.steps.specs.Area.{Room};
 ghost use Rattle.steps.specs.Resting.{Several, LeftIs, Summable, RestIs, RemainderIs};
 
 // How many of the cells are not taken out: none, one, which it is, or more.
-pub enum Left {
+enum Left {
     Nothing,
     One(usize),
     Several,

@@ -1,4 +1,4 @@
--- One binding put into the waiting pairs. Assumes nothing.
+-- One binding put into the waiting pairs.
 use Prim.Native.Nat.{ℕ, _+_, _<_, _≤_}
 use mathlib.Core.Path.{_≡_, refl, sym, ap, ap₂, _∙_}
 use mathlib.Core.Bool.{Bool}

@@ -1,4 +1,4 @@
--- Lists of bindings and nothing else, cell by cell. Assumes nothing.
+-- Lists of bindings and nothing else, cell by cell.
 use Prim.Native.Nat.{ℕ, _<_}
 use mathlib.Core.Path.{_≡_, refl, sym, ap, _∙_}
 use mathlib.Core.List.{List, [], _∷_}

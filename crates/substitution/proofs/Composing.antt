@@ -1,4 +1,4 @@
--- The loop that composes the bindings. Assumes nothing.
+-- The loop that composes the bindings.
 use Prim.Native.Nat.{ℕ, _+_, _*_, _<_, _≤_}
 use mathlib.Core.Path.{_≡_, refl, sym, ap, ap₂, _∙_}
 use mathlib.Core.Bool.{Bool}
@@ -17,7 +17,7 @@ use Rattle.tree.proofs.Decoding.{same-next, trees-none, frame-tree}
 use Rattle.tree.proofs.Areas.{grown-same, grown-then}
 use Rattle.substitution.specs.Bindings.{bindings-of, bindings-at, Chain}
 use Rattle.substitution.specs.Building.{Placed, instance-at}
-use Rattle.substitution.specs.Composing.{Joined}
+use Rattle.substitution.specs.Composing.{ComposedAt}
 use Rattle.substitution.proofs.Keys.{bindings-none}
 use Rattle.substitution.proofs.Chains.{chain-none, chain-more, Entry, value-some, entry}
 
@@ -71,7 +71,7 @@ holds-start {s} {w} {n} k a q c = record {
 }
 
 module _ {s : Text} {w v : List ℕ} {n k end b : ℕ} {es : List Binding} (h : Holds s w v n es k end b) where
-  pub holds-end : k ≡ 0 → Joined s w v n es b end
+  pub holds-end : k ≡ 0 → ComposedAt s w v n es b end
   holds-end e = record {
     composed = sym (h .result) ∙ ap (λ (bs : List Binding). composing bs (some (bindings-at s v b))) (bindings-none s w k e);
     chain = h .chain;

@@ -1,4 +1,4 @@
--- One growth of the area after another, and lists before which a cell is written. Assumes nothing.
+-- One growth of the area after another, and lists before which a cell is written.
 use Prim.Native.Nat.{ℕ, _+_, _<_}
 use mathlib.Core.Path.{_≡_, refl, sym, ap, _∙_}
 use mathlib.Core.List.{List}

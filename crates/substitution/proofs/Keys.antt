@@ -1,4 +1,4 @@
--- Bindings, cell by cell, and what is looked up in them. Assumes nothing.
+-- Bindings, cell by cell, and what is looked up in them.
 use Prim.Native.Nat.{ℕ, _<_}
 use mathlib.Core.Path.{_≡_, refl, sym, ap, _∙_}
 use mathlib.Core.Bool.{Bool, true, false}

@@ -1,4 +1,4 @@
--- Occurrence of variables, cell by cell. Assumes nothing.
+-- Occurrence of variables, cell by cell.
 use Prim.Native.Nat.{ℕ, _<_, _≤_}
 use mathlib.Core.Path.{_≡_, refl, sym, ap, _∙_}
 use mathlib.Core.Bool.{Bool, true, false, _&&_, _||_}

@@ -1,4 +1,4 @@
--- Trees and lists built at the free end within a budget of nodes. Assumes nothing.
+-- Trees and lists built at the free end within a budget of nodes.
 use Prim.Native.Nat.{ℕ, _+_, _-_, _*_, _<_, _≤_}
 use mathlib.Core.Path.{_≡_, refl, sym, ap, ap₂, _∙_}
 use mathlib.Core.List.{List}
@@ -7,7 +7,7 @@ use native.Mathlib.Omega.{arith}
 use Rattle.rules.specs.Bytes.{Text}
 use Rattle.rules.specs.Tree.{Tree, apply, Trees, none, more, size}
 use Rattle.tree.specs.Cells.{start-of, length-of, kind-of, name-at, first-of, next-of, made, tree-at, trees-at}
-use Rattle.tree.specs.Arena.{Arena, Wrote, Linked}
+use Rattle.tree.specs.Arena.{Arena, WroteCell, Linked}
 use Rattle.tree.proofs.Decoding.{same-kind, same-name, same-first, made-apply, tree-apply, trees-none, trees-more, frame-trees, size-pos}
 use Rattle.tree.proofs.Pushing.{linked-like}
 use Rattle.tree.proofs.Areas.{grown-same, grown-then}
@@ -81,7 +81,7 @@ module _ {s : Text} {w v : List ℕ} {n b m c j : ℕ} {ts : Trees} (k next : �
       record { before = before-then a g (d .made) (rw t at x); used = omega (arith, d .used); spent = omega (arith, d .spent) }
 
   -- a new cell over the children
-  pub placed-apply : {u : List ℕ} (e : ℕ) → 4 * (n + b) ≤ length w → Wrote v u m (start-of v k) (length-of v k) (kind-of v k) j next (b - c) → e ≡ m + 1 → Placed s w u n b next (apply (name-at s w k) ts) m e c
+  pub placed-apply : {u : List ℕ} (e : ℕ) → 4 * (n + b) ≤ length w → WroteCell v u m (start-of v k) (length-of v k) (kind-of v k) j next (b - c) → e ≡ m + 1 → Placed s w u n b next (apply (name-at s w k) ts) m e c
   unfolding size
   placed-apply {u} e room x f =
       let t : made (kind-of v k) (name-at s v k) (trees-at s v j) ≡ apply (name-at s w k) ts = made-apply (kind-of v k) (name-at s v k) (trees-at s v j) kind-later ∙ ap₂ apply name-later (d .made .trees) in

@@ -1,4 +1,4 @@
--- Instances of the trees of cells. Assumes nothing.
+-- Instances of the trees of cells.
 use Prim.Native.Nat.{ℕ, _<_, _≤_}
 use mathlib.Core.Path.{_≡_, sym, ap, ap₂, _∙_}
 use mathlib.Core.List.{List}

@@ -33,12 +33,12 @@ BindsInto s w v n x t ps (waiting.Stack i m) = Put s w v n x t ps i m
 BindsInto s w v n x t ps waiting.Over = (bind-into x t ps ≡ unknown) × Grown w v n (n + 4098)
 
 -- the bindings es, the last made first, composed in the order in which they were made: the list from cell b on
-pub record Joined (s : Text) (w v : List ℕ) (n : ℕ) (es : List Binding) (b m : ℕ) : Type 0 where
+pub record ComposedAt (s : Text) (w v : List ℕ) (n : ℕ) (es : List Binding) (b m : ℕ) : Type 0 where
   pub composed : compose (reverse es) ≡ some (bindings-at s v b)
   pub chain : Chain (trees-at s v b)
   pub made : Made s w v n m b (trees-at s v b)
   pub used : m ≤ n + 4097 * length es
 
 abbrev pub Composes : Text → List ℕ → List ℕ → ℕ → List Binding → Composition → Type 0
-Composes s w v n es (composition.Composed b m) = Joined s w v n es b m
+Composes s w v n es (composition.Composed b m) = ComposedAt s w v n es b m
 Composes s w v n es composition.Over = (compose (reverse es) ≡ nothing) × Grown w v n (n + 4097 * length es)

@@ -1,4 +1,6 @@
 // Whether any variable occurs in a tree.
+use tree::cells::APPLICATION;
+use tree::cells::ATOMS;
 use tree::cells::first_of;
 use tree::cells::kind_of;
 use tree::cells::next_of;
@@ -15,14 +17,14 @@ pub fn ground(sheet: &[u8], work: &[u32], free: usize, i: usize) -> bool
     ensures { λ r. ⌜ r ≡ ground (tree-at (now (sheet .entry)) (now (work .entry)) i) ⌝ }
 {
     let kind = kind_of(work, i);
-    if 0 < kind {
-        return 7 <= kind;
+    if APPLICATION < kind {
+        return ATOMS <= kind;
     }
     grounds(sheet, work, free, first_of(work, free, i))
 }
 
 // Whether no variable occurs in the list from cell i on.
-pub fn grounds(sheet: &[u8], work: &[u32], free: usize, i: usize) -> bool
+fn grounds(sheet: &[u8], work: &[u32], free: usize, i: usize) -> bool
     requires { ⌜ Arena (now sheet) (now work) free ⌝ }
     requires { ⌜ i < free ⌝ }
     ensures { λ r. ⌜ r ≡ grounds (trees-at (now (sheet .entry)) (now (work .entry)) i) ⌝ }

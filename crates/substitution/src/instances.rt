@@ -2,6 +2,8 @@
 use crate::bindings::Found;
 use crate::bindings::Pushed;
 use crate::bindings::lookup;
+use tree::cells::APPLICATION;
+use tree::cells::ATOMS;
 use tree::cells::count_of;
 use tree::cells::first_of;
 use tree::cells::kind_of;
@@ -16,13 +18,13 @@ ghost use Rattle.tree.specs.Arena.{Arena};
 ghost use Rattle.substitution.specs.Building.{Before, BuildsTree, BuildsList, instance-at, instances-at};
 
 // The cell of the instance of a leaf under the bindings from cell b on.
-pub fn image(sheet: &[u8], work: &[u32], free: usize, i: usize, b: usize) -> usize
+fn image(sheet: &[u8], work: &[u32], free: usize, i: usize, b: usize) -> usize
     requires { ⌜ Arena (now sheet) (now work) free ⌝ }
     requires { ⌜ (0 < i) × (i < free) × (b < free) ⌝ }
     requires { ⌜ 0 < kind-of (now work) i ⌝ }
     ensures { λ r. ⌜ (0 < r) × (r < free) × (tree-at (now (sheet .entry)) (now (work .entry)) r ≡ instance-at (now (sheet .entry)) (now (work .entry)) b i) ⌝ }
 {
-    if 7 <= kind_of(work, i) {
+    if ATOMS <= kind_of(work, i) {
         return i;
     }
     let found = lookup(sheet, work, free, b, i);
@@ -63,14 +65,7 @@ pub enum Built {
 }
 
 // The same within a budget of nodes.
-pub fn place(
-    sheet: &[u8],
-    work: &mut [u32],
-    free: usize,
-    i: usize,
-    next: usize,
-    budget: usize,
-) -> Built
+fn place(sheet: &[u8], work: &mut [u32], free: usize, i: usize, next: usize, budget: usize) -> Built
     requires { ⌜ Arena (now sheet) (now work) free ⌝ }
     requires { ⌜ (0 < i) × (i < free) × (next < free) ⌝ }
     requires { ⌜ (4 * (free + budget) ≤ length (now work)) × (free + budget < 2 ^ 32) ⌝ }
@@ -103,7 +98,7 @@ pub fn substitute(
     requires { ⌜ (4 * (free + budget) ≤ length (now work)) × (free + budget < 2 ^ 32) × (budget < 65536) ⌝ }
     ensures { λ r. ⌜ BuildsTree (now (sheet .entry)) (now (work .entry)) (now (work .exit)) free budget next (instance-at (now (sheet .entry)) (now (work .entry)) b i) r ⌝ }
 {
-    if 0 < kind_of(work, i) {
+    if APPLICATION < kind_of(work, i) {
         let k = image(sheet, work, free, i, b);
         return place(sheet, work, free, k, next, budget);
     }
@@ -137,7 +132,7 @@ pub fn substitute(
 }
 
 // The instances of the trees of the list from cell i on. Each has a node, so the rest has one less.
-pub fn substitute_list(
+pub(crate) fn substitute_list(
     sheet: &[u8],
     work: &mut [u32],
     free: usize,

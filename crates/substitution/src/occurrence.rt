@@ -1,4 +1,6 @@
 // Whether a variable occurs in a tree.
+use tree::cells::APPLICATION;
+use tree::cells::ATOMS;
 use tree::cells::first_of;
 use tree::cells::kind_of;
 use tree::cells::next_of;
@@ -17,17 +19,17 @@ pub fn occurs(sheet: &[u8], work: &[u32], free: usize, key: usize, i: usize) -> 
     ensures { λ r. ⌜ r ≡ occurs (name-at (now (sheet .entry)) (now (work .entry)) key) (tree-at (now (sheet .entry)) (now (work .entry)) i) ⌝ }
 {
     let kind = kind_of(work, i);
-    if 7 <= kind {
+    if ATOMS <= kind {
         return false;
     }
-    if 0 < kind {
+    if APPLICATION < kind {
         return same_name(sheet, work, free, i, key);
     }
     occurs_in(sheet, work, free, key, first_of(work, free, i))
 }
 
 // Whether it occurs in the list from cell i on.
-pub fn occurs_in(sheet: &[u8], work: &[u32], free: usize, key: usize, i: usize) -> bool
+fn occurs_in(sheet: &[u8], work: &[u32], free: usize, key: usize, i: usize) -> bool
     requires { ⌜ Arena (now sheet) (now work) free ⌝ }
     requires { ⌜ (0 < key) × (key < free) ⌝ }
     requires { ⌜ i < free ⌝ }

@@ -1,4 +1,4 @@
--- The laws of runs at a position of a text. Assumes nothing.
+-- The laws of runs at a position of a text.
 use mathlib.Core.Path.{_≡_, sym, _∙_}
 use mathlib.Core.List.{List, [], _∷_}
 use mathlib.Core.Bool.{Bool, true, false}

@@ -1,4 +1,4 @@
--- The next symbol at a position, and the tokens from there on. Assumes nothing.
+-- The next symbol at a position, and the tokens from there on.
 use mathlib.Core.Path.{_≡_, refl, ap, sym, _∙_, subst}
 use mathlib.Core.List.{[], _∷_}
 use mathlib.Core.Option.{some, none}

@@ -1,4 +1,4 @@
--- Where sorts, variables and tokens end, at a position of a text. Assumes nothing.
+-- Where sorts, variables and tokens end, at a position of a text.
 use mathlib.Core.Path.{_≡_, refl, ap, sym, _∙_}
 use mathlib.Core.List.{List, [], _∷_}
 use mathlib.Core.Option.{Option, some, none}

@@ -1,4 +1,4 @@
--- The next token at a position is the first of the tokens from there on. Assumes nothing.
+-- The next token at a position is the first of the tokens from there on.
 use mathlib.Core.Path.{_≡_, refl, ap, sym, _∙_}
 use mathlib.Core.List.{List, [], _∷_}
 use mathlib.Core.Option.{Option, some, none}

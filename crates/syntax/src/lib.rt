@@ -57,14 +57,14 @@ pub fn run_end(text: &[u8], at: usize, class: Class) -> usize
 }
 
 // The byte at a position, and 0 past the end.
-pub fn byte_at(text: &[u8], at: usize) -> u8
+fn byte_at(text: &[u8], at: usize) -> u8
     ensures { λ r. ⌜ r ≡ getD (now (text .entry)) at 0 ⌝ }
 {
     if at < text.len() { text[at] } else { 0 }
 }
 
 // Where something ends, if it is there.
-pub enum Ends {
+enum Ends {
     At(usize),
     Nothing,
 }
@@ -134,7 +134,7 @@ pub enum Next {
     Unsupported,
 }
 
-pub fn next_token(text: &[u8], at: usize) -> Next
+fn next_token(text: &[u8], at: usize) -> Next
     ensures { λ r. ⌜ r ≡ next-at (now (text .entry)) at ⌝ }
 {
     let from = run_end(text, at, Class::Blank);

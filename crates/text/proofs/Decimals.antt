@@ -1,4 +1,4 @@
--- Decimal numbers at a position of a text, and the digits of a number one at a time from the last. Assumes nothing.
+-- Decimal numbers at a position of a text, and the digits of a number one at a time from the last.
 use mathlib.Core.Path.{_≡_, refl, ap, sym, _∙_}
 use mathlib.Core.List.{List, [], _∷_, _++_, append-assoc}
 use mathlib.Core.Bool.{Bool, true, false, not, _&&_}

@@ -1,5 +1,5 @@
 -- What a loop over a slice needs of the lists: the rest from i is the element at i and the rest from i + 1; so for tests of all
--- elements and for counts. Assumes nothing.
+-- elements and for counts.
 use mathlib.Core.Path.{_≡_}
 use mathlib.Core.List.{List, _∷_}
 use mathlib.Core.Bool.{Bool, true, false, _&&_, cond}

@@ -1,4 +1,4 @@
--- The test whether two texts are one, at a position of both. Assumes nothing.
+-- The test whether two texts are one, at a position of both.
 use Prim.Native.Nat.{ℕ, suc, _+_, _<_, _≤_}
 use mathlib.Core.Path.{_≡_, refl, ap, _∙_, sym, ap₂}
 use mathlib.Core.Bool.{Bool, true, false, _&&_}

@@ -1,4 +1,4 @@
--- Parts of lists: two lists that agree, one word more, a part and the part after it, what is left of a front. Assumes nothing.
+-- Parts of lists: two lists that agree, one word more, a part and the part after it, what is left of a front.
 use Prim.Native.Nat.{ℕ, _+_, _<_, _≤_, zero, suc, _-_}
 use mathlib.Core.Path.{_≡_, sym, ap, _∙_}
 use mathlib.Core.List.{List, [], _∷_, _++_}

@@ -1,3 +1,4 @@
+pub mod Frames
 pub mod Screen
 pub mod Prefix
 pub mod Sorting

@@ -25,7 +25,7 @@ fn between(low: u8, high: u8, b: u8) -> bool
 }
 
 // A byte that a sheet may hold: 10 or 32 to 126.
-pub fn is_plain(b: u8) -> bool
+fn is_plain(b: u8) -> bool
     ensures { λ r. ⌜ r ≡ plain b ⌝ }
 {
     b == 10 || between(32, 126, b)

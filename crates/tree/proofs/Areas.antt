@@ -1,4 +1,4 @@
--- Areas that keep the cells below one, and growth of an area. Assumes nothing.
+-- Areas that keep the cells below one, and growth of an area.
 use Prim.Native.Nat.{ℕ, _*_, _≤_}
 use mathlib.Core.Path.{_≡_, refl, _∙_}
 use mathlib.Core.List.{List}

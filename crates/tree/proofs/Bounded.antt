@@ -1,4 +1,4 @@
--- A computed test of every number below a bound, and what it says of each. Assumes nothing.
+-- A computed test of every number below a bound, and what it says of each.
 use Prim.Native.Nat.{ℕ, zero, suc, _<_}
 use mathlib.Core.Path.{_≡_, refl, sym, ap, _∙_}
 use mathlib.Core.Bool.{Bool, true, false, _&&_, true≢false}

@@ -1,4 +1,4 @@
--- Equality of the trees of two cells. Assumes nothing.
+-- Equality of the trees of two cells.
 use Prim.Native.Nat.{ℕ, _<_}
 use mathlib.Core.Path.{_≡_, refl, sym, ap, ap₂, _∙_}
 use mathlib.Core.Bool.{Bool, false, _&&_}

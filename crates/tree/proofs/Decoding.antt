@@ -1,4 +1,4 @@
--- The decoder at a cell, the frame law, and the measures of a walk over cells. Assumes nothing.
+-- The decoder at a cell, the frame law, and the measures of a walk over cells.
 use Prim.Native.Nat.{ℕ, zero, suc, _+_, _*_, _<_, _≤_}
 use mathlib.Core.Path.{_≡_, refl, sym, ap, ap₂, _∙_}
 use mathlib.Core.Bool.{Bool, _&&_}

@@ -1,5 +1,4 @@
 -- A small area, decoded and written: cell 1 is `x0:Msg`, cell 2 `c(7)` before it, cell 3 `tamXCpair` over both, in the sheet `x0:Msg7`.
--- Assumes nothing.
 use Prim.Native.Nat.{ℕ}
 use mathlib.Core.Path.{_≡_, refl}
 use mathlib.Core.List.{List, [], _∷_}

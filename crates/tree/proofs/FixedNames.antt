@@ -1,4 +1,4 @@
--- The fixed names, byte by byte, and what holds of each. Assumes nothing.
+-- The fixed names, byte by byte, and what holds of each.
 use Prim.Native.Nat.{ℕ, zero, suc, _+_, _-_, _<_, _≤_}
 use mathlib.Core.Path.{_≡_, refl, sym, ap, _∙_}
 use mathlib.Core.Bool.{not}

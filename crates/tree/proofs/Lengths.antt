@@ -1,4 +1,4 @@
--- Lengths that are measured up to a room. Assumes nothing.
+-- Lengths that are measured up to a room.
 use Prim.Native.Nat.{ℕ, _<_, _≤_}
 use mathlib.Core.Path.{_≡_, refl, sym, _∙_}
 use mathlib.Core.Bool.{Bool, true, false, cond}

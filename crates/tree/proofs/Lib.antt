@@ -1,4 +1,5 @@
 pub mod Decoding
+pub mod ChildrenLaws
 pub mod Bounded
 pub mod FixedNames
 pub mod Pushing

@@ -1,4 +1,4 @@
--- The names of cells: parts of the sheet and fixed names, and the heads of trees. Assumes nothing.
+-- The names of cells: parts of the sheet and fixed names, and the heads of trees.
 use Prim.Native.Nat.{ℕ, _+_, _-_, _<_, _≤_}
 use mathlib.Core.Path.{_≡_, refl, sym, ap, ap₂, _∙_}
 use mathlib.Core.Bool.{Bool, true, false, true≢false}

@@ -1,4 +1,4 @@
--- Bytes written into an output, one after another. Assumes nothing.
+-- Bytes written into an output, one after another.
 use Prim.Native.Nat.{ℕ, _+_, _<_, _≤_}
 use mathlib.Core.Path.{_≡_, sym, ap, ap₂, _∙_}
 use mathlib.Core.List.{List, [], _∷_, _++_, append-assoc}
@@ -8,25 +8,24 @@ use native.Mathlib.Nat.{add-zero}
 use native.Mathlib.Numerals.{add-one}
 use native.Mathlib.Omega.{arith}
 use Rattle.rules.specs.Bytes.{Text}
-use Rattle.text.specs.Printing as decimals
-use Rattle.tree.specs.Output.{written, Printed}
+use Rattle.text.specs.Printing.{printed-over, Printed}
 
-pub written-none : (out : List ℕ) (at : ℕ) → written out at [] ≡ out
-unfolding written
+pub written-none : (out : List ℕ) (at : ℕ) → printed-over out at [] ≡ out
+unfolding printed-over
 written-none out at = rw add-zero (take-append-drop at out)
 
-pub length-written : (out : List ℕ) (at : ℕ) (bs : List ℕ) → at + length bs ≤ length out → length (written out at bs) ≡ length out
-unfolding written
+pub length-written : (out : List ℕ) (at : ℕ) (bs : List ℕ) → at + length bs ≤ length out → length (printed-over out at bs) ≡ length out
+unfolding printed-over
 length-written out at bs h = simp (length-append, length-take, length-drop) (omega arith)
 
 -- one byte
-pub written-byte : (out : List ℕ) (at b : ℕ) → at < length out → set out at b ≡ written out at (b ∷ [])
-unfolding written
+pub written-byte : (out : List ℕ) (at b : ℕ) → at < length out → set out at b ≡ printed-over out at (b ∷ [])
+unfolding printed-over
 written-byte out at b h = set-split out at b h ∙ rw add-one
 
 -- one part after another
-pub written-then : (out : List ℕ) (at : ℕ) (a b : List ℕ) → at + length a ≤ length out → written (written out at a) (at + length a) b ≡ written out at (a ++ b)
-unfolding written
+pub written-then : (out : List ℕ) (at : ℕ) (a b : List ℕ) → at + length a ≤ length out → printed-over (printed-over out at a) (at + length a) b ≡ printed-over out at (a ++ b)
+unfolding printed-over
 written-then out at a b h =
     let D = drop (at + length a) out in
     let P = take at out ++ a in
@@ -46,26 +45,21 @@ written-then out at a b h =
 -- a part printed after another
 pub printed-then : {out v u : List ℕ} {at r q : ℕ} {a b : List ℕ} → at + length a ≤ length out → Printed out v at a r → Printed v u r b q → Printed out u at (a ++ b) q
 printed-then {out} {v} {u} {at} {r} {q} {a} {b} h x y = record {
-  bytes = y .bytes ∙ ap₂ (λ (l : List ℕ) (n : ℕ). written l n b) (x .bytes) (x .end) ∙ written-then out at a b h;
+  bytes = y .bytes ∙ ap₂ (λ (l : List ℕ) (n : ℕ). printed-over l n b) (x .bytes) (x .end) ∙ written-then out at a b h;
   end = omega (arith, y .end, x .end, length-append a b);
 }
 
 -- a turn of the loop that prints a text
-pub written-more : (out text : List ℕ) (at i : ℕ) → at + length text ≤ length out → i < length text → set (written out at (take i text)) (at + i) (getD text i 0) ≡ written out at (take (i + 1) text)
+pub written-more : (out text : List ℕ) (at i : ℕ) → at + length text ≤ length out → i < length text → set (printed-over out at (take i text)) (at + i) (getD text i 0) ≡ printed-over out at (take (i + 1) text)
 written-more out text at i h l =
     let a = take i text in
     let x = getD text i 0 in
     let len : length a ≡ i = length-take-le i text (omega arith) in
     let long = length-written out at a (omega arith) in
-    written-byte (written out at a) (at + i) x (omega arith)
-    ∙ ap (λ (n : ℕ). written (written out at a) (at + n) (x ∷ [])) (sym len)
+    written-byte (printed-over out at a) (at + i) x (omega arith)
+    ∙ ap (λ (n : ℕ). printed-over (printed-over out at a) (at + n) (x ∷ [])) (sym len)
     ∙ written-then out at a (x ∷ []) (omega arith)
-    ∙ ap (written out at) (sym (ap (λ (n : ℕ). take n text) (add-one i) ∙ take-suc text i 0 l))
-
--- a number that was printed
-pub printed-number : {out v t : Text} {at r : ℕ} → decimals.Printed out v at t r → Printed out v at t r
-unfolding written decimals.written
-printed-number p = record { bytes = p .bytes; end = p .end }
+    ∙ ap (printed-over out at) (sym (ap (λ (n : ℕ). take n text) (add-one i) ∙ take-suc text i 0 l))
 
 pub printed-none : (out : Text) (at : ℕ) {t : Text} → t ≡ [] → Printed out out at t at
 printed-none out at e = rw e record { bytes = sym (written-none out at); end = omega arith }

@@ -1,4 +1,4 @@
--- The cell that is written at the free end. Assumes nothing.
+-- The cell that is written at the free end.
 use Prim.Native.Nat.{ℕ, _+_, _-_, _*_, _/_, _%_, _<_, _≤_}
 use mathlib.Core.Path.{_≡_, refl, sym, ap, ap₂, _∙_}
 use mathlib.Core.Logic.{_⊎_, inl, inr}
@@ -11,7 +11,7 @@ use Rattle.rules.specs.Bytes.{Text}
 use Rattle.rules.specs.Tree.{Tree, variable, more, size}
 use Rattle.laws.specs.Unspelled.{unspelled}
 use Rattle.tree.specs.Cells.{start-of, length-of, kind-of, first-of, next-of, nodes-of, fixed-name, named, name-at, variable-kind, made, trees-at, tree-at}
-use Rattle.tree.specs.Arena.{Links, Place, Cell, Arena, Wrote, Linked}
+use Rattle.tree.specs.Arena.{Links, Place, Cell, Arena, WroteCell, Linked}
 use Rattle.tree.proofs.Decoding.{Agree, same-start, same-length, same-kind, same-count, same-first, same-next, same-name, frame-tree, frame-trees, trees-more}
 use Rattle.tree.proofs.FixedNames.{fixed-unspelled, fixed-plain, unspelled-kind}
 
@@ -62,7 +62,7 @@ module _ (w : List ℕ) (n a b c d : ℕ) (room : 4 * n + 4 ≤ length w) where
   at-3 = getD-set-same (w₃ w n a b c d) (4 * n + 3) d 0 (simp length-set (omega arith))
 
 pub wrote : (w : List ℕ) (n start len kind first next count : ℕ) → 4 * n + 4 ≤ length w → len < 65536 → count < 65536
-    → Wrote w (w₄ w n (start * 65536 + len) (kind * 65536 + count) first next) n start len kind first next count
+    → WroteCell w (w₄ w n (start * 65536 + len) (kind * 65536 + count) first next) n start len kind first next count
 unfolding start-of length-of kind-of nodes-of
 wrote w n start len kind first next count room l c =
     let a = start * 65536 + len in
@@ -96,7 +96,7 @@ below-or-at : (k n : ℕ) → k < n + 1 → (k < n) ⊎ (k ≡ n)
 below-or-at k n h = elim (decLt k n) [ yes p ↦ inl p | no p ↦ inr (omega arith) ]
 
 -- the links and the cells after a cell is written
-module _ {w v : List ℕ} {n start len kind first next count : ℕ} (x : Wrote w v n start len kind first next count) where
+module _ {w v : List ℕ} {n start len kind first next count : ℕ} (x : WroteCell w v n start len kind first next count) where
   pub links-push : Links w n → 4 * n + 4 ≤ length w → first < n → next < n → Links v (n + 1)
   links-push l room f g = record {
     some = omega arith;
@@ -158,7 +158,7 @@ module _ {w v : List ℕ} {n start len kind first next count : ℕ} (x : Wrote w
       }
 
 -- a cell written with the name and the kind of cell k
-module _ {w v : List ℕ} {n first next count : ℕ} (s : Text) (k : ℕ) (x : Wrote w v n (start-of w k) (length-of w k) (kind-of w k) first next count) where
+module _ {w v : List ℕ} {n first next count : ℕ} (s : Text) (k : ℕ) (x : WroteCell w v n (start-of w k) (length-of w k) (kind-of w k) first next count) where
   pub linked-like : {t : Tree} → Arena s w n → 0 < k → k < n → 4 * n + 4 ≤ length w → first < n → next < n → made (kind-of w k) (name-at s w k) (trees-at s w first) ≡ t → count ≡ size t
       → Linked s w v n next t
   linked-like a p q room f g e c =
@@ -169,14 +169,14 @@ module _ {w v : List ℕ} {n first next count : ℕ} (s : Text) (k : ℕ) (x : W
 
 -- a tree shared, at the numbers that the code holds
 pub linked-shared : (s : Text) {w v : List ℕ} {n count first next : ℕ} (k : ℕ) → Arena s w n → 0 < k → k < n → next < n → 4 * n + 4 ≤ length w → first ≡ first-of w k → count ≡ nodes-of w k
-    → Wrote w v n (start-of w k) (length-of w k) (kind-of w k) first next count → Linked s w v n next (tree-at s w k)
+    → WroteCell w v n (start-of w k) (length-of w k) (kind-of w k) first next count → Linked s w v n next (tree-at s w k)
 unfolding tree-at
 linked-shared s {w} {v} {n} {count} {first} {next} k a p q g room e f x =
     let h = a .links .first k p q in
     linked-like s k x a p q room (omega arith) g (rw e) (f ∙ a .cell k p q .counted)
 
 -- a cell written with the fixed name of a code
-module _ {w v : List ℕ} {n code kind first next count : ℕ} (s : Text) (x : Wrote w v n code 0 kind first next count) where
+module _ {w v : List ℕ} {n code kind first next count : ℕ} (s : Text) (x : WroteCell w v n code 0 kind first next count) where
   pub linked-fixed : {t : Tree} → Arena s w n → 0 < code → code < 31 → kind < 7 → (0 < kind → kind ≡ variable-kind (fixed-name code)) → 4 * n + 4 ≤ length w → first < n → next < n
       → made kind (fixed-name code) (trees-at s w first) ≡ t → count ≡ size t → Linked s w v n next t
   unfolding named
@@ -190,7 +190,7 @@ module _ {w v : List ℕ} {n code kind first next count : ℕ} (s : Text) (x : W
 
 -- a variable whose name no sheet spells
 pub linked-unspelled : (s : Text) {w v : List ℕ} {n next : ℕ} (i : ℕ) → Arena s w n → i < 24 → next < n → 4 * n + 4 ≤ length w
-    → Wrote w v n (i + 7) 0 3 0 next 1 → Linked s w v n next (variable (unspelled i))
+    → WroteCell w v n (i + 7) 0 3 0 next 1 → Linked s w v n next (variable (unspelled i))
 unfolding made size
 linked-unspelled s i a h g room x =
     let d : i + 7 - 7 ≡ i = omega arith in

@@ -1,4 +1,4 @@
--- How a cell is written, by its kind. Assumes nothing.
+-- How a cell is written, by its kind.
 use Prim.Native.Nat.{ℕ, _+_, _<_, _≤_}
 use mathlib.Core.Path.{_≡_, refl, sym, ap, _∙_}
 use mathlib.Core.List.{List, [], _∷_, _++_, append-assoc, append-nil}

@@ -44,7 +44,7 @@ pub record Grown (w v : List ℕ) (n m : ℕ) : Type 0 where
   pub above : (p : ℕ) → 4 * m ≤ p → getD w p 0 ≡ getD v p 0
 
 -- v is w with the words of cell n written
-pub record Wrote (w v : List ℕ) (n start len kind first next count : ℕ) : Type 0 where
+pub record WroteCell (w v : List ℕ) (n start len kind first next count : ℕ) : Type 0 where
   pub grown : Grown w v n (n + 1)
   pub start-is : start-of v n ≡ start
   pub length-is : length-of v n ≡ len

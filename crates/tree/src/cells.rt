@@ -5,9 +5,30 @@ ghost use lib.ListN.{length};
 ghost use Rattle.rules.specs.Tree.{variable, size, sizes};
 ghost use Rattle.laws.specs.Unspelled.{unspelled};
 ghost use Rattle.tree.specs.Cells.{start-of, length-of, kind-of, nodes-of, first-of, next-of, tree-at, trees-at};
-ghost use Rattle.tree.specs.Arena.{Links, Arena, Wrote, Linked};
+ghost use Rattle.tree.specs.Arena.{Links, Arena, WroteCell, Linked};
 
-// A word as an index.
+// The kinds of cells (specs/Cells.antt): an application, a variable by its sort, and from ATOMS on an atom by its letter.
+pub const APPLICATION: usize = 0;
+
+pub const VARIABLE_PUB: usize = 1;
+
+pub const VARIABLE_FRESH: usize = 2;
+
+pub const VARIABLE_MSG: usize = 3;
+
+pub const VARIABLE_TAM_NAT: usize = 4;
+
+pub const VARIABLE_NODE: usize = 5;
+
+// A variable of none of the five sorts.
+pub const VARIABLE_OTHER: usize = 6;
+
+pub const ATOMS: usize = 7;
+
+// The first code of a name that no sheet spells.
+const UNSPELLED: usize = 7;
+
+// A word as an index, and its bound.
 fn wide(x: u32) -> usize
     ensures { λ r. ⌜ (r ≡ x) × (r < 2 ^ 32) ⌝ }
 {
@@ -77,7 +98,7 @@ pub fn push_cell(
     requires { ⌜ 4 * free + 4 ≤ length (now work) ⌝ }
     requires { ⌜ (start < 65536) × (len < 65536) × (kind < 65536) × (count < 65536) ⌝ }
     requires { ⌜ (first < 2 ^ 32) × (next < 2 ^ 32) ⌝ }
-    ensures { λ r. ⌜ (r ≡ free + 1) × Wrote (now (work .entry)) (now (work .exit)) free start len kind first next count ⌝ }
+    ensures { λ r. ⌜ (r ≡ free + 1) × WroteCell (now (work .entry)) (now (work .exit)) free start len kind first next count ⌝ }
 {
     let at = 4 * free;
     work[at] = (start * 65536 + len) as u32;
@@ -98,7 +119,7 @@ pub fn push_like(
 ) -> usize
     requires { ⌜ (4 * free + 4 ≤ length (now work)) × (k < free) ⌝ }
     requires { ⌜ (first < 2 ^ 32) × (next < 2 ^ 32) × (count < 65536) ⌝ }
-    ensures { λ r. ⌜ (r ≡ free + 1) × Wrote (now (work .entry)) (now (work .exit)) free (start-of (now (work .entry)) k) (length-of (now (work .entry)) k) (kind-of (now (work .entry)) k) first next count ⌝ }
+    ensures { λ r. ⌜ (r ≡ free + 1) × WroteCell (now (work .entry)) (now (work .exit)) free (start-of (now (work .entry)) k) (length-of (now (work .entry)) k) (kind-of (now (work .entry)) k) first next count ⌝ }
 {
     let place = wide(work[4 * k]);
     let mark = wide(work[4 * k + 1]);
@@ -133,23 +154,23 @@ pub fn push_unspelled(sheet: &[u8], work: &mut [u32], free: usize, n: usize, nex
     requires { ⌜ (4 * free + 4 ≤ length (now work)) × (free < 2 ^ 32) ⌝ }
     ensures { λ r. ⌜ (r ≡ free + 1) × Linked (now (sheet .entry)) (now (work .entry)) (now (work .exit)) free next (variable (unspelled n)) ⌝ }
 {
-    push_cell(work, free, n + 7, 0, 3, 0, next, 1)
+    push_cell(work, free, n + UNSPELLED, 0, VARIABLE_MSG, 0, next, 1)
 }
 
 // The number of nodes of the tree of cell i.
-pub fn size(sheet: &[u8], work: &[u32], free: usize, i: usize) -> usize
+fn size(sheet: &[u8], work: &[u32], free: usize, i: usize) -> usize
     requires { ⌜ Arena (now sheet) (now work) free ⌝ }
     requires { ⌜ (0 < i) × (i < free) ⌝ }
     ensures { λ r. ⌜ r ≡ size (tree-at (now (sheet .entry)) (now (work .entry)) i) ⌝ }
 {
-    if 0 < kind_of(work, i) {
+    if APPLICATION < kind_of(work, i) {
         return 1;
     }
     1 + sizes(sheet, work, free, first_of(work, free, i))
 }
 
 // The number of nodes of the list from cell i on.
-pub fn sizes(sheet: &[u8], work: &[u32], free: usize, i: usize) -> usize
+fn sizes(sheet: &[u8], work: &[u32], free: usize, i: usize) -> usize
     requires { ⌜ Arena (now sheet) (now work) free ⌝ }
     requires { ⌜ i < free ⌝ }
     requires { ⌜ sizes (trees-at (now sheet) (now work) i) < 65536 ⌝ }

@@ -1,4 +1,5 @@
 // Equality of trees.
+use crate::cells::APPLICATION;
 use crate::cells::first_of;
 use crate::cells::kind_of;
 use crate::cells::next_of;
@@ -23,7 +24,7 @@ pub fn same_tree(sheet: &[u8], work: &[u32], free: usize, i: usize, j: usize) ->
     if !same_name(sheet, work, free, i, j) {
         return false;
     }
-    if 0 < kind {
+    if APPLICATION < kind {
         return true;
     }
     same_trees(
@@ -36,7 +37,7 @@ pub fn same_tree(sheet: &[u8], work: &[u32], free: usize, i: usize, j: usize) ->
 }
 
 // Whether the lists from cells i and j on are one.
-pub fn same_trees(sheet: &[u8], work: &[u32], free: usize, i: usize, j: usize) -> bool
+fn same_trees(sheet: &[u8], work: &[u32], free: usize, i: usize, j: usize) -> bool
     requires { ⌜ Arena (now sheet) (now work) free ⌝ }
     requires { ⌜ (i < free) × (j < free) ⌝ }
     ensures { λ r. ⌜ r ≡ same-trees (trees-at (now (sheet .entry)) (now (work .entry)) i) (trees-at (now (sheet .entry)) (now (work .entry)) j) ⌝ }

@@ -5,21 +5,27 @@ ghost use lib.ListN.{length, getD};
 ghost use Rattle.rules.specs.Bytes.{same};
 ghost use Rattle.laws.specs.Unspelled.{unspelled};
 ghost use Rattle.tree.specs.Cells.{fixed-name};
-ghost use Rattle.tree.specs.Output.{Printed};
+ghost use Rattle.text.specs.Printing.{Printed};
 
+// tamXCroleA, code 1.
 const ROLE_A: [u8; 10] = [116, 97, 109, 88, 67, 114, 111, 108, 101, 65];
 
+// tamXCroleB, code 2.
 const ROLE_B: [u8; 10] = [116, 97, 109, 88, 67, 114, 111, 108, 101, 66];
 
+// tamXCpair, code 3.
 const PAIR: [u8; 9] = [116, 97, 109, 88, 67, 112, 97, 105, 114];
 
+// tamXCsenc, code 4.
 const SENC: [u8; 9] = [116, 97, 109, 88, 67, 115, 101, 110, 99];
 
+// tamXCkem, code 5.
 const KEM: [u8; 8] = [116, 97, 109, 88, 67, 107, 101, 109];
 
+// tamXCpk, code 6.
 const PK: [u8; 7] = [116, 97, 109, 88, 67, 112, 107];
 
-// The end of a name that no sheet spells: a colon and its sort.
+// :Msg, the end of a name that no sheet spells.
 const MSG: [u8; 4] = [58, 77, 115, 103];
 
 // The length of the fixed name of a code.
@@ -70,7 +76,7 @@ pub fn fixed_byte(code: usize, a: usize) -> u8
 }
 
 // Whether the fixed name of a code is a text.
-pub fn fixed_is(code: usize, text: &[u8]) -> bool
+pub(crate) fn fixed_is(code: usize, text: &[u8]) -> bool
     requires { ⌜ (0 < code) × (code < 65536) ⌝ }
     ensures { λ r. ⌜ r ≡ same (fixed-name code) (now (text .entry)) ⌝ }
 {
@@ -89,7 +95,7 @@ pub fn fixed_is(code: usize, text: &[u8]) -> bool
 }
 
 // Writes the fixed name of a code, and returns where it ends.
-pub fn print_fixed(out: &mut [u8], at: usize, code: usize) -> usize
+pub(crate) fn print_fixed(out: &mut [u8], at: usize, code: usize) -> usize
     requires { ⌜ (0 < code) × (code < 65536) ⌝ }
     requires { ⌜ at + length (fixed-name code) ≤ length (now out) ⌝ }
     ensures { λ r. ⌜ Printed (now (out .entry)) (now (out .exit)) at (fixed-name code) r ⌝ }

@@ -1,4 +1,6 @@
 // The lengths of terms as they are written, up to a room: a shared term may be longer than any number holds.
+use crate::cells::APPLICATION;
+use crate::cells::ATOMS;
 use crate::cells::first_of;
 use crate::cells::kind_of;
 use crate::cells::next_of;
@@ -36,10 +38,10 @@ pub fn measure_term(sheet: &[u8], work: &[u32], free: usize, i: usize, room: usi
 {
     let kind = kind_of(work, i);
     let n = name_len(sheet, work, free, i);
-    if 7 <= kind {
+    if ATOMS <= kind {
         return within(n + 3, room);
     }
-    if 0 < kind {
+    if APPLICATION < kind {
         return within(n, room);
     }
     if room < n {

@@ -1,4 +1,5 @@
 // The names of cells: compared, measured, printed. A name is a part of the sheet or one of the fixed names.
+use crate::cells::ATOMS;
 use crate::cells::kind_of;
 use crate::cells::length_of;
 use crate::cells::start_of;
@@ -15,7 +16,7 @@ ghost use Rattle.rules.specs.Bytes.{same};
 ghost use Rattle.rules.specs.Tree.{head};
 ghost use Rattle.tree.specs.Cells.{length-of, name-at, tree-at};
 ghost use Rattle.tree.specs.Arena.{Arena};
-ghost use Rattle.tree.specs.Output.{Printed};
+ghost use Rattle.text.specs.Printing.{Printed};
 
 // The name of cell k, a part of the sheet.
 fn name_of<'a>(sheet: &'a [u8], work: &[u32], free: usize, k: usize) -> &'a [u8]
@@ -76,10 +77,10 @@ pub fn same_head(sheet: &[u8], work: &[u32], free: usize, i: usize, j: usize) ->
     let p = kind_of(work, i);
     let q = kind_of(work, j);
     if p != q {
-        if 7 <= p {
+        if ATOMS <= p {
             return false;
         }
-        if 7 <= q {
+        if ATOMS <= q {
             return false;
         }
     }

@@ -1,4 +1,6 @@
 // Writing of terms: a term writes its name, then its list; a list writes its terms.
+use crate::cells::APPLICATION;
+use crate::cells::ATOMS;
 use crate::cells::first_of;
 use crate::cells::kind_of;
 use crate::cells::next_of;
@@ -10,7 +12,7 @@ ghost use lib.ListN.{length};
 ghost use Rattle.rules.specs.Writing.{render, renders};
 ghost use Rattle.tree.specs.Cells.{kind-of, tree-at, trees-at};
 ghost use Rattle.tree.specs.Arena.{Arena};
-ghost use Rattle.tree.specs.Output.{Printed};
+ghost use Rattle.text.specs.Printing.{Printed};
 ghost use Rattle.tree.specs.Marked.{marked};
 
 // Writes the atom of cell i: its letter, and its digits in brackets.
@@ -43,11 +45,11 @@ pub fn write_term(
     ensures { λ r. ⌜ Printed (now (out .entry)) (now (out .exit)) at (render (tree-at (now (sheet .entry)) (now (work .entry)) i)) r ⌝ }
 {
     let kind = kind_of(work, i);
-    if 7 <= kind {
+    if ATOMS <= kind {
         return write_atom(sheet, work, free, i, out, at);
     }
     let end = print_name(sheet, work, free, i, out, at);
-    if 0 < kind {
+    if APPLICATION < kind {
         return end;
     }
     let first = first_of(work, free, i);

@@ -1,4 +1,4 @@
--- The answer after the run: its bindings composed. Assumes nothing.
+-- The answer after the run: its bindings composed.
 use Prim.Native.Nat.{ℕ}
 use mathlib.Core.Path.{_≡_, ap, _∙_}
 use mathlib.Core.List.{List}
@@ -8,7 +8,7 @@ use Rattle.rules.specs.Bytes.{Text}
 use Rattle.rules.specs.Substitution.{Binding, Pair}
 use Rattle.rules.specs.Solving.{unsupported, Answer, composed, finish, run, unify}
 use Rattle.substitution.specs.Bindings.{bindings-at}
-use Rattle.substitution.specs.Composing.{Joined, Composes}
+use Rattle.substitution.specs.Composing.{ComposedAt, Composes}
 use Rattle.substitution.specs.declared.solving.Composition.the-variants as composition
 use Rattle.tree.specs.Arena.{Below}
 use Rattle.tree.proofs.Areas.{below-then, below-grown}
@@ -20,7 +20,7 @@ unfolding unify
 finished k ps a e = ap (λ (a : Answer). (finish (a .0), a .1)) e
 
 module _ {s : Text} {w v u : List ℕ} {n b m spent : ℕ} (k : ℕ) (ps : List Pair) (r : Ran s w v n (run k ps) b m spent) where
-  pub finished-solved : {c t : ℕ} → Joined s v u m (bindings-at s v b) c t → Answers s w u n (unify k ps) (outcome.Solved c t spent)
+  pub finished-solved : {c t : ℕ} → ComposedAt s v u m (bindings-at s v b) c t → Answers s w u n (unify k ps) (outcome.Solved c t spent)
   finished-solved j = (
     finished k ps _ (r .is) ∙ ap (λ (o : Option (List Binding)). (composed o, spent)) (j .composed),
     record {

@@ -19,8 +19,8 @@ use Rattle.rules.specs.Sheet.{Entry}
 use Rattle.rules.specs.Answer.{read-pairs}
 use Rattle.laws.proofs.Equality.Building.{built-children}
 use Rattle.laws.proofs.Solving.Keeping.{AllIn, Sides, KeptStep, step-keep}
-use Rattle.laws.proofs.Solving.Weights.{cancel-mass-left}
-use Rattle.laws.proofs.Sheets.BuiltRun.{BuiltBindings, BuiltRest, sums-built, name-token, instance-built}
+use Rattle.laws.proofs.Solving.Weights.{cancel-mass-left, Upto}
+use Rattle.laws.proofs.Sheets.BuiltRun.{BuiltPairs, BuiltBindings, BuiltRest, sums-built, name-token, instance-built}
 use Rattle.laws.proofs.Sheets.BuiltMatch.{mass, summands-mass, rebuild-mass, cancel-mass}
 use Rattle.laws.proofs.Sheets.NamesRead.{pairs-read-by}
 use Rattle.laws.proofs.Promises.{parse-builds}
@@ -274,3 +274,8 @@ fit-of s t e = let h = parse-builds s t e in record { built = h .0; small = h .1
 
 pub pairs-fit : (es : List Entry) (ps : List Pair) → read-pairs es ≡ some ps → FitPairs ps
 pairs-fit = pairs-read-by (λ es ps. FitPairs ps) tt (λ e es p ps l r h. (fit-of (e .0) (p .0) l, fit-of (e .1) (p .1) r, h))
+
+-- pairs that are built, with sides of at most 4,096 nodes
+pub fit-sides : (qs : List Pair) → BuiltPairs qs → Sides (Upto 4096) (Upto 4096) qs → FitPairs qs
+fit-sides [] b h = tt
+fit-sides (q ∷ qs) b h = (record { built = b .0; small = h .0 }, record { built = b .1; small = h .1 }, fit-sides qs (b .2) (h .2))

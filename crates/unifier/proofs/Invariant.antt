@@ -1,4 +1,4 @@
--- The invariant of the loop of `unify`: the run is that of the waiting pairs, after the bindings made so far. Assumes nothing.
+-- The invariant of the loop of `unify`: the run is that of the waiting pairs, after the bindings made so far.
 use Prim.Native.Nat.{ℕ, _+_, _-_, _*_, _<_, _≤_, _^_}
 use mathlib.Core.Path.{_≡_, refl, sym, ap, ap₂, subst, _∙_}
 use mathlib.Core.List.{List, [], _∷_, reverse}
@@ -21,7 +21,7 @@ use Rattle.substitution.proofs.Chains.{bindings-flatten, chain-flatten}
 use Rattle.steps.specs.Stack.{pairs-at, Whole, FitPairs}
 use Rattle.steps.specs.Area.{Room}
 use Rattle.steps.specs.Differing.{Differing}
-use Rattle.steps.specs.Stepping.{Steps}
+use Rattle.steps.specs.Stepping.{TakenIs}
 use Rattle.steps.specs.declared.elimination.Taken.{Taken}
 use Rattle.steps.specs.declared.elimination.Taken.the-variants as taken
 use Rattle.steps.proofs.Differing.{differing-none}
@@ -142,7 +142,7 @@ module _ {s : Text} {w v : List ℕ} {n fuel left waiting made end apart : ℕ} 
 
     module _ (u : List ℕ) where
       abbrev pub Did : Taken → Type 0
-      Did x = Steps s v u end (load (tree-at s v waiting) (tree-at s v r) + weight (pairs-at s v rest)) taken-step x
+      Did x = TakenIs s v u end (load (tree-at s v waiting) (tree-at s v r) + weight (pairs-at s v rest)) taken-step x
 
       pub holds-fails : Did taken.Fails → (run fuel start ≡ (failed, fuel - (left - 1))) × Below w u n
       holds-fails d = (taken-run fails (d .0) ∙ ap (λ (k : ℕ). (failed, k)) counted-last, below-then (h .below) (d .1) (h .grew))

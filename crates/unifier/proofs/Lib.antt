@@ -5,5 +5,4 @@ pub mod Invariant
 pub mod Finishing
 pub mod Sums
 pub mod Steps
-pub mod Moving
-pub mod Advancing
+pub mod Parts

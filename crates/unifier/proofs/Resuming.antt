@@ -1,4 +1,4 @@
--- A run that goes on after some steps: the bindings made so far, the last made first, and the pairs taken so far. Assumes nothing.
+-- A run that goes on after some steps: the bindings made so far, the last made first, and the pairs taken so far.
 use Prim.Native.Nat.{ℕ, zero, suc, _+_, _-_, _<_}
 use mathlib.Core.Path.{_≡_, refl, ap}
 use mathlib.Core.List.{List, [], _∷_, reverseAux}

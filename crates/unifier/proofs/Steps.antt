@@ -1,4 +1,4 @@
--- A step by the answers of its tests. Assumes nothing.
+-- A step by the answers of its tests.
 use Prim.Native.Nat.{ℕ, _+_, _*_, _<_, _≤_, _^_}
 use mathlib.Core.Path.{_≡_, refl, sym, ap, ap₂, subst, _∙_}
 use mathlib.Core.Bool.{Bool, true, false, not, _&&_, true≢false}
@@ -24,7 +24,7 @@ use Rattle.substitution.specs.Building.{Made}
 use Rattle.steps.specs.Area.{Room}
 use Rattle.steps.specs.Stack.{Whole, pairs-at, pushes}
 use Rattle.steps.specs.Differing.{Differing}
-use Rattle.steps.specs.Stepping.{GoesOn, Steps}
+use Rattle.steps.specs.Stepping.{GoesOn, TakenIs}
 use Rattle.steps.specs.declared.elimination.Taken.{Taken}
 use Rattle.steps.proofs.Children.{flatten-pushes}
 use Rattle.steps.proofs.Waiting.{waits-below, steps-more, waits-made}
@@ -110,8 +110,8 @@ pub step-dropped : {s : Text} {w : List ℕ} {n k j : ℕ} (h : ℕ) {d : Step} 
 step-dropped {s} {w} {n} {k} h a q o e f = record { pairs = pairs-at s w k; is = e; waits = waits-below a (below-same w n) k q o; used = omega arith; differs = f }
 
 -- a step that is another, at a larger weight
-pub steps-as : (s : Text) (w v : List ℕ) (n h : ℕ) {c d : Step} (r : Taken) → c ≡ d → Steps s w v n 0 d r → Steps s w v n h c r
-steps-as s w v n h r e x = subst (λ (z : Step). Steps s w v n h z r) (sym e) (steps-more s w v n h _ r x)
+pub steps-as : (s : Text) (w v : List ℕ) (n h : ℕ) {c d : Step} (r : Taken) → c ≡ d → TakenIs s w v n 0 d r → TakenIs s w v n h c r
+steps-as s w v n h r e x = subst (λ (z : Step). TakenIs s w v n h z r) (sym e) (steps-more s w v n h _ r x)
 
 -- Decomposing
 

@@ -1,4 +1,4 @@
--- The cells of sums, and the step at two of them by what is left. Assumes nothing.
+-- The cells of sums, and the step at two of them by what is left.
 use Prim.Native.Nat.{ℕ, _+_, _*_, _<_, _≤_, _^_}
 use mathlib.Core.Path.{_≡_, refl, sym, ap, ap₂, subst, _∙_}
 use mathlib.Core.Bool.{Bool, true, false, _&&_, true≢false, false≢true}
@@ -26,8 +26,8 @@ use Rattle.substitution.specs.Building.{Made}
 use borrow.Author.Tests.{eq-eqb}
 use Rattle.steps.specs.Area.{Room}
 use Rattle.steps.specs.Stack.{Whole, pairs-at, Fit}
-use Rattle.steps.specs.Resting.{Equates, RestIs}
-use Rattle.steps.specs.Stepping.{Waits, Steps}
+use Rattle.steps.specs.Resting.{EquationIs, RestIs}
+use Rattle.steps.specs.Stepping.{Waits, TakenIs}
 use Rattle.steps.specs.declared.rest.Rest.{Rest}
 use Rattle.steps.specs.declared.rest.Rest.the-variants as rest
 use Rattle.steps.specs.declared.elimination.Taken.{Taken}
@@ -84,7 +84,7 @@ sum-cell s w l r e f g b = head-cell s w r b (same-of-eq (sym (same-eq (head (tr
 
 module _ {s : Text} {w v : List ℕ} {n p q m : ℕ} (every : Bool) (test : Tree → Tree → Bool) (l r : ℕ) (b : Built (tree-at s w l)) (d : Built (tree-at s w r))
     (k : (kind-of w l ≡ 0) × (name-at s w l ≡ tamtplus) × (kind-of w r ≡ 0) × (name-at s w r ≡ tamtplus))
-    (g : Equates s w v n (kept-summands test (tree-at s w l) (tree-at s w r)) (cancel-sums every test (tree-at s w l) (tree-at s w r)) p q m) where
+    (g : EquationIs s w v n (kept-summands test (tree-at s w l) (tree-at s w r)) (cancel-sums every test (tree-at s w l) (tree-at s w r)) p q m) where
   paid : 2 * kept-summands test (tree-at s w l) (tree-at s w r) + load (tree-at s v p) (tree-at s v q) ≤ load (tree-at s w l) (tree-at s w r) + 2
   paid =
       sum-weight every test (tree-at s w l) (tree-at s w r) b d (same-of-eq (cell-head s w l (k .0) (k .1))) (same-of-eq (cell-head s w r (k .2) (k .3))) (tree-at s v p) (tree-at s v q) (g .is)
@@ -118,7 +118,7 @@ module _ (s : Text) (w v : List ℕ) (n l r stack : ℕ) where
   -- the step at them
   abbrev Took : List ℕ → Taken → Type 0
   Took u t =
-      Steps s w u n (load (tree-at s w l) (tree-at s w r) + weight (pairs-at s w stack))
+      TakenIs s w u n (load (tree-at s w l) (tree-at s w r) + weight (pairs-at s w stack))
       (sum-step (cancel-sums true equivalent (tree-at s w l) (tree-at s w r)) (tree-at s w l) (tree-at s w r) (pairs-at s w stack)) t
 
   took-is : {d : rules.Rest} → cancel-sums true equivalent (tree-at s w l) (tree-at s w r) ≡ d
@@ -147,7 +147,7 @@ module _ (s : Text) (w v : List ℕ) (n l r stack : ℕ) where
           record { pairs = pairs-at s w stack; is = took-is (g .0); waits = waits-below a (g .1) stack (i .4) (t .0); used = omega arith; differs = differing-none _ }
 
       module _ (k : (kind-of w l ≡ 0) × (name-at s w l ≡ tamtplus) × (kind-of w r ≡ 0) × (name-at s w r ≡ tamtplus)) {x : Rest} (p q m : ℕ) (f : Found x) (e : x ≡ rest.Equation p q m) where
-        pub equates : Equates s w v n (kept-summands equivalent (tree-at s w l) (tree-at s w r)) (cancel-sums true equivalent (tree-at s w l) (tree-at s w r)) p q m
+        pub equates : EquationIs s w v n (kept-summands equivalent (tree-at s w l) (tree-at s w r)) (cancel-sums true equivalent (tree-at s w l) (tree-at s w r)) p q m
         equates = subst Found e f
 
         pub equation-room : Room w (n + load (tree-at s w l) (tree-at s w r) + 2) → (4 * (m + 2) ≤ length v) × (m + 2 < 2 ^ 32)

@@ -1,4 +1,4 @@
--- The pair on top of the stack: its two cells, and the pairs below it. Assumes nothing.
+-- The pair on top of the stack: its two cells, and the pairs below it.
 use Prim.Native.Nat.{ℕ, _+_, _<_}
 use mathlib.Core.Path.{_≡_, refl, sym, ap, subst, _∙_}
 use mathlib.Core.List.{List, [], _∷_}

@@ -10,7 +10,7 @@ use Rattle.laws.specs.Memory.{OverPairs, weight}
 use Rattle.tree.specs.Cells.{trees-at}
 use Rattle.tree.specs.Arena.{Arena, Below}
 use Rattle.substitution.specs.Bindings.{bindings-at, Chain}
-use Rattle.steps.specs.Area.{Room}
+use Rattle.steps.specs.Area.{step-words, name-cells, Room}
 use Rattle.unifier.specs.declared.unifying.Outcome.{Outcome}
 use Rattle.unifier.specs.declared.unifying.Outcome.the-variants as outcome
 
@@ -19,7 +19,7 @@ use Rattle.unifier.specs.declared.unifying.Outcome.the-variants as outco
 pub record Roomy (w : List ℕ) (n fuel : ℕ) (ps : List Pair) : Type 0 where
   pub names : List Text
   pub over : OverPairs names ps
-  pub room : Room w (n + weight ps + 2 * fuel + 12293 * length names)
+  pub room : Room w (n + weight ps + 2 * fuel + name-cells * length names)
 
 -- from w, with the free end n, to v, with the free end m: the bindings are the list from cell b on, and the words of one step are free
 pub record Bound (s : Text) (w v : List ℕ) (n b m : ℕ) : Type 0 where
@@ -28,13 +28,13 @@ pub record Bound (s : Text) (w v : List ℕ) (n b m : ℕ) : Type 0 where
   pub grew : n ≤ m
   pub inside : b < m
   pub chain : Chain (trees-at s v b)
-  pub room : 4 * m + 204802 ≤ length v
+  pub room : 4 * m + step-words ≤ length v
 
 -- the run a ends solved, with the bindings the last made first, and room to compose them
 pub record Ran (s : Text) (w v : List ℕ) (n : ℕ) (a : Answer) (b m spent : ℕ) : Type 0 where
   pub is : a ≡ (solved (reverse (bindings-at s v b)), spent)
   pub list : Bound s w v n b m
-  pub room : 4 * (m + 4097 * length (bindings-at s v b)) + 204802 ≤ length v
+  pub room : 4 * (m + 4097 * length (bindings-at s v b)) + step-words ≤ length v
   pub fits : m + 4097 * length (bindings-at s v b) < 2 ^ 32
 
 abbrev pub Runs : Text → List ℕ → List ℕ → ℕ → Answer → Outcome → Type 0

@@ -4,13 +4,15 @@ use sorts::natural;
 use sorts::refinable;
 use steps::elimination::Taken;
 use steps::elimination::eliminate;
-use steps::pushing::child_of;
 use steps::pushing::paired;
 use steps::pushing::push_children;
 use steps::rest::Rest;
 use steps::rest::unify_rest;
 use substitution::bindings::push_pair;
+use tree::cells::APPLICATION;
+use tree::cells::ATOMS;
 use tree::cells::kind_of;
+use tree::children::child_of;
 use tree::equality::same_tree;
 use tree::names::same_head;
 ghost use mathlib.Core.Path.{_≡_};
@@ -29,7 +31,7 @@ ghost use Rattle.tree.specs.Arena.{Arena};
 ghost use Rattle.steps.specs.Stack.{Whole, pairs-at, Fit};
 ghost use Rattle.steps.specs.Area.{Room};
 ghost use Rattle.steps.specs.Differing.{Differing};
-ghost use Rattle.steps.specs.Stepping.{Steps};
+ghost use Rattle.steps.specs.Stepping.{TakenIs};
 
 // Whether one of the trees of cells left and right is always natural and the other can never be.
 fn refuted(sheet: &[u8], work: &[u32], free: usize, left: usize, right: usize) -> bool
@@ -62,7 +64,7 @@ fn sum_step(
     requires { ⌜ (kind-of (now work) left ≡ 0) × (name-at (now sheet) (now work) left ≡ tamtplus) × (kind-of (now work) right ≡ 0) × (name-at (now sheet) (now work) right ≡ tamtplus) ⌝ }
     requires { ⌜ Whole (trees-at (now sheet) (now work) rest) × Fit (tree-at (now sheet) (now work) left) × Fit (tree-at (now sheet) (now work) right) ⌝ }
     requires { ⌜ Room (now work) (free + load (tree-at (now sheet) (now work) left) (tree-at (now sheet) (now work) right) + 2) ⌝ }
-    ensures { λ r. ⌜ Steps (now (sheet .entry)) (now (work .entry)) (now (work .exit)) free (load (tree-at (now (sheet .entry)) (now (work .entry)) left) (tree-at (now (sheet .entry)) (now (work .entry)) right) + weight (pairs-at (now (sheet .entry)) (now (work .entry)) rest)) (sum-step (cancel-sums true equivalent (tree-at (now (sheet .entry)) (now (work .entry)) left) (tree-at (now (sheet .entry)) (now (work .entry)) right)) (tree-at (now (sheet .entry)) (now (work .entry)) left) (tree-at (now (sheet .entry)) (now (work .entry)) right) (pairs-at (now (sheet .entry)) (now (work .entry)) rest)) r ⌝ }
+    ensures { λ r. ⌜ TakenIs (now (sheet .entry)) (now (work .entry)) (now (work .exit)) free (load (tree-at (now (sheet .entry)) (now (work .entry)) left) (tree-at (now (sheet .entry)) (now (work .entry)) right) + weight (pairs-at (now (sheet .entry)) (now (work .entry)) rest)) (sum-step (cancel-sums true equivalent (tree-at (now (sheet .entry)) (now (work .entry)) left) (tree-at (now (sheet .entry)) (now (work .entry)) right)) (tree-at (now (sheet .entry)) (now (work .entry)) left) (tree-at (now (sheet .entry)) (now (work .entry)) right) (pairs-at (now (sheet .entry)) (now (work .entry)) rest)) r ⌝ }
 {
     let found = unify_rest(sheet, work, free, left, right);
     match found {
@@ -109,16 +111,16 @@ fn decompose(
     requires { ⌜ Whole (trees-at (now sheet) (now work) rest) × Fit (tree-at (now sheet) (now work) left) × Fit (tree-at (now sheet) (now work) right) ⌝ }
     requires { ⌜ Room (now work) (free + load (tree-at (now sheet) (now work) left) (tree-at (now sheet) (now work) right) + 2) ⌝ }
     requires { ⌜ same-tree (tree-at (now sheet) (now work) left) (tree-at (now sheet) (now work) right) ≡ false ⌝ }
-    ensures { λ r. ⌜ Steps (now (sheet .entry)) (now (work .entry)) (now (work .exit)) free (load (tree-at (now (sheet .entry)) (now (work .entry)) left) (tree-at (now (sheet .entry)) (now (work .entry)) right) + weight (pairs-at (now (sheet .entry)) (now (work .entry)) rest)) (decompose (tree-at (now (sheet .entry)) (now (work .entry)) left) (tree-at (now (sheet .entry)) (now (work .entry)) right) (pairs-at (now (sheet .entry)) (now (work .entry)) rest)) r ⌝ }
+    ensures { λ r. ⌜ TakenIs (now (sheet .entry)) (now (work .entry)) (now (work .exit)) free (load (tree-at (now (sheet .entry)) (now (work .entry)) left) (tree-at (now (sheet .entry)) (now (work .entry)) right) + weight (pairs-at (now (sheet .entry)) (now (work .entry)) rest)) (decompose (tree-at (now (sheet .entry)) (now (work .entry)) left) (tree-at (now (sheet .entry)) (now (work .entry)) right) (pairs-at (now (sheet .entry)) (now (work .entry)) rest)) r ⌝ }
 {
+    let a = child_of(work, free, left);
+    let b = child_of(work, free, right);
     if !same_head(sheet, work, free, left, right) {
         return Taken::Fails;
     }
     if is_sum(sheet, work, free, left) {
         return sum_step(sheet, work, free, left, right, rest);
     }
-    let a = child_of(work, free, left);
-    let b = child_of(work, free, right);
     let apart = paired(work, free, a, b);
     let pushed = push_children(sheet, work, free, a, b, rest);
     let stack = pushed.index;
@@ -136,10 +138,10 @@ fn is_variable(work: &[u32], k: usize) -> bool
     ensures { λ r. ⌜ r ≡ ltb 0 (kind-of (now (work .entry)) k) && ltb (kind-of (now (work .entry)) k) 7 ⌝ }
 {
     let kind = kind_of(work, k);
-    if kind == 0 {
+    if kind == APPLICATION {
         return false;
     }
-    kind < 7
+    kind < ATOMS
 }
 
 // Whether the trees of cells left and right are equal; if `apart` is 1, they are known to differ.
@@ -164,7 +166,7 @@ fn same_pair(
 
 // Takes the pair of cells left and right. If `apart` is not 0, one of the first `apart` pairs has two different trees; this pair is the
 // first.
-pub fn step(
+pub(crate) fn step(
     sheet: &[u8],
     work: &mut [u32],
     free: usize,
@@ -178,7 +180,7 @@ pub fn step(
     requires { ⌜ Whole (trees-at (now sheet) (now work) rest) × Fit (tree-at (now sheet) (now work) left) × Fit (tree-at (now sheet) (now work) right) ⌝ }
     requires { ⌜ Room (now work) (free + load (tree-at (now sheet) (now work) left) (tree-at (now sheet) (now work) right) + 2) ⌝ }
     requires { ⌜ Differing apart ((tree-at (now sheet) (now work) left, tree-at (now sheet) (now work) right) ∷ pairs-at (now sheet) (now work) rest) ⌝ }
-    ensures { λ r. ⌜ Steps (now (sheet .entry)) (now (work .entry)) (now (work .exit)) free (load (tree-at (now (sheet .entry)) (now (work .entry)) left) (tree-at (now (sheet .entry)) (now (work .entry)) right) + weight (pairs-at (now (sheet .entry)) (now (work .entry)) rest)) (step (tree-at (now (sheet .entry)) (now (work .entry)) left) (tree-at (now (sheet .entry)) (now (work .entry)) right) (pairs-at (now (sheet .entry)) (now (work .entry)) rest)) r ⌝ }
+    ensures { λ r. ⌜ TakenIs (now (sheet .entry)) (now (work .entry)) (now (work .exit)) free (load (tree-at (now (sheet .entry)) (now (work .entry)) left) (tree-at (now (sheet .entry)) (now (work .entry)) right) + weight (pairs-at (now (sheet .entry)) (now (work .entry)) rest)) (step (tree-at (now (sheet .entry)) (now (work .entry)) left) (tree-at (now (sheet .entry)) (now (work .entry)) right) (pairs-at (now (sheet .entry)) (now (work .entry)) rest)) r ⌝ }
 {
     if same_pair(sheet, work, free, left, right, apart) {
         if apart == 0 {

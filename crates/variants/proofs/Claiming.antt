@@ -1,4 +1,4 @@
--- What is claimed of a member: instances under bindings that give every variable the same value. Assumes nothing.
+-- What is claimed of a member: instances under bindings that give every variable the same value.
 use Prim.Native.Nat.{ℕ, zero, suc, _+_, _*_, _<_, _≤_}
 use native.Mathlib.Omega.{arith}
 use mathlib.Core.Path.{_≡_, refl, sym, ap, ap₂, _∙_}
@@ -22,15 +22,16 @@ use Rattle.tree.proofs.Areas.{below-grown, below-then}
 use Rattle.equivalence.proofs.Scratch.{below-kept}
 use Rattle.substitution.specs.Bindings.{bindings-at}
 use Rattle.substitution.specs.Building.{Placed, instance-at}
-use Rattle.certificate.specs.Writer as words
+use Rattle.text.specs.Frames.{Outside}
 use Rattle.reduction.specs.Building.{NewTree}
 use Rattle.reduction.proofs.NormalForms.{normalize-size}
 use Rattle.sheet.specs.Members.{members-at}
 use Rattle.variants.specs.Members.{nameable, Alike, ReadMember, ReadsMember}
-use Rattle.variants.specs.Soundness.{claim, reduces-to, ClaimsInstance, ClaimsSound}
+use Rattle.sheet.specs.Claims.{truth}
+use Rattle.variants.specs.Soundness.{reduces-to, ClaimsInstance, ClaimsSound}
 use Rattle.variants.specs.declared.members.Variant.the-variants as variant
-use Rattle.variants.specs.declared.soundness.Claim.{Claim}
-use Rattle.variants.specs.declared.soundness.Claim.the-variants.{Nothing}
+use Rattle.sheet.specs.declared.claims.Claim.{Claim}
+use Rattle.sheet.specs.declared.claims.Claim.the-variants.{Nothing}
 use Rattle.variants.proofs.NameLaws.{cell-nameable}
 
 -- ---- trees in cells, under substitutions that are the same on names of variables
@@ -101,7 +102,7 @@ module _ {s : Text} {w v u : List ℕ} {n index end left i stop : ℕ} (term lis
       instance-there (bindings-at s w list) (tree-at s w term) (tree-at s w value) (built-small one .1)
       ∙ ap some (sym (e ∙ ap₂ equivalent (two .tree ∙ ap normalize (one .before .tree)) same-value))
 
-  pub reduced-kept : {x : List ℕ} {lim : ℕ} → words.Kept u x (4 * stop) lim → Below w x n
+  pub reduced-kept : {x : List ℕ} {lim : ℕ} → Outside u x (4 * stop) lim → Below w x n
   reduced-kept k = below-then (below-then (below-grown (one .before .grown)) (two .kept) (one .before .grew)) (below-kept {n = stop} k (omega arith)) (omega (arith, one .before .grew, two .grew))
 
 -- ---- a member
@@ -124,7 +125,7 @@ pub sound-claims : {s : Text} {w v u : List ℕ} {n at value list end c : ℕ} (
     → ClaimsInstance s v u end term list value r → ClaimsSound s w u n term at r
 sound-claims {s} {w} {v} {u} {n} {at} {value} {list} {end} term r a p q x y = (go, below-then (x .kept) (y .1) (x .grew))
   where
-    go : (m : Member) → members-at s at ≡ some (m ∷ []) → claim r ≡ sound (tree-at s w term) m
+    go : (m : Member) → members-at s at ≡ some (m ∷ []) → truth r ≡ sound (tree-at s w term) m
     go m h =
         let z = x .reads m [] h in
         y .0 ∙ sound-read (x .arena) term p (omega (arith, x .grew)) m (tree-at s v value) (bindings-at s v list) (z .bs) (z .read) (z .alike)

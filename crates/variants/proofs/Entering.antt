@@ -1,4 +1,4 @@
--- Entries read into cells: one, and the walk over all of a member's. Assumes nothing.
+-- Entries read into cells: one, and the walk over all of a member's.
 use Prim.Native.Nat.{ℕ, _+_, _*_, _-_, _<_, _≤_}
 use native.Mathlib.Omega.{arith}
 use mathlib.Core.Path.{_≡_, refl, sym, ap, _∙_}
@@ -20,7 +20,7 @@ use Rattle.tree.specs.Cells.{tree-at, trees-at}
 use Rattle.tree.specs.Arena.{Arena, Linked, Below}
 use Rattle.tree.proofs.Decoding.{frame-trees, trees-none}
 use Rattle.tree.proofs.Areas.{below-same, below-then, below-grown}
-use Rattle.reading.specs.Words.{Outside}
+use Rattle.text.specs.Frames.{Outside}
 use Rattle.reading.specs.Parsing.{Read, Parses}
 use Rattle.reading.specs.declared.Parsed.the-variants as parsed
 use Rattle.substitution.specs.Bindings.{bindings-of, bindings-at, Chain}
@@ -29,7 +29,7 @@ use Rattle.substitution.proofs.Growing.{made-same, made-linked}
 use Rattle.substitution.proofs.Keys.{bindings-none}
 use Rattle.substitution.proofs.Chains.{chain-none}
 use Rattle.sheet.specs.Lines.{part-of, lines-at}
-use Rattle.sheet.specs.Pairs.{pair-at, entries-by, before}
+use Rattle.sheet.specs.Pairs.{two-lines-at, entries-by, entries-before}
 use Rattle.sheet.specs.Members.{Walks}
 use Rattle.sheet.specs.Form.{text-of, Inside}
 use Rattle.sheet.specs.declared.Cursor.{Cursor}
@@ -43,7 +43,7 @@ use Rattle.variants.specs.declared.members.Entries.the-variants as entri
 use Rattle.variants.proofs.Lookups.{Turned, turned-none, turned-more, turned-alike, bound-before, bindings-with, chain-with, entries-last, entries-unread}
 
 pub below-outside : {w v : List ℕ} {n e : ℕ} → Outside w v (4 * n) e → Below w v n
-below-outside o = record { len = o .len; words = o .below }
+below-outside o = record { len = o .len; words = λ p q. sym (o .below p q) }
 
 -- a tree has at most as many nodes as its text has bytes
 pub part-size : (s : Text) (f t : ℕ) (x : Tree) → parse (part-of f t s) ≡ some x → size x ≤ t - f
@@ -75,12 +75,12 @@ entry-there {s} {w} {w₁} {v} {n} key value {list} {index} {middle} {i} {m} a p
   grew = omega (arith, one .grew, d .grew);
   used = omega (arith, one .room);
   inside = d .inside;
-  trees = d .trees ∙ ap (binding-before (text-of s key) (tree-at s w₁ index)) (sym (frame-trees s w₁ (a .links) (one .outside .below) list p));
+  trees = d .trees ∙ ap (binding-before (text-of s key) (tree-at s w₁ index)) (sym (frame-trees s w₁ (a .links) (λ p q. sym (one .outside .below p q)) list p));
 }
 
 -- ---- entries in front of others
 
-pub parts-before : (es : List Entry) (p : List Entry × List Text) (fs : List Entry) (rest : List Text) → before es p ≡ some (fs, rest) → (es ++ p .0 ≡ fs) × (p .1 ≡ rest)
+pub parts-before : (es : List Entry) (p : List Entry × List Text) (fs : List Entry) (rest : List Text) → entries-before es p ≡ some (fs, rest) → (es ++ p .0 ≡ fs) × (p .1 ≡ rest)
 parts-before es (gs, ls) fs rest e =
     let z : _≡_ {A = List Entry × List Text} (es ++ gs, ls) (fs, rest) = cc in
     (ap (λ (q : List Entry × List Text). q .0) z, ap (λ (q : List Entry × List Text). q .1) z)
@@ -141,7 +141,7 @@ pub record Located (s : Text) (c : ℕ) (l r : Place) (n : Cursor) : Type 0 wher
   pub next : c + 12 + (l .to - l .from) + (r .to - r .from) ≡ n .at
   pub within : n .at ≤ length s
 
-pub located : (s : Text) (c : ℕ) (l r : Place) (n : Cursor) → Sides l r n ≡ pair-at (bytes "key=") (bytes "value=") s c → Located s c l r n
+pub located : (s : Text) (c : ℕ) (l r : Place) (n : Cursor) → Sides l r n ≡ two-lines-at (bytes "key=") (bytes "value=") s c → Located s c l r n
 located s c l r n e =
     let h = paired (bytes "key=") (bytes "value=") s c l r n e in
     let a : length (bytes "key=") ≡ 4 = refl in
@@ -154,7 +154,7 @@ located s c l r n e =
     }
 
 module _ {s : Text} {w : List ℕ} {n at : ℕ} {v : List ℕ} {c list m : ℕ} (h : Entering s w n at v c list m) where
-  pub entering-ends : End ≡ pair-at (bytes "key=") (bytes "value=") s c → ReadEntries s w v n at list m c
+  pub entering-ends : End ≡ two-lines-at (bytes "key=") (bytes "value=") s c → ReadEntries s w v n at list m c
   entering-ends e = record {
     walk = h .walk;
     stops = e;
@@ -170,7 +170,7 @@ module _ {s : Text} {w : List ℕ} {n at : ℕ} {v : List ℕ} {c list m : ℕ} 
     inside = h .inside;
   }
 
-  module _ (l r : Place) (k : Cursor) (e : Sides l r k ≡ pair-at (bytes "key=") (bytes "value=") s c) where
+  module _ (l r : Place) (k : Cursor) (e : Sides l r k ≡ two-lines-at (bytes "key=") (bytes "value=") s c) where
     pub entering-room : (at ≤ c) × (entry-end m r ≤ texts-end s n at) × (c < k .at) × (k .at ≤ length s)
     entering-room = let x = located s c l r k e in omega (arith, h .used, h .walk .low, x .next, x .within)
 
@@ -179,7 +179,7 @@ module _ {s : Text} {w : List ℕ} {n at : ℕ} {v : List ℕ} {c list m : ℕ} 
       where
         go : (es : List Entry) (rest : List Text) → (lines-at s at >>= entries-by (bytes "key=") (bytes "value=")) ≡ some (es, rest) → every (map read-entry es) ≡ nothing
         go es rest f =
-            let (p, a, b) = bound (lines-at s c >>= entries-by (bytes "key=") (bytes "value=")) (before (h .walk .es)) (es, rest) (sym (h .walk .chain) ∙ f) in
+            let (p, a, b) = bound (lines-at s c >>= entries-by (bytes "key=") (bytes "value=")) (entries-before (h .walk .es)) (es, rest) (sym (h .walk .chain) ∙ f) in
             let (fs, d, g) = two-there (bytes "key=") (bytes "value=") s c (p .0) (p .1) a l r k e in
             let z = parts-before (h .walk .es) p es rest b .0 in
             ap (λ (gs : List Entry). every (map read-entry gs)) (sym z ∙ ap (λ (gs : List Entry). h .walk .es ++ gs) d) ∙ entries-unread (h .walk .es) (text-of s l) (text-of s r) fs (x .0)

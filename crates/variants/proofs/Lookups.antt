@@ -1,5 +1,4 @@
 -- Entries and their bindings in two orders, where keys that no variable can have may be left out: every variable has the same value.
--- Assumes nothing.
 use mathlib.Core.Path.{_≡_, refl, sym, ap, ap₂, _∙_}
 use mathlib.Core.Bool.{Bool, true, false, cond, not, true≢false}
 use mathlib.Core.List.{List, [], _∷_, _++_, append-assoc, append-nil, map}

@@ -1,4 +1,4 @@
--- A member read into cells. Assumes nothing.
+-- A member read into cells.
 use Prim.Native.Nat.{ℕ, _+_, _-_, _<_, _≤_}
 use native.Mathlib.Omega.{arith}
 use mathlib.Core.Path.{_≡_, refl, sym, ap, ap₂, _∙_}
@@ -21,13 +21,13 @@ use Rattle.tree.proofs.Areas.{below-same, below-then}
 use Rattle.reading.specs.Parsing.{Read, Parses}
 use Rattle.reading.specs.declared.Parsed.the-variants as parsed
 use Rattle.sheet.specs.Lines.{part-of, lines-at, value-at}
-use Rattle.sheet.specs.Pairs.{entries-by, before}
+use Rattle.sheet.specs.Pairs.{entries-by, entries-before}
 use Rattle.sheet.specs.Members.{members-at}
 use Rattle.sheet.specs.declared.Cursor.{Cursor}
 use Rattle.sheet.specs.declared.Line.the-variants.{Whole, Missing}
 use Rattle.sheet.proofs.LineLaws.{keyed}
 use Rattle.sheet.proofs.WalkLaws.{two-end, member-end, member-next, members-later}
-use Rattle.variants.specs.Members.{ReadEntries, ReadsEntries, ReadAs, ReadMember, ReadsMember}
+use Rattle.variants.specs.Members.{ReadEntries, ReadsEntries, MemberReads, ReadMember, ReadsMember}
 use Rattle.variants.specs.declared.members.Entries.the-variants as entries
 use Rattle.variants.specs.declared.members.Variant.the-variants as variant
 use Rattle.variants.proofs.Entering.{below-outside, part-size, parts-before}
@@ -89,11 +89,11 @@ module _ (s : Text) (at f t : ℕ) (c : Cursor) (e : Whole f t c ≡ value-at s 
       same-tree : tree-at s w₁ index ≡ tree-at s v index
       same-tree = frame-tree s v (one .arena .links) (x .kept .words) index (one .placed .0) (one .placed .1)
 
-      member-reads : (m : Member) (ms : List Member) → members-at s at ≡ some (m ∷ ms) → ReadAs s v index i d m ms
+      member-reads : (m : Member) (ms : List Member) → members-at s at ≡ some (m ∷ ms) → MemberReads s v index i d m ms
       member-reads m ms h =
           let y = member-next s at (m ∷ ms) h f t c e in
           let z = first-of (y .members) in
-          let (p, a, b) = bound (lines-at s d >>= entries-by (bytes "key=") (bytes "value=")) (before (x .walk .es)) (y .es, y .rest) (sym (x .walk .chain) ∙ y .entries) in
+          let (p, a, b) = bound (lines-at s d >>= entries-by (bytes "key=") (bytes "value=")) (entries-before (x .walk .es)) (y .es, y .rest) (sym (x .walk .chain) ∙ y .entries) in
           let q = parts-before (x .walk .es) p (y .es) (y .rest) b in
           let g = two-end (bytes "key=") (bytes "value=") s d (p .0) (p .1) a (x .stops) in
           let k : y .es ≡ x .walk .es = sym (q .0) ∙ ap (λ (gs : List Entry). x .walk .es ++ gs) (g .0) ∙ append-nil (x .walk .es) in

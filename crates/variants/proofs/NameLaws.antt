@@ -1,4 +1,4 @@
--- The texts that a variable's cell may have for its name, and the cell of a key. Assumes nothing.
+-- The texts that a variable's cell may have for its name, and the cell of a key.
 use Prim.Native.Nat.{ℕ, zero, suc, _+_, _*_, _<_, _≤_}
 use mathlib.Core.Path.{_≡_, refl, sym, ap, _∙_, subst}
 use mathlib.Core.Bool.{Bool, true, false, cond, not, true≢false}
@@ -13,11 +13,11 @@ use Rattle.rules.specs.Bytes.{Text}
 use Rattle.rules.specs.Tree.{variable, size}
 use Rattle.rules.specs.Sorts.{sort-named, variable-sort}
 use Rattle.tree.specs.Cells.{kind-of, start-of, length-of, named, name-at, part, kind-of-sort, variable-kind, made, trees-at}
-use Rattle.tree.specs.Arena.{Place, Arena, Wrote, Linked}
+use Rattle.tree.specs.Arena.{Place, Arena, WroteCell, Linked}
 use Rattle.tree.proofs.Decoding.{made-variable}
 use Rattle.tree.proofs.FixedNames.{fixed-some}
 use Rattle.reading.specs.Leaves.{leaf-kind}
-use Rattle.reading.specs.Words.{Placed}
+use Rattle.reading.specs.Words.{NamePlaced}
 use Rattle.reading.proofs.LeafLaws.{kind-some, leaf-sorted}
 use Rattle.reading.proofs.Making.{named-part, place-of, linked-at}
 use Rattle.variants.specs.Members.{nameable}
@@ -96,11 +96,11 @@ part-some : (l : ℕ) (t : Text) → 0 < length (take l t) → 0 < l
 part-some zero t h = absurd (omega arith)
 part-some (suc l) t h = omega arith
 
-pub key-linked : {s : Text} {w v : List ℕ} {n a l kind next : ℕ} → Wrote w v n a l kind 0 next 1 → Arena s w n → 4 * n + 4 ≤ length w → next < n → a + l ≤ length s → l < 65536 → nameable (part s a l) ≡ true
+pub key-linked : {s : Text} {w v : List ℕ} {n a l kind next : ℕ} → WroteCell w v n a l kind 0 next 1 → Arena s w n → 4 * n + 4 ≤ length w → next < n → a + l ≤ length s → l < 65536 → nameable (part s a l) ≡ true
     → kind ≡ variable-kind (part s a l) → 0 < kind → kind < 7 → Linked s w v n next (variable (part s a l))
 unfolding size
 key-linked {s} {w} {v} {n} {a} {l} {kind} {next} x h room q inside short name e some small =
-    let p : Placed s a l = record { some = part-some l (drop a s) (nameable-some (part s a l) name); inside = inside; short = short; plain = nameable-plain (part s a l) name } in
+    let p : NamePlaced s a l = record { some = part-some l (drop a s) (nameable-some (part s a l) name); inside = inside; short = short; plain = nameable-plain (part s a l) name } in
     let m = named-part p in
     let t : made kind (named s a l) (trees-at s w 0) ≡ variable (part s a l) = made-variable kind (named s a l) (trees-at s w 0) some small ∙ ap variable m in
     subst (Linked s w v n next) t

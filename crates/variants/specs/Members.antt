@@ -18,7 +18,7 @@ use Rattle.tree.specs.Cells.{tree-at, trees-at}
 use Rattle.tree.specs.Arena.{Arena, Below}
 use Rattle.substitution.specs.Bindings.{bindings-at, Chain}
 use Rattle.sheet.specs.Lines.{lines-at}
-use Rattle.sheet.specs.Pairs.{pair-at, entries-by}
+use Rattle.sheet.specs.Pairs.{two-lines-at, entries-by}
 use Rattle.sheet.specs.Members.{members-at, Walks}
 use Rattle.sheet.specs.Form.{text-of}
 use Rattle.sheet.specs.declared.Place.{Place}
@@ -73,7 +73,7 @@ TextsRoom s w n at = (length s ≤ 65536) × (4 * texts-end s n at + 3 * length 
 -- the entries from `at` on, which end at c, read as bs; the list from cell i on gives every variable the same value as bs
 pub record ReadEntries (s : Text) (w v : List ℕ) (n at i m c : ℕ) : Type 0 where
   pub walk : Walks (bytes "key=") (bytes "value=") s at c
-  pub stops : End ≡ pair-at (bytes "key=") (bytes "value=") s c
+  pub stops : End ≡ two-lines-at (bytes "key=") (bytes "value=") s c
   pub bs : List Binding
   pub read : every (map read-entry (walk .es)) ≡ some bs
   pub alike : distinct-keys (walk .es) [] ≡ true → Alike (bindings-at s v i) bs
@@ -92,7 +92,7 @@ ReadsEntries s w v n at entries.Unreadable =
 
 -- the member m reads as the tree of cell k and the bindings bs; the list from cell i on gives every variable the same value as bs; the
 -- members ms follow at c
-pub record ReadAs (s : Text) (v : List ℕ) (k i c : ℕ) (m : Member) (ms : List Member) : Type 0 where
+pub record MemberReads (s : Text) (v : List ℕ) (k i c : ℕ) (m : Member) (ms : List Member) : Type 0 where
   pub bs : List Binding
   pub read : read-member m ≡ some (tree-at s v k, bs)
   pub alike : Alike (bindings-at s v i) bs
@@ -100,7 +100,7 @@ pub record ReadAs (s : Text) (v : List ℕ) (k i c : ℕ) (m : Member) (ms : Lis
 
 -- the member at a position, up to c; its line's key and end leave two cells and two nodes
 pub record ReadMember (s : Text) (w v : List ℕ) (n at k i end c : ℕ) : Type 0 where
-  pub reads : (m : Member) (ms : List Member) → members-at s at ≡ some (m ∷ ms) → ReadAs s v k i c m ms
+  pub reads : (m : Member) (ms : List Member) → members-at s at ≡ some (m ∷ ms) → MemberReads s v k i c m ms
   pub small : size (tree-at s v k) ≤ 4096
   pub chain : Chain (trees-at s v i)
   pub arena : Arena s v end

@@ -1,9 +1,9 @@
 -- What is claimed of a member against a term. Definitions only.
 use Prim.Native.Nat.{ℕ}
 use mathlib.Core.Path.{_≡_}
-use mathlib.Core.Bool.{Bool, true, false}
+use mathlib.Core.Bool.{Bool}
 use mathlib.Core.List.{List, [], _∷_}
-use mathlib.Core.Option.{Option, some, none as nothing}
+use mathlib.Core.Option.{Option, some}
 use Rattle.rules.specs.Bytes.{Text}
 use Rattle.rules.specs.Maybe.{_>>=_}
 use Rattle.rules.specs.Tree.{Tree}
@@ -16,13 +16,8 @@ use Rattle.tree.specs.Cells.{tree-at}
 use Rattle.tree.specs.Arena.{Below}
 use Rattle.substitution.specs.Bindings.{bindings-at}
 use Rattle.sheet.specs.Members.{members-at}
-use Rattle.variants.specs.declared.soundness.Claim.{Claim}
-use Rattle.variants.specs.declared.soundness.Claim.the-variants.{Yes, No, Nothing}
-
-abbrev pub claim : Claim → Option Bool
-claim Yes = some true
-claim No = some false
-claim Nothing = nothing
+use Rattle.sheet.specs.Claims.{truth}
+use Rattle.sheet.specs.declared.claims.Claim.{Claim}
 
 -- the tree t is the reduced instance of a term, up to the order of summands
 unfoldable pub reduces-to : List Binding → Tree → Tree → Option Bool
@@ -30,7 +25,7 @@ unfolding instance-of normalize equivalent
 reduces-to bs term t = instance-of bs term >>= λ i. some (equivalent (normalize i) t)
 
 abbrev pub ClaimsInstance : Text → List ℕ → List ℕ → ℕ → ℕ → ℕ → ℕ → Claim → Type 0
-ClaimsInstance s w v n term list value r = (claim r ≡ reduces-to (bindings-at s w list) (tree-at s w term) (tree-at s w value)) × Below w v n
+ClaimsInstance s w v n term list value r = (truth r ≡ reduces-to (bindings-at s w list) (tree-at s w term) (tree-at s w value)) × Below w v n
 
 abbrev pub ClaimsSound : Text → List ℕ → List ℕ → ℕ → ℕ → ℕ → Claim → Type 0
-ClaimsSound s w v n term at r = ((m : Member) → members-at s at ≡ some (m ∷ []) → claim r ≡ sound (tree-at s w term) m) × Below w v n
+ClaimsSound s w v n term at r = ((m : Member) → members-at s at ≡ some (m ∷ []) → truth r ≡ sound (tree-at s w term) m) × Below w v n

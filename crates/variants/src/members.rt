@@ -10,6 +10,7 @@ use sheet::next_entry;
 use sheet::next_member;
 use sheet::part;
 use substitution::bindings::Pushed;
+use tree::cells::APPLICATION;
 use tree::cells::push_cell;
 use tree::cells::share;
 ghost use mathlib.Core.Path.{_≡_};
@@ -24,13 +25,13 @@ ghost use Rattle.substitution.specs.Building.{Made};
 ghost use Rattle.variants.specs.Members.{nameable, binding-before, entry-end, ReadsEntry, TextsRoom, ReadsEntries, ReadsMember};
 
 // A list of bindings and the free end after it, or a value that cannot be read.
-pub enum Bindings {
+enum Bindings {
     Stack { index: usize, free: usize },
     Unreadable,
 }
 
 // The bindings of a member and where its entries end, or a value that cannot be read.
-pub enum Entries {
+enum Entries {
     Stack {
         index: usize,
         free: usize,
@@ -68,7 +69,7 @@ fn variable_kind(name: &[u8]) -> usize
     ensures { λ r. ⌜ (r ≡ variable-kind (now (name .entry))) × (0 < r) × (r < 7) ⌝ }
 {
     let kind = leaf_kind(name);
-    if kind == 0 {
+    if kind == APPLICATION {
         return 6;
     }
     kind

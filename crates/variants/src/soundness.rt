@@ -4,6 +4,7 @@ use crate::members::read_member;
 use equivalence::equivalent;
 use reduction::normalizing::normalize;
 use sheet::Cursor;
+use sheet::claims::Claim;
 use substitution::instances::Built;
 use substitution::instances::substitute;
 ghost use Prim.Native.Nat.{_+_, _*_, _<_, _≤_};
@@ -13,13 +14,6 @@ ghost use Rattle.tree.specs.Cells.{tree-at};
 ghost use Rattle.tree.specs.Arena.{Arena};
 ghost use Rattle.variants.specs.Members.{texts-end};
 ghost use Rattle.variants.specs.Soundness.{ClaimsInstance, ClaimsSound};
-
-// Yes, no, or no claim: a text is unreadable, or the instance has more than 4,096 nodes.
-pub enum Claim {
-    Yes,
-    No,
-    Nothing,
-}
 
 // Whether the instance of the tree of cell term under the bindings from cell bindings on reduces to the tree of cell value, up to
 // the order of summands.

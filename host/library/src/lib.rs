@@ -1,21 +1,22 @@
-//! The proved library behind safe functions. Where it was not found when this crate was built, the
-//! crate still builds, and [`present`] says so.
+//! The proved library behind safe functions. The build links the file that the variable
+//! `YUKHTSAMI_LIBRARY` names, otherwise `target/staticlib/libyukhtsami.a` of the repository, which
+//! `rt staticlib yukhtsami` writes; where it is absent the build fails and says so.
 //!
 //! A caller lends a work area of [`words_needed`] words and an output, and asks [`answer`]:
 //!
 //! ```
-//! if !library::present() {
-//!     println!("{}; the example was not run", library::notice());
-//!     return;
-//! }
+//! # if !yukhtsami::present() {
+//! #     println!("{}; the example was not run", yukhtsami::notice());
+//! #     return;
+//! # }
 //! let sheet = b"kind=equal\nleft=tamtplus(a,b)\nright=tamtplus(b,a)\n";
-//! let mut work = vec![0; library::words_needed(sheet) as usize];
+//! let mut work = vec![0; yukhtsami::words_needed(sheet) as usize];
 //! let mut output = [0; 64];
-//! let written = library::answer(sheet, &mut work, &mut output).unwrap();
+//! let written = yukhtsami::answer(sheet, &mut work, &mut output).unwrap();
 //! assert_eq!(&output[..written], b"equal=yes\n");
 //!
-//! let refused = library::answer(b"kind=equal\n", &mut work, &mut output);
-//! assert_eq!(refused, Err(library::Refusal::LineOutOfPlace));
+//! let refused = yukhtsami::answer(b"kind=equal\n", &mut work, &mut output);
+//! assert_eq!(refused, Err(yukhtsami::Refusal::LineOutOfPlace));
 //! ```
 use std::{error::Error, fmt};
 
@@ -56,14 +57,16 @@ pub fn call(sheet: &[u8], work: &mut [u32], output: &mut [u8]) -> Called {
     }
 }
 
-/// The call as it is exported.
+// Only the feature `absent` has this.
 #[cfg(not(linked))]
 pub fn call(_: &[u8], _: &mut [u32], _: &mut [u8]) -> Called {
     panic!("{}", notice())
 }
 
-/// The six refusals, in the order in which the first that applies is given.
+/// The six refusals, in the order in which the first that applies is given, and any number that this
+/// crate has no name for.
 #[derive(Clone, Copy, Debug, PartialEq, Eq)]
+#[non_exhaustive]
 pub enum Refusal {
     /// 1: the sheet has over 65,536 bytes.
     TooLong,
@@ -78,9 +81,13 @@ pub enum Refusal {
     UnreadableTerm,
     /// 12: the answer is longer than the output.
     ShortOutput,
+    /// A number that none of these has. The linked library is proved to give none; one with more
+    /// refusals than this crate knows does.
+    Unknown(u32),
 }
 
 impl Refusal {
+    /// The six that have a name.
     pub const ALL: [Refusal; 6] = [
         Refusal::TooLong,
         Refusal::ForeignByte,
@@ -99,13 +106,15 @@ impl Refusal {
             Refusal::UnreadableTerm => 4,
             Refusal::ShortWorkArea => 11,
             Refusal::ShortOutput => 12,
+            Refusal::Unknown(number) => number,
         }
     }
 
-    /// The refusal of a number, if there is one.
+    /// The refusal of a number; 0 is none.
     pub fn of(number: u32) -> Option<Refusal> {
         let same = |refusal: &Refusal| refusal.number() == number;
-        Refusal::ALL.into_iter().find(same)
+        let named = Refusal::ALL.into_iter().find(same);
+        named.or((number != 0).then_some(Refusal::Unknown(number)))
     }
 }
 
@@ -118,6 +127,7 @@ impl fmt::Display for Refusal {
             Refusal::UnreadableTerm => "unreadable term",
             Refusal::ShortWorkArea => "short work area",
             Refusal::ShortOutput => "short output",
+            Refusal::Unknown(number) => return write!(out, "unknown refusal {number}"),
         })
     }
 }
@@ -135,18 +145,11 @@ impl Error for Refusal {}
 /// | an answer | the answer, then as it was | the needed words zero, later words as they were |
 /// | `UnreadableTerm`, `ShortOutput` | as it was | the needed words zero, later words as they were |
 /// | any other refusal | as it was | as it was |
-///
-/// # Panics
-///
-/// Where the library is absent ([`present`]).
 pub fn answer(sheet: &[u8], work: &mut [u32], output: &mut [u8]) -> Result<usize, Refusal> {
     let called = call(sheet, work, output);
     match Refusal::of(called.refusal) {
         Some(refusal) => Err(refusal),
-        None => {
-            assert_eq!(called.refusal, 0, "a number that no refusal has");
-            Ok(called.written)
-        }
+        None => Ok(called.written),
     }
 }
 
@@ -168,7 +171,7 @@ pub fn words_needed(sheet: &[u8]) -> u64 {
     65_536 * (count(b':', sheet) + raise + 16) + 16 * sheet.len() as u64
 }
 
-/// Whether the library was found when this crate was built.
+/// Whether the library was found when this crate was built: without the feature `absent` it was.
 pub const fn present() -> bool {
     cfg!(linked)
 }
@@ -186,7 +189,7 @@ pub const fn logic() -> &'static str {
 /// What to tell the user where it was not found.
 pub fn notice() -> String {
     format!(
-        "library absent: no {} (write it by `rt staticlib archive`, or set YUKHTSAMI_LIBRARY to its path)",
+        "library absent: no {} (write it by `rt staticlib yukhtsami`, or set YUKHTSAMI_LIBRARY to its path)",
         file()
     )
 }
@@ -207,11 +210,14 @@ mod tests {
             "12 short output",
         ];
         assert_eq!(told, said);
-        for number in 0..20 {
-            let found = Refusal::of(number).map(Refusal::number);
+        assert_eq!(Refusal::of(0), None);
+        for number in 1..20 {
+            let found = Refusal::of(number).expect("a number that is not 0 refuses");
+            assert_eq!(found.number(), number);
             let known = matches!(number, 1..=4 | 11 | 12);
-            assert_eq!(found, known.then_some(number));
+            assert_eq!(found == Refusal::Unknown(number), !known, "{number}");
         }
+        assert_eq!(Refusal::Unknown(13).to_string(), "unknown refusal 13");
     }
 
     #[test]

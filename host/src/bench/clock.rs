@@ -86,7 +86,7 @@ fn clocked<T>(function: impl FnOnce() -> T) -> (Duration, T) {
 // One call with no word of the work area zero.
 fn call(bytes: &[u8], work: &mut [u32], output: &mut [u8]) -> (Duration, String) {
     work.fill(u32::MAX);
-    let (time, called) = clocked(|| library::call(bytes, work, output));
+    let (time, called) = clocked(|| yukhtsami::call(bytes, work, output));
     let answer = match called.refusal {
         0 => String::from_utf8_lossy(&output[..called.written]).into_owned(),
         refusal => format!("refusal {refusal}"),

@@ -1,48 +1,12 @@
 // The words of the command line.
 use std::{ffi::OsString, fmt, path::PathBuf};
 
-pub const HELP: &str = "\
-Usage: yukhtsami [OPTION]... [FILE]...
-Answers sheets of terms by the proved call: one sheet in each FILE, or on standard
-input where there is no FILE or where FILE is `-`.
-
-The answer goes to standard output. With several files each answer is followed by
-one empty line. A sheet that is refused has no answer: the refusal's number and
-name and where the sheet is at fault go to standard error, and the other files are
-still answered. Lines and columns count from 1, offsets from 0, all in bytes.
-
-  --words N   lend N words of work area, of 32 bits each
-              (without it as many as the sheet needs)
-  --room N    lend N bytes of output
-              (without it as many as the answer takes, up to 1,073,741,824)
-  --help      this text
-  --version   the version, and the logic by which the library was proved
-  --          what follows are files
-
-Exit status: 0 where every sheet is answered. Otherwise that of the first file
-without an answer, which is the refusal's number,
-
-   1  too long: the sheet has over 65,536 bytes
-   2  foreign byte: a byte is none of 10, 32 to 126
-   3  line out of place
-   4  unreadable term
-  11  short work area
-  12  short output
-
-or one of
-
-  64  the command line is at fault
-  66  a file is not there or cannot be read
-  69  the proved library is absent
-  70  the command has a fault of its own
-  71  there is no memory for the work area or the output
-  74  reading or writing failed
-";
+pub const HELP: &str = include_str!("help.txt");
 
 /// The version, and by which logic the library was proved.
 pub fn version() -> String {
-    let library = match library::logic() {
-        _ if !library::present() => "absent".to_owned(),
+    let library = match yukhtsami::logic() {
+        _ if !yukhtsami::present() => "absent".to_owned(),
         "" => "present".to_owned(),
         logic => format!("rattle logic {logic}"),
     };

@@ -1,7 +1,7 @@
 // The memory that is lent to the library, kept from one sheet to the next, and the calls.
-use std::fs;
+use std::{fs, hint::black_box};
 
-use library::Refusal;
+use yukhtsami::Refusal;
 
 use crate::sheet;
 
@@ -67,8 +67,11 @@ fn grow<T: Copy + Default>(memory: &mut Vec<T>, count: usize) -> Option<()> {
     if !may_ask(count.checked_mul(size_of::<T>())?) {
         return None;
     }
-    memory.try_reserve_exact(count).ok()?;
-    memory.resize(count, T::default());
+    let mut tried = Vec::<T>::new();
+    tried.try_reserve_exact(count).ok()?;
+    drop(black_box(tried));
+    // Zeros that the system gives page by page, where they are used.
+    *memory = vec![T::default(); count];
     Some(())
 }
 
@@ -91,7 +94,7 @@ impl Lender {
         let (what, count) = ("bytes of output", room as u64);
         grow(&mut self.output, room).ok_or(NoMemory { what, count })?;
         let (work, output) = (&mut self.work[..words], &mut self.output[..room]);
-        Ok(library::answer(sheet, work, output))
+        Ok(yukhtsami::answer(sheet, work, output))
     }
 
     // Calls with more room as long as the answer is longer than the output.
@@ -127,7 +130,7 @@ impl Lender {
         let mut words = self.words.unwrap_or(self.work.len().max(FIRST_WORDS));
         let mut called = self.with_words(sheet, words)?;
         if called == Err(Refusal::ShortWorkArea) && self.words.is_none() {
-            let needed = library::words_needed(sheet);
+            let needed = yukhtsami::words_needed(sheet);
             let (what, count) = ("words of work area", needed);
             words = usize::try_from(needed).map_err(|_| NoMemory { what, count })?;
             called = self.with_words(sheet, words)?;

@@ -1,5 +1,5 @@
 // What is told of a sheet without an answer.
-use library::Refusal;
+use yukhtsami::Refusal;
 
 use super::{
     arguments::Source,
@@ -23,7 +23,7 @@ fn detail(sheet: &[u8], size: Option<u64>, refused: &Refused) -> Option<String> 
         Refusal::LineOutOfPlace => lines::out_of_place(sheet).map(|place| place.to_string()),
         Refusal::UnreadableTerm => terms::unreadable(sheet).map(|place| place.to_string()),
         Refusal::ShortWorkArea => {
-            let needed = library::words_needed(sheet);
+            let needed = yukhtsami::words_needed(sheet);
             let needs = || format!("{words} words lent, {needed} needed");
             (needed > *words as u64).then(needs)
         }
@@ -31,6 +31,7 @@ fn detail(sheet: &[u8], size: Option<u64>, refused: &Refused) -> Option<String> 
             Some(length) if length > room => format!("{room} bytes lent, {length} needed"),
             _ => format!("{room} bytes lent"),
         }),
+        _ => None,
     }
 }
 
@@ -40,7 +41,8 @@ pub fn refused(source: &Source, sheet: &[u8], size: Option<u64>, refused: &Refus
     let detail = detail(sheet, size, refused).map(|detail| format!(": {detail}"));
     let detail = detail.unwrap_or_default();
     let message = format!("{source}: refusal {number}, {refusal}{detail}");
-    Failure::new(number as u8, message)
+    let status = u8::try_from(number).unwrap_or(status::SOFTWARE);
+    Failure::new(status, message)
 }
 
 pub fn no_memory(source: &Source, short: &NoMemory) -> Failure {

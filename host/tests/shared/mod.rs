@@ -2,7 +2,7 @@
 use std::{
     fs,
     io::Write,
-    path::PathBuf,
+    path::{Path, PathBuf},
     process::{Command, Stdio},
 };
 
@@ -28,12 +28,14 @@ pub fn ran(mut command: Command, input: &[u8]) -> Ran {
     (status, text(output.stdout), text(output.stderr))
 }
 
-/// A folder of this test's own, empty.
+/// A folder of this test's own, empty. It stands below the root's `target`, where rt takes no file
+/// for a source: some tests write files of Rattle.
 pub fn folder(test: &str) -> PathBuf {
-    let folder = PathBuf::from(env!("CARGO_TARGET_TMPDIR")).join(test);
+    let tests = Path::new(env!("CARGO_MANIFEST_DIR")).join("../target/host-tests");
+    let folder = tests.join(test);
     let _ = fs::remove_dir_all(&folder);
     fs::create_dir_all(&folder).unwrap();
-    folder
+    folder.canonicalize().unwrap()
 }
 
 /// The command in a folder with these files.

@@ -5,8 +5,8 @@ use Rattle.certificate.proofs.canonical_words.Statement.{statement}
 use Rattle.certificate.proofs.canonical_words.Tie as tie
 use Rattle.certificate.proofs.canonical_words.Reads as reads
 use Rattle.certificate.proofs.canonical_words.Lts as lts
-use Rattle.certificate.proofs.sums.settle.Reads as settle-reads
-use Rattle.certificate.proofs.writer.write_text.Reads as write-text-reads
+use Rattle.settling.proofs.settle.Reads as settle-reads
+use Rattle.flattening.proofs.write_text.Reads as write-text-reads
 
 write-text-requires : tie.Need-write-text-requires
 write-text-requires c κs = search needs

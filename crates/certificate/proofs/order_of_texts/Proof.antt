@@ -1,6 +1,6 @@
 use native.Mathlib.Omega.{arith}
 use mathlib.Core.Path.{_≡_, refl}
-use Rattle.certificate.specs.declared.order.Order.the-variants.{Less, Equal, Greater}
+use Rattle.runs.specs.declared.order.Order.the-variants.{Less, Equal, Greater}
 use Rattle.certificate.proofs.Comparisons.{left-none, right-room, right-none, compare-room, left-tokens, right-tokens, compared}
 use borrow.Author.Needs.{needs}
 use Rattle.certificate.proofs.order_of_texts.Statement.{statement}
@@ -8,7 +8,7 @@ use Rattle.certificate.proofs.order_of_texts.Tie as tie
 use Rattle.certificate.proofs.order_of_texts.Reads as reads
 use Rattle.certificate.proofs.order_of_texts.Lts as lts
 use Rattle.certificate.proofs.canonical_words.Reads as canonical-words-reads
-use Rattle.certificate.proofs.order.compare.Reads as compare-reads
+use Rattle.runs.proofs.order.compare.Reads as compare-reads
 
 sub-scratch : tie.Need-sub-scratch
 sub-scratch c = search needs

@@ -15,6 +15,7 @@ use Rattle.rules.specs.Text.{within}
 use Rattle.rules.specs.Names.{all}
 use Rattle.rules.specs.Sheet.{Sheet, read-sheet, words-needed}
 use Rattle.rules.specs.Answer.{answer-of}
+use Rattle.rules.specs.RefusalNumbers.{number-for, TooLong, ForeignByte, LineOutOfPlace, UnreadableTerm, ShortWorkArea, ShortOutput}
 use Rattle.rules.specs.Call.{Reply, refused, passed, refusal-number, plain, admitted, settled, call, written, output-after, work-after}
 use Rattle.rules.specs.Refusals.{Allowed, Screened, Admitted, Outcome, too-long, foreign-byte, out-of-place, short-work, unreadable, short-output, answered, Overwritten, KeepsWork, Cleared}
 use Rattle.laws.proofs.Basics.Tests.{and-left, and-right, and-both, and-split, or-cases, or-left, or-right, eqb-true, eqb-self, leb-true, leb-false, true-leb, false-leb}
@@ -68,19 +69,19 @@ not-plain s p h k = go (all plain s) refl
 -- What the relation says is what the call gives
 
 module _ (s : Text) (words : ℕ) where
-  pub refuses-1 : 65536 < length s → admitted s words ≡ refused 1
+  pub refuses-1 : 65536 < length s → admitted s words ≡ refused (number-for TooLong)
   unfolding admitted
   refuses-1 h = rw (false-leb (length s) 65536 h)
 
-  pub refuses-2 : length s ≤ 65536 → all plain s ≡ false → admitted s words ≡ refused 2
+  pub refuses-2 : length s ≤ 65536 → all plain s ≡ false → admitted s words ≡ refused (number-for ForeignByte)
   unfolding admitted
   refuses-2 h e = rw (true-leb (length s) 65536 h, e)
 
-  refuses-3 : Screened s → read-sheet s ≡ none → admitted s words ≡ refused 3
+  refuses-3 : Screened s → read-sheet s ≡ none → admitted s words ≡ refused (number-for LineOutOfPlace)
   unfolding admitted
   refuses-3 h e = rw (true-leb (length s) 65536 (h .short), all-plain h, e)
 
-  refuses-11 : (sheet : Sheet) → Screened s → read-sheet s ≡ some sheet → words < words-needed s sheet → admitted s words ≡ refused 11
+  refuses-11 : (sheet : Sheet) → Screened s → read-sheet s ≡ some sheet → words < words-needed s sheet → admitted s words ≡ refused (number-for ShortWorkArea)
   unfolding admitted
   refuses-11 sheet h e k = rw (true-leb (length s) 65536 (h .short), all-plain h, e, false-leb (words-needed s sheet) words k)
 
@@ -98,11 +99,11 @@ module _ (s : Text) (words room : ℕ) where
   unfolding call
   goes-on sheet r h e = rw (admits s words sheet h) e
 
-  refuses-4 : (sheet : Sheet) → answer-of sheet ≡ none → settled sheet room ≡ refused 4
+  refuses-4 : (sheet : Sheet) → answer-of sheet ≡ none → settled sheet room ≡ refused (number-for UnreadableTerm)
   unfolding settled
   refuses-4 sheet e = rw e
 
-  refuses-12 : (sheet : Sheet) (answer : Text) → answer-of sheet ≡ some answer → room < length answer → settled sheet room ≡ refused 12
+  refuses-12 : (sheet : Sheet) (answer : Text) → answer-of sheet ≡ some answer → room < length answer → settled sheet room ≡ refused (number-for ShortOutput)
   unfolding settled
   refuses-12 sheet answer e h = rw (e, false-leb (length answer) room h)
 
@@ -111,12 +112,12 @@ module _ (s : Text) (words room : ℕ) where
   answers sheet answer e h = rw (e, true-leb (length answer) room h)
 
   gives : {r : Reply Text} → Outcome s words room r → call s words room ≡ r
-  gives (too-long h) = ends 1 (refuses-1 s words h)
-  gives (foreign-byte h p k a) = ends 2 (refuses-2 s words h (not-plain s p k a))
-  gives (out-of-place h e) = ends 3 (refuses-3 s words h e)
-  gives (short-work {sheet} h e k) = ends 11 (refuses-11 s words sheet h e k)
-  gives (unreadable {sheet} h e) = goes-on sheet (refused 4) h (refuses-4 sheet e)
-  gives (short-output {sheet} {answer} h e k) = goes-on sheet (refused 12) h (refuses-12 sheet answer e k)
+  gives (too-long h) = ends (number-for TooLong) (refuses-1 s words h)
+  gives (foreign-byte h p k a) = ends (number-for ForeignByte) (refuses-2 s words h (not-plain s p k a))
+  gives (out-of-place h e) = ends (number-for LineOutOfPlace) (refuses-3 s words h e)
+  gives (short-work {sheet} h e k) = ends (number-for ShortWorkArea) (refuses-11 s words sheet h e k)
+  gives (unreadable {sheet} h e) = goes-on sheet (refused (number-for UnreadableTerm)) h (refuses-4 sheet e)
+  gives (short-output {sheet} {answer} h e k) = goes-on sheet (refused (number-for ShortOutput)) h (refuses-12 sheet answer e k)
   gives (answered {sheet} {answer} h e k) = goes-on sheet (passed answer) h (answers sheet answer e k)
 
   -- One of the seven cases holds
@@ -126,19 +127,19 @@ module _ (s : Text) (words room : ℕ) where
 
   by-room : {sheet : Sheet} {answer : Text} → Admitted s words sheet → answer-of sheet ≡ some answer → (b : Bool) → leb (length answer) room ≡ b → Some
   by-room {answer = answer} h e true k = (passed answer, answered h e (leb-true (length answer) room k))
-  by-room {answer = answer} h e false k = (refused 12, short-output h e (leb-false (length answer) room k))
+  by-room {answer = answer} h e false k = (refused (number-for ShortOutput), short-output h e (leb-false (length answer) room k))
 
   by-answer : {sheet : Sheet} → Admitted s words sheet → (o : Option Text) → answer-of sheet ≡ o → Some
-  by-answer h none e = (refused 4, unreadable h e)
+  by-answer h none e = (refused (number-for UnreadableTerm), unreadable h e)
   by-answer h (some answer) e = by-room h e (leb (length answer) room) refl
 
   by-words : {sheet : Sheet} → Screened s → read-sheet s ≡ some sheet → (b : Bool) → leb (words-needed s sheet) words ≡ b → Some
   by-words {sheet} h e true k =
       by-answer (record { screened = h; reads = e; enough = leb-true (words-needed s sheet) words k }) (answer-of sheet) refl
-  by-words {sheet} h e false k = (refused 11, short-work h e (leb-false (words-needed s sheet) words k))
+  by-words {sheet} h e false k = (refused (number-for ShortWorkArea), short-work h e (leb-false (words-needed s sheet) words k))
 
   by-lines : Screened s → (o : Option Sheet) → read-sheet s ≡ o → Some
-  by-lines h none e = (refused 3, out-of-place h e)
+  by-lines h none e = (refused (number-for LineOutOfPlace), out-of-place h e)
   by-lines h (some sheet) e = by-words h e (leb (words-needed s sheet) words) refl
 
   by-bytes : length s ≤ 65536 → (b : Bool) → all plain s ≡ b → Some
@@ -146,11 +147,11 @@ module _ (s : Text) (words room : ℕ) where
       by-lines (record { short = h; allowed = λ p k. plain-allowed (getD s p 0) (all-at plain s e p k) }) (read-sheet s) refl
   by-bytes h false e =
       let (p, k, f) = not-at plain s e in
-      (refused 2, foreign-byte h p k (λ a. true≢false (sym (allowed-plain (getD s p 0) a) ∙ f)))
+      (refused (number-for ForeignByte), foreign-byte h p k (λ a. true≢false (sym (allowed-plain (getD s p 0) a) ∙ f)))
 
   by-length : (b : Bool) → leb (length s) 65536 ≡ b → Some
   by-length true e = by-bytes (leb-true (length s) 65536 e) (all plain s) refl
-  by-length false e = (refused 1, too-long (leb-false (length s) 65536 e))
+  by-length false e = (refused (number-for TooLong), too-long (leb-false (length s) 65536 e))
 
   holds : Outcome s words room (call s words room)
   holds = let (r, h) = by-length (leb (length s) 65536) refl in subst (Outcome s words room) (sym (gives h)) h
@@ -219,7 +220,7 @@ clears n work h =
     }
 
 -- a number beyond 3 other than 11
-other-number : (n : ℕ) → 3 < n → ¬ (n ≡ 11) → ¬ KeepsWork (refused n)
+other-number : (n : ℕ) → number-for LineOutOfPlace < n → ¬ (n ≡ number-for ShortWorkArea) → ¬ KeepsWork (refused n)
 other-number n h d (inl k) = omega arith
 other-number n h d (inr (inl k)) = omega arith
 other-number n h d (inr (inr (inl k))) = omega arith
@@ -240,12 +241,12 @@ module _ (s : Text) (work : List ℕ) where
     work-kept = go (holds s (length work) room)
       where
         go : {r : Reply Text} → Outcome s (length work) room r → KeepsWork r → work-after s work ≡ work
-        go (too-long h) k = keeps 1 (refuses-1 s (length work) h)
-        go (foreign-byte h p l a) k = keeps 2 (refuses-2 s (length work) h (not-plain s p l a))
-        go (out-of-place h e) k = keeps 3 (refuses-3 s (length work) h e)
-        go (short-work {sheet} h e l) k = keeps 11 (refuses-11 s (length work) sheet h e l)
-        go (unreadable h e) k = absurd (other-number 4 (omega arith) (λ i. omega arith) k)
-        go (short-output h e l) k = absurd (other-number 12 (omega arith) (λ i. omega arith) k)
+        go (too-long h) k = keeps (number-for TooLong) (refuses-1 s (length work) h)
+        go (foreign-byte h p l a) k = keeps (number-for ForeignByte) (refuses-2 s (length work) h (not-plain s p l a))
+        go (out-of-place h e) k = keeps (number-for LineOutOfPlace) (refuses-3 s (length work) h e)
+        go (short-work {sheet} h e l) k = keeps (number-for ShortWorkArea) (refuses-11 s (length work) sheet h e l)
+        go (unreadable h e) k = absurd (other-number (number-for UnreadableTerm) (omega arith) (λ i. omega arith) k)
+        go (short-output h e l) k = absurd (other-number (number-for ShortOutput) (omega arith) (λ i. omega arith) k)
         go (answered h e l) k = absurd k
 
     -- after every other call the needed words are zero

@@ -1,4 +1,4 @@
--- `replay::after_head` meets its contract: the place is at most the end. Assumes nothing.
+-- `replay::after_head` meets its contract: the place is at most the end.
 use Prim.Native.Nat.{_≤_, _<_, _-_}
 use native.Mathlib.Omega.{arith}
 use lib.ListN.{length}

@@ -1,4 +1,4 @@
--- `replay::after_line` meets its contract: the place is between the start and the end. Assumes nothing.
+-- `replay::after_line` meets its contract: the place is between the start and the end.
 use Prim.Native.Nat.{_≤_, _<_, _-_}
 use native.Mathlib.Omega.{arith}
 use lib.ListN.{length}

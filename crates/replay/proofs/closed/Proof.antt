@@ -1,4 +1,4 @@
--- `replay::closed` meets its contract. Assumes nothing.
+-- `replay::closed` meets its contract.
 use mathlib.Core.Path.{sym, ap, _∙_}
 use Rattle.rules.specs.Text.{bytes}
 use Rattle.text.specs.Prefix.{begins-with}

@@ -1,4 +1,4 @@
--- `replay::replay_all` is safe and ends. Each turn leaves less of the list, and what is lent keeps its length. Assumes nothing.
+-- `replay::replay_all` is safe and ends. Each turn leaves less of the list, and what is lent keeps its length.
 use mathlib.Core.Path.{_≡_}
 use Prim.Native.Nat.{_≤_, _-_}
 use lib.ListN.{length}

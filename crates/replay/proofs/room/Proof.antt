@@ -1,4 +1,4 @@
--- `replay::room` meets its contract. The level and the type are written out, so that the list is not computed. Assumes nothing.
+-- `replay::room` meets its contract. The level and the type are written out, so that the list is not computed.
 use mathlib.Core.Path.{sym}
 use Prim.Native.Nat.{ℕ}
 use lib.ListN.{length-replicate}

@@ -1,4 +1,4 @@
-use Rattle.sheet.specs.Pairs.{pair-at}
+use Rattle.sheet.specs.Pairs.{two-lines-at}
 use mathlib.Core.Path.{sym, _∙_}
 use borrow.Author.Needs.{needs}
 use Rattle.sheet.proofs.two_lines.Statement.{statement}
@@ -17,7 +17,7 @@ enum-told : tie.Need-enum-told
 enum-told c = search needs
 
 returns : tie.Need-returns
-unfolding pair-at
+unfolding two-lines-at
 returns c = rw (sym (c .before .before .keyed .ensures) ∙ c .enum-told .given .1)
 
 keyed-requires-2 : tie.Need-keyed-requires-2
@@ -30,11 +30,11 @@ enum-told-2 : tie.Need-enum-told-2
 enum-told-2 c = search needs
 
 returns-2 : tie.Need-returns-2
-unfolding pair-at
+unfolding two-lines-at
 returns-2 c = rw (sym (c .before .before .before .before .before .before .keyed .ensures) ∙ c .before .before .before .before .line .given .1, sym (c .before .before .keyed2 .ensures) ∙ c .enum-told2 .given .1)
 
 returns-3 : tie.Need-returns-3
-unfolding pair-at
+unfolding two-lines-at
 returns-3 c = rw (sym (c .before .before .before .before .before .before .before .keyed .ensures) ∙ c .before .before .before .before .before .line .given .1, sym (c .before .before .before .keyed2 .ensures) ∙ c .before .other .given .1)
 
 pub two-lines-spec : {M : Type 1} → statement M

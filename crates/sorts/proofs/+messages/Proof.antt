@@ -8,7 +8,7 @@ use native.Mathlib.Omega.{arith}
 use mathlib.Core.Path.{_≡_, refl, sym, ap, _∙_}
 use Rattle.rules.specs.Tree.{sizes}
 use Rattle.tree.specs.Cells.{kind-of, name-at, tree-at, trees-at}
-use Rattle.sorts.specs.Numbers.{coded}
+use Rattle.sorts.specs.Numbers.{coded-symbol}
 use Rattle.sorts.proofs.Coding.{symbol-is, decoded, unit-or-free}
 use Rattle.sorts.proofs.Sorting.{message-apply, message-children, messages-last, messages-step}
 use Rattle.sorts.proofs.Walking.{Left, left-whole, rest-fewer, children-fewer, left-refused, left-rest, left-children, left-empty}
@@ -49,8 +49,8 @@ messages-calls t = (kind-of-reads.Asked, kind-of-reads.Learnt, next-of-reads.Ask
 
 -- what the cell's name stands for, where the two ways to learn it meet, and what that says of its tree
 symbol-told : (t : ℕ) (c : messages-lts.Joined3 (messages-calls t) (messages-at t) messages.Post messages-Inv-loop messages-μ-loop)
-    → c .if3 .symbol ≡ coded (symbol (name-at (c .before .before .before .before .before .before .before .before .before .before .args .sheet .now) (c .before .before .before .before .before .before .before .before .before .before .args .work .now) (c .before .before .before .before .before .before .before .loop .i)))
-symbol-told t c = ⊎-elim (λ x. x .1 ∙ sym (ap coded (c .before .plain .ensures (x .0 .taken)))) (λ x. x .2 ∙ x .1 .ensures) (c .if3 .came)
+    → c .if3 .symbol ≡ coded-symbol (symbol (name-at (c .before .before .before .before .before .before .before .before .before .before .args .sheet .now) (c .before .before .before .before .before .before .before .before .before .before .args .work .now) (c .before .before .before .before .before .before .before .loop .i)))
+symbol-told t c = ⊎-elim (λ x. x .1 ∙ sym (ap coded-symbol (c .before .plain .ensures (x .0 .taken)))) (λ x. x .2 ∙ x .1 .ensures) (c .if3 .came)
 
 message-told : (t : ℕ) (c : messages-lts.Joined3 (messages-calls t) (messages-at t) messages.Post messages-Inv-loop messages-μ-loop) {y : Symbol} → c .if3 .symbol ≡ y
     → message-at (decoded y) (are-natural (trees-at (c .before .before .before .before .before .before .before .before .before .before .args .sheet .now) (c .before .before .before .before .before .before .before .before .before .before .args .work .now) (c .before .before .first-of .result))) (are-messages (trees-at (c .before .before .before .before .before .before .before .before .before .before .args .sheet .now) (c .before .before .before .before .before .before .before .before .before .before .args .work .now) (c .before .before .first-of .result))) ≡ is-message (tree-at (c .before .before .before .before .before .before .before .before .before .before .args .sheet .now) (c .before .before .before .before .before .before .before .before .before .before .args .work .now) (c .before .before .before .before .before .before .before .loop .i))

@@ -1,5 +1,5 @@
 use mathlib.Core.Path.{sym, ap}
-use Rattle.sorts.specs.Numbers.{coded}
+use Rattle.sorts.specs.Numbers.{coded-symbol}
 use borrow.Author.Needs.{needs}
 use Rattle.sorts.proofs.symbol_of.Statement.{statement}
 use Rattle.sorts.proofs.symbol_of.Tie as tie
@@ -12,7 +12,7 @@ plain-requires : tie.Need-plain-requires
 plain-requires c κs = search needs
 
 returns : tie.Need-returns
-returns c = sym (ap coded (c .before .plain .ensures (c .if1 .taken)))
+returns c = sym (ap coded-symbol (c .before .plain .ensures (c .if1 .taken)))
 
 symbol-named-requires : tie.Need-symbol-named-requires
 symbol-named-requires c κs = search needs

@@ -1,5 +1,8 @@
+use mathlib.Core.Path.{subst}
 use borrow.Author.Needs.{needs}
-use Rattle.answers.proofs.Admitting.{three-unread, unread, refuses-words, stands}
+use Rattle.rules.specs.Sheet.{read-sheet}
+use Rattle.sheet.specs.Form.{ReadsAs}
+use Rattle.answers.proofs.Admitting.{unread, refuses-words, stands}
 use Rattle.answers.proofs.admission.admit_screened.Statement.{statement}
 use Rattle.answers.proofs.admission.admit_screened.Tie as tie
 use Rattle.answers.proofs.admission.admit_screened.Reads as reads
@@ -10,28 +13,39 @@ use Rattle.sheet.proofs.form.words_needed.Reads as words-needed-reads
 read-sheet-requires : tie.Need-read-sheet-requires
 read-sheet-requires c κs = search needs
 
+enum-known-read : tie.Need-enum-known-read
+enum-known-read c = search needs
+
 enum-told : tie.Need-enum-told
 enum-told c = search needs
 
 returns : tie.Need-returns
 returns c =
-    let a = c .before .before .before .before .args in
-    unread (a .sheet .now) (a .words) (c .before .before .before .before .pre) (three-unread (a .sheet .now) _ (c .before .before .read-sheet .ensures) (c .enum-told .given .1))
+    let b = c .before .before .before .before in
+    let s = b .args .sheet .now in
+    unread s (b .args .words) (b .pre) (subst (ReadsAs s (read-sheet s)) (c .enum-told .given .1) (c .before .before .read-sheet .ensures))
 
 words-needed-requires : tie.Need-words-needed-requires
-words-needed-requires c κs = search needs
+words-needed-requires c κs =
+    let b = c .before .before .before .before .before in
+    let s = b .args .sheet .now in
+    (b .pre .short, subst (ReadsAs s (read-sheet s)) (c .before .read .given .1) (c .before .before .before .read-sheet .ensures) .within)
 
 returns-2 : tie.Need-returns-2
 returns-2 c =
-    let b = c .before .before .before .before .before in
-    refuses-words (b .args .sheet .now) (b .args .words) (b .pre) (c .before .before .before .read-sheet .result) (c .before .before .before .read-sheet .ensures) (c .before .before .match .keys2) (c .before .words-needed .result) (c .before .words-needed .ensures) (c .if1 .taken)
+    let d = c .before .before .before in
+    let b = d .before .before .before .before in
+    let s = b .args .sheet .now in
+    refuses-words s (b .args .words) (b .pre) (d .read .given .0 .0) (subst (ReadsAs s (read-sheet s)) (d .read .given .1) (d .before .before .read-sheet .ensures)) (c .before .words-needed .result) (c .before .words-needed .ensures) (c .if1 .taken)
 
 returns-3 : tie.Need-returns-3
 returns-3 c =
-    let b = c .before .before .before .before .before in
-    stands (b .args .sheet .now) (b .args .words) (b .pre) (c .before .before .before .read-sheet .result) (c .before .before .before .read-sheet .ensures) (c .before .before .match .keys2) (c .before .words-needed .result) (c .before .words-needed .ensures) (c .if1 .left)
+    let d = c .before .before .before in
+    let b = d .before .before .before .before in
+    let s = b .args .sheet .now in
+    stands s (b .args .words) (b .pre) (d .read .given .0 .0) (subst (ReadsAs s (read-sheet s)) (d .read .given .1) (d .before .before .read-sheet .ensures)) (c .before .words-needed .result) (c .before .words-needed .ensures) (c .if1 .left)
 
 pub admit-screened-spec : {M : Type 1} → statement M
 admit-screened-spec =
     tie.close
-    (tie.spec read-sheet-requires enum-told returns words-needed-requires returns-2 returns-3)
+    (tie.spec read-sheet-requires enum-known-read enum-told returns words-needed-requires returns-2 returns-3)

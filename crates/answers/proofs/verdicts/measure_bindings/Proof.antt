@@ -7,14 +7,14 @@ use Rattle.tree.specs.Cells.{name-at, tree-at, trees-at}
 use Rattle.tree.proofs.Lengths.{fits-is, over-is, told, told-over}
 use Rattle.substitution.specs.Bindings.{Chain}
 use Rattle.substitution.proofs.Chains.{value-some, entry}
-use Rattle.answers.specs.Verdicts.{entry-lines, lines-at}
+use Rattle.answers.specs.Verdicts.{entry-lines, bindings-text}
 use Rattle.answers.proofs.VerdictLines.{length-more, lines-none}
 use Rattle.answers.proofs.verdicts.measure_bindings.Statement.{statement}
 use Rattle.answers.proofs.verdicts.measure_bindings.Tie as tie
 
 abbrev Inv-loop : tie.InvT-loop
 Inv-loop sheet work free list room k₀ left₀ k left =
-    (k < free) × Chain (trees-at sheet work k) × (left + length (lines-at sheet work list) ≡ room + length (lines-at sheet work k))
+    (k < free) × Chain (trees-at sheet work k) × (left + length (bindings-text sheet work list) ≡ room + length (bindings-text sheet work k))
 
 abbrev μ-loop : tie.MeasureT-loop
 μ-loop sheet work free list room k₀ left₀ k left = k

@@ -4,14 +4,14 @@ use Prim.Native.Nat.{_<_}
 use Rattle.tree.specs.Cells.{name-at, tree-at, trees-at}
 use Rattle.substitution.specs.Bindings.{Chain}
 use Rattle.substitution.proofs.Chains.{value-some, entry}
-use Rattle.answers.specs.Verdicts.{entry-lines, lines-at}
+use Rattle.answers.specs.Verdicts.{entry-lines, bindings-text}
 use Rattle.answers.proofs.VerdictLines.{lines-more, length-more, lines-none, printed-length, Begun, begun-none, begun-room, begun-more, begun-all}
 use Rattle.answers.proofs.verdicts.write_bindings.Statement.{statement}
 use Rattle.answers.proofs.verdicts.write_bindings.Tie as tie
 
 abbrev Inv-loop : tie.InvT-loop
 Inv-loop sheet work free list output₀ at key₀ end₀ output key end =
-    (key < free) × Chain (trees-at sheet work key) × Begun output₀ output at end (lines-at sheet work list) (lines-at sheet work key)
+    (key < free) × Chain (trees-at sheet work key) × Begun output₀ output at end (bindings-text sheet work list) (bindings-text sheet work key)
 
 abbrev μ-loop : tie.MeasureT-loop
 μ-loop sheet work free list output₀ at key₀ end₀ output key end = key
@@ -19,7 +19,7 @@ abbrev μ-loop : tie.MeasureT-loop
 loop-holds : tie.Need-loop-holds Inv-loop μ-loop
 loop-holds c =
     let a = c .before .before .before .args in
-    (c .before .before .before .pre .1 .0, c .before .before .before .pre .1 .1 .0, begun-none (a .output .now) (a .at) (lines-at (a .sheet .now) (a .work .now) (a .list)))
+    (c .before .before .before .pre .1 .0, c .before .before .before .pre .1 .1 .0, begun-none (a .output .now) (a .at) (bindings-text (a .sheet .now) (a .work .now) (a .list)))
 
 value-of-requires : tie.Need-value-of-requires Inv-loop μ-loop
 value-of-requires c κs = (c .before .before .before .before .before .pre .0 .links, (omega arith, c .before .loop .inv .0))
@@ -53,7 +53,7 @@ loop-again c =
     let p : 0 < k = omega arith in
     let x = entry-lines (name-at (a .sheet .now) (a .work .now) k) (tree-at (a .sheet .now) (a .work .now) (c .before .before .before .before .before .value-of .result)) in
     let e = lines-more (a .sheet .now) (c .before .before .before .before .before .before .before .before .before .before .before .pre .0 .links) k (c .before .before .before .before .before .value-of .result) p (i .0) (i .1) (c .before .before .before .before .before .value-of .ensures .0) (c .rest-of .result) (c .rest-of .ensures .0) in
-    (omega arith, entry (a .sheet .now) (c .before .before .before .before .before .before .before .before .before .before .before .pre .0 .links) k (c .before .before .before .before .before .value-of .result) p (i .0) (i .1) (c .before .before .before .before .before .value-of .ensures .0) (c .rest-of .result) (c .rest-of .ensures .0) .chain, begun-more (c .before .before .before .before .before .before .before .before .before .before .before .pre .1 .1 .1) (i .2) x (lines-at (a .sheet .now) (a .work .now) (c .rest-of .result)) e (c .before .before .before .write-entry .ensures))
+    (omega arith, entry (a .sheet .now) (c .before .before .before .before .before .before .before .before .before .before .before .pre .0 .links) k (c .before .before .before .before .before .value-of .result) p (i .0) (i .1) (c .before .before .before .before .before .value-of .ensures .0) (c .rest-of .result) (c .rest-of .ensures .0) .chain, begun-more (c .before .before .before .before .before .before .before .before .before .before .before .pre .1 .1 .1) (i .2) x (bindings-text (a .sheet .now) (a .work .now) (c .rest-of .result)) e (c .before .before .before .write-entry .ensures))
 
 same-length : tie.Need-same-length Inv-loop μ-loop
 same-length c =

@@ -9,9 +9,9 @@ use Rattle.complete.proofs.completing.complete.Statement.{statement}
 use Rattle.complete.proofs.completing.complete.Tie as tie
 use Rattle.complete.proofs.completing.complete.Reads as reads
 use Rattle.complete.proofs.completing.complete.Lts as lts
-use Rattle.complete.proofs.completing.name_variables.Reads as name-variables-reads
-use Rattle.complete.proofs.families.read_members.Reads as read-members-reads
-use Rattle.complete.proofs.fresh.fresh_cells.Reads as fresh-cells-reads
+use Rattle.fresh.proofs.naming.name_variables.Reads as name-variables-reads
+use Rattle.families.proofs.members.read_members.Reads as read-members-reads
+use Rattle.fresh.proofs.cells.fresh_cells.Reads as fresh-cells-reads
 use Rattle.complete.proofs.judging.judge.Reads as judge-reads
 use Rattle.schemes.proofs.counting.count_schemes.Reads as count-schemes-reads
 

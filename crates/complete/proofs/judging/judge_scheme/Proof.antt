@@ -11,7 +11,7 @@ use Rattle.complete.proofs.judging.judge_scheme.Reads as reads
 use Rattle.complete.proofs.judging.judge_scheme.Lts as lts
 use Rattle.complete.proofs.judging.enough.Reads as enough-reads
 use Rattle.complete.proofs.judging.judge_solved.Reads as judge-solved-reads
-use Rattle.cover.proofs.covered.nodes_in.Reads as nodes-in-reads
+use Rattle.reduction.proofs.building.nodes_in.Reads as nodes-in-reads
 use Rattle.schemes.proofs.systems.system_at.Reads as system-at-reads
 use Rattle.unifier.proofs.unifying.unify.Reads as unify-reads
 

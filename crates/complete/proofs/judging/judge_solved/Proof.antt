@@ -7,15 +7,15 @@ use Rattle.tree.specs.Cells.{tree-at}
 use Rattle.tree.proofs.Areas.{below-grown}
 use Rattle.substitution.specs.Bindings.{bindings-at}
 use Rattle.variants.proofs.Claiming.{built-small}
-use Rattle.cover.specs.Generals.{names-at}
-use Rattle.complete.specs.Generalizing.{variants-at}
+use Rattle.variables.specs.Pairing.{names-at}
+use Rattle.families.specs.Generalizing.{variants-at}
 use Rattle.complete.proofs.Judgements.{judge-over, solved-sizes, not-normal, end-arena, variables-now, matched-now, searched}
 use borrow.Author.Needs.{needs}
 use Rattle.complete.proofs.judging.judge_solved.Statement.{statement}
 use Rattle.complete.proofs.judging.judge_solved.Tie as tie
 use Rattle.complete.proofs.judging.judge_solved.Reads as reads
 use Rattle.complete.proofs.judging.judge_solved.Lts as lts
-use Rattle.complete.proofs.generalizing.generalized.Reads as generalized-reads
+use Rattle.families.proofs.generalizing.generalized.Reads as generalized-reads
 use Rattle.equivalence.proofs.equivalent.Reads as equivalent-reads
 use Rattle.reduction.proofs.normalizing.normalize.Reads as normalize-reads
 use Rattle.substitution.proofs.instances.substitute.Reads as substitute-reads

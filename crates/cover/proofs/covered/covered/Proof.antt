@@ -10,7 +10,7 @@ use Rattle.cover.proofs.covered.covered.Tie as tie
 use Rattle.cover.proofs.covered.covered.Reads as reads
 use Rattle.cover.proofs.covered.covered.Lts as lts
 use Rattle.cover.proofs.covered.names_of.Reads as names-of-reads
-use Rattle.cover.proofs.covered.nodes_in.Reads as nodes-in-reads
+use Rattle.reduction.proofs.building.nodes_in.Reads as nodes-in-reads
 use Rattle.cover.proofs.covering.any_covers.Reads as any-covers-reads
 use Rattle.text.proofs.count_of.Reads as count-of-reads
 use Rattle.unifier.proofs.unifying.unify.Reads as unify-reads

@@ -1,13 +1,13 @@
 use native.Mathlib.Omega.{arith}
-use Rattle.cover.proofs.Naming.{arena-kept}
+use Rattle.variables.proofs.Naming.{arena-kept}
 use Rattle.cover.proofs.CoveredLaws.{names-made}
 use borrow.Author.Needs.{needs}
 use Rattle.cover.proofs.covered.names_of.Statement.{statement}
 use Rattle.cover.proofs.covered.names_of.Tie as tie
 use Rattle.cover.proofs.covered.names_of.Reads as reads
 use Rattle.cover.proofs.covered.names_of.Lts as lts
-use Rattle.cover.proofs.listing.list_variables.Reads as list-variables-reads
-use Rattle.cover.proofs.variables.variables_of.Reads as variables-of-reads
+use Rattle.variables.proofs.listing.list_variables.Reads as list-variables-reads
+use Rattle.variables.proofs.gathering.variables_of.Reads as variables-of-reads
 
 add-at : tie.Need-add-at
 add-at c = search needs

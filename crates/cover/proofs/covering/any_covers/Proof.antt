@@ -9,7 +9,7 @@ use Rattle.rules.specs.Tree.{count}
 use Rattle.rules.specs.Sheet.{Member}
 use Rattle.sheet.specs.Members.{members-at}
 use Rattle.tree.proofs.Areas.{arena-frame}
-use Rattle.cover.specs.Generals.{OfVariables}
+use Rattle.variables.specs.Pairing.{OfVariables}
 use Rattle.cover.proofs.Deciding.{Deciding, deciding-starts, deciding-ends, names-now, next-after, next-matchable, deciding-yes, deciding-no}
 use Rattle.cover.proofs.covering.any_covers.Statement.{statement}
 use Rattle.cover.proofs.covering.any_covers.Tie as tie

@@ -5,7 +5,7 @@ use Rattle.cover.proofs.covering.covers.Tie as tie
 use Rattle.cover.proofs.covering.covers.Reads as reads
 use Rattle.cover.proofs.covering.covers.Lts as lts
 use Rattle.cover.proofs.members.member_pairs.Reads as member-pairs-reads
-use Rattle.unifier.proofs.matching.matcher.Reads as matcher-reads
+use Rattle.matching.proofs.matcher.Reads as matcher-reads
 
 member-pairs-requires : tie.Need-member-pairs-requires
 member-pairs-requires c κs = search needs

@@ -1,14 +1,14 @@
 use mathlib.Core.Path.{ap, subst}
 use native.Mathlib.Omega.{arith}
 use Rattle.rules.specs.Tree.{count}
-use Rattle.cover.specs.Generals.{OfVariables}
+use Rattle.variables.specs.Pairing.{OfVariables}
 use Rattle.cover.proofs.MemberLaws.{member-unread, names-are, member-paired}
 use borrow.Author.Needs.{needs}
 use Rattle.cover.proofs.members.member_pairs.Statement.{statement}
 use Rattle.cover.proofs.members.member_pairs.Tie as tie
 use Rattle.cover.proofs.members.member_pairs.Reads as reads
 use Rattle.cover.proofs.members.member_pairs.Lts as lts
-use Rattle.cover.proofs.generals.pair_variables.Reads as pair-variables-reads
+use Rattle.variables.proofs.pairing.pair_variables.Reads as pair-variables-reads
 use Rattle.cover.proofs.values.read_values.Reads as read-values-reads
 
 read-values-requires : tie.Need-read-values-requires

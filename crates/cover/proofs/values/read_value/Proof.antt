@@ -5,7 +5,7 @@ use Rattle.rules.specs.Bytes.{Text}
 use Rattle.rules.specs.Matching.{bound}
 use Rattle.tree.specs.Cells.{trees-at}
 use Rattle.substitution.specs.Bindings.{bindings-at}
-use Rattle.cover.specs.Generals.{names-of}
+use Rattle.variables.specs.Pairing.{names-of}
 use Rattle.cover.proofs.Valuing.{value-passed, value-kept, value-unread, value-read}
 use borrow.Author.Needs.{needs}
 use Rattle.cover.proofs.values.read_value.Statement.{statement}
@@ -73,7 +73,7 @@ returns-3 c =
     let q : 0 < c .before .before .before .before .before .before .before .before .before .before .before .find-variable .result = omega (arith, c .before .before .before .before .before .before .before .before .before .before .if1 .left) in
     let f = rw (c .before .before .before .before .before .before .enum-told2 .given .1) at (c .before .before .before .before .before .before .before .before .lookup .ensures) in
     let g = rw (c .enum-told3 .given .1) at (c .before .before .before .before .parse .ensures) in
-    value-unread (a .sheet .now) (a .work .now) (a .free) (names-of (trees-at (a .sheet .now) (a .work .now) (a .names))) (a .key) (a .value) (a .list) (ap (λ (z : Text). bound z (bindings-at (a .sheet .now) (a .work .now) (a .list))) (sym (c .before .before .before .before .before .before .before .before .before .before .before .find-variable .ensures .named q)) ∙ f .0) (c .before .before .before .before .before .before .before .before .before .before .before .find-variable .ensures .present q) (g .0) (record { len = g .1 .len; words = g .1 .below })
+    value-unread (a .sheet .now) (a .work .now) (a .free) (names-of (trees-at (a .sheet .now) (a .work .now) (a .names))) (a .key) (a .value) (a .list) (ap (λ (z : Text). bound z (bindings-at (a .sheet .now) (a .work .now) (a .list))) (sym (c .before .before .before .before .before .before .before .before .before .before .before .find-variable .ensures .named q)) ∙ f .0) (c .before .before .before .before .before .before .before .before .before .before .before .find-variable .ensures .present q) (g .0) (record { len = g .1 .len; words = λ p q. sym (g .1 .below p q) })
 
 push-pair-requires : tie.Need-push-pair-requires
 push-pair-requires c κs =

@@ -2,7 +2,7 @@ use borrow.Author.Needs.{needs}
 use native.Mathlib.Omega.{arith}
 use mathlib.Core.Path.{_≡_, sym, ap, subst, _∙_}
 use Prim.Native.Nat.{ℕ, _-_}
-use Rattle.certificate.specs.Texts.{word-text, Token}
+use Rattle.runs.specs.Texts.{word-text, Token}
 use Rattle.equivalence.specs.Fingerprints.{mixed}
 use Rattle.equivalence.proofs.Fingerprinting.{Printing, printing-starts, word-token, printing-next, printing-ends}
 use Rattle.equivalence.proofs.fingerprints.fingerprint.Statement.{statement}

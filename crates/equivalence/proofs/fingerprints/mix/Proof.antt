@@ -2,7 +2,7 @@ use borrow.Author.Needs.{needs}
 use native.Mathlib.Omega.{arith}
 use Prim.Native.Nat.{ℕ, _-_}
 use mathlib.Core.Path.{_≡_, sym, ap, _∙_}
-use Rattle.certificate.proofs.WordTexts.{zeros-small, text-zeros}
+use Rattle.runs.proofs.WordTexts.{zeros-small, text-zeros}
 use Rattle.equivalence.specs.Fingerprints.{mixed}
 use Rattle.equivalence.proofs.Fingerprinting.{Mixing, mixing-starts, mixing-next, mixing-ends}
 use Rattle.equivalence.proofs.fingerprints.mix.Statement.{statement}
@@ -11,9 +11,9 @@ use Rattle.equivalence.proofs.fingerprints.mix.Reads as reads
 use Rattle.equivalence.proofs.fingerprints.mix.Lts as lts
 use Rattle.equivalence.proofs.fingerprints.mix_byte.Reads as mix-byte-reads
 use Rattle.equivalence.proofs.fingerprints.mix_zeros.Reads as mix-zeros-reads
-use Rattle.certificate.proofs.order.byte_of.Reads as byte-of-reads
-use Rattle.certificate.proofs.order.width_of.Reads as width-of-reads
-use Rattle.certificate.proofs.order.zeros_of.Reads as zeros-of-reads
+use Rattle.runs.proofs.order.byte_of.Reads as byte-of-reads
+use Rattle.runs.proofs.order.width_of.Reads as width-of-reads
+use Rattle.runs.proofs.order.zeros_of.Reads as zeros-of-reads
 use Rattle.laws.specs.Unspelled.{zeros-name}
 
 abbrev Inv-loop : tie.InvT-loop

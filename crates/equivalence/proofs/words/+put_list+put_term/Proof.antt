@@ -18,10 +18,10 @@ use Rattle.equivalence.proofs.words.+put_list+put_term.Lts-put_list as 
 use Rattle.equivalence.proofs.words.put_term.Reads as put-term
 use Rattle.equivalence.proofs.words.put_term.Kinds as put-term-kinds
 use Rattle.equivalence.proofs.words.+put_list+put_term.Lts-put_term as put-term-lts
-use Rattle.certificate.proofs.writer.bracket_of.Reads as bracket-of-reads
-use Rattle.certificate.proofs.writer.put_closing.Reads as put-closing-reads
-use Rattle.certificate.proofs.writer.put_opening.Reads as put-opening-reads
-use Rattle.equivalence.proofs.words.child_of.Reads as child-of-reads
+use Rattle.flattening.proofs.bracket_of.Reads as bracket-of-reads
+use Rattle.flattening.proofs.put_closing.Reads as put-closing-reads
+use Rattle.flattening.proofs.put_opening.Reads as put-opening-reads
+use Rattle.tree.proofs.children.child_of.Reads as child-of-reads
 use Rattle.equivalence.proofs.words.put_leaf.Reads as put-leaf-reads
 use Rattle.equivalence.proofs.words.word_of.Reads as word-of-reads
 use Rattle.tree.proofs.cells.next_of.Reads as next-of-reads
@@ -125,7 +125,7 @@ put-term-put-leaf-requires : (t : ℕ) → put-term-lts.Need-put-leaf-requires (
 put-term-put-leaf-requires t c κs =
     let a = c .before .before .before .before .before .before .args in
     let p = c .before .before .before .before .before .before .pre .1 in
-    (p .0, ((p .1 .0 .0, p .1 .0 .1, omega (arith, p .1 .1 .1, size-pos (tree-at (a .sheet .now) (a .work .now) (a .i)))), c .before .before .child-of .ensures .2 (c .before .if1 .taken)))
+    (p .0, ((p .1 .0 .0, p .1 .0 .1, omega (arith, p .1 .1 .1, size-pos (tree-at (a .sheet .now) (a .work .now) (a .i)))), c .before .before .child-of .ensures .3 (c .before .if1 .taken)))
 
 put-term-same-length : (t : ℕ) → put-term-lts.Need-same-length (put-term-calls t) (put-term-at t) put-term.Post
 put-term-same-length t c = search needs
@@ -155,9 +155,9 @@ put-term-put-list-requires t c κs =
     let s = a .sheet .now in
     let w = a .work .now in
     let j = c .before .before .before .before .before .before .before .before .before .before .before .child-of .result in
-    let k = c .before .before .before .before .before .before .before .before .before .before .before .child-of .ensures .1 (omega (arith, c .before .before .before .before .before .before .before .before .before .before .if1 .left)) in (
-      omega (arith, c .before .before .before .before .before .before .before .before .before .before .before .before .before .before .before .pre .0, ap sizes (children-kept (a .sheet .now) (a .work .now) (c .before .before .before .put-opening .last .0) (a .free) (a .i) (c .before .before .before .before .before .before .before .before .before .before .before .child-of .result) (c .before .before .before .before .before .word-of .result) (a .out) (c .before .before .before .put-opening .result) (c .before .before .before .before .before .before .before .name-is .result) (a .inside) (p .0) (p .1 .0 .0) (p .1 .0 .1) (p .1 .1 .0) (p .1 .1 .1) (c .before .before .before .before .before .before .before .before .before .before .before .child-of .ensures .1 (omega (arith, c .before .before .before .before .before .before .before .before .before .before .if1 .left)) .0) (c .before .before .before .before .before .before .before .before .before .before .before .child-of .ensures .1 (omega (arith, c .before .before .before .before .before .before .before .before .before .before .if1 .left)) .1) (c .before .before .before .before .before .before .before .name-is .ensures) (c .before .before .before .before .before .word-of .ensures .0) (c .before .before .before .before .before .word-of .ensures .1) (c .before .before .before .put-opening .ensures .0) (c .before .before .before .put-opening .ensures .1)), children-fall s w (a .i) j (k .0) (k .1)),
-      (wrote-arena (c .before .before .before .put-opening .ensures .0) s (a .free) (p .1 .1 .0) (p .0), ((omega (arith, c .before .before .before .before .before .before .before .before .before .before .if1 .left), omega (arith, c .before .before .before .before .before .before .before .before .before .before .before .child-of .ensures .0, p .1 .0 .1)), (omega (arith, p .1 .1 .0, c .before .before .before .put-opening .ensures .1), list-room (a .sheet .now) (a .work .now) (c .before .before .before .put-opening .last .0) (a .free) (a .i) (c .before .before .before .before .before .before .before .before .before .before .before .child-of .result) (c .before .before .before .before .before .word-of .result) (a .out) (c .before .before .before .put-opening .result) (c .before .before .before .before .before .before .before .name-is .result) (a .inside) (p .0) (p .1 .0 .0) (p .1 .0 .1) (p .1 .1 .0) (p .1 .1 .1) (c .before .before .before .before .before .before .before .before .before .before .before .child-of .ensures .1 (omega (arith, c .before .before .before .before .before .before .before .before .before .before .if1 .left)) .0) (c .before .before .before .before .before .before .before .before .before .before .before .child-of .ensures .1 (omega (arith, c .before .before .before .before .before .before .before .before .before .before .if1 .left)) .1) (c .before .before .before .before .before .before .before .name-is .ensures) (c .before .before .before .before .before .word-of .ensures .0) (c .before .before .before .before .before .word-of .ensures .1) (c .before .before .before .put-opening .ensures .0) (c .before .before .before .put-opening .ensures .1)))),
+    let k = c .before .before .before .before .before .before .before .before .before .before .before .child-of .ensures .2 (omega (arith, c .before .before .before .before .before .before .before .before .before .before .if1 .left)) in (
+      omega (arith, c .before .before .before .before .before .before .before .before .before .before .before .before .before .before .before .pre .0, ap sizes (children-kept (a .sheet .now) (a .work .now) (c .before .before .before .put-opening .last .0) (a .free) (a .i) (c .before .before .before .before .before .before .before .before .before .before .before .child-of .result) (c .before .before .before .before .before .word-of .result) (a .out) (c .before .before .before .put-opening .result) (c .before .before .before .before .before .before .before .name-is .result) (a .inside) (p .0) (p .1 .0 .0) (p .1 .0 .1) (p .1 .1 .0) (p .1 .1 .1) (c .before .before .before .before .before .before .before .before .before .before .before .child-of .ensures .2 (omega (arith, c .before .before .before .before .before .before .before .before .before .before .if1 .left)) .0) (c .before .before .before .before .before .before .before .before .before .before .before .child-of .ensures .2 (omega (arith, c .before .before .before .before .before .before .before .before .before .before .if1 .left)) .1) (c .before .before .before .before .before .before .before .name-is .ensures) (c .before .before .before .before .before .word-of .ensures .0) (c .before .before .before .before .before .word-of .ensures .1) (c .before .before .before .put-opening .ensures .0) (c .before .before .before .put-opening .ensures .1)), children-fall s w (a .i) j (k .0) (k .1)),
+      (wrote-arena (c .before .before .before .put-opening .ensures .0) s (a .free) (p .1 .1 .0) (p .0), ((omega (arith, c .before .before .before .before .before .before .before .before .before .before .if1 .left), omega (arith, c .before .before .before .before .before .before .before .before .before .before .before .child-of .ensures .0, p .1 .0 .1)), (omega (arith, p .1 .1 .0, c .before .before .before .put-opening .ensures .1), list-room (a .sheet .now) (a .work .now) (c .before .before .before .put-opening .last .0) (a .free) (a .i) (c .before .before .before .before .before .before .before .before .before .before .before .child-of .result) (c .before .before .before .before .before .word-of .result) (a .out) (c .before .before .before .put-opening .result) (c .before .before .before .before .before .before .before .name-is .result) (a .inside) (p .0) (p .1 .0 .0) (p .1 .0 .1) (p .1 .1 .0) (p .1 .1 .1) (c .before .before .before .before .before .before .before .before .before .before .before .child-of .ensures .2 (omega (arith, c .before .before .before .before .before .before .before .before .before .before .if1 .left)) .0) (c .before .before .before .before .before .before .before .before .before .before .before .child-of .ensures .2 (omega (arith, c .before .before .before .before .before .before .before .before .before .before .if1 .left)) .1) (c .before .before .before .before .before .before .before .name-is .ensures) (c .before .before .before .before .before .word-of .ensures .0) (c .before .before .before .before .before .word-of .ensures .1) (c .before .before .before .put-opening .ensures .0) (c .before .before .before .put-opening .ensures .1)))),
     )
 
 put-term-bracket-of-requires : (t : ℕ) → put-term-lts.Need-bracket-of-requires (put-term-calls t) (put-term-at t) put-term.Post
@@ -167,7 +167,7 @@ put-term-put-closing-requires : (t : ℕ) → put-term-lts.Need-put-closing-requ
 put-term-put-closing-requires t c κs =
     let a = c .before .before .before .before .before .before .before .before .before .before .before .before .before .before .before .before .before .before .before .before .args in
     let p = c .before .before .before .before .before .before .before .before .before .before .before .before .before .before .before .before .before .before .before .before .pre .1 in
-    close-room (a .sheet .now) (a .work .now) (c .before .before .before .before .before .before .before .before .put-opening .last .0) (a .free) (a .i) (c .before .before .before .before .before .before .before .before .before .before .before .before .before .before .before .before .child-of .result) (c .before .before .before .before .before .before .before .before .before .before .word-of .result) (a .out) (c .before .before .before .before .before .before .before .before .put-opening .result) (c .before .before .before .before .before .before .before .before .before .before .before .before .name-is .result) (a .inside) (p .0) (p .1 .0 .0) (p .1 .0 .1) (p .1 .1 .0) (p .1 .1 .1) (c .before .before .before .before .before .before .before .before .before .before .before .before .before .before .before .before .child-of .ensures .1 (omega (arith, c .before .before .before .before .before .before .before .before .before .before .before .before .before .before .before .if1 .left)) .0) (c .before .before .before .before .before .before .before .before .before .before .before .before .before .before .before .before .child-of .ensures .1 (omega (arith, c .before .before .before .before .before .before .before .before .before .before .before .before .before .before .before .if1 .left)) .1) (c .before .before .before .before .before .before .before .before .before .before .before .before .name-is .ensures) (c .before .before .before .before .before .before .before .before .before .before .word-of .ensures .0) (c .before .before .before .before .before .before .before .before .before .before .word-of .ensures .1) (c .before .before .before .before .before .before .before .before .put-opening .ensures .0) (c .before .before .before .before .before .before .before .before .put-opening .ensures .1) (c .before .before .before .before .put-list .last .1 .0) (c .before .before .before .before .put-list .result) (c .before .before .before .before .put-list .ensures)
+    close-room (a .sheet .now) (a .work .now) (c .before .before .before .before .before .before .before .before .put-opening .last .0) (a .free) (a .i) (c .before .before .before .before .before .before .before .before .before .before .before .before .before .before .before .before .child-of .result) (c .before .before .before .before .before .before .before .before .before .before .word-of .result) (a .out) (c .before .before .before .before .before .before .before .before .put-opening .result) (c .before .before .before .before .before .before .before .before .before .before .before .before .name-is .result) (a .inside) (p .0) (p .1 .0 .0) (p .1 .0 .1) (p .1 .1 .0) (p .1 .1 .1) (c .before .before .before .before .before .before .before .before .before .before .before .before .before .before .before .before .child-of .ensures .2 (omega (arith, c .before .before .before .before .before .before .before .before .before .before .before .before .before .before .before .if1 .left)) .0) (c .before .before .before .before .before .before .before .before .before .before .before .before .before .before .before .before .child-of .ensures .2 (omega (arith, c .before .before .before .before .before .before .before .before .before .before .before .before .before .before .before .if1 .left)) .1) (c .before .before .before .before .before .before .before .before .before .before .before .before .name-is .ensures) (c .before .before .before .before .before .before .before .before .before .before .word-of .ensures .0) (c .before .before .before .before .before .before .before .before .before .before .word-of .ensures .1) (c .before .before .before .before .before .before .before .before .put-opening .ensures .0) (c .before .before .before .before .before .before .before .before .put-opening .ensures .1) (c .before .before .before .before .put-list .last .1 .0) (c .before .before .before .before .put-list .result) (c .before .before .before .before .put-list .ensures)
 
 put-term-same-length-2 : (t : ℕ) → put-term-lts.Need-same-length-2 (put-term-calls t) (put-term-at t) put-term.Post
 put-term-same-length-2 t c = search needs
@@ -176,7 +176,7 @@ put-term-returns-2 : (t : ℕ) → put-term-lts.Need-returns-2 (put-term-calls t
 put-term-returns-2 t c =
     let a = c .before .before .before .before .before .before .before .before .before .before .before .before .before .before .before .before .before .before .before .before .before .before .before .args in
     let p = c .before .before .before .before .before .before .before .before .before .before .before .before .before .before .before .before .before .before .before .before .before .before .before .pre .1 in
-    node-spelled (a .sheet .now) (a .work .now) (c .before .before .before .before .before .before .before .before .before .before .before .put-opening .last .0) (a .free) (a .i) (c .before .before .before .before .before .before .before .before .before .before .before .before .before .before .before .before .before .before .before .child-of .result) (c .before .before .before .before .before .before .before .before .before .before .before .before .before .word-of .result) (a .out) (c .before .before .before .before .before .before .before .before .before .before .before .put-opening .result) (c .before .before .before .before .before .before .before .before .before .before .before .before .before .before .before .name-is .result) (a .inside) (p .0) (p .1 .0 .0) (p .1 .0 .1) (p .1 .1 .0) (p .1 .1 .1) (c .before .before .before .before .before .before .before .before .before .before .before .before .before .before .before .before .before .before .before .child-of .ensures .1 (omega (arith, c .before .before .before .before .before .before .before .before .before .before .before .before .before .before .before .before .before .before .if1 .left)) .0) (c .before .before .before .before .before .before .before .before .before .before .before .before .before .before .before .before .before .before .before .child-of .ensures .1 (omega (arith, c .before .before .before .before .before .before .before .before .before .before .before .before .before .before .before .before .before .before .if1 .left)) .1) (c .before .before .before .before .before .before .before .before .before .before .before .before .before .before .before .name-is .ensures) (c .before .before .before .before .before .before .before .before .before .before .before .before .before .word-of .ensures .0) (c .before .before .before .before .before .before .before .before .before .before .before .before .before .word-of .ensures .1) (c .before .before .before .before .before .before .before .before .before .before .before .put-opening .ensures .0) (c .before .before .before .before .before .before .before .before .before .before .before .put-opening .ensures .1) (c .before .before .before .before .before .before .before .put-list .last .1 .0) (c .before .before .before .before .before .before .before .put-list .result) (c .before .before .before .before .before .before .before .put-list .ensures) (c .before .before .put-closing .last .0) (c .before .before .before .bracket-of .result) (c .before .before .put-closing .result) (c .before .before .before .bracket-of .ensures) (c .before .before .put-closing .ensures .0) (c .before .before .put-closing .ensures .1)
+    node-spelled (a .sheet .now) (a .work .now) (c .before .before .before .before .before .before .before .before .before .before .before .put-opening .last .0) (a .free) (a .i) (c .before .before .before .before .before .before .before .before .before .before .before .before .before .before .before .before .before .before .before .child-of .result) (c .before .before .before .before .before .before .before .before .before .before .before .before .before .word-of .result) (a .out) (c .before .before .before .before .before .before .before .before .before .before .before .put-opening .result) (c .before .before .before .before .before .before .before .before .before .before .before .before .before .before .before .name-is .result) (a .inside) (p .0) (p .1 .0 .0) (p .1 .0 .1) (p .1 .1 .0) (p .1 .1 .1) (c .before .before .before .before .before .before .before .before .before .before .before .before .before .before .before .before .before .before .before .child-of .ensures .2 (omega (arith, c .before .before .before .before .before .before .before .before .before .before .before .before .before .before .before .before .before .before .if1 .left)) .0) (c .before .before .before .before .before .before .before .before .before .before .before .before .before .before .before .before .before .before .before .child-of .ensures .2 (omega (arith, c .before .before .before .before .before .before .before .before .before .before .before .before .before .before .before .before .before .before .if1 .left)) .1) (c .before .before .before .before .before .before .before .before .before .before .before .before .before .before .before .name-is .ensures) (c .before .before .before .before .before .before .before .before .before .before .before .before .before .word-of .ensures .0) (c .before .before .before .before .before .before .before .before .before .before .before .before .before .word-of .ensures .1) (c .before .before .before .before .before .before .before .before .before .before .before .put-opening .ensures .0) (c .before .before .before .before .before .before .before .before .before .before .before .put-opening .ensures .1) (c .before .before .before .before .before .before .before .put-list .last .1 .0) (c .before .before .before .before .before .before .before .put-list .result) (c .before .before .before .before .before .before .before .put-list .ensures) (c .before .before .put-closing .last .0) (c .before .before .before .bracket-of .result) (c .before .before .put-closing .result) (c .before .before .before .bracket-of .ensures) (c .before .before .put-closing .ensures .0) (c .before .before .put-closing .ensures .1)
 
 pub +put-list+put-term-spec : {M : Type 1} → statement M
 +put-list+put-term-spec = close μ-put-list μ-put-term (λ t. put-list-lts.spec (put-list-calls t) (put-list-at t)

@@ -1,12 +1,12 @@
 use lib.Seq.{slice}
-use Rattle.certificate.specs.Texts.{texts}
+use Rattle.runs.specs.Texts.{texts}
 use Rattle.equivalence.proofs.Comparing.{order-equal, order-other}
 use borrow.Author.Needs.{needs}
 use Rattle.equivalence.proofs.words.same_text.Statement.{statement}
 use Rattle.equivalence.proofs.words.same_text.Tie as tie
 use Rattle.equivalence.proofs.words.same_text.Reads as reads
 use Rattle.equivalence.proofs.words.same_text.Lts as lts
-use Rattle.certificate.proofs.order.compare.Reads as compare-reads
+use Rattle.runs.proofs.order.compare.Reads as compare-reads
 
 compare-requires : tie.Need-compare-requires
 compare-requires c κs = search needs

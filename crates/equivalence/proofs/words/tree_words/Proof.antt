@@ -6,7 +6,7 @@ use Rattle.equivalence.proofs.words.tree_words.Statement.{statement}
 use Rattle.equivalence.proofs.words.tree_words.Tie as tie
 use Rattle.equivalence.proofs.words.tree_words.Reads as reads
 use Rattle.equivalence.proofs.words.tree_words.Lts as lts
-use Rattle.certificate.proofs.sums.settle.Reads as settle-reads
+use Rattle.settling.proofs.settle.Reads as settle-reads
 use Rattle.equivalence.proofs.words.put_term.Reads as put-term-reads
 
 put-term-requires : tie.Need-put-term-requires

@@ -14,7 +14,7 @@ use Rattle.reading.proofs.closing.shut.Lts as lts
 use Rattle.reading.proofs.closing.atom.Reads as atom-reads
 use Rattle.reading.proofs.closing.list.Reads as list-reads
 use Rattle.reading.proofs.closing.sum.Reads as sum-reads
-use Rattle.reading.proofs.closing.wide.Reads as wide-reads
+use Rattle.reading.proofs.closing.letter_kind.Reads as letter-kind-reads
 use Rattle.reading.proofs.leaves.is_letter_name.Reads as is-letter-name-reads
 use Rattle.text.proofs.same.Reads as same-reads
 
@@ -33,17 +33,17 @@ part-is-letter-name-end c = search needs
 is-letter-name-requires : tie.Need-is-letter-name-requires
 is-letter-name-requires c κs = search needs
 
-shared-slice-read-wide : tie.Need-shared-slice-read-wide
-shared-slice-read-wide c = search needs
+shared-slice-read-letter-kind : tie.Need-shared-slice-read-letter-kind
+shared-slice-read-letter-kind c = search needs
 
-wide-requires : tie.Need-wide-requires
-wide-requires c κs = search needs
+letter-kind-requires : tie.Need-letter-kind-requires
+letter-kind-requires c κs = search needs
 
 atom-requires : tie.Need-atom-requires
 atom-requires c κs =
     let a = c .before .before .before .before .before .before .before .before .args in
     let p = c .before .before .before .before .before .before .before .before .pre in
-    (p .0, (p .1 .0, (p .1 .1 .0, (letter-high (p .1 .1 .1 .0) none (c .before .before .before .before .is-letter-name .ensures) (c .wide .ensures .0) (c .before .before .before .if1 .taken), c .wide .ensures .1))))
+    (p .0, (p .1 .0, (p .1 .1 .0, (letter-high (p .1 .1 .1 .0) none (c .before .before .before .before .is-letter-name .ensures) (c .letter-kind .ensures .0) (c .before .before .before .if1 .taken), c .letter-kind .ensures .1))))
 
 same-length : tie.Need-same-length
 same-length c = search needs
@@ -52,7 +52,7 @@ returns : tie.Need-returns
 returns c =
     let a = c .before .before .before .before .before .before .before .before .before .before .before .args in
     let p = c .before .before .before .before .before .before .before .before .before .before .before .pre in
-    closes-of (a .sheet .now) (a .work .now) (c .before .before .atom .last .1 .0) (a .free) (most (a .sheet .now) (a .work .now) (a .free) (a .chain)) (a .next) (c .before .before .atom .result) (c .before .before .atom .ensures) (close-atom (p .1 .1 .1 .0) (back (trees-at (a .sheet .now) (a .work .now) (a .chain)) none) (c .before .before .before .before .before .before .before .is-letter-name .ensures) (c .before .before .before .wide .ensures .0) (c .before .before .before .before .before .before .if1 .taken))
+    closes-of (a .sheet .now) (a .work .now) (c .before .before .atom .last .1 .0) (a .free) (most (a .sheet .now) (a .work .now) (a .free) (a .chain)) (a .next) (c .before .before .atom .result) (c .before .before .atom .ensures) (close-atom (p .1 .1 .1 .0) (back (trees-at (a .sheet .now) (a .work .now) (a .chain)) none) (c .before .before .before .before .before .before .before .is-letter-name .ensures) (c .before .before .before .letter-kind .ensures .0) (c .before .before .before .before .before .before .if1 .taken))
 
 sub-same : tie.Need-sub-same
 sub-same c = search needs
@@ -105,8 +105,8 @@ shut-spec =
     part-is-letter-name-start
     part-is-letter-name-end
     is-letter-name-requires
-    shared-slice-read-wide
-    wide-requires
+    shared-slice-read-letter-kind
+    letter-kind-requires
     atom-requires
     same-length
     returns

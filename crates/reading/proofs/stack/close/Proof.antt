@@ -15,7 +15,7 @@ use Rattle.reading.proofs.stack.close.Tie as tie
 use Rattle.reading.proofs.stack.close.Reads as reads
 use Rattle.reading.proofs.stack.close.Lts as lts
 use Rattle.reading.proofs.closing.shut.Reads as shut-reads
-use Rattle.reading.proofs.stack.wide.Reads as wide-reads
+use Rattle.text.proofs.places.wide.Reads as wide-reads
 
 mul-top : tie.Need-mul-top
 mul-top c = search needs

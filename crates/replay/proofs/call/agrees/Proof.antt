@@ -1,4 +1,4 @@
--- `replay::call::agrees` meets its contract: what was written is compared with what is stored. Assumes nothing.
+-- `replay::call::agrees` meets its contract: what was written is compared with what is stored.
 use mathlib.Core.Path.{sym, ap, _∙_}
 use Prim.Native.Nat.{ℕ}
 use lib.Dec.{eqb}

@@ -1,4 +1,4 @@
--- `replay::call::holds` meets its contract. Assumes nothing.
+-- `replay::call::holds` meets its contract.
 use native.Mathlib.Omega.{arith}
 use lib.ListN.{length, length-take}
 use borrow.Author.Needs.{needs}

@@ -1,4 +1,4 @@
--- `replay::call::lends` meets its contract: the first part that decides. Assumes nothing.
+-- `replay::call::lends` meets its contract: the first part that decides.
 use mathlib.Core.Path.{sym, _∙_}
 use Rattle.replay.specs.Replaying.{lends}
 use Rattle.replay.proofs.Laws.{and-no, and-next}

@@ -1,4 +1,4 @@
--- `replay::call::replay` meets its contract: what it lends lies in the work area and in the output, and the rest is kept. Assumes nothing.
+-- `replay::call::replay` meets its contract: what it lends lies in the work area and in the output, and the rest is kept.
 use mathlib.Core.Path.{sym, _∙_}
 use mathlib.Core.Bool.{true, false}
 use lib.Seq.{length-take-le}

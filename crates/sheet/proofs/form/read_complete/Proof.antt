@@ -1,54 +1,34 @@
-use mathlib.Core.Path.{sym, _∙_}
-use Rattle.sheet.proofs.SheetLaws.{complete-no-term, complete-three, complete-read}
+use mathlib.Core.Path.{subst}
+use Rattle.sheet.specs.Form.{ReadsTermMembers}
+use Rattle.sheet.proofs.SheetLaws.{complete-unread, complete-read}
 use borrow.Author.Needs.{needs}
 use Rattle.sheet.proofs.form.read_complete.Statement.{statement}
 use Rattle.sheet.proofs.form.read_complete.Tie as tie
 use Rattle.sheet.proofs.form.read_complete.Reads as reads
 use Rattle.sheet.proofs.form.read_complete.Lts as lts
-use Rattle.sheet.proofs.Cursor.keyed.Reads as keyed-reads
-use Rattle.sheet.proofs.members.members.Reads as members-reads
+use Rattle.sheet.proofs.form.term_then_members.Reads as term-then-members-reads
 
-slice-aggregate-keyed : tie.Need-slice-aggregate-keyed
-slice-aggregate-keyed c = search needs
+term-then-members-requires : tie.Need-term-then-members-requires
+term-then-members-requires c κs = search needs
 
-keyed-requires : tie.Need-keyed-requires
-keyed-requires c κs = search needs
-
-enum-known-line : tie.Need-enum-known-line
-enum-known-line c = search needs
+enum-known-read : tie.Need-enum-known-read
+enum-known-read c = search needs
 
 enum-told : tie.Need-enum-told
 enum-told c = search needs
 
 returns : tie.Need-returns
-returns c = complete-no-term (c .before .before .before .before .before .args .sheet .now) (c .before .before .before .before .before .args .start .at) (sym (c .enum-told .given .1) ∙ c .before .before .keyed .ensures)
-
-members-requires : tie.Need-members-requires
-members-requires c κs = search needs
-
-enum-told-2 : tie.Need-enum-told-2
-enum-told-2 c = search needs
-
-enum-told-3 : tie.Need-enum-told-3
-enum-told-3 c = search needs
+returns c =
+    let a = c .before .before .before .before .args in
+    complete-unread (a .sheet .now) (a .start .at) (subst (ReadsTermMembers (a .sheet .now) (a .start .at)) (c .enum-told .given .1) (c .before .before .term-then-members .ensures))
 
 returns-2 : tie.Need-returns-2
-returns-2 c = complete-three (c .before .before .before .before .before .before .before .before .before .args .sheet .now) (c .before .before .before .before .before .before .before .before .before .args .start .at) (c .before .before .before .before .line .given .0 .0) (c .before .before .before .before .line .given .0 .1 .0) (c .before .before .before .before .line .given .0 .1 .1 .0) (sym (c .before .before .before .before .line .given .1) ∙ c .before .before .before .before .before .before .keyed .ensures) (sym (c .enum-told3 .given .1) ∙ c .before .before .members .ensures)
-
-returns-3 : tie.Need-returns-3
-returns-3 c = complete-read (c .before .before .before .before .before .before .before .before .before .args .sheet .now) (c .before .before .before .before .before .before .before .before .before .args .start .at) (c .before .before .before .before .line .given .0 .0) (c .before .before .before .before .line .given .0 .1 .0) (c .before .before .before .before .line .given .0 .1 .1 .0) (sym (c .before .before .before .before .line .given .1) ∙ c .before .before .before .before .before .before .keyed .ensures) (c .enum-told2 .given .0 .0) (sym (c .enum-told2 .given .1) ∙ c .before .before .members .ensures)
+returns-2 c =
+    let b = c .before in
+    let a = b .before .before .before .before .args in
+    complete-read (a .sheet .now) (a .start .at) (b .read .given .0 .0) (b .read .given .0 .1 .0) (b .read .given .0 .1 .1 .0) (subst (ReadsTermMembers (a .sheet .now) (a .start .at)) (b .read .given .1) (b .before .before .term-then-members .ensures))
 
 pub read-complete-spec : {M : Type 1} → statement M
 read-complete-spec =
     tie.close
-    (tie.spec
-    slice-aggregate-keyed
-    keyed-requires
-    enum-known-line
-    enum-told
-    returns
-    members-requires
-    enum-told-2
-    enum-told-3
-    returns-2
-    returns-3)
+    (tie.spec term-then-members-requires enum-known-read enum-told returns returns-2)

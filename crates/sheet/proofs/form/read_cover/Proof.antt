@@ -1,5 +1,5 @@
 use mathlib.Core.Path.{refl, sym, _∙_}
-use Rattle.sheet.proofs.SheetLaws.{cover-three, cover-read}
+use Rattle.sheet.proofs.SheetLaws.{cover-unread, cover-read}
 use borrow.Author.Needs.{needs}
 use Rattle.sheet.proofs.form.read_cover.Statement.{statement}
 use Rattle.sheet.proofs.form.read_cover.Tie as tie
@@ -21,7 +21,7 @@ enum-told-2 : tie.Need-enum-told-2
 enum-told-2 c = search needs
 
 returns : tie.Need-returns
-returns c = cover-three (c .before .before .before .before .before .args .sheet .now) (c .before .before .before .before .before .args .start .at) (c .before .before .before .after-pairs .result) (c .before .before .before .after-pairs .ensures) (sym (c .enum-told2 .given .1) ∙ c .before .before .members .ensures)
+returns c = cover-unread (c .before .before .before .before .before .args .sheet .now) (c .before .before .before .before .before .args .start .at) (c .before .before .before .after-pairs .result) (c .before .before .before .after-pairs .ensures) (sym (c .enum-told2 .given .1) ∙ c .before .before .members .ensures)
 
 returns-2 : tie.Need-returns-2
 returns-2 c = cover-read (c .before .before .before .before .before .args .sheet .now) (c .before .before .before .before .before .args .start .at) (c .before .before .before .after-pairs .result) (c .before .before .before .after-pairs .ensures) (c .enum-told .given .0 .0) (sym (c .enum-told .given .1) ∙ c .before .before .members .ensures) (c .before .before .before .before .before .args .start) refl (c .before .before .before .before .before .pre .1)

@@ -1,5 +1,5 @@
 use mathlib.Core.Path.{sym, _∙_}
-use Rattle.sheet.proofs.SheetLaws.{equal-three, equal-more, equal-read}
+use Rattle.sheet.proofs.SheetLaws.{equal-unread, equal-more, equal-read}
 use borrow.Author.Needs.{needs}
 use Rattle.sheet.proofs.form.read_equal.Statement.{statement}
 use Rattle.sheet.proofs.form.read_equal.Tie as tie
@@ -17,7 +17,7 @@ enum-told : tie.Need-enum-told
 enum-told c = search needs
 
 returns : tie.Need-returns
-returns c = equal-three (c .before .before .before .before .args .sheet .now) (c .before .before .before .before .args .start .at) (sym (c .enum-told .given .1) ∙ c .before .before .next-pair .ensures)
+returns c = equal-unread (c .before .before .before .before .args .sheet .now) (c .before .before .before .before .args .start .at) (sym (c .enum-told .given .1) ∙ c .before .before .next-pair .ensures)
 
 returns-2 : tie.Need-returns-2
 returns-2 c = equal-more (c .before .before .before .before .before .before .args .sheet .now) (c .before .before .before .before .before .before .args .start .at) (c .before .before .pair .given .0 .0) (c .before .before .pair .given .0 .1 .0) (c .before .before .pair .given .0 .1 .1 .0) (sym (c .before .before .pair .given .1) ∙ c .before .before .before .before .next-pair .ensures) (c .if1 .taken)

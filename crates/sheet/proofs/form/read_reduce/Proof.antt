@@ -1,5 +1,5 @@
 use mathlib.Core.Path.{sym, _∙_}
-use Rattle.sheet.proofs.SheetLaws.{reduce-three, reduce-more, reduce-read}
+use Rattle.sheet.proofs.SheetLaws.{reduce-unread, reduce-more, reduce-read}
 use borrow.Author.Needs.{needs}
 use Rattle.sheet.proofs.form.read_reduce.Statement.{statement}
 use Rattle.sheet.proofs.form.read_reduce.Tie as tie
@@ -20,7 +20,7 @@ enum-told : tie.Need-enum-told
 enum-told c = search needs
 
 returns : tie.Need-returns
-returns c = reduce-three (c .before .before .before .before .before .args .sheet .now) (c .before .before .before .before .before .args .start .at) (sym (c .enum-told .given .1) ∙ c .before .before .keyed .ensures)
+returns c = reduce-unread (c .before .before .before .before .before .args .sheet .now) (c .before .before .before .before .before .args .start .at) (sym (c .enum-told .given .1) ∙ c .before .before .keyed .ensures)
 
 returns-2 : tie.Need-returns-2
 returns-2 c = reduce-more (c .before .before .before .before .before .before .before .args .sheet .now) (c .before .before .before .before .before .before .before .args .start .at) (c .before .before .line .given .0 .0) (c .before .before .line .given .0 .1 .0) (c .before .before .line .given .0 .1 .1 .0) (sym (c .before .before .line .given .1) ∙ c .before .before .before .before .keyed .ensures) (c .if1 .taken)

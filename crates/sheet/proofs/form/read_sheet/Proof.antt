@@ -89,25 +89,25 @@ enum-told-9 : tie.Need-enum-told-9
 enum-told-9 c = search needs
 
 returns-2 : tie.Need-returns-2
-returns-2 c = that-kind (c .before .before .before .before .before .before .before .before .before .before .before .args .sheet .now) (c .before .before .before .before .before .before .line .given .0 .0) (c .before .before .before .before .before .before .line .given .0 .1 .0) (c .before .before .before .before .before .before .line .given .0 .1 .1 .0) (sym (c .before .before .before .before .before .before .line .given .1) ∙ c .before .before .before .before .before .before .before .before .keyed .ensures) (c .before .before .before .before .part .ensures) Equal (sym (ap kind-read (c .before .enum-told2 .given .1)) ∙ c .before .before .before .kind-of .ensures) (c .read-equal .ensures)
+returns-2 c = that-kind (c .before .before .before .before .before .before .before .before .before .before .before .args .sheet .now) (c .before .before .before .before .before .before .line .given .0 .0) (c .before .before .before .before .before .before .line .given .0 .1 .0) (c .before .before .before .before .before .before .line .given .0 .1 .1 .0) (sym (c .before .before .before .before .before .before .line .given .1) ∙ c .before .before .before .before .before .before .before .before .keyed .ensures) (c .before .before .before .before .part .ensures) Equal (c .read-equal .result) (sym (ap kind-read (c .before .enum-told2 .given .1)) ∙ c .before .before .before .kind-of .ensures) (c .read-equal .ensures)
 
 returns-3 : tie.Need-returns-3
-returns-3 c = that-kind (c .before .before .before .before .before .before .before .before .before .before .before .args .sheet .now) (c .before .before .before .before .before .before .line .given .0 .0) (c .before .before .before .before .before .before .line .given .0 .1 .0) (c .before .before .before .before .before .before .line .given .0 .1 .1 .0) (sym (c .before .before .before .before .before .before .line .given .1) ∙ c .before .before .before .before .before .before .before .before .keyed .ensures) (c .before .before .before .before .part .ensures) Unify (sym (ap kind-read (c .before .enum-told3 .given .1)) ∙ c .before .before .before .kind-of .ensures) (c .read-solving .ensures)
+returns-3 c = that-kind (c .before .before .before .before .before .before .before .before .before .before .before .args .sheet .now) (c .before .before .before .before .before .before .line .given .0 .0) (c .before .before .before .before .before .before .line .given .0 .1 .0) (c .before .before .before .before .before .before .line .given .0 .1 .1 .0) (sym (c .before .before .before .before .before .before .line .given .1) ∙ c .before .before .before .before .before .before .before .before .keyed .ensures) (c .before .before .before .before .part .ensures) Unify (c .read-solving .result) (sym (ap kind-read (c .before .enum-told3 .given .1)) ∙ c .before .before .before .kind-of .ensures) (c .read-solving .ensures)
 
 returns-4 : tie.Need-returns-4
-returns-4 c = that-kind (c .before .before .before .before .before .before .before .before .before .before .before .args .sheet .now) (c .before .before .before .before .before .before .line .given .0 .0) (c .before .before .before .before .before .before .line .given .0 .1 .0) (c .before .before .before .before .before .before .line .given .0 .1 .1 .0) (sym (c .before .before .before .before .before .before .line .given .1) ∙ c .before .before .before .before .before .before .before .before .keyed .ensures) (c .before .before .before .before .part .ensures) Match (sym (ap kind-read (c .before .enum-told4 .given .1)) ∙ c .before .before .before .kind-of .ensures) (c .read-solving2 .ensures)
+returns-4 c = that-kind (c .before .before .before .before .before .before .before .before .before .before .before .args .sheet .now) (c .before .before .before .before .before .before .line .given .0 .0) (c .before .before .before .before .before .before .line .given .0 .1 .0) (c .before .before .before .before .before .before .line .given .0 .1 .1 .0) (sym (c .before .before .before .before .before .before .line .given .1) ∙ c .before .before .before .before .before .before .before .before .keyed .ensures) (c .before .before .before .before .part .ensures) Match (c .read-solving2 .result) (sym (ap kind-read (c .before .enum-told4 .given .1)) ∙ c .before .before .before .kind-of .ensures) (c .read-solving2 .ensures)
 
 returns-5 : tie.Need-returns-5
-returns-5 c = that-kind (c .before .before .before .before .before .before .before .before .before .before .before .args .sheet .now) (c .before .before .before .before .before .before .line .given .0 .0) (c .before .before .before .before .before .before .line .given .0 .1 .0) (c .before .before .before .before .before .before .line .given .0 .1 .1 .0) (sym (c .before .before .before .before .before .before .line .given .1) ∙ c .before .before .before .before .before .before .before .before .keyed .ensures) (c .before .before .before .before .part .ensures) Reduce (sym (ap kind-read (c .before .enum-told5 .given .1)) ∙ c .before .before .before .kind-of .ensures) (c .read-reduce .ensures)
+returns-5 c = that-kind (c .before .before .before .before .before .before .before .before .before .before .before .args .sheet .now) (c .before .before .before .before .before .before .line .given .0 .0) (c .before .before .before .before .before .before .line .given .0 .1 .0) (c .before .before .before .before .before .before .line .given .0 .1 .1 .0) (sym (c .before .before .before .before .before .before .line .given .1) ∙ c .before .before .before .before .before .before .before .before .keyed .ensures) (c .before .before .before .before .part .ensures) Reduce (c .read-reduce .result) (sym (ap kind-read (c .before .enum-told5 .given .1)) ∙ c .before .before .before .kind-of .ensures) (c .read-reduce .ensures)
 
 returns-6 : tie.Need-returns-6
-returns-6 c = that-kind (c .before .before .before .before .before .before .before .before .before .before .before .args .sheet .now) (c .before .before .before .before .before .before .line .given .0 .0) (c .before .before .before .before .before .before .line .given .0 .1 .0) (c .before .before .before .before .before .before .line .given .0 .1 .1 .0) (sym (c .before .before .before .before .before .before .line .given .1) ∙ c .before .before .before .before .before .before .before .before .keyed .ensures) (c .before .before .before .before .part .ensures) Cover (sym (ap kind-read (c .before .enum-told6 .given .1)) ∙ c .before .before .before .kind-of .ensures) (c .read-cover .ensures)
+returns-6 c = that-kind (c .before .before .before .before .before .before .before .before .before .before .before .args .sheet .now) (c .before .before .before .before .before .before .line .given .0 .0) (c .before .before .before .before .before .before .line .given .0 .1 .0) (c .before .before .before .before .before .before .line .given .0 .1 .1 .0) (sym (c .before .before .before .before .before .before .line .given .1) ∙ c .before .before .before .before .before .before .before .before .keyed .ensures) (c .before .before .before .before .part .ensures) Cover (c .read-cover .result) (sym (ap kind-read (c .before .enum-told6 .given .1)) ∙ c .before .before .before .kind-of .ensures) (c .read-cover .ensures)
 
 returns-7 : tie.Need-returns-7
-returns-7 c = that-kind (c .before .before .before .before .before .before .before .before .before .before .before .args .sheet .now) (c .before .before .before .before .before .before .line .given .0 .0) (c .before .before .before .before .before .before .line .given .0 .1 .0) (c .before .before .before .before .before .before .line .given .0 .1 .1 .0) (sym (c .before .before .before .before .before .before .line .given .1) ∙ c .before .before .before .before .before .before .before .before .keyed .ensures) (c .before .before .before .before .part .ensures) Sound (sym (ap kind-read (c .before .enum-told7 .given .1)) ∙ c .before .before .before .kind-of .ensures) (c .read-sound .ensures)
+returns-7 c = that-kind (c .before .before .before .before .before .before .before .before .before .before .before .args .sheet .now) (c .before .before .before .before .before .before .line .given .0 .0) (c .before .before .before .before .before .before .line .given .0 .1 .0) (c .before .before .before .before .before .before .line .given .0 .1 .1 .0) (sym (c .before .before .before .before .before .before .line .given .1) ∙ c .before .before .before .before .before .before .before .before .keyed .ensures) (c .before .before .before .before .part .ensures) Sound (c .read-sound .result) (sym (ap kind-read (c .before .enum-told7 .given .1)) ∙ c .before .before .before .kind-of .ensures) (c .read-sound .ensures)
 
 returns-8 : tie.Need-returns-8
-returns-8 c = that-kind (c .before .before .before .before .before .before .before .before .before .before .before .args .sheet .now) (c .before .before .before .before .before .before .line .given .0 .0) (c .before .before .before .before .before .before .line .given .0 .1 .0) (c .before .before .before .before .before .before .line .given .0 .1 .1 .0) (sym (c .before .before .before .before .before .before .line .given .1) ∙ c .before .before .before .before .before .before .before .before .keyed .ensures) (c .before .before .before .before .part .ensures) Complete (sym (ap kind-read (c .before .enum-told8 .given .1)) ∙ c .before .before .before .kind-of .ensures) (c .read-complete .ensures)
+returns-8 c = that-kind (c .before .before .before .before .before .before .before .before .before .before .before .args .sheet .now) (c .before .before .before .before .before .before .line .given .0 .0) (c .before .before .before .before .before .before .line .given .0 .1 .0) (c .before .before .before .before .before .before .line .given .0 .1 .1 .0) (sym (c .before .before .before .before .before .before .line .given .1) ∙ c .before .before .before .before .before .before .before .before .keyed .ensures) (c .before .before .before .before .part .ensures) Complete (c .read-complete .result) (sym (ap kind-read (c .before .enum-told8 .given .1)) ∙ c .before .before .before .kind-of .ensures) (c .read-complete .ensures)
 
 returns-9 : tie.Need-returns-9
 returns-9 c = other-kind (c .before .before .before .before .before .before .before .before .before .before .args .sheet .now) (c .before .before .before .before .before .line .given .0 .0) (c .before .before .before .before .before .line .given .0 .1 .0) (c .before .before .before .before .before .line .given .0 .1 .1 .0) (sym (c .before .before .before .before .before .line .given .1) ∙ c .before .before .before .before .before .before .before .keyed .ensures) (c .before .before .before .part .ensures) (sym (ap kind-read (c .enum-told9 .given .1)) ∙ c .before .before .kind-of .ensures)

@@ -2,7 +2,7 @@ use mathlib.Core.Path.{sym, _∙_}
 use native.Mathlib.Omega.{arith}
 use Rattle.rules.specs.Text.{bytes}
 use Rattle.sheet.proofs.LineLaws.{keyed}
-use Rattle.sheet.proofs.SheetLaws.{solving-three, fuel-three, pairs-three, match-read, unify-read}
+use Rattle.sheet.proofs.SheetLaws.{solving-unread, fuel-unread, pairs-unread, match-read, unify-read}
 use borrow.Author.Needs.{needs}
 use Rattle.sheet.proofs.form.read_solving.Statement.{statement}
 use Rattle.sheet.proofs.form.read_solving.Tie as tie
@@ -26,7 +26,7 @@ enum-told : tie.Need-enum-told
 enum-told c = search needs
 
 returns : tie.Need-returns
-returns c = solving-three (c .before .before .before .before .before .args .matching) (c .before .before .before .before .before .args .sheet .now) (c .before .before .before .before .before .args .start .at) (sym (c .enum-told .given .1) ∙ c .before .before .keyed .ensures)
+returns c = solving-unread (c .before .before .before .before .before .args .matching) (c .before .before .before .before .before .args .sheet .now) (c .before .before .before .before .before .args .start .at) (sym (c .enum-told .given .1) ∙ c .before .before .keyed .ensures)
 
 part-requires : tie.Need-part-requires
 part-requires c κs =
@@ -43,13 +43,13 @@ enum-told-2 : tie.Need-enum-told-2
 enum-told-2 c = search needs
 
 returns-2 : tie.Need-returns-2
-returns-2 c = fuel-three (c .before .before .before .before .before .before .before .before .before .before .args .matching) (c .before .before .before .before .before .before .before .before .before .before .args .sheet .now) (c .before .before .before .before .before .before .before .before .before .before .args .start .at) (c .before .before .before .before .before .line .given .0 .0) (c .before .before .before .before .before .line .given .0 .1 .0) (c .before .before .before .before .before .line .given .0 .1 .1 .0) (sym (c .before .before .before .before .before .line .given .1) ∙ c .before .before .before .before .before .before .before .keyed .ensures) (c .before .before .before .part .ensures) (sym (c .enum-told2 .given .1) ∙ c .before .before .number-up-to .ensures)
+returns-2 c = fuel-unread (c .before .before .before .before .before .before .before .before .before .before .args .matching) (c .before .before .before .before .before .before .before .before .before .before .args .sheet .now) (c .before .before .before .before .before .before .before .before .before .before .args .start .at) (c .before .before .before .before .before .line .given .0 .0) (c .before .before .before .before .before .line .given .0 .1 .0) (c .before .before .before .before .before .line .given .0 .1 .1 .0) (sym (c .before .before .before .before .before .line .given .1) ∙ c .before .before .before .before .before .before .before .keyed .ensures) (c .before .before .before .part .ensures) (sym (c .enum-told2 .given .1) ∙ c .before .before .number-up-to .ensures)
 
 after-pairs-requires : tie.Need-after-pairs-requires
 after-pairs-requires c κs = search needs
 
 returns-3 : tie.Need-returns-3
-returns-3 c = pairs-three (c .before .before .before .before .before .before .before .before .before .before .before .before .before .args .matching) (c .before .before .before .before .before .before .before .before .before .before .before .before .before .args .sheet .now) (c .before .before .before .before .before .before .before .before .before .before .before .before .before .args .start .at) (c .before .before .before .before .before .before .before .before .line .given .0 .0) (c .before .before .before .before .before .before .before .before .line .given .0 .1 .0) (c .before .before .before .before .before .before .before .before .line .given .0 .1 .1 .0) (sym (c .before .before .before .before .before .before .before .before .line .given .1) ∙ c .before .before .before .before .before .before .before .before .before .before .keyed .ensures) (c .before .before .before .before .before .before .part .ensures) (c .before .before .before .number .given .0 .0) (sym (c .before .before .before .number .given .1) ∙ c .before .before .before .before .before .number-up-to .ensures) (c .before .after-pairs .result .at) (c .before .after-pairs .ensures) (c .if1 .taken)
+returns-3 c = pairs-unread (c .before .before .before .before .before .before .before .before .before .before .before .before .before .args .matching) (c .before .before .before .before .before .before .before .before .before .before .before .before .before .args .sheet .now) (c .before .before .before .before .before .before .before .before .before .before .before .before .before .args .start .at) (c .before .before .before .before .before .before .before .before .line .given .0 .0) (c .before .before .before .before .before .before .before .before .line .given .0 .1 .0) (c .before .before .before .before .before .before .before .before .line .given .0 .1 .1 .0) (sym (c .before .before .before .before .before .before .before .before .line .given .1) ∙ c .before .before .before .before .before .before .before .before .before .before .keyed .ensures) (c .before .before .before .before .before .before .part .ensures) (c .before .before .before .number .given .0 .0) (sym (c .before .before .before .number .given .1) ∙ c .before .before .before .before .before .number-up-to .ensures) (c .before .after-pairs .result .at) (c .before .after-pairs .ensures) (c .if1 .taken)
 
 returns-4 : tie.Need-returns-4
 returns-4 c = match-read (c .before .before .before .before .before .before .before .before .before .before .before .before .before .before .args .matching) (c .before .before .before .before .before .before .before .before .before .before .before .before .before .before .args .sheet .now) (c .before .before .before .before .before .before .before .before .before .before .before .before .before .before .args .start .at) (c .before .before .before .before .before .before .before .before .before .line .given .0 .0) (c .before .before .before .before .before .before .before .before .before .line .given .0 .1 .0) (c .before .before .before .before .before .before .before .before .before .line .given .0 .1 .1 .0) (sym (c .before .before .before .before .before .before .before .before .before .line .given .1) ∙ c .before .before .before .before .before .before .before .before .before .before .before .keyed .ensures) (c .before .before .before .before .before .before .before .part .ensures) (c .before .before .before .before .number .given .0 .0) (sym (c .before .before .before .before .number .given .1) ∙ c .before .before .before .before .before .before .number-up-to .ensures) (c .before .before .after-pairs .result .at) (c .before .before .after-pairs .ensures) (c .before .if1 .left) (c .if2 .taken)

@@ -1,6 +1,5 @@
 use native.Mathlib.Omega.{arith}
-use Rattle.sheet.specs.Form.{form-words}
-use Rattle.sheet.proofs.WordLaws.{count-bound}
+use Rattle.sheet.proofs.WordLaws.{count-bound, form-needs}
 use borrow.Author.Needs.{needs}
 use Rattle.sheet.proofs.form.words_needed.Statement.{statement}
 use Rattle.sheet.proofs.form.words_needed.Tie as tie
@@ -43,11 +42,9 @@ add-result-3 c =
     omega arith
 
 returns : tie.Need-returns
-unfolding form-words
 returns c =
-    let r = c .raise-of .ensures .0 in
-    let k = c .before .count-of .ensures in
-    rw (k, r)
+    let a = c .before .before .before .args in
+    form-needs (a .sheet .now) (a .form) (c .before .count-of .ensures) (c .raise-of .ensures .0)
 
 pub words-needed-spec : {M : Type 1} → statement M
 words-needed-spec =

@@ -1,5 +1,5 @@
 use Rattle.text.proofs.Decimals.{padded, decimal-padded, print-turn, print-end}
-use Rattle.text.specs.Printing.{written}
+use Rattle.text.specs.Printing.{printed-over}
 use Rattle.rules.specs.Decimal.{decimal}
 use mathlib.Core.List.{_++_}
 use lib.ListN.{length, take, drop, length-set}
@@ -13,7 +13,7 @@ use Rattle.text.proofs.decimal.print.Lts as lts
 use Rattle.text.proofs.decimal.width_of.Reads as width-of-reads
 
 abbrev Inv-loop : tie.InvT-loop
-Inv-loop n out₀ at end m₀ i₀ out m i = (at ≤ i) × (i ≤ length out) × (length out ≡ length out₀) × (take at out ++ (padded (i - at) m ++ drop i out) ≡ written out₀ at (decimal n))
+Inv-loop n out₀ at end m₀ i₀ out m i = (at ≤ i) × (i ≤ length out) × (length out ≡ length out₀) × (take at out ++ (padded (i - at) m ++ drop i out) ≡ printed-over out₀ at (decimal n))
 
 abbrev μ-loop : tie.MeasureT-loop
 μ-loop n out₀ at end m₀ i₀ out m i = i
@@ -25,7 +25,7 @@ add-end : tie.Need-add-end Inv-loop μ-loop
 add-end c = omega arith
 
 loop-holds : tie.Need-loop-holds Inv-loop μ-loop
-unfolding written
+unfolding printed-over
 loop-holds c =
     let a = c .before .before .args in
     let e = c .width-of .ensures in
@@ -50,7 +50,7 @@ loop-less c = omega arith
 loop-again : tie.Need-loop-again Inv-loop μ-loop
 loop-again c =
     let l = c .before .loop in
-    (omega arith, simp length-set (omega arith), simp length-set (l .inv .2), print-turn (l .out) (written (c .before .before .before .before .args .out .now) (c .before .before .before .before .args .at) (decimal (c .before .before .before .before .args .n))) (c .before .before .before .before .args .at) (l .i) (l .m) (omega arith) (omega arith) (l .inv .3))
+    (omega arith, simp length-set (omega arith), simp length-set (l .inv .2), print-turn (l .out) (printed-over (c .before .before .before .before .args .out .now) (c .before .before .before .before .args .at) (decimal (c .before .before .before .before .args .n))) (c .before .before .before .before .args .at) (l .i) (l .m) (omega arith) (omega arith) (l .inv .3))
 
 same-length : tie.Need-same-length Inv-loop μ-loop
 same-length c = c .before .loop .inv .2
@@ -58,7 +58,7 @@ same-length c = c .before .loop .inv .2
 returns : tie.Need-returns Inv-loop μ-loop
 returns c =
     let l = c .before .loop in
-    record { bytes = print-end (l .out) (written (c .before .before .before .before .args .out .now) (c .before .before .before .before .args .at) (decimal (c .before .before .before .before .args .n))) (c .before .before .before .before .args .at) (l .i) (l .m) (omega arith) (omega arith) (l .inv .3); end = omega (arith, c .before .before .width-of .ensures) }
+    record { bytes = print-end (l .out) (printed-over (c .before .before .before .before .args .out .now) (c .before .before .before .before .args .at) (decimal (c .before .before .before .before .args .n))) (c .before .before .before .before .args .at) (l .i) (l .m) (omega arith) (omega arith) (l .inv .3); end = omega (arith, c .before .before .width-of .ensures) }
 
 pub print-spec : {M : Type 1} → statement M
 print-spec =

@@ -5,7 +5,7 @@ use mathlib.Core.List.{List}
 use lib.ListN.{length, take, getD, set, length-set}
 use lib.Seq.{take-all}
 use Rattle.tree.specs.Cells.{fixed-name}
-use Rattle.tree.specs.Output.{written}
+use Rattle.text.specs.Printing.{printed-over}
 use Rattle.tree.proofs.Printing.{written-none, written-more}
 use borrow.Author.Needs.{needs}
 use Rattle.tree.proofs.fixed.print_fixed.Statement.{statement}
@@ -16,7 +16,7 @@ use Rattle.tree.proofs.fixed.fixed_byte.Reads as fixed-byte-reads
 use Rattle.tree.proofs.fixed.fixed_len.Reads as fixed-len-reads
 
 abbrev Inv-loop : tie.InvT-loop
-Inv-loop out₀ at code n i₀ out i = (i ≤ n) × (n ≡ length (fixed-name code)) × (length out ≡ length out₀) × (out ≡ written out₀ at (take i (fixed-name code)))
+Inv-loop out₀ at code n i₀ out i = (i ≤ n) × (n ≡ length (fixed-name code)) × (length out ≡ length out₀) × (out ≡ printed-over out₀ at (take i (fixed-name code)))
 
 abbrev μ-loop : tie.MeasureT-loop
 μ-loop out₀ at code n i₀ out i = n - i
@@ -59,7 +59,7 @@ returns c =
     let a = c .before .before .before .before .args in
     let l = c .before .loop in
     let e : l .i ≡ length (fixed-name (a .code)) = omega (arith, l .inv) in
-    record { bytes = l .inv .3 ∙ ap (written (a .out .now) (a .at)) (take-all (l .i) (fixed-name (a .code)) (omega arith)); end = omega arith }
+    record { bytes = l .inv .3 ∙ ap (printed-over (a .out .now) (a .at)) (take-all (l .i) (fixed-name (a .code)) (omega arith)); end = omega arith }
 
 pub print-fixed-spec : {M : Type 1} → statement M
 print-fixed-spec =

@@ -4,7 +4,7 @@ use mathlib.Core.Path.{_≡_, refl, sym, ap, _∙_}
 use mathlib.Core.List.{List}
 use lib.ListN.{length, take, getD, set, length-set}
 use lib.Seq.{take-all}
-use Rattle.tree.specs.Output.{written}
+use Rattle.text.specs.Printing.{printed-over}
 use Rattle.tree.proofs.Printing.{written-none, written-more}
 use Rattle.tree.proofs.names.print_text.Statement.{statement}
 use Rattle.tree.proofs.names.print_text.Tie as tie
@@ -12,7 +12,7 @@ use Rattle.tree.proofs.names.print_text.Reads as reads
 use Rattle.tree.proofs.names.print_text.Lts as lts
 
 abbrev Inv-loop : tie.InvT-loop
-Inv-loop out₀ at text i₀ out i = (i ≤ length text) × (length out ≡ length out₀) × (out ≡ written out₀ at (take i text))
+Inv-loop out₀ at text i₀ out i = (i ≤ length text) × (length out ≡ length out₀) × (out ≡ printed-over out₀ at (take i text))
 
 abbrev μ-loop : tie.MeasureT-loop
 μ-loop out₀ at text i₀ out i = length text - i
@@ -52,7 +52,7 @@ returns c =
     let a = c .before .before .args in
     let l = c .before .loop in
     let e : l .i ≡ length (a .text .now) = omega arith in
-    record { bytes = l .inv .2 ∙ ap (written (a .out .now) (a .at)) (take-all (l .i) (a .text .now) (omega arith)); end = omega arith }
+    record { bytes = l .inv .2 ∙ ap (printed-over (a .out .now) (a .at)) (take-all (l .i) (a .text .now) (omega arith)); end = omega arith }
 
 pub print-text-spec : {M : Type 1} → statement M
 print-text-spec =

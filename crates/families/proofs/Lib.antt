@@ -1,0 +1,4 @@
+pub mod Gathering
+pub mod AnyOrder
+pub mod Generals
+pub mod Alike

@@ -1,0 +1,4 @@
+pub mod Indexing
+pub mod TermNaming
+pub mod Finding
+pub mod FreshCells

@@ -1,0 +1,4 @@
+pub mod Indices
+pub mod TermNames
+pub mod Searching
+pub mod Fresh

@@ -1,0 +1,5 @@
+pub mod WordTexts
+pub mod Parts
+pub mod Each
+pub mod RunLaws
+pub mod RunSorting

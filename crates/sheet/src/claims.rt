@@ -1,0 +1,6 @@
+// What is claimed of the members of a sheet: yes, no, or no claim.
+pub enum Claim {
+    Yes,
+    No,
+    Nothing,
+}

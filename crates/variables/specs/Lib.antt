@@ -1,0 +1,4 @@
+pub mod Ordered
+pub mod Variables
+pub mod Listing
+pub mod Pairing
