@@ -20,7 +20,7 @@ use Rattle.substitution.specs.Bindings.{Chain}
 use Rattle.substitution.proofs.Keys.{bindings-none}
 use Rattle.substitution.proofs.Chains.{entry}
 use Rattle.answers.specs.Verdicts.{head-lines, key-line, value-line, entry-lines, bindings-text}
-use Rattle.answers.proofs.Gives.{line-length, line-printed}
+use Rattle.tree.proofs.Printing.{line-length, line-printed}
 
 -- lengths
 

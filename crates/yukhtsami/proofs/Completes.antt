@@ -27,7 +27,7 @@ use Rattle.sheet.specs.Claims as code
 use Rattle.sheet.specs.declared.claims.Claim.{Claim}
 use Rattle.complete.specs.Completing.{CompleteInput}
 use Rattle.answers.specs.Admission.{Decoded}
-use Rattle.yukhtsami.specs.Answering.{DecidesForm}
+use Rattle.yukhtsami.specs.Outcomes.{DecidesForm}
 use Rattle.yukhtsami.specs.Outcomes.{CompleteAsked}
 use Rattle.answers.specs.Deciding.{claim-decision}
 use Rattle.answers.specs.declared.deciding.Key.the-variants as key

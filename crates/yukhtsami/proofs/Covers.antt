@@ -24,7 +24,7 @@ use Rattle.sheet.specs.Claims as code
 use Rattle.sheet.specs.declared.claims.Claim.{Claim}
 use Rattle.cover.specs.Covered.{CoverInput}
 use Rattle.answers.specs.Admission.{Decoded}
-use Rattle.yukhtsami.specs.Answering.{DecidesForm}
+use Rattle.yukhtsami.specs.Outcomes.{DecidesForm}
 use Rattle.answers.specs.Pairs.{ReadPairs}
 use Rattle.yukhtsami.specs.Outcomes.{CoverAsked}
 use Rattle.answers.specs.Deciding.{claim-decision}

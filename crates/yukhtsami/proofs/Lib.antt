@@ -6,3 +6,4 @@ pub mod Covers
 pub mod Completes
 pub mod Sounds
 pub mod KindLaws
+pub mod Calling

@@ -31,7 +31,7 @@ use Rattle.steps.proofs.Children.{pairs-flatten}
 use Rattle.unifier.proofs.Fitting.{pairs-fit}
 use Rattle.answers.specs.Deciding.{DecisionIs}
 use Rattle.answers.specs.Admission.{Decoded}
-use Rattle.yukhtsami.specs.Answering.{DecidesForm}
+use Rattle.yukhtsami.specs.Outcomes.{DecidesForm}
 use Rattle.answers.specs.Pairs.{ReadPairs}
 use Rattle.yukhtsami.specs.Outcomes.{asks, solve-by, Asked, told, verdict-of}
 use Rattle.answers.specs.declared.deciding.Decision.{Decision}

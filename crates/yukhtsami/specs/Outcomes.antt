@@ -1,12 +1,15 @@
--- What a sheet of kind `unify`, `match`, `cover` or `complete` asks, and the answer as the code makes it. Definitions only.
+-- What a sheet of kind `unify`, `match`, `cover` or `complete` asks, the answer as the code makes it, and what is decided. Definitions only.
 use Prim.Native.Nat.{ℕ, _≤_}
 use mathlib.Core.Path.{_≡_}
 use mathlib.Core.Bool.{Bool, true, false}
 use mathlib.Core.List.{List, []}
-use mathlib.Core.Option.{some}
+use mathlib.Core.Option.{Option, some}
 use lib.ListN.{length}
 use Rattle.rules.specs.Bytes.{Text}
 use Rattle.rules.specs.Maybe.{_>>=_}
+use Rattle.rules.specs.Answer.{answer-of}
+use Rattle.rules.specs.Call.{given}
+use Rattle.rules.specs.RefusalNumbers.{number-for, UnreadableTerm}
 use Rattle.rules.specs.Substitution.{Pair}
 use Rattle.rules.specs.Solving.{solved, failed, unsupported, Answer, unify}
 use Rattle.rules.specs.Matching.{matcher}
@@ -16,6 +19,7 @@ use Rattle.sheet.specs.Lines.{lines-at}
 use Rattle.sheet.specs.Members.{members-at}
 use Rattle.sheet.specs.Form.{text-of, Inside}
 use Rattle.sheet.specs.declared.Place.{Place}
+use Rattle.answers.specs.Deciding.{DecisionIs}
 use Rattle.answers.specs.declared.deciding.Lines.the-variants as verdict
 use Rattle.answers.specs.declared.deciding.Decision.{Decision}
 use Rattle.answers.specs.declared.deciding.Decision.the-variants.{Given}
@@ -72,3 +76,11 @@ abbrev pub verdict-of : Outcome → Decision
 verdict-of (outcome.Solved b m spent) = Given (verdict.Solved b m spent)
 verdict-of (outcome.Failed spent) = Given (verdict.Failed spent)
 verdict-of (outcome.Unsupported spent) = Given (verdict.Unsupported spent)
+
+-- what is decided of a sheet: its answer, or 4 where there is none
+abbrev pub DecidesSheet : Sheet → Text → List ℕ → Decision → Type 0
+DecidesSheet sheet s w d = DecisionIs (given (answer-of sheet) (number-for UnreadableTerm)) s w d
+
+-- the same of a sheet that was read
+abbrev pub DecidesForm : Option Sheet → Text → List ℕ → Decision → Type 0
+DecidesForm o s w d = (sheet : Sheet) → o ≡ some sheet → DecidesSheet sheet s w d

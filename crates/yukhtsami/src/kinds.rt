@@ -30,8 +30,6 @@ ghost use mathlib.Core.Option.{some};
 ghost use Prim.Native.Nat.{_+_, _*_, _<_, _≤_};
 ghost use lib.ListN.{length};
 ghost use Rattle.rules.specs.Text.{count-of};
-ghost use Rattle.rules.specs.Answer.{answer-of};
-ghost use Rattle.rules.specs.Call.{given};
 ghost use Rattle.rules.specs.Sheet.{Member, asks-equal, asks-reduce, asks-sound, read-sheet};
 ghost use Rattle.sheet.specs.Members.{members-at};
 ghost use Rattle.tree.specs.Cells.{trees-at};
@@ -40,15 +38,13 @@ ghost use Rattle.sheet.specs.Form.{text-of, Inside, sheet-of, EnoughWords};
 ghost use Rattle.answers.specs.Admission.{Decoded};
 ghost use Rattle.steps.specs.Stack.{Whole, pairs-at, FitPairs};
 ghost use Rattle.unifier.specs.Running.{Roomy, Answers as Solves};
-ghost use Rattle.answers.specs.Deciding.{DecisionIs};
-ghost use Rattle.yukhtsami.specs.Answering.{DecidesForm};
-ghost use Rattle.yukhtsami.specs.Outcomes.{solve-by, Asked, CoverAsked, CompleteAsked, verdict-of};
+ghost use Rattle.yukhtsami.specs.Outcomes.{solve-by, Asked, CoverAsked, CompleteAsked, verdict-of, DecidesSheet, DecidesForm};
 
 // Kind `equal`.
 fn equal(sheet: &[u8], work: &mut [u32], left: Place, right: Place) -> Decision
     requires { ⌜ (length (now sheet) ≤ 65536) × (4 * length (now sheet) < length (now work)) ⌝ }
     requires { ⌜ Inside (now sheet) left × Inside (now sheet) right ⌝ }
-    ensures { λ r. ⌜ DecisionIs (given (answer-of (asks-equal (text-of (now (sheet .entry)) left) (text-of (now (sheet .entry)) right))) 4) (now (sheet .entry)) (now (work .exit)) r ⌝ }
+    ensures { λ r. ⌜ DecidesSheet (asks-equal (text-of (now (sheet .entry)) left) (text-of (now (sheet .entry)) right)) (now (sheet .entry)) (now (work .exit)) r ⌝ }
 {
     let a = left.from;
     let b = left.to;
@@ -72,7 +68,7 @@ fn equal(sheet: &[u8], work: &mut [u32], left: Place, right: Place) -> Decision
 fn reduce(sheet: &[u8], work: &mut [u32], term: Place) -> Decision
     requires { ⌜ (length (now sheet) ≤ 65536) × (1048576 + 16 * length (now sheet) ≤ length (now work)) ⌝ }
     requires { ⌜ Inside (now sheet) term ⌝ }
-    ensures { λ r. ⌜ DecisionIs (given (answer-of (asks-reduce (text-of (now (sheet .entry)) term))) 4) (now (sheet .entry)) (now (work .exit)) r ⌝ }
+    ensures { λ r. ⌜ DecidesSheet (asks-reduce (text-of (now (sheet .entry)) term)) (now (sheet .entry)) (now (work .exit)) r ⌝ }
 {
     let from = term.from;
     let to = term.to;
@@ -152,7 +148,7 @@ fn solving(sheet: &[u8], work: &mut [u32], fuel: usize, pairs: Cursor, matching:
 fn sound_of(sheet: &[u8], work: &mut [u32], term: Place, member: Cursor) -> Decision
     requires { ⌜ (length (now sheet) ≤ 65536) × (1048576 + 16 * length (now sheet) ≤ length (now work)) ⌝ }
     requires { ⌜ Inside (now sheet) term ⌝ }
-    ensures { λ r. ⌜ ((m : Member) → members-at (now (sheet .entry)) (member .at) ≡ some (m ∷ []) → DecisionIs (given (answer-of (asks-sound (text-of (now (sheet .entry)) term) m)) 4) (now (sheet .entry)) (now (work .exit)) r) ⌝ }
+    ensures { λ r. ⌜ ((m : Member) → members-at (now (sheet .entry)) (member .at) ≡ some (m ∷ []) → DecidesSheet (asks-sound (text-of (now (sheet .entry)) term) m) (now (sheet .entry)) (now (work .exit)) r) ⌝ }
 {
     let from = term.from;
     let to = term.to;

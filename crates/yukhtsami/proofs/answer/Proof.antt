@@ -2,7 +2,7 @@ use mathlib.Core.Path.{subst}
 use native.Mathlib.Omega.{arith}
 use lib.ListN.{length}
 use Rattle.answers.specs.Admission.{Admits}
-use Rattle.yukhtsami.proofs.KindLaws.{refused-answers, enough-words, settled-answers}
+use Rattle.yukhtsami.proofs.Calling.{refused-answers, enough-words, settled-answers}
 use borrow.Author.Needs.{needs}
 use Rattle.yukhtsami.proofs.answer.Statement.{statement}
 use Rattle.yukhtsami.proofs.answer.Tie as tie

@@ -1,4 +1,4 @@
-use Rattle.yukhtsami.proofs.KindLaws.{decided-held, decided-settles}
+use Rattle.yukhtsami.proofs.Calling.{decided-held, decided-settles}
 use borrow.Author.Needs.{needs}
 use Rattle.yukhtsami.proofs.settle.Statement.{statement}
 use Rattle.yukhtsami.proofs.settle.Tie as tie

@@ -3,7 +3,7 @@ use native.Mathlib.Omega.{arith}
 use lib.ListN.{length, take}
 use lib.Seq.{length-take-le}
 use Rattle.answers.proofs.Zeroing.{zeroed-over}
-use Rattle.yukhtsami.proofs.KindLaws.{more-words}
+use Rattle.yukhtsami.proofs.Calling.{more-words}
 use borrow.Author.Needs.{needs}
 use Rattle.yukhtsami.proofs.settle_and_clear.Statement.{statement}
 use Rattle.yukhtsami.proofs.settle_and_clear.Tie as tie

@@ -4,7 +4,7 @@ use Rattle.rules.specs.Writing.{render}
 use Rattle.tree.specs.Cells.{tree-at}
 use Rattle.tree.proofs.Lengths.{told, told-over, fits-is, over-is}
 use Rattle.answers.specs.Deciding.{key-text}
-use Rattle.answers.proofs.Gives.{line-length}
+use Rattle.tree.proofs.Printing.{line-length}
 use borrow.Author.Needs.{needs}
 use Rattle.answers.proofs.lines.measure_keyed.Statement.{statement}
 use Rattle.answers.proofs.lines.measure_keyed.Tie as tie

@@ -2,7 +2,7 @@ use native.Mathlib.Omega.{arith}
 use Rattle.rules.specs.Writing.{render}
 use Rattle.tree.specs.Cells.{tree-at}
 use Rattle.answers.specs.Deciding.{key-text}
-use Rattle.answers.proofs.Gives.{line-length, line-printed}
+use Rattle.tree.proofs.Printing.{line-length, line-printed}
 use borrow.Author.Needs.{needs}
 use Rattle.answers.proofs.lines.write_keyed.Statement.{statement}
 use Rattle.answers.proofs.lines.write_keyed.Tie as tie
