@@ -8,10 +8,10 @@ use Rattle.rules.specs.Bytes.{Text}
 use Rattle.rules.specs.Call.{Reply, refused, passed, refusal-number, written, overwritten}
 use Rattle.text.specs.Printing as Output
 use Rattle.text.specs.Printing.{Printed}
-use Rattle.answers.specs.Admission.{refusal-code}
+use Rattle.admission.specs.Admission.{refusal-code}
 use Rattle.answers.specs.Settling.{within-room, Settles}
-use Rattle.answers.specs.declared.refusal.Refusal.{Refusal}
-use Rattle.answers.specs.declared.refusal.Refusal.the-variants as refusal
+use Rattle.admission.specs.declared.refusal.Refusal.{Refusal}
+use Rattle.admission.specs.declared.refusal.Refusal.the-variants as refusal
 use Rattle.answers.specs.declared.giving.Reply.the-variants.{Written, Refused}
 
 fits-within : (a : Text) (room : ℕ) → length a ≤ room → within-room (passed a) room ≡ passed a

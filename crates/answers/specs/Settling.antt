@@ -5,7 +5,7 @@ use lib.Dec.{leb}
 use lib.ListN.{length}
 use Rattle.rules.specs.Bytes.{Text}
 use Rattle.rules.specs.Call.{Reply, passed, _>>=_, need, refusal-number, written, overwritten}
-use Rattle.answers.specs.Admission.{refusal-code}
+use Rattle.admission.specs.Admission.{refusal-code}
 use Rattle.answers.specs.declared.giving.Reply as code
 use Rattle.answers.specs.declared.giving.Reply.the-variants as reply
 

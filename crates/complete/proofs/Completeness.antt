@@ -25,8 +25,8 @@ use Rattle.tree.specs.Cells.{tree-at, trees-at}
 use Rattle.tree.specs.Arena.{Arena, Below}
 use Rattle.tree.proofs.Decoding.{frame-tree, frame-trees}
 use Rattle.tree.proofs.Areas.{below-then, below-grown}
-use Rattle.sheet.specs.Members.{members-at}
-use Rattle.sheet.proofs.WordLaws.{count-bound}
+use Rattle.forms.specs.Members.{members-at}
+use Rattle.forms.proofs.WordLaws.{count-bound}
 use Rattle.variants.specs.Members.{TextsRoom}
 use Rattle.sheet.specs.Claims.{truth}
 use Rattle.sheet.specs.declared.claims.Claim.{Claim}

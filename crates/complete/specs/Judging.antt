@@ -15,8 +15,8 @@ use Rattle.laws.specs.Schemes.{scheme-at, Judgement, pending, settled, answered
 use Rattle.laws.specs.Memory.{OverPairs}
 use Rattle.tree.specs.Cells.{tree-at, trees-at}
 use Rattle.tree.specs.Arena.{Below}
-use Rattle.steps.specs.Stack.{FitPairs}
-use Rattle.steps.specs.Area.{Room}
+use Rattle.elimination.specs.Stack.{FitPairs}
+use Rattle.elimination.specs.Area.{Room}
 use Rattle.sheet.specs.Claims.{truth}
 use Rattle.sheet.specs.declared.claims.Claim.{Claim}
 use Rattle.schemes.specs.Building.{Fresh}

@@ -18,10 +18,10 @@ use Rattle.tree.proofs.Areas.{below-same, below-grown, below-then, grown-then}
 use Rattle.substitution.specs.Building.{Made}
 use Rattle.reduction.proofs.Placing.{linked-fixed-over}
 use Rattle.sheet.specs.Lines.{value-at}
-use Rattle.sheet.specs.Members.{members-at}
+use Rattle.forms.specs.Members.{members-at}
 use Rattle.sheet.specs.declared.Cursor.{Cursor}
 use Rattle.sheet.specs.declared.Line.the-variants.{Whole, Missing}
-use Rattle.sheet.proofs.WalkLaws.{member-end, member-next}
+use Rattle.forms.proofs.WalkLaws.{member-end, member-next}
 use Rattle.variants.specs.Members.{texts-end, ReadMember, ReadsMember}
 use Rattle.variants.specs.declared.members.Variant.the-variants as variant
 use Rattle.families.specs.Families.{member-tree, Family, nil, next, ReadAll, ReadMembers, ReadsMembers}

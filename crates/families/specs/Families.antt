@@ -12,7 +12,7 @@ use Rattle.rules.specs.Variants.{Variant, read-member}
 use Rattle.tree.specs.Cells.{fixed-name, trees-at}
 use Rattle.tree.specs.Arena.{Arena, Below}
 use Rattle.substitution.specs.Bindings.{bindings-of, Chain}
-use Rattle.sheet.specs.Members.{members-at}
+use Rattle.forms.specs.Members.{members-at}
 use Rattle.variants.specs.Members.{Alike, texts-end}
 use Rattle.families.specs.declared.members.Members.{Members}
 use Rattle.families.specs.declared.members.Members.the-variants as members

@@ -15,8 +15,8 @@ use Rattle.tree.proofs.Decoding.{trees-none}
 use Rattle.tree.proofs.Areas.{below-same, below-then}
 use Rattle.substitution.specs.Bindings.{bindings-of, bindings-at, flatten-bindings, Chain}
 use Rattle.substitution.proofs.Chains.{bindings-flatten, chain-flatten}
-use Rattle.steps.specs.Stack.{pairs-at, Whole, Fit, FitPairs, FitBindings}
-use Rattle.steps.specs.Area.{Room}
+use Rattle.elimination.specs.Stack.{pairs-at, Whole, Fit, FitPairs, FitBindings}
+use Rattle.elimination.specs.Area.{Room}
 use Rattle.unifier.specs.Running.{Bound}
 use Rattle.matching.specs.Matching.{Moves}
 use Rattle.matching.specs.declared.Moved.{Moved}

@@ -21,14 +21,14 @@ use Rattle.sorts.specs.Numbers.{numbered}
 use Rattle.sorts.proofs.Coding.{kind-known, kind-unknown}
 use Rattle.substitution.specs.Bindings.{bindings-at, flatten-bindings, Chain}
 use Rattle.substitution.specs.Building.{Made}
-use Rattle.steps.specs.Stack.{pairs-at, Whole, pushes, Fit}
+use Rattle.elimination.specs.Stack.{pairs-at, Whole, pushes, Fit}
 use Rattle.steps.specs.Resting.{EquationIs}
-use Rattle.steps.specs.Stepping.{Waits, GoesOn}
+use Rattle.elimination.specs.Stepping.{Waits, GoesOn}
 use Rattle.steps.proofs.Differing.{differing-none}
-use Rattle.steps.proofs.Waiting.{stack-below, waits-below}
+use Rattle.elimination.proofs.Waiting.{stack-below, waits-below}
 use Rattle.matching.specs.Matching.{Onwards}
-use Rattle.unifier.proofs.Sums.{pair-waits, pair-used}
-use Rattle.unifier.proofs.Steps.{children-pushed}
+use Rattle.stepping.proofs.Sums.{pair-waits, pair-used}
+use Rattle.stepping.proofs.Steps.{children-pushed}
 
 -- the pairs and the bindings that stand below the free end n
 module _ {s : Text} {w : List ℕ} {n : ℕ} (a : Arena s w n) (rest made : ℕ) (q : rest < n) (q₁ : made < n) (whole : Whole (trees-at s w rest)) (chain : Chain (trees-at s w made)) where

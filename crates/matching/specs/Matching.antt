@@ -9,7 +9,7 @@ use Rattle.laws.specs.Memory.{weight}
 use Rattle.tree.specs.Cells.{trees-at}
 use Rattle.tree.specs.Arena.{Below}
 use Rattle.substitution.specs.Bindings.{flatten-bindings}
-use Rattle.steps.specs.Stepping.{Waits}
+use Rattle.elimination.specs.Stepping.{Waits}
 use Rattle.matching.specs.declared.Moved.{Moved}
 use Rattle.matching.specs.declared.Moved.the-variants as moved
 

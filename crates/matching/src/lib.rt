@@ -1,6 +1,5 @@
 // Matching of trees in a lent work area (unifier.rs, `matcher`): pattern variables are bound, subject variables are constants.
 use equivalence::equivalent;
-use equivalence::sums::is_sum;
 use sorts::sorted;
 use steps::pushing::push_children;
 use steps::rest::Rest;
@@ -8,6 +7,7 @@ use steps::rest::match_rest;
 use substitution::bindings::Found;
 use substitution::bindings::lookup;
 use substitution::bindings::push_pair;
+use sums::is_sum;
 use tree::cells::APPLICATION;
 use tree::cells::ATOMS;
 use tree::cells::VARIABLE_OTHER;
@@ -27,8 +27,8 @@ ghost use Rattle.laws.specs.Memory.{load, weight};
 ghost use Rattle.tree.specs.Cells.{kind-of, name-at, tree-at, trees-at};
 ghost use Rattle.tree.specs.Arena.{Arena};
 ghost use Rattle.substitution.specs.Bindings.{bindings-at, Chain};
-ghost use Rattle.steps.specs.Stack.{Whole, pairs-at, Fit, FitPairs, FitBindings};
-ghost use Rattle.steps.specs.Area.{Room};
+ghost use Rattle.elimination.specs.Stack.{Whole, pairs-at, Fit, FitPairs, FitBindings};
+ghost use Rattle.elimination.specs.Area.{Room};
 ghost use Rattle.matching.specs.Matching.{Moves};
 ghost use Rattle.unifier.specs.Running.{Answers};
 

@@ -13,10 +13,10 @@ use Rattle.tree.specs.Cells.{kind-of, first-of, next-of, name-at, fixed-name, t
 use Rattle.tree.specs.Arena.{Links, Arena, Below}
 use Rattle.tree.proofs.Decoding.{Agree, Kind, application, a-variable, an-atom, kind, same-name, tree-variable, tree-atom, tree-apply, trees-none, trees-more, frame-tree, frame-trees, size-leaf, size-apply, sizes-more}
 use Rattle.tree.proofs.Areas.{below-same, below-then}
-use Rattle.reduction.specs.Building.{NewTree, NewTrees}
-use Rattle.reduction.specs.Held.{coded-rule, held, fixed}
-use Rattle.reduction.specs.declared.naming.RuleName.{RuleName}
-use Rattle.reduction.specs.declared.naming.RuleName.the-variants.{Fst, Snd, Flip, Sdec, Kdec, None}
+use Rattle.rewriting.specs.Building.{NewTree, NewTrees}
+use Rattle.rewriting.specs.Held.{coded-rule, held, fixed}
+use Rattle.rewriting.specs.declared.naming.RuleName.{RuleName}
+use Rattle.rewriting.specs.declared.naming.RuleName.the-variants.{Fst, Snd, Flip, Sdec, Kdec, None}
 use Rattle.reduction.proofs.Placing.{new-later}
 
 -- rules as the code has them

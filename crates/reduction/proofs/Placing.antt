@@ -14,7 +14,7 @@ use Rattle.tree.proofs.Pushing.{linked-like, linked-fixed as linked-coded}
 use Rattle.tree.proofs.Areas.{below-grown, below-then}
 use Rattle.substitution.specs.Building.{Before}
 use Rattle.substitution.proofs.Placing.{before-linked}
-use Rattle.reduction.specs.Building.{NewTree}
+use Rattle.rewriting.specs.Building.{NewTree}
 
 -- one new cell at most
 pub new-kept : {s : Text} {w v : List ℕ} {n next i m : ℕ} {t : Tree} → Before s w v n next t i m → m ≤ n + 1 → NewTree s w v n 1 next t i m

@@ -15,8 +15,8 @@ ghost use Rattle.rules.specs.Maybe.{otherwise};
 ghost use Rattle.rules.specs.Reduction.{constant};
 ghost use Rattle.tree.specs.Cells.{kind-of, name-at, fixed-name, trees-at};
 ghost use Rattle.tree.specs.Arena.{Arena};
-ghost use Rattle.reduction.specs.Building.{NewTree};
-ghost use Rattle.reduction.specs.Held.{held};
+ghost use Rattle.rewriting.specs.Building.{NewTree};
+ghost use Rattle.rewriting.specs.Held.{held};
 
 // A fixed name without arguments, by its code.
 pub fn leaf(sheet: &[u8], work: &mut [u32], free: usize, code: usize, next: usize) -> Pushed

@@ -10,7 +10,7 @@ use Rattle.tree.specs.Arena.{Links, Arena, Linked}
 use Rattle.tree.proofs.Decoding.{trees-none, trees-more, frame-tree, frame-trees}
 use Rattle.tree.proofs.Areas.{below-grown}
 use Rattle.substitution.specs.Building.{Before}
-use Rattle.reduction.specs.Building.{NewTree}
+use Rattle.rewriting.specs.Building.{NewTree}
 use Rattle.schemes.specs.Choices.{appended}
 use Rattle.schemes.specs.Building.{Written, KeptAs, Appends, Follows}
 use Rattle.schemes.specs.declared.choosing.Chosen.{Chosen}

@@ -14,7 +14,7 @@ use Rattle.tree.specs.Arena.{Arena, Linked}
 use Rattle.tree.proofs.Decoding.{trees-none, frame-tree, frame-trees}
 use Rattle.tree.proofs.Areas.{below-grown, below-then}
 use Rattle.substitution.specs.Building.{Made}
-use Rattle.reduction.specs.Building.{NewTree}
+use Rattle.rewriting.specs.Building.{NewTree}
 use Rattle.schemes.specs.Building.{Written, Holds, HoldsList, Opens, FiredIs}
 use Rattle.schemes.specs.declared.firing.Fired.{Fired}
 use Rattle.schemes.proofs.Writing.{written-then, holds-later}

@@ -1,7 +1,7 @@
 // A rule that fires: its pattern over fresh variables, its value and its equations.
 use reduction::building::leaf;
-use reduction::naming::RuleName;
-use reduction::naming::rule_named;
+use rewriting::naming::RuleName;
+use rewriting::naming::rule_named;
 use substitution::bindings::push_pair;
 use tree::cells::APPLICATION;
 use tree::cells::next_of;

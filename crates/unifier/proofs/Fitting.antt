@@ -25,7 +25,7 @@ use Rattle.laws.proofs.Sheets.BuiltMatch.{mass, summands-mass, rebuild-mass, ca
 use Rattle.laws.proofs.Sheets.NamesRead.{pairs-read-by}
 use Rattle.laws.proofs.Promises.{parse-builds}
 use Rattle.laws.proofs.Renaming.Matching.{built-kept}
-use Rattle.steps.specs.Stack.{Fit, FitPairs, FitBindings}
+use Rattle.elimination.specs.Stack.{Fit, FitPairs, FitBindings}
 
 -- Sums
 

@@ -3,6 +3,4 @@ pub mod Tops
 pub mod Resuming
 pub mod Invariant
 pub mod Finishing
-pub mod Sums
-pub mod Steps
 pub mod Parts

@@ -10,7 +10,7 @@ use Rattle.laws.specs.Memory.{OverPairs, weight}
 use Rattle.tree.specs.Cells.{trees-at}
 use Rattle.tree.specs.Arena.{Arena, Below}
 use Rattle.substitution.specs.Bindings.{bindings-at, Chain}
-use Rattle.steps.specs.Area.{step-words, name-cells, Room}
+use Rattle.elimination.specs.Area.{step-words, name-cells, Room}
 use Rattle.unifier.specs.declared.unifying.Outcome.{Outcome}
 use Rattle.unifier.specs.declared.unifying.Outcome.the-variants as outcome
 

@@ -23,9 +23,9 @@ use Rattle.equivalence.proofs.Scratch.{below-kept}
 use Rattle.substitution.specs.Bindings.{bindings-at}
 use Rattle.substitution.specs.Building.{Placed, instance-at}
 use Rattle.text.specs.Frames.{Outside}
-use Rattle.reduction.specs.Building.{NewTree}
+use Rattle.rewriting.specs.Building.{NewTree}
 use Rattle.reduction.proofs.NormalForms.{normalize-size}
-use Rattle.sheet.specs.Members.{members-at}
+use Rattle.forms.specs.Members.{members-at}
 use Rattle.variants.specs.Members.{nameable, Alike, ReadMember, ReadsMember}
 use Rattle.sheet.specs.Claims.{truth}
 use Rattle.variants.specs.Soundness.{reduces-to, ClaimsInstance, ClaimsSound}

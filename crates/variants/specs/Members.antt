@@ -19,8 +19,8 @@ use Rattle.tree.specs.Arena.{Arena, Below}
 use Rattle.substitution.specs.Bindings.{bindings-at, Chain}
 use Rattle.sheet.specs.Lines.{lines-at}
 use Rattle.sheet.specs.Pairs.{two-lines-at, entries-by}
-use Rattle.sheet.specs.Members.{members-at, Walks}
-use Rattle.sheet.specs.Form.{text-of}
+use Rattle.forms.specs.Members.{members-at, Walks}
+use Rattle.forms.specs.Form.{text-of}
 use Rattle.sheet.specs.declared.Place.{Place}
 use Rattle.sheet.specs.declared.PairLine.the-variants.{End}
 use Rattle.variants.specs.declared.members.Bindings.{Bindings}

@@ -15,7 +15,7 @@ use Rattle.rules.specs.Variants.{instance-of, sound}
 use Rattle.tree.specs.Cells.{tree-at}
 use Rattle.tree.specs.Arena.{Below}
 use Rattle.substitution.specs.Bindings.{bindings-at}
-use Rattle.sheet.specs.Members.{members-at}
+use Rattle.forms.specs.Members.{members-at}
 use Rattle.sheet.specs.Claims.{truth}
 use Rattle.sheet.specs.declared.claims.Claim.{Claim}
 

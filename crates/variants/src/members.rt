@@ -1,6 +1,6 @@
 // A member's texts as trees in cells: its own, and the values of its keys, with the keys, as one list of bindings.
+use leaves::leaf_kind;
 use reading::Parsed;
-use reading::leaves::leaf_kind;
 use reading::parse;
 use sheet::Cursor;
 use sheet::Line;
@@ -18,7 +18,7 @@ ghost use mathlib.Core.Bool.{true};
 ghost use Prim.Native.Nat.{_+_, _*_, _<_, _≤_, _^_};
 ghost use lib.ListN.{length};
 ghost use Rattle.rules.specs.Tree.{variable};
-ghost use Rattle.sheet.specs.Form.{text-of, Inside};
+ghost use Rattle.forms.specs.Form.{text-of, Inside};
 ghost use Rattle.tree.specs.Cells.{variable-kind, tree-at, trees-at};
 ghost use Rattle.tree.specs.Arena.{Arena, Linked};
 ghost use Rattle.substitution.specs.Building.{Made};

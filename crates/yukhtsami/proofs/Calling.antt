@@ -7,18 +7,18 @@ use native.Mathlib.Omega.{arith}
 use Rattle.rules.specs.Bytes.{Text}
 use Rattle.rules.specs.Sheet.{Sheet}
 use Rattle.rules.specs.Call.{Reply, refused, admitted, settled, call, refusal-number, written, overwritten, cleared, work-after}
-use Rattle.sheet.specs.Form.{sheet-of, EnoughWords}
-use Rattle.sheet.specs.declared.form.Form.{Form}
-use Rattle.answers.specs.Clearing.{zeroed}
+use Rattle.forms.specs.Form.{sheet-of, EnoughWords}
+use Rattle.forms.specs.declared.form.Form.{Form}
+use Rattle.admission.specs.Clearing.{zeroed}
 use Rattle.answers.specs.Deciding.{reply-of, Standing}
 use Rattle.answers.specs.Settling.{within-room, Settles}
-use Rattle.answers.specs.Admission.{refusal-code, Decoded, Stands}
+use Rattle.admission.specs.Admission.{refusal-code, Decoded, Stands}
 use Rattle.yukhtsami.specs.Answering.{SettlesForm, CallAnswers}
 use Rattle.answers.specs.declared.deciding.Decision.{Decision}
 use Rattle.answers.specs.declared.giving.Reply as code
 use Rattle.answers.specs.declared.giving.Reply.the-variants as replies
-use Rattle.answers.specs.declared.refusal.Refusal.{Refusal}
-use Rattle.yukhtsami.specs.Outcomes.{DecidesForm}
+use Rattle.admission.specs.declared.refusal.Refusal.{Refusal}
+use Rattle.kinds.specs.Outcomes.{DecidesForm}
 
 pub more-words : (s : Text) (f : Form) {n m : ℕ} → EnoughWords s f n → n ≤ m → EnoughWords s f m
 more-words s f h k = record { sheet = h .sheet; stands = h .stands; enough = (let e = h .enough in omega arith) }

@@ -3,7 +3,7 @@ use native.Mathlib.Omega.{arith}
 use Rattle.laws.specs.Memory.{weight}
 use Rattle.tree.specs.Cells.{tree-at}
 use Rattle.substitution.specs.Bindings.{bindings-at}
-use Rattle.steps.specs.Stack.{pairs-at}
+use Rattle.elimination.specs.Stack.{pairs-at}
 use Rattle.matching.proofs.Moving.{key-load, move-key, move-roots}
 use borrow.Author.Needs.{needs}
 use Rattle.matching.proofs.advance.Statement.{statement}

@@ -5,9 +5,9 @@ use Rattle.laws.proofs.Basics.Tests.{same-of-eq}
 use Rattle.tree.specs.Cells.{tree-at}
 use Rattle.tree.proofs.Areas.{below-same}
 use Rattle.substitution.specs.Bindings.{bindings-at}
-use Rattle.steps.specs.Stack.{pairs-at}
-use Rattle.unifier.proofs.Sums.{sum-told, no-sum-told, sum-cell, cell-head}
-use Rattle.unifier.proofs.Steps.{held, children-room}
+use Rattle.elimination.specs.Stack.{pairs-at}
+use Rattle.stepping.proofs.Sums.{sum-told, no-sum-told, sum-cell, cell-head}
+use Rattle.stepping.proofs.Steps.{held, children-room}
 use Rattle.matching.proofs.Moving.{roots-differ, roots-sums, onwards-children}
 use borrow.Author.Needs.{needs}
 use Rattle.matching.proofs.match_roots.Statement.{statement}

@@ -4,8 +4,8 @@ use native.Mathlib.Omega.{arith}
 use Rattle.rules.specs.Matching.{ground-eq, match-rest}
 use Rattle.rules.specs.Solving.{Rest}
 use Rattle.substitution.specs.Bindings.{bindings-at}
-use Rattle.steps.specs.Stack.{pairs-at}
-use Rattle.unifier.proofs.Sums.{pair-room}
+use Rattle.elimination.specs.Stack.{pairs-at}
+use Rattle.stepping.proofs.Sums.{pair-room}
 use Rattle.matching.proofs.Moving.{onwards-same, onwards-sums}
 use borrow.Author.Needs.{needs}
 use Rattle.matching.proofs.match_sums.Statement.{statement}

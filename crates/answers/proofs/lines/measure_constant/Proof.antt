@@ -1,6 +1,6 @@
 use native.Mathlib.Omega.{arith}
 use lib.ListN.{length}
-use Rattle.tree.proofs.Lengths.{fits-is, over-is}
+use Rattle.printing.proofs.Lengths.{fits-is, over-is}
 use Rattle.answers.specs.Deciding.{key-text, claim-word}
 use Rattle.tree.proofs.Printing.{line-length}
 use borrow.Author.Needs.{needs}

@@ -10,7 +10,7 @@ use Rattle.answers.proofs.lines.write_keyed.Reads as reads
 use Rattle.answers.proofs.lines.write_keyed.Lts as lts
 use Rattle.answers.proofs.lines.print_key.Reads as print-key-reads
 use Rattle.tree.proofs.names.print_byte.Reads as print-byte-reads
-use Rattle.tree.proofs.writing.write_term.Reads as write-term-reads
+use Rattle.printing.proofs.writing.write_term.Reads as write-term-reads
 
 print-key-requires : tie.Need-print-key-requires
 print-key-requires c κs =

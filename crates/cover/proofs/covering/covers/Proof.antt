@@ -4,7 +4,7 @@ use Rattle.cover.proofs.covering.covers.Statement.{statement}
 use Rattle.cover.proofs.covering.covers.Tie as tie
 use Rattle.cover.proofs.covering.covers.Reads as reads
 use Rattle.cover.proofs.covering.covers.Lts as lts
-use Rattle.cover.proofs.members.member_pairs.Reads as member-pairs-reads
+use Rattle.values.proofs.members.member_pairs.Reads as member-pairs-reads
 use Rattle.matching.proofs.matcher.Reads as matcher-reads
 
 member-pairs-requires : tie.Need-member-pairs-requires

@@ -5,16 +5,16 @@ use mathlib.Core.Path.{_≡_, refl, sym, ap, _∙_}
 use Rattle.rules.specs.Tree.{none}
 use Rattle.rules.specs.Reading.{close}
 use Rattle.tree.specs.Cells.{part, trees-at}
-use Rattle.reading.specs.Machine.{back}
-use Rattle.reading.specs.Closing.{most}
-use Rattle.reading.proofs.Making.{closes-is}
+use Rattle.closing.specs.Machine.{back}
+use Rattle.closing.specs.Closing.{most}
+use Rattle.closing.proofs.Making.{closes-is}
 use Rattle.reading.proofs.Stacks.{popped, not-popped, outside-grown, placed-at, most-is, chain-below}
 use borrow.Author.Needs.{needs}
 use Rattle.reading.proofs.stack.close.Statement.{statement}
 use Rattle.reading.proofs.stack.close.Tie as tie
 use Rattle.reading.proofs.stack.close.Reads as reads
 use Rattle.reading.proofs.stack.close.Lts as lts
-use Rattle.reading.proofs.closing.shut.Reads as shut-reads
+use Rattle.closing.proofs.shut.Reads as shut-reads
 use Rattle.text.proofs.places.wide.Reads as wide-reads
 
 mul-top : tie.Need-mul-top

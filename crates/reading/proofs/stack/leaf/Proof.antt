@@ -5,7 +5,7 @@ use Rattle.reading.proofs.stack.leaf.Statement.{statement}
 use Rattle.reading.proofs.stack.leaf.Tie as tie
 use Rattle.reading.proofs.stack.leaf.Reads as reads
 use Rattle.reading.proofs.stack.leaf.Lts as lts
-use Rattle.reading.proofs.leaves.leaf_kind.Reads as leaf-kind-reads
+use Rattle.leaves.proofs.leaf_kind.Reads as leaf-kind-reads
 use Rattle.text.proofs.places.wide.Reads as wide-reads
 use Rattle.tree.proofs.cells.push_cell.Reads as push-cell-reads
 

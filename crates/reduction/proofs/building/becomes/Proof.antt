@@ -1,6 +1,6 @@
 use native.Mathlib.Omega.{arith}
 use Rattle.reduction.proofs.Placing.{new-kept}
-use Rattle.reduction.proofs.Holding.{held-none, held-some}
+use Rattle.rewriting.proofs.Holding.{held-none, held-some}
 use borrow.Author.Needs.{needs}
 use Rattle.reduction.proofs.building.becomes.Statement.{statement}
 use Rattle.reduction.proofs.building.becomes.Tie as tie

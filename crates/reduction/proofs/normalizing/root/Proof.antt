@@ -14,10 +14,10 @@ use Rattle.reduction.proofs.normalizing.root.Reads as reads
 use Rattle.reduction.proofs.normalizing.root.Lts as lts
 use Rattle.reduction.proofs.building.becomes.Reads as becomes-reads
 use Rattle.reduction.proofs.building.leaf.Reads as leaf-reads
-use Rattle.reduction.proofs.firing.flipped.Reads as flipped-reads
-use Rattle.reduction.proofs.firing.part_of.Reads as part-of-reads
-use Rattle.reduction.proofs.keys.decrypted.Reads as decrypted-reads
-use Rattle.reduction.proofs.naming.rule_named.Reads as rule-named-reads
+use Rattle.rewriting.proofs.firing.flipped.Reads as flipped-reads
+use Rattle.rewriting.proofs.firing.part_of.Reads as part-of-reads
+use Rattle.rewriting.proofs.keys.decrypted.Reads as decrypted-reads
+use Rattle.rewriting.proofs.naming.rule_named.Reads as rule-named-reads
 
 rule-named-requires : tie.Need-rule-named-requires
 rule-named-requires c κs = search needs

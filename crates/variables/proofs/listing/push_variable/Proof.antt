@@ -1,12 +1,12 @@
 use mathlib.Core.Path.{ap, _∙_}
-use Rattle.reading.specs.Leaves.{leaf-kind}
+use Rattle.leaves.specs.Leaves.{leaf-kind}
 use Rattle.variables.proofs.Listings.{variable-linked}
 use borrow.Author.Needs.{needs}
 use Rattle.variables.proofs.listing.push_variable.Statement.{statement}
 use Rattle.variables.proofs.listing.push_variable.Tie as tie
 use Rattle.variables.proofs.listing.push_variable.Reads as reads
 use Rattle.variables.proofs.listing.push_variable.Lts as lts
-use Rattle.reading.proofs.leaves.leaf_kind.Reads as leaf-kind-reads
+use Rattle.leaves.proofs.leaf_kind.Reads as leaf-kind-reads
 use Rattle.text.proofs.places.text_at.Reads as text-at-reads
 use Rattle.text.proofs.places.wide.Reads as wide-reads
 use Rattle.tree.proofs.cells.push_cell.Reads as push-cell-reads
