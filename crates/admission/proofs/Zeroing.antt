@@ -5,7 +5,7 @@ use Prim.Native.Nat.{ℕ, suc, _+_, _<_}
 use native.Mathlib.Numerals.{add-one}
 use lib.ListN.{length, getD, set, drop, replicate, length-replicate, replicate-append-replicate}
 use lib.Seq.{drop-cons, drop-at, set-at}
-use Rattle.admission.specs.Clearing.{zeroed}
+use Rattle.rules.specs.Call.{zeroed}
 
 pub zeroed-next : (w : List ℕ) (i : ℕ) → i < length w → set (zeroed i w) i 0 ≡ zeroed (i + 1) w
 zeroed-next w i h =

@@ -1,2 +1,1 @@
-pub mod Clearing
 pub mod Admission

@@ -2,7 +2,7 @@
 ghost use mathlib.Core.Path.{_≡_};
 ghost use Prim.Native.Nat.{_≤_};
 ghost use lib.ListN.{length};
-ghost use Rattle.admission.specs.Clearing.{zeroed};
+ghost use Rattle.rules.specs.Call.{zeroed};
 
 // Sets the first words to zero.
 pub fn clear(work: &mut [u32], needed: usize)

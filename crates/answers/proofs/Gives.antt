@@ -5,6 +5,7 @@ use lib.ListN.{length}
 use native.Mathlib.Nat.{zero-add}
 use borrow.Author.Tests.{le-leb, lt-leb}
 use Rattle.rules.specs.Bytes.{Text}
+use Rattle.rules.specs.RefusalNumbers.{number-for, ShortOutput}
 use Rattle.rules.specs.Call.{Reply, refused, passed, refusal-number, written, overwritten}
 use Rattle.text.specs.Printing as Output
 use Rattle.text.specs.Printing.{Printed}
@@ -18,7 +19,7 @@ fits-within : (a : Text) (room : ℕ) → length a ≤ room → within-room (pas
 unfolding within-room
 fits-within a room h = rw (le-leb (length a) room h)
 
-fits-over : (a : Text) (room : ℕ) → room < length a → within-room (passed a) room ≡ refused 12
+fits-over : (a : Text) (room : ℕ) → room < length a → within-room (passed a) room ≡ refused (number-for ShortOutput)
 unfolding within-room
 fits-over a room h = rw (lt-leb (length a) room h)
 

@@ -6,10 +6,9 @@ use lib.ListN.{length}
 use native.Mathlib.Omega.{arith}
 use Rattle.rules.specs.Bytes.{Text}
 use Rattle.rules.specs.Sheet.{Sheet}
-use Rattle.rules.specs.Call.{Reply, refused, admitted, settled, call, refusal-number, written, overwritten, cleared, work-after}
+use Rattle.rules.specs.Call.{Reply, refused, admitted, settled, call, refusal-number, written, overwritten, zeroed, cleared, work-after}
 use Rattle.forms.specs.Form.{sheet-of, EnoughWords}
 use Rattle.forms.specs.declared.form.Form.{Form}
-use Rattle.admission.specs.Clearing.{zeroed}
 use Rattle.answers.specs.Deciding.{reply-of, Standing}
 use Rattle.answers.specs.Settling.{within-room, Settles}
 use Rattle.admission.specs.Admission.{refusal-code, Decoded, Stands}

@@ -13,7 +13,7 @@ ghost use Prim.Native.Nat.{_≤_};
 ghost use lib.ListN.{length};
 ghost use Rattle.forms.specs.Form.{sheet-of, EnoughWords};
 ghost use Rattle.answers.specs.Settling.{reply-number, reply-count};
-ghost use Rattle.admission.specs.Clearing.{zeroed};
+ghost use Rattle.rules.specs.Call.{zeroed};
 ghost use Rattle.yukhtsami.specs.Answering.{SettlesForm, CallAnswers, Calls};
 ghost use Rattle.admission.specs.Admission.{refusal-code, Decoded};
 

@@ -35,7 +35,7 @@ wide-requires c κs = search needs
 mix-requires : tie.Need-mix-requires Inv-loop μ-loop
 mix-requires c κs =
     let a = c .before .before .before .before .before .before .args in
-    (subst (Token (a .sheet .now)) (sym (c .wide .ensures)) (word-token (a .sheet .now) (a .work .now) (a .from) (a .to) (c .before .before .before .before .before .before .pre .0 .1) (c .before .before .before .before .before .before .pre .1) (c .before .before .before .loop .p) (c .before .before .before .loop .r) (c .before .before .before .loop .inv) (c .before .before .loop-test .taken)), c .before .before .before .loop .inv .small)
+    (subst (Token (a .sheet .now)) (sym (c .wide .ensures .0)) (word-token (a .sheet .now) (a .work .now) (a .from) (a .to) (c .before .before .before .before .before .before .pre .0 .1) (c .before .before .before .before .before .before .pre .1) (c .before .before .before .loop .p) (c .before .before .before .loop .r) (c .before .before .before .loop .inv) (c .before .before .loop-test .taken)), c .before .before .before .loop .inv .small)
 
 add-p : tie.Need-add-p Inv-loop μ-loop
 add-p c = omega (arith, c .before .before .before .loop-test .taken, c .before .before .before .before .before .before .before .pre .0 .1)
@@ -46,7 +46,7 @@ loop-less c = omega (arith, c .before .before .before .loop-test .taken)
 loop-again : tie.Need-loop-again Inv-loop μ-loop
 loop-again c =
     let a = c .before .before .before .before .before .before .before .args in
-    printing-next (a .sheet .now) (a .work .now) (a .from) (a .to) (c .before .before .before .before .before .before .before .pre .0 .1) (c .before .before .before .before .before .before .before .pre .1) (c .before .before .before .before .loop .p) (c .before .before .before .before .loop .r) (c .before .before .before .before .loop .inv) (c .mix .result) (c .before .before .before .loop-test .taken) (c .mix .ensures .0, c .mix .ensures .1 ∙ ap (λ (k : ℕ). mixed (c .before .before .before .before .loop .r) (word-text (a .sheet .now) k)) (c .before .wide .ensures))
+    printing-next (a .sheet .now) (a .work .now) (a .from) (a .to) (c .before .before .before .before .before .before .before .pre .0 .1) (c .before .before .before .before .before .before .before .pre .1) (c .before .before .before .before .loop .p) (c .before .before .before .before .loop .r) (c .before .before .before .before .loop .inv) (c .mix .result) (c .before .before .before .loop-test .taken) (c .mix .ensures .0, c .mix .ensures .1 ∙ ap (λ (k : ℕ). mixed (c .before .before .before .before .loop .r) (word-text (a .sheet .now) k)) (c .before .wide .ensures .0))
 
 cast-result : tie.Need-cast-result Inv-loop μ-loop
 cast-result c = omega (arith, c .before .loop .inv .small)

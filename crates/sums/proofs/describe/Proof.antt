@@ -56,7 +56,7 @@ marked-words-requires : tie.Need-marked-words-requires Inv-loop μ-loop
 marked-words-requires c κs =
     let a = c .before .before .before .before .before .before .before .args in
     let q = c .before .before .before .before .before .before .before .pre .1 .0 in
-    let e = c .before .wide .ensures in
+    let e = c .before .wide .ensures .0 in
     let x = cell-some (a .sheet .now) (a .work .now) (a .free) (a .at) (a .end) (a .d) (a .base) (c .before .before .before .before .before .before .before .pre .0) (q .0) (q .1) (q .2) (q .3) (c .before .before .before .before .before .before .before .pre .1 .1 .0 .0) (c .before .before .before .before .before .before .before .pre .1 .1 .0 .1) (c .before .before .before .before .before .before .before .pre .1 .1 .1 .0) (c .before .before .before .before .before .before .before .pre .1 .1 .1 .1) (c .before .before .before .before .loop .work) (c .before .before .before .before .loop .p) (c .before .before .before .before .loop .out) (c .before .before .before .before .loop .inv) (c .before .before .before .loop-test .taken) in
     let y = cell-below (a .sheet .now) (a .work .now) (a .free) (a .at) (a .end) (a .d) (a .base) (c .before .before .before .before .before .before .before .pre .0) (q .0) (q .1) (q .2) (q .3) (c .before .before .before .before .before .before .before .pre .1 .1 .0 .0) (c .before .before .before .before .before .before .before .pre .1 .1 .0 .1) (c .before .before .before .before .before .before .before .pre .1 .1 .1 .0) (c .before .before .before .before .before .before .before .pre .1 .1 .1 .1) (c .before .before .before .before .loop .work) (c .before .before .before .before .loop .p) (c .before .before .before .before .loop .out) (c .before .before .before .before .loop .inv) (c .before .before .before .loop-test .taken) in
     (cells-arena (a .sheet .now) (a .work .now) (a .free) (a .at) (a .end) (a .d) (a .base) (c .before .before .before .before .before .before .before .pre .0) (q .0) (q .1) (q .2) (q .3) (c .before .before .before .before .before .before .before .pre .1 .1 .0 .0) (c .before .before .before .before .before .before .before .pre .1 .1 .0 .1) (c .before .before .before .before .before .before .before .pre .1 .1 .1 .0) (c .before .before .before .before .before .before .before .pre .1 .1 .1 .1) (c .before .before .before .before .loop .work) (c .before .before .before .before .loop .p) (c .before .before .before .before .loop .out) (c .before .before .before .before .loop .inv) (c .before .before .before .loop-test .taken), ((omega arith, omega arith, omega (arith, c .before .before .before .before .loop .inv .since, q .0, q .1, q .3), mark-room (a .sheet .now) (a .work .now) (a .free) (a .at) (a .end) (a .d) (a .base) (c .before .before .before .before .before .before .before .pre .0) (q .0) (q .1) (q .2) (q .3) (c .before .before .before .before .before .before .before .pre .1 .1 .0 .0) (c .before .before .before .before .before .before .before .pre .1 .1 .0 .1) (c .before .before .before .before .before .before .before .pre .1 .1 .1 .0) (c .before .before .before .before .before .before .before .pre .1 .1 .1 .1) (c .before .before .before .before .loop .work) (c .before .before .before .before .loop .p) (c .before .before .before .before .loop .out) (c .before .before .before .before .loop .inv) (c .before .before .before .loop-test .taken)), subst (λ (k : ℕ). (5 * size (tree-at (a .sheet .now) (c .before .before .before .before .loop .work) k) < 65536) × (c .before .before .before .before .loop .out + 15 * size (tree-at (a .sheet .now) (c .before .before .before .before .loop .work) k) ≤ length (c .before .before .before .before .loop .work))) (sym e) (cell-room (a .sheet .now) (a .work .now) (a .free) (a .at) (a .end) (a .d) (a .base) (c .before .before .before .before .before .before .before .pre .0) (q .0) (q .1) (q .2) (q .3) (c .before .before .before .before .before .before .before .pre .1 .1 .0 .0) (c .before .before .before .before .before .before .before .pre .1 .1 .0 .1) (c .before .before .before .before .before .before .before .pre .1 .1 .1 .0) (c .before .before .before .before .before .before .before .pre .1 .1 .1 .1) (c .before .before .before .before .loop .work) (c .before .before .before .before .loop .p) (c .before .before .before .before .loop .out) (c .before .before .before .before .loop .inv) (c .before .before .before .loop-test .taken))))
@@ -65,38 +65,38 @@ add-p : tie.Need-add-p Inv-loop μ-loop
 add-p c =
     let a = c .before .before .before .before .before .before .before .before .before .before .args in
     let q = c .before .before .before .before .before .before .before .before .before .before .pre .1 .0 in
-    omega (arith, next-room (a .sheet .now) (a .work .now) (a .free) (a .at) (a .end) (a .d) (a .base) (c .before .before .before .before .before .before .before .before .before .before .pre .0) (q .0) (q .1) (q .2) (q .3) (c .before .before .before .before .before .before .before .before .before .before .pre .1 .1 .0 .0) (c .before .before .before .before .before .before .before .before .before .before .pre .1 .1 .0 .1) (c .before .before .before .before .before .before .before .before .before .before .pre .1 .1 .1 .0) (c .before .before .before .before .before .before .before .before .before .before .pre .1 .1 .1 .1) (c .before .before .before .before .before .before .before .loop .work) (c .before .before .before .before .before .before .before .loop .p) (c .before .before .before .before .before .before .before .loop .out) (c .before .before .before .before .before .before .before .loop .inv) (c .before .before .before .before .before .before .loop-test .taken) (c .before .before .marked-words .last .1 .0) (c .before .before .marked-words .result) (subst (λ (k : ℕ). Marked (a .sheet .now) (c .before .before .before .before .before .before .before .loop .work) (c .before .before .marked-words .last .1 .0) (tree-at (a .sheet .now) (c .before .before .before .before .before .before .before .loop .work) k) (c .before .before .before .before .before .before .before .loop .out) (c .before .before .marked-words .result) (c .before .before .before .before .before .before .before .loop .p + (2 * a .d + 1))) (c .before .before .before .before .wide .ensures) (c .before .before .marked-words .ensures)))
+    omega (arith, next-room (a .sheet .now) (a .work .now) (a .free) (a .at) (a .end) (a .d) (a .base) (c .before .before .before .before .before .before .before .before .before .before .pre .0) (q .0) (q .1) (q .2) (q .3) (c .before .before .before .before .before .before .before .before .before .before .pre .1 .1 .0 .0) (c .before .before .before .before .before .before .before .before .before .before .pre .1 .1 .0 .1) (c .before .before .before .before .before .before .before .before .before .before .pre .1 .1 .1 .0) (c .before .before .before .before .before .before .before .before .before .before .pre .1 .1 .1 .1) (c .before .before .before .before .before .before .before .loop .work) (c .before .before .before .before .before .before .before .loop .p) (c .before .before .before .before .before .before .before .loop .out) (c .before .before .before .before .before .before .before .loop .inv) (c .before .before .before .before .before .before .loop-test .taken) (c .before .before .marked-words .last .1 .0) (c .before .before .marked-words .result) (subst (λ (k : ℕ). Marked (a .sheet .now) (c .before .before .before .before .before .before .before .loop .work) (c .before .before .marked-words .last .1 .0) (tree-at (a .sheet .now) (c .before .before .before .before .before .before .before .loop .work) k) (c .before .before .before .before .before .before .before .loop .out) (c .before .before .marked-words .result) (c .before .before .before .before .before .before .before .loop .p + (2 * a .d + 1))) (c .before .before .before .before .wide .ensures .0) (c .before .before .marked-words .ensures)))
 
 sub-work : tie.Need-sub-work Inv-loop μ-loop
 sub-work c =
     let a = c .before .before .before .before .before .before .before .before .before .before .args in
     let q = c .before .before .before .before .before .before .before .before .before .before .pre .1 .0 in
-    omega (arith, next-room (a .sheet .now) (a .work .now) (a .free) (a .at) (a .end) (a .d) (a .base) (c .before .before .before .before .before .before .before .before .before .before .pre .0) (q .0) (q .1) (q .2) (q .3) (c .before .before .before .before .before .before .before .before .before .before .pre .1 .1 .0 .0) (c .before .before .before .before .before .before .before .before .before .before .pre .1 .1 .0 .1) (c .before .before .before .before .before .before .before .before .before .before .pre .1 .1 .1 .0) (c .before .before .before .before .before .before .before .before .before .before .pre .1 .1 .1 .1) (c .before .before .before .before .before .before .before .loop .work) (c .before .before .before .before .before .before .before .loop .p) (c .before .before .before .before .before .before .before .loop .out) (c .before .before .before .before .before .before .before .loop .inv) (c .before .before .before .before .before .before .loop-test .taken) (c .before .before .marked-words .last .1 .0) (c .before .before .marked-words .result) (subst (λ (k : ℕ). Marked (a .sheet .now) (c .before .before .before .before .before .before .before .loop .work) (c .before .before .marked-words .last .1 .0) (tree-at (a .sheet .now) (c .before .before .before .before .before .before .before .loop .work) k) (c .before .before .before .before .before .before .before .loop .out) (c .before .before .marked-words .result) (c .before .before .before .before .before .before .before .loop .p + (2 * a .d + 1))) (c .before .before .before .before .wide .ensures) (c .before .before .marked-words .ensures)))
+    omega (arith, next-room (a .sheet .now) (a .work .now) (a .free) (a .at) (a .end) (a .d) (a .base) (c .before .before .before .before .before .before .before .before .before .before .pre .0) (q .0) (q .1) (q .2) (q .3) (c .before .before .before .before .before .before .before .before .before .before .pre .1 .1 .0 .0) (c .before .before .before .before .before .before .before .before .before .before .pre .1 .1 .0 .1) (c .before .before .before .before .before .before .before .before .before .before .pre .1 .1 .1 .0) (c .before .before .before .before .before .before .before .before .before .before .pre .1 .1 .1 .1) (c .before .before .before .before .before .before .before .loop .work) (c .before .before .before .before .before .before .before .loop .p) (c .before .before .before .before .before .before .before .loop .out) (c .before .before .before .before .before .before .before .loop .inv) (c .before .before .before .before .before .before .loop-test .taken) (c .before .before .marked-words .last .1 .0) (c .before .before .marked-words .result) (subst (λ (k : ℕ). Marked (a .sheet .now) (c .before .before .before .before .before .before .before .loop .work) (c .before .before .marked-words .last .1 .0) (tree-at (a .sheet .now) (c .before .before .before .before .before .before .before .loop .work) k) (c .before .before .before .before .before .before .before .loop .out) (c .before .before .marked-words .result) (c .before .before .before .before .before .before .before .loop .p + (2 * a .d + 1))) (c .before .before .before .before .wide .ensures .0) (c .before .before .marked-words .ensures)))
 
 cast-work : tie.Need-cast-work Inv-loop μ-loop
 cast-work c =
     let a = c .before .before .before .before .before .before .before .before .before .before .args in
     let q = c .before .before .before .before .before .before .before .before .before .before .pre .1 .0 in
-    omega (arith, next-room (a .sheet .now) (a .work .now) (a .free) (a .at) (a .end) (a .d) (a .base) (c .before .before .before .before .before .before .before .before .before .before .pre .0) (q .0) (q .1) (q .2) (q .3) (c .before .before .before .before .before .before .before .before .before .before .pre .1 .1 .0 .0) (c .before .before .before .before .before .before .before .before .before .before .pre .1 .1 .0 .1) (c .before .before .before .before .before .before .before .before .before .before .pre .1 .1 .1 .0) (c .before .before .before .before .before .before .before .before .before .before .pre .1 .1 .1 .1) (c .before .before .before .before .before .before .before .loop .work) (c .before .before .before .before .before .before .before .loop .p) (c .before .before .before .before .before .before .before .loop .out) (c .before .before .before .before .before .before .before .loop .inv) (c .before .before .before .before .before .before .loop-test .taken) (c .before .before .marked-words .last .1 .0) (c .before .before .marked-words .result) (subst (λ (k : ℕ). Marked (a .sheet .now) (c .before .before .before .before .before .before .before .loop .work) (c .before .before .marked-words .last .1 .0) (tree-at (a .sheet .now) (c .before .before .before .before .before .before .before .loop .work) k) (c .before .before .before .before .before .before .before .loop .out) (c .before .before .marked-words .result) (c .before .before .before .before .before .before .before .loop .p + (2 * a .d + 1))) (c .before .before .before .before .wide .ensures) (c .before .before .marked-words .ensures)))
+    omega (arith, next-room (a .sheet .now) (a .work .now) (a .free) (a .at) (a .end) (a .d) (a .base) (c .before .before .before .before .before .before .before .before .before .before .pre .0) (q .0) (q .1) (q .2) (q .3) (c .before .before .before .before .before .before .before .before .before .before .pre .1 .1 .0 .0) (c .before .before .before .before .before .before .before .before .before .before .pre .1 .1 .0 .1) (c .before .before .before .before .before .before .before .before .before .before .pre .1 .1 .1 .0) (c .before .before .before .before .before .before .before .before .before .before .pre .1 .1 .1 .1) (c .before .before .before .before .before .before .before .loop .work) (c .before .before .before .before .before .before .before .loop .p) (c .before .before .before .before .before .before .before .loop .out) (c .before .before .before .before .before .before .before .loop .inv) (c .before .before .before .before .before .before .loop-test .taken) (c .before .before .marked-words .last .1 .0) (c .before .before .marked-words .result) (subst (λ (k : ℕ). Marked (a .sheet .now) (c .before .before .before .before .before .before .before .loop .work) (c .before .before .marked-words .last .1 .0) (tree-at (a .sheet .now) (c .before .before .before .before .before .before .before .loop .work) k) (c .before .before .before .before .before .before .before .loop .out) (c .before .before .marked-words .result) (c .before .before .before .before .before .before .before .loop .p + (2 * a .d + 1))) (c .before .before .before .before .wide .ensures .0) (c .before .before .marked-words .ensures)))
 
 add-work : tie.Need-add-work Inv-loop μ-loop
 add-work c =
     let a = c .before .before .before .before .before .before .before .before .before .before .args in
     let q = c .before .before .before .before .before .before .before .before .before .before .pre .1 .0 in
-    omega (arith, next-room (a .sheet .now) (a .work .now) (a .free) (a .at) (a .end) (a .d) (a .base) (c .before .before .before .before .before .before .before .before .before .before .pre .0) (q .0) (q .1) (q .2) (q .3) (c .before .before .before .before .before .before .before .before .before .before .pre .1 .1 .0 .0) (c .before .before .before .before .before .before .before .before .before .before .pre .1 .1 .0 .1) (c .before .before .before .before .before .before .before .before .before .before .pre .1 .1 .1 .0) (c .before .before .before .before .before .before .before .before .before .before .pre .1 .1 .1 .1) (c .before .before .before .before .before .before .before .loop .work) (c .before .before .before .before .before .before .before .loop .p) (c .before .before .before .before .before .before .before .loop .out) (c .before .before .before .before .before .before .before .loop .inv) (c .before .before .before .before .before .before .loop-test .taken) (c .before .before .marked-words .last .1 .0) (c .before .before .marked-words .result) (subst (λ (k : ℕ). Marked (a .sheet .now) (c .before .before .before .before .before .before .before .loop .work) (c .before .before .marked-words .last .1 .0) (tree-at (a .sheet .now) (c .before .before .before .before .before .before .before .loop .work) k) (c .before .before .before .before .before .before .before .loop .out) (c .before .before .marked-words .result) (c .before .before .before .before .before .before .before .loop .p + (2 * a .d + 1))) (c .before .before .before .before .wide .ensures) (c .before .before .marked-words .ensures)))
+    omega (arith, next-room (a .sheet .now) (a .work .now) (a .free) (a .at) (a .end) (a .d) (a .base) (c .before .before .before .before .before .before .before .before .before .before .pre .0) (q .0) (q .1) (q .2) (q .3) (c .before .before .before .before .before .before .before .before .before .before .pre .1 .1 .0 .0) (c .before .before .before .before .before .before .before .before .before .before .pre .1 .1 .0 .1) (c .before .before .before .before .before .before .before .before .before .before .pre .1 .1 .1 .0) (c .before .before .before .before .before .before .before .before .before .before .pre .1 .1 .1 .1) (c .before .before .before .before .before .before .before .loop .work) (c .before .before .before .before .before .before .before .loop .p) (c .before .before .before .before .before .before .before .loop .out) (c .before .before .before .before .before .before .before .loop .inv) (c .before .before .before .before .before .before .loop-test .taken) (c .before .before .marked-words .last .1 .0) (c .before .before .marked-words .result) (subst (λ (k : ℕ). Marked (a .sheet .now) (c .before .before .before .before .before .before .before .loop .work) (c .before .before .marked-words .last .1 .0) (tree-at (a .sheet .now) (c .before .before .before .before .before .before .before .loop .work) k) (c .before .before .before .before .before .before .before .loop .out) (c .before .before .marked-words .result) (c .before .before .before .before .before .before .before .loop .p + (2 * a .d + 1))) (c .before .before .before .before .wide .ensures .0) (c .before .before .marked-words .ensures)))
 
 mul-work : tie.Need-mul-work Inv-loop μ-loop
 mul-work c =
     let a = c .before .before .before .before .before .before .before .before .before .before .args in
     let q = c .before .before .before .before .before .before .before .before .before .before .pre .1 .0 in
-    let k = next-room (a .sheet .now) (a .work .now) (a .free) (a .at) (a .end) (a .d) (a .base) (c .before .before .before .before .before .before .before .before .before .before .pre .0) (q .0) (q .1) (q .2) (q .3) (c .before .before .before .before .before .before .before .before .before .before .pre .1 .1 .0 .0) (c .before .before .before .before .before .before .before .before .before .before .pre .1 .1 .0 .1) (c .before .before .before .before .before .before .before .before .before .before .pre .1 .1 .1 .0) (c .before .before .before .before .before .before .before .before .before .before .pre .1 .1 .1 .1) (c .before .before .before .before .before .before .before .loop .work) (c .before .before .before .before .before .before .before .loop .p) (c .before .before .before .before .before .before .before .loop .out) (c .before .before .before .before .before .before .before .loop .inv) (c .before .before .before .before .before .before .loop-test .taken) (c .before .before .marked-words .last .1 .0) (c .before .before .marked-words .result) (subst (λ (k : ℕ). Marked (a .sheet .now) (c .before .before .before .before .before .before .before .loop .work) (c .before .before .marked-words .last .1 .0) (tree-at (a .sheet .now) (c .before .before .before .before .before .before .before .loop .work) k) (c .before .before .before .before .before .before .before .loop .out) (c .before .before .marked-words .result) (c .before .before .before .before .before .before .before .loop .p + (2 * a .d + 1))) (c .before .before .before .before .wide .ensures) (c .before .before .marked-words .ensures)) in
+    let k = next-room (a .sheet .now) (a .work .now) (a .free) (a .at) (a .end) (a .d) (a .base) (c .before .before .before .before .before .before .before .before .before .before .pre .0) (q .0) (q .1) (q .2) (q .3) (c .before .before .before .before .before .before .before .before .before .before .pre .1 .1 .0 .0) (c .before .before .before .before .before .before .before .before .before .before .pre .1 .1 .0 .1) (c .before .before .before .before .before .before .before .before .before .before .pre .1 .1 .1 .0) (c .before .before .before .before .before .before .before .before .before .before .pre .1 .1 .1 .1) (c .before .before .before .before .before .before .before .loop .work) (c .before .before .before .before .before .before .before .loop .p) (c .before .before .before .before .before .before .before .loop .out) (c .before .before .before .before .before .before .before .loop .inv) (c .before .before .before .before .before .before .loop-test .taken) (c .before .before .marked-words .last .1 .0) (c .before .before .marked-words .result) (subst (λ (k : ℕ). Marked (a .sheet .now) (c .before .before .before .before .before .before .before .loop .work) (c .before .before .marked-words .last .1 .0) (tree-at (a .sheet .now) (c .before .before .before .before .before .before .before .loop .work) k) (c .before .before .before .before .before .before .before .loop .out) (c .before .before .marked-words .result) (c .before .before .before .before .before .before .before .loop .p + (2 * a .d + 1))) (c .before .before .before .before .wide .ensures .0) (c .before .before .marked-words .ensures)) in
     search needs
 
 slice-write-work : tie.Need-slice-write-work Inv-loop μ-loop
 slice-write-work c =
     let a = c .before .before .before .before .before .before .before .before .before .before .args in
     let q = c .before .before .before .before .before .before .before .before .before .before .pre .1 .0 in
-    omega (arith, next-room (a .sheet .now) (a .work .now) (a .free) (a .at) (a .end) (a .d) (a .base) (c .before .before .before .before .before .before .before .before .before .before .pre .0) (q .0) (q .1) (q .2) (q .3) (c .before .before .before .before .before .before .before .before .before .before .pre .1 .1 .0 .0) (c .before .before .before .before .before .before .before .before .before .before .pre .1 .1 .0 .1) (c .before .before .before .before .before .before .before .before .before .before .pre .1 .1 .1 .0) (c .before .before .before .before .before .before .before .before .before .before .pre .1 .1 .1 .1) (c .before .before .before .before .before .before .before .loop .work) (c .before .before .before .before .before .before .before .loop .p) (c .before .before .before .before .before .before .before .loop .out) (c .before .before .before .before .before .before .before .loop .inv) (c .before .before .before .before .before .before .loop-test .taken) (c .before .before .marked-words .last .1 .0) (c .before .before .marked-words .result) (subst (λ (k : ℕ). Marked (a .sheet .now) (c .before .before .before .before .before .before .before .loop .work) (c .before .before .marked-words .last .1 .0) (tree-at (a .sheet .now) (c .before .before .before .before .before .before .before .loop .work) k) (c .before .before .before .before .before .before .before .loop .out) (c .before .before .marked-words .result) (c .before .before .before .before .before .before .before .loop .p + (2 * a .d + 1))) (c .before .before .before .before .wide .ensures) (c .before .before .marked-words .ensures)))
+    omega (arith, next-room (a .sheet .now) (a .work .now) (a .free) (a .at) (a .end) (a .d) (a .base) (c .before .before .before .before .before .before .before .before .before .before .pre .0) (q .0) (q .1) (q .2) (q .3) (c .before .before .before .before .before .before .before .before .before .before .pre .1 .1 .0 .0) (c .before .before .before .before .before .before .before .before .before .before .pre .1 .1 .0 .1) (c .before .before .before .before .before .before .before .before .before .before .pre .1 .1 .1 .0) (c .before .before .before .before .before .before .before .before .before .before .pre .1 .1 .1 .1) (c .before .before .before .before .before .before .before .loop .work) (c .before .before .before .before .before .before .before .loop .p) (c .before .before .before .before .before .before .before .loop .out) (c .before .before .before .before .before .before .before .loop .inv) (c .before .before .before .before .before .before .loop-test .taken) (c .before .before .marked-words .last .1 .0) (c .before .before .marked-words .result) (subst (λ (k : ℕ). Marked (a .sheet .now) (c .before .before .before .before .before .before .before .loop .work) (c .before .before .marked-words .last .1 .0) (tree-at (a .sheet .now) (c .before .before .before .before .before .before .before .loop .work) k) (c .before .before .before .before .before .before .before .loop .out) (c .before .before .marked-words .result) (c .before .before .before .before .before .before .before .loop .p + (2 * a .d + 1))) (c .before .before .before .before .wide .ensures .0) (c .before .before .marked-words .ensures)))
 
 loop-less : tie.Need-loop-less Inv-loop μ-loop
 loop-less c = omega (arith, c .before .before .before .before .before .before .loop-test .taken)
@@ -105,7 +105,7 @@ loop-again : tie.Need-loop-again Inv-loop μ-loop
 loop-again c =
     let a = c .before .before .before .before .before .before .before .before .before .before .args in
     let q = c .before .before .before .before .before .before .before .before .before .before .pre .1 .0 in
-    describing-next (a .sheet .now) (a .work .now) (a .free) (a .at) (a .end) (a .d) (a .base) (c .before .before .before .before .before .before .before .before .before .before .pre .0) (q .0) (q .1) (q .2) (q .3) (c .before .before .before .before .before .before .before .before .before .before .pre .1 .1 .0 .0) (c .before .before .before .before .before .before .before .before .before .before .pre .1 .1 .0 .1) (c .before .before .before .before .before .before .before .before .before .before .pre .1 .1 .1 .0) (c .before .before .before .before .before .before .before .before .before .before .pre .1 .1 .1 .1) (c .before .before .before .before .before .before .before .loop .work) (c .before .before .before .before .before .before .before .loop .p) (c .before .before .before .before .before .before .before .loop .out) (c .before .before .before .before .before .before .before .loop .inv) (c .before .before .before .before .before .before .loop-test .taken) (c .before .before .marked-words .last .1 .0) (c .before .before .marked-words .result) (subst (λ (k : ℕ). Marked (a .sheet .now) (c .before .before .before .before .before .before .before .loop .work) (c .before .before .marked-words .last .1 .0) (tree-at (a .sheet .now) (c .before .before .before .before .before .before .before .loop .work) k) (c .before .before .before .before .before .before .before .loop .out) (c .before .before .marked-words .result) (c .before .before .before .before .before .before .before .loop .p + (2 * a .d + 1))) (c .before .before .before .before .wide .ensures) (c .before .before .marked-words .ensures))
+    describing-next (a .sheet .now) (a .work .now) (a .free) (a .at) (a .end) (a .d) (a .base) (c .before .before .before .before .before .before .before .before .before .before .pre .0) (q .0) (q .1) (q .2) (q .3) (c .before .before .before .before .before .before .before .before .before .before .pre .1 .1 .0 .0) (c .before .before .before .before .before .before .before .before .before .before .pre .1 .1 .0 .1) (c .before .before .before .before .before .before .before .before .before .before .pre .1 .1 .1 .0) (c .before .before .before .before .before .before .before .before .before .before .pre .1 .1 .1 .1) (c .before .before .before .before .before .before .before .loop .work) (c .before .before .before .before .before .before .before .loop .p) (c .before .before .before .before .before .before .before .loop .out) (c .before .before .before .before .before .before .before .loop .inv) (c .before .before .before .before .before .before .loop-test .taken) (c .before .before .marked-words .last .1 .0) (c .before .before .marked-words .result) (subst (λ (k : ℕ). Marked (a .sheet .now) (c .before .before .before .before .before .before .before .loop .work) (c .before .before .marked-words .last .1 .0) (tree-at (a .sheet .now) (c .before .before .before .before .before .before .before .loop .work) k) (c .before .before .before .before .before .before .before .loop .out) (c .before .before .marked-words .result) (c .before .before .before .before .before .before .before .loop .p + (2 * a .d + 1))) (c .before .before .before .before .wide .ensures .0) (c .before .before .marked-words .ensures))
 
 same-length : tie.Need-same-length Inv-loop μ-loop
 same-length c = c .before .loop .inv .kept .len

@@ -50,14 +50,14 @@ loop-again : tie.Need-loop-again Inv-loop μ-loop
 loop-again c =
     let a = c .before .before .before .before .before .before .before .args in
     let q = c .before .before .before .before .before .before .before .pre .1 .1 .0 in
-    (omega (arith, c .before .before .before .loop-test .taken), omega (arith, c .before .before .before .before .loop .inv .1), skipped (a .sheet .now) (a .work .now) (a .free) (a .at) (a .end) (q .1) (c .before .before .before .before .loop .work) (c .before .before .before .before .loop .k) (c .before .before .before .before .loop .index) (c .before .before .before .before .loop .top) (c .before .before .before .loop-test .taken) (c .before .before .before .before .loop .inv .1) (q .2) (c .before .before .before .before .before .before .before .pre .1 .1 .1 .0) (c .before .before .before .before .loop .inv .2) (sym (c .before .wide .ensures) ∙ c .if1 .taken))
+    (omega (arith, c .before .before .before .loop-test .taken), omega (arith, c .before .before .before .before .loop .inv .1), skipped (a .sheet .now) (a .work .now) (a .free) (a .at) (a .end) (q .1) (c .before .before .before .before .loop .work) (c .before .before .before .before .loop .k) (c .before .before .before .before .loop .index) (c .before .before .before .before .loop .top) (c .before .before .before .loop-test .taken) (c .before .before .before .before .loop .inv .1) (q .2) (c .before .before .before .before .before .before .before .pre .1 .1 .1 .0) (c .before .before .before .before .loop .inv .2) (sym (c .before .wide .ensures .0) ∙ c .if1 .taken))
 
 share-requires : tie.Need-share-requires Inv-loop μ-loop
 share-requires c κs =
     let a = c .before .before .before .before .before .before .before .before .before .args in
     let q = c .before .before .before .before .before .before .before .before .before .pre .1 .1 .0 in
     let b = build-room (a .sheet .now) (a .work .now) (a .free) (a .at) (a .end) (q .1) (c .before .before .before .before .before .before .loop .work) (c .before .before .before .before .before .before .loop .k) (c .before .before .before .before .before .before .loop .index) (c .before .before .before .before .before .before .loop .top) (c .before .before .before .before .before .loop-test .taken) (c .before .before .before .before .before .before .loop .inv .1) (q .2) (c .before .before .before .before .before .before .before .before .before .pre .1 .1 .1 .0) (c .before .before .before .before .before .before .loop .inv .2) in
-    let x = inside (a .sheet .now) (a .work .now) (a .free) (a .at) (a .end) (q .1) (c .before .before .before .before .before .before .loop .work) (c .before .before .before .before .before .before .loop .k) (c .before .before .before .before .before .before .loop .index) (c .before .before .before .before .before .before .loop .top) (c .before .before .before .before .before .loop-test .taken) (c .before .before .before .before .before .before .loop .inv .1) (q .2) (c .before .before .before .before .before .before .before .before .before .pre .1 .1 .1 .0) (c .before .before .before .before .before .before .loop .inv .2) (c .before .before .before .wide .result) (c .before .before .before .wide .ensures) (omega (arith, c .before .before .if1 .left)) in
+    let x = inside (a .sheet .now) (a .work .now) (a .free) (a .at) (a .end) (q .1) (c .before .before .before .before .before .before .loop .work) (c .before .before .before .before .before .before .loop .k) (c .before .before .before .before .before .before .loop .index) (c .before .before .before .before .before .before .loop .top) (c .before .before .before .before .before .loop-test .taken) (c .before .before .before .before .before .before .loop .inv .1) (q .2) (c .before .before .before .before .before .before .before .before .before .pre .1 .1 .1 .0) (c .before .before .before .before .before .before .loop .inv .2) (c .before .before .before .wide .result) (c .before .before .before .wide .ensures .0) (omega (arith, c .before .before .if1 .left)) in
     (c .before .before .before .before .before .before .loop .inv .2 .arena, ((omega (arith, c .before .before .if1 .left), omega arith, c .before .before .before .before .before .before .loop .inv .2 .arena .links .some), (omega (arith, b .0), omega (arith, b .1, q .3))))
 
 loop-less-2 : tie.Need-loop-less-2 Inv-loop μ-loop
@@ -67,7 +67,7 @@ loop-again-2 : tie.Need-loop-again-2 Inv-loop μ-loop
 loop-again-2 c =
     let a = c .before .before .before .before .before .before .before .before .before .before .before .before .args in
     let q = c .before .before .before .before .before .before .before .before .before .before .before .before .pre .1 .1 .0 in
-    (omega (arith, c .before .before .before .before .before .before .before .before .loop-test .taken), omega (arith, c .before .before .before .before .before .before .before .before .before .loop .inv .1), first-built (a .sheet .now) (a .work .now) (a .free) (a .at) (a .end) (q .1) (c .before .before .before .before .before .before .before .before .before .loop .work) (c .before .before .before .before .before .before .before .before .before .loop .k) (c .before .before .before .before .before .before .before .before .before .loop .index) (c .before .before .before .before .before .before .before .before .before .loop .top) (c .before .before .before .before .before .before .before .before .loop-test .taken) (c .before .before .before .before .before .before .before .before .before .loop .inv .1) (q .2) (c .before .before .before .before .before .before .before .before .before .before .before .before .pre .1 .1 .1 .0) (c .before .before .before .before .before .before .before .before .before .loop .inv .2) (c .before .before .before .before .before .before .wide .result) (c .before .before .before .before .before .before .wide .ensures) (omega (arith, c .before .before .before .before .before .if1 .left)) (c .before .before .before .before .before .before .before .before .before .before .before .before .pre .0) (c .before .before .share .last .1 .0) (c .before .before .share .result) (c .before .before .before .before .if2 .taken) (c .before .before .share .ensures .0) (c .before .before .share .ensures .1))
+    (omega (arith, c .before .before .before .before .before .before .before .before .loop-test .taken), omega (arith, c .before .before .before .before .before .before .before .before .before .loop .inv .1), first-built (a .sheet .now) (a .work .now) (a .free) (a .at) (a .end) (q .1) (c .before .before .before .before .before .before .before .before .before .loop .work) (c .before .before .before .before .before .before .before .before .before .loop .k) (c .before .before .before .before .before .before .before .before .before .loop .index) (c .before .before .before .before .before .before .before .before .before .loop .top) (c .before .before .before .before .before .before .before .before .loop-test .taken) (c .before .before .before .before .before .before .before .before .before .loop .inv .1) (q .2) (c .before .before .before .before .before .before .before .before .before .before .before .before .pre .1 .1 .1 .0) (c .before .before .before .before .before .before .before .before .before .loop .inv .2) (c .before .before .before .before .before .before .wide .result) (c .before .before .before .before .before .before .wide .ensures .0) (omega (arith, c .before .before .before .before .before .if1 .left)) (c .before .before .before .before .before .before .before .before .before .before .before .before .pre .0) (c .before .before .share .last .1 .0) (c .before .before .share .result) (c .before .before .before .before .if2 .taken) (c .before .before .share .ensures .0) (c .before .before .share .ensures .1))
 
 add-sum : tie.Need-add-sum Inv-loop μ-loop
 add-sum c =
@@ -81,11 +81,11 @@ add-requires c κs =
     let a = c .before .before .before .before .before .before .before .before .before .args in
     let q = c .before .before .before .before .before .before .before .before .before .pre .1 .1 .0 in
     let b = build-room (a .sheet .now) (a .work .now) (a .free) (a .at) (a .end) (q .1) (c .before .before .before .before .before .before .loop .work) (c .before .before .before .before .before .before .loop .k) (c .before .before .before .before .before .before .loop .index) (c .before .before .before .before .before .before .loop .top) (c .before .before .before .before .before .loop-test .taken) (c .before .before .before .before .before .before .loop .inv .1) (q .2) (c .before .before .before .before .before .before .before .before .before .pre .1 .1 .1 .0) (c .before .before .before .before .before .before .loop .inv .2) in
-    let x = inside (a .sheet .now) (a .work .now) (a .free) (a .at) (a .end) (q .1) (c .before .before .before .before .before .before .loop .work) (c .before .before .before .before .before .before .loop .k) (c .before .before .before .before .before .before .loop .index) (c .before .before .before .before .before .before .loop .top) (c .before .before .before .before .before .loop-test .taken) (c .before .before .before .before .before .before .loop .inv .1) (q .2) (c .before .before .before .before .before .before .before .before .before .pre .1 .1 .1 .0) (c .before .before .before .before .before .before .loop .inv .2) (c .before .before .before .wide .result) (c .before .before .before .wide .ensures) (omega (arith, c .before .before .if1 .left)) in
+    let x = inside (a .sheet .now) (a .work .now) (a .free) (a .at) (a .end) (q .1) (c .before .before .before .before .before .before .loop .work) (c .before .before .before .before .before .before .loop .k) (c .before .before .before .before .before .before .loop .index) (c .before .before .before .before .before .before .loop .top) (c .before .before .before .before .before .loop-test .taken) (c .before .before .before .before .before .before .loop .inv .1) (q .2) (c .before .before .before .before .before .before .before .before .before .pre .1 .1 .1 .0) (c .before .before .before .before .before .before .loop .inv .2) (c .before .before .before .wide .result) (c .before .before .before .wide .ensures .0) (omega (arith, c .before .before .if1 .left)) in
     let g = c .before .before .before .before .before .before .loop .inv .2 .grown .below in
     let r = c .before .before .before .before .before .before .before .before .before .pre .1 .0 in
     let z = c .before .before .before .before .before .before .loop .inv .2 .full (omega (arith, c .before .if2 .left)) in
-    (c .before .before .before .before .before .before .loop .inv .2 .arena, ((r .0, omega (arith, r .1, b .2), sym (same-kind (a .work .now) (c .before .before .before .before .before .before .loop .work) g (a .like) (r .1)) ∙ r .2, sym (same-name (a .work .now) (c .before .before .before .before .before .before .loop .work) g (a .like) (r .1) (a .sheet .now)) ∙ r .3), ((omega (arith, c .before .before .if1 .left), omega arith, omega (arith, c .before .if2 .left), c .before .before .before .before .before .before .loop .inv .2 .inside, z .4), (b .0, omega (arith, b .1, q .3), nodes-small (a .sheet .now) (a .work .now) (a .free) (a .at) (a .end) (q .1) (c .before .before .before .before .before .before .loop .work) (c .before .before .before .before .before .before .loop .k) (c .before .before .before .before .before .before .loop .index) (c .before .before .before .before .before .before .loop .top) (c .before .before .before .before .before .loop-test .taken) (c .before .before .before .before .before .before .loop .inv .1) (q .2) (c .before .before .before .before .before .before .before .before .before .pre .1 .1 .1 .0) (c .before .before .before .before .before .before .loop .inv .2) (c .before .before .before .wide .result) (c .before .before .before .wide .ensures) (omega (arith, c .before .before .if1 .left)) (c .before .before .before .before .before .before .before .before .before .pre .0) (c .before .before .before .before .before .before .before .before .before .pre .1 .1 .1 .1) (omega (arith, c .before .if2 .left))))))
+    (c .before .before .before .before .before .before .loop .inv .2 .arena, ((r .0, omega (arith, r .1, b .2), sym (same-kind (a .work .now) (c .before .before .before .before .before .before .loop .work) g (a .like) (r .1)) ∙ r .2, sym (same-name (a .work .now) (c .before .before .before .before .before .before .loop .work) g (a .like) (r .1) (a .sheet .now)) ∙ r .3), ((omega (arith, c .before .before .if1 .left), omega arith, omega (arith, c .before .if2 .left), c .before .before .before .before .before .before .loop .inv .2 .inside, z .4), (b .0, omega (arith, b .1, q .3), nodes-small (a .sheet .now) (a .work .now) (a .free) (a .at) (a .end) (q .1) (c .before .before .before .before .before .before .loop .work) (c .before .before .before .before .before .before .loop .k) (c .before .before .before .before .before .before .loop .index) (c .before .before .before .before .before .before .loop .top) (c .before .before .before .before .before .loop-test .taken) (c .before .before .before .before .before .before .loop .inv .1) (q .2) (c .before .before .before .before .before .before .before .before .before .pre .1 .1 .1 .0) (c .before .before .before .before .before .before .loop .inv .2) (c .before .before .before .wide .result) (c .before .before .before .wide .ensures .0) (omega (arith, c .before .before .if1 .left)) (c .before .before .before .before .before .before .before .before .before .pre .0) (c .before .before .before .before .before .before .before .before .before .pre .1 .1 .1 .1) (omega (arith, c .before .if2 .left))))))
 
 loop-less-3 : tie.Need-loop-less-3 Inv-loop μ-loop
 loop-less-3 c = omega (arith, c .before .before .before .before .before .before .before .before .loop-test .taken)
@@ -94,7 +94,7 @@ loop-again-3 : tie.Need-loop-again-3 Inv-loop μ-loop
 loop-again-3 c =
     let a = c .before .before .before .before .before .before .before .before .before .before .before .before .args in
     let q = c .before .before .before .before .before .before .before .before .before .before .before .before .pre .1 .1 .0 in
-    (omega (arith, c .before .before .before .before .before .before .before .before .loop-test .taken), omega (arith, c .before .before .before .before .before .before .before .before .before .loop .inv .1), more-built (a .sheet .now) (a .work .now) (a .free) (a .at) (a .end) (q .1) (c .before .before .before .before .before .before .before .before .before .loop .work) (c .before .before .before .before .before .before .before .before .before .loop .k) (c .before .before .before .before .before .before .before .before .before .loop .index) (c .before .before .before .before .before .before .before .before .before .loop .top) (c .before .before .before .before .before .before .before .before .loop-test .taken) (c .before .before .before .before .before .before .before .before .before .loop .inv .1) (q .2) (c .before .before .before .before .before .before .before .before .before .before .before .before .pre .1 .1 .1 .0) (c .before .before .before .before .before .before .before .before .before .loop .inv .2) (c .before .before .before .before .before .before .wide .result) (c .before .before .before .before .before .before .wide .ensures) (omega (arith, c .before .before .before .before .before .if1 .left)) (c .before .before .before .before .before .before .before .before .before .before .before .before .pre .0) (c .before .before .add .last .1 .0) (c .before .before .add .result) (omega (arith, c .before .before .before .before .if2 .left)) (c .before .before .add .ensures .0) (c .before .before .add .ensures .1))
+    (omega (arith, c .before .before .before .before .before .before .before .before .loop-test .taken), omega (arith, c .before .before .before .before .before .before .before .before .before .loop .inv .1), more-built (a .sheet .now) (a .work .now) (a .free) (a .at) (a .end) (q .1) (c .before .before .before .before .before .before .before .before .before .loop .work) (c .before .before .before .before .before .before .before .before .before .loop .k) (c .before .before .before .before .before .before .before .before .before .loop .index) (c .before .before .before .before .before .before .before .before .before .loop .top) (c .before .before .before .before .before .before .before .before .loop-test .taken) (c .before .before .before .before .before .before .before .before .before .loop .inv .1) (q .2) (c .before .before .before .before .before .before .before .before .before .before .before .before .pre .1 .1 .1 .0) (c .before .before .before .before .before .before .before .before .before .loop .inv .2) (c .before .before .before .before .before .before .wide .result) (c .before .before .before .before .before .before .wide .ensures .0) (omega (arith, c .before .before .before .before .before .if1 .left)) (c .before .before .before .before .before .before .before .before .before .before .before .before .pre .0) (c .before .before .add .last .1 .0) (c .before .before .add .result) (omega (arith, c .before .before .before .before .if2 .left)) (c .before .before .add .ensures .0) (c .before .before .add .ensures .1))
 
 same-length : tie.Need-same-length Inv-loop μ-loop
 same-length c = c .before .loop .inv .2 .grown .len

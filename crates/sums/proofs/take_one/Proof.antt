@@ -55,7 +55,7 @@ returns : tie.Need-returns
 returns c =
     let a = c .before .before .before .before .before .before .before .before .before .before .args in
     let q = c .before .before .before .before .before .before .before .before .before .before .pre .1 .0 in
-    took-both (a .sheet .now) (a .work .now) (a .p) (a .mid) (a .end) (a .every) (q .1) (q .2) (omega (arith, q .3)) (c .before .before .before .before .before .before .before .before .before .before .pre .1 .1 .0) (sym (c .before .before .before .if1 .taken) ∙ c .before .before .before .before .cancels .ensures ∙ ap (λ (k : ℕ). a .every || ground (tree-at (a .sheet .now) (a .work .now) k)) (c .before .before .before .before .before .before .wide .ensures)) (c .before .find .result) (c .before .find .ensures) (c .if2 .taken)
+    took-both (a .sheet .now) (a .work .now) (a .p) (a .mid) (a .end) (a .every) (q .1) (q .2) (omega (arith, q .3)) (c .before .before .before .before .before .before .before .before .before .before .pre .1 .1 .0) (sym (c .before .before .before .if1 .taken) ∙ c .before .before .before .before .cancels .ensures ∙ ap (λ (k : ℕ). a .every || ground (tree-at (a .sheet .now) (a .work .now) k)) (c .before .before .before .before .before .before .wide .ensures .0)) (c .before .find .result) (c .before .find .ensures) (c .if2 .taken)
 
 same-length-2 : tie.Need-same-length-2
 same-length-2 c = search needs
@@ -64,7 +64,7 @@ returns-2 : tie.Need-returns-2
 returns-2 c =
     let a = c .before .before .before .before .before .before .before .before .before .before .args in
     let q = c .before .before .before .before .before .before .before .before .before .before .pre .1 .0 in
-    took-none (a .sheet .now) (a .work .now) (a .p) (a .mid) (a .end) (a .every) (q .1) (q .2) (omega (arith, q .3)) (c .before .before .before .before .before .before .before .before .before .before .pre .1 .1 .0) (sym (c .before .before .before .if1 .taken) ∙ c .before .before .before .before .cancels .ensures ∙ ap (λ (k : ℕ). a .every || ground (tree-at (a .sheet .now) (a .work .now) k)) (c .before .before .before .before .before .before .wide .ensures)) (c .before .find .result) (c .before .find .ensures) (omega (arith, c .if2 .left))
+    took-none (a .sheet .now) (a .work .now) (a .p) (a .mid) (a .end) (a .every) (q .1) (q .2) (omega (arith, q .3)) (c .before .before .before .before .before .before .before .before .before .before .pre .1 .1 .0) (sym (c .before .before .before .if1 .taken) ∙ c .before .before .before .before .cancels .ensures ∙ ap (λ (k : ℕ). a .every || ground (tree-at (a .sheet .now) (a .work .now) k)) (c .before .before .before .before .before .before .wide .ensures .0)) (c .before .find .result) (c .before .find .ensures) (omega (arith, c .if2 .left))
 
 same-length-3 : tie.Need-same-length-3
 same-length-3 c = search needs
@@ -73,7 +73,7 @@ returns-3 : tie.Need-returns-3
 returns-3 c =
     let a = c .before .before .before .before .before .before .before .args in
     let q = c .before .before .before .before .before .before .before .pre .1 .0 in
-    took-never (a .sheet .now) (a .work .now) (a .p) (a .mid) (a .end) (a .every) (q .1) (q .2) (omega (arith, q .3)) (c .before .before .before .before .before .before .before .pre .1 .1 .0) (sym (c .if1 .left) ∙ c .before .cancels .ensures ∙ ap (λ (k : ℕ). a .every || ground (tree-at (a .sheet .now) (a .work .now) k)) (c .before .before .before .wide .ensures))
+    took-never (a .sheet .now) (a .work .now) (a .p) (a .mid) (a .end) (a .every) (q .1) (q .2) (omega (arith, q .3)) (c .before .before .before .before .before .before .before .pre .1 .1 .0) (sym (c .if1 .left) ∙ c .before .cancels .ensures ∙ ap (λ (k : ℕ). a .every || ground (tree-at (a .sheet .now) (a .work .now) k)) (c .before .before .before .wide .ensures .0))
 
 pub take-one-spec : {M : Type 1} → statement M
 take-one-spec =

@@ -4,7 +4,7 @@ use mathlib.Core.List.{List}
 use native.Mathlib.Omega.{arith}
 use borrow.Author.Needs.{needs}
 use lib.ListN.{length, set, length-set}
-use Rattle.admission.specs.Clearing.{zeroed}
+use Rattle.rules.specs.Call.{zeroed}
 use Rattle.admission.proofs.Zeroing.{zeroed-next}
 use Rattle.admission.proofs.clearing.clear.Statement.{statement}
 use Rattle.admission.proofs.clearing.clear.Tie as tie
