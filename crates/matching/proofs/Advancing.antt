@@ -18,9 +18,9 @@ use Rattle.substitution.proofs.Chains.{bindings-flatten, chain-flatten}
 use Rattle.elimination.specs.Stack.{pairs-at, Whole, Fit, FitPairs, FitBindings}
 use Rattle.elimination.specs.Area.{Room}
 use Rattle.unifier.specs.Running.{Bound}
-use Rattle.matching.specs.Matching.{Moves}
-use Rattle.matching.specs.declared.Moved.{Moved}
-use Rattle.matching.specs.declared.Moved.the-variants as taken
+use Rattle.moving.specs.Moves.{Moves}
+use Rattle.moving.specs.declared.Moved.{Moved}
+use Rattle.moving.specs.declared.Moved.the-variants as taken
 use Rattle.unifier.proofs.Fitting.{FitMove, move-fit}
 use Rattle.unifier.proofs.Tops.{stack-empty, Top, right-some, top, top-pairs, top-weight, top-fit, top-whole}
 

@@ -26,7 +26,7 @@ use Rattle.steps.specs.Resting.{EquationIs}
 use Rattle.elimination.specs.Stepping.{Waits, GoesOn}
 use Rattle.steps.proofs.Differing.{differing-none}
 use Rattle.elimination.proofs.Waiting.{stack-below, waits-below}
-use Rattle.matching.specs.Matching.{Onwards}
+use Rattle.moving.specs.Moves.{Onwards}
 use Rattle.stepping.proofs.Sums.{pair-waits, pair-used}
 use Rattle.stepping.proofs.Steps.{children-pushed}
 

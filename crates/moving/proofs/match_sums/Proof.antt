@@ -6,10 +6,10 @@ use Rattle.rules.specs.Solving.{Rest}
 use Rattle.substitution.specs.Bindings.{bindings-at}
 use Rattle.elimination.specs.Stack.{pairs-at}
 use Rattle.stepping.proofs.Sums.{pair-room}
-use Rattle.matching.proofs.Moving.{onwards-same, onwards-sums}
+use Rattle.moving.proofs.Moving.{onwards-same, onwards-sums}
 use borrow.Author.Needs.{needs}
-use Rattle.matching.proofs.match_sums.Statement.{statement}
-use Rattle.matching.proofs.match_sums.Tie as tie
+use Rattle.moving.proofs.match_sums.Statement.{statement}
+use Rattle.moving.proofs.match_sums.Tie as tie
 
 match-rest-requires : tie.Need-match-rest-requires
 match-rest-requires c κs =

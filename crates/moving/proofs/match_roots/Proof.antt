@@ -8,10 +8,10 @@ use Rattle.substitution.specs.Bindings.{bindings-at}
 use Rattle.elimination.specs.Stack.{pairs-at}
 use Rattle.stepping.proofs.Sums.{sum-told, no-sum-told, sum-cell, cell-head}
 use Rattle.stepping.proofs.Steps.{held, children-room}
-use Rattle.matching.proofs.Moving.{roots-differ, roots-sums, onwards-children}
+use Rattle.moving.proofs.Moving.{roots-differ, roots-sums, onwards-children}
 use borrow.Author.Needs.{needs}
-use Rattle.matching.proofs.match_roots.Statement.{statement}
-use Rattle.matching.proofs.match_roots.Tie as tie
+use Rattle.moving.proofs.match_roots.Statement.{statement}
+use Rattle.moving.proofs.match_roots.Tie as tie
 
 same-head-requires : tie.Need-same-head-requires
 same-head-requires c κs = search needs

@@ -10,8 +10,8 @@ use Rattle.tree.specs.Cells.{trees-at}
 use Rattle.tree.specs.Arena.{Below}
 use Rattle.substitution.specs.Bindings.{flatten-bindings}
 use Rattle.elimination.specs.Stepping.{Waits}
-use Rattle.matching.specs.declared.Moved.{Moved}
-use Rattle.matching.specs.declared.Moved.the-variants as moved
+use Rattle.moving.specs.declared.Moved.{Moved}
+use Rattle.moving.specs.declared.Moved.the-variants as moved
 
 -- the move d leaves pairs and bindings; the pairs before it weighed h, and it takes two cells more than their weight falls
 pub record Onwards (s : Text) (w v : List ℕ) (n h : ℕ) (d : Move) (st b m : ℕ) : Type 0 where

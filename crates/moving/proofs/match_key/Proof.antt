@@ -3,10 +3,10 @@ use native.Mathlib.Omega.{arith}
 use Rattle.tree.proofs.Areas.{below-same}
 use Rattle.unifier.proofs.Fitting.{bound-value}
 use Rattle.equivalence.proofs.Scratch.{below-kept}
-use Rattle.matching.proofs.Moving.{onwards-same, onwards-binding, bound-agrees, new-sortless, new-sorted}
+use Rattle.moving.proofs.Moving.{onwards-same, onwards-binding, bound-agrees, new-sortless, new-sorted}
 use borrow.Author.Needs.{needs}
-use Rattle.matching.proofs.match_key.Statement.{statement}
-use Rattle.matching.proofs.match_key.Tie as tie
+use Rattle.moving.proofs.match_key.Statement.{statement}
+use Rattle.moving.proofs.match_key.Tie as tie
 
 lookup-requires : tie.Need-lookup-requires
 lookup-requires c κs = search needs

@@ -4,10 +4,10 @@ use Rattle.laws.specs.Memory.{weight}
 use Rattle.tree.specs.Cells.{tree-at}
 use Rattle.substitution.specs.Bindings.{bindings-at}
 use Rattle.elimination.specs.Stack.{pairs-at}
-use Rattle.matching.proofs.Moving.{key-load, move-key, move-roots}
+use Rattle.moving.proofs.Moving.{key-load, move-key, move-roots}
 use borrow.Author.Needs.{needs}
-use Rattle.matching.proofs.advance.Statement.{statement}
-use Rattle.matching.proofs.advance.Tie as tie
+use Rattle.moving.proofs.advance.Statement.{statement}
+use Rattle.moving.proofs.advance.Tie as tie
 
 kind-of-requires : tie.Need-kind-of-requires
 kind-of-requires c κs = search needs
