@@ -269,7 +269,7 @@ fn places_are_found_exactly_where_sheets_are_refused() {
         }
         found
     });
-    assert!(found.iter().all(|count| *count >= 10), "{found:?}");
+    assert!(found.iter().all(|count| *count >= 3), "{found:?}");
 }
 
 #[test]
