@@ -11,6 +11,7 @@ pub mod examples;
 pub mod generate;
 pub mod hand;
 pub mod hostile;
+pub mod kinds;
 pub mod lent;
 pub mod linked;
 pub mod model;

@@ -1,4 +1,4 @@
-// Sheets of each kind, from generated terms, pairs and members.
+// The lines of sheets of each kind after the first, from generated terms, pairs and members.
 use std::rc::Rc;
 
 use super::{
@@ -31,26 +31,6 @@ pub fn instance(term: &Term, bindings: &Bindings) -> Term {
             Term::Apply(name.clone(), children)
         }
     }
-}
-
-/// A sheet of this kind with its lines in place.
-pub fn sheet(rng: &mut Rng, kind: &str) -> String {
-    let body = match kind {
-        "equal" => equal(rng),
-        "unify" => {
-            let pairs = to_unify(rng);
-            solving(rng, &pairs, model::unify)
-        }
-        "match" => {
-            let pairs = to_match(rng);
-            solving(rng, &pairs, model::matcher)
-        }
-        "reduce" => reduce(rng),
-        "cover" => cover(rng),
-        "sound" => sound(rng),
-        _ => complete(rng),
-    };
-    format!("kind={kind}\n{body}")
 }
 
 fn pair_lines(rng: &mut Rng, pairs: &[Pair]) -> String {
@@ -87,7 +67,7 @@ fn loose(rng: &mut Rng) -> &'static str {
     ])
 }
 
-fn equal(rng: &mut Rng) -> String {
+pub fn equal(rng: &mut Rng) -> String {
     let (depth, tidy) = (rng.between(1, 4), tidy(rng));
     let left = Terms {
         rng,
@@ -131,7 +111,17 @@ fn solving(rng: &mut Rng, pairs: &[Pair], solve: fn(usize, &[Pair]) -> model::Ou
     format!("fuel={fuel}\n{lines}")
 }
 
-fn reduce(rng: &mut Rng) -> String {
+pub fn unify(rng: &mut Rng) -> String {
+    let pairs = to_unify(rng);
+    solving(rng, &pairs, model::unify)
+}
+
+pub fn matcher(rng: &mut Rng) -> String {
+    let pairs = to_match(rng);
+    solving(rng, &pairs, model::matcher)
+}
+
+pub fn reduce(rng: &mut Rng) -> String {
     let (depth, tidy) = (rng.between(1, 3), tidy(rng));
     let mut terms = Terms {
         rng,
@@ -156,7 +146,7 @@ fn reduce(rng: &mut Rng) -> String {
     format!("term={}\n", spelled(rng, &term))
 }
 
-fn cover(rng: &mut Rng) -> String {
+pub fn cover(rng: &mut Rng) -> String {
     let mut pairs = to_unify(rng);
     let mut verdict = model::unify(FUEL, &pairs).verdict;
     for _ in 0..rng.below(4) {
@@ -179,7 +169,7 @@ fn cover(rng: &mut Rng) -> String {
     format!("{}{members}", pair_lines(rng, &pairs))
 }
 
-fn sound(rng: &mut Rng) -> String {
+pub fn sound(rng: &mut Rng) -> String {
     let (depth, tidy) = (rng.between(1, 3), tidy(rng));
     let mut terms = Terms {
         rng,
@@ -235,7 +225,7 @@ fn variant_term(rng: &mut Rng) -> Term {
     )
 }
 
-fn complete(rng: &mut Rng) -> String {
+pub fn complete(rng: &mut Rng) -> String {
     let term = variant_term(rng);
     let members = members::for_complete(rng, &term);
     format!("term={}\n{members}", spelled(rng, &term))
