@@ -6,6 +6,7 @@ pub mod BuiltMatch
 pub mod AnswerText
 pub mod Calls
 pub mod Refusals
+pub mod Saying
 pub mod Answers
 pub mod SheetTexts
 pub mod SheetParts
