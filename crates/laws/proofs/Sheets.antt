@@ -5,6 +5,7 @@ pub mod BuiltRun
 pub mod BuiltMatch
 pub mod AnswerText
 pub mod Calls
+pub mod LineForms
 pub mod Forms
 pub mod Unread
 pub mod Refusals

@@ -3,14 +3,15 @@
 use mathlib.Core.Path.{_≡_}
 use mathlib.Core.List.{List, _∷_, _++_}
 use mathlib.Core.Option.{some}
-use Prim.Native.Nat.{ℕ, _+_, _*_, _≤_, _<_}
+use Prim.Native.Nat.{ℕ, _≤_, _<_}
 use lib.ListN.{length}
 use Rattle.rules.specs.Bytes.{Text}
-use Rattle.rules.specs.Text.{bytes, count-of}
+use Rattle.rules.specs.Text.{bytes}
 use Rattle.rules.specs.Decimal.{number-up-to}
 use Rattle.rules.specs.Lines.{lines}
 use Rattle.rules.specs.Solving.{Verdict}
 use Rattle.rules.specs.Meaning.{Decided}
+use Rattle.rules.specs.Sheet.{Sheet, words-needed}
 use Rattle.rules.specs.AnswerReading.{read-answer}
 use Rattle.rules.specs.RefusalNumbers.{number-for, TooLong, ShortWorkArea, ShortOutput}
 use Rattle.rules.specs.Call.{Reply, refused, passed}
@@ -33,15 +34,10 @@ pub record SolvedOrFailed (answer : Text) : Type 0 where
   pub reads : read-answer answer ≡ some (verdict, spent)
   pub decided : Decided verdict
 
--- the words that a sheet of pairs needs
-unfoldable pub needs : Text → ℕ
-unfolding count-of
-needs s = 65536 * (count-of 58 s + 16) + 16 * length s
-
--- what a call with the sheet r gives, where a sheet alike in all but fuel, which is no more, has the answer a: 1 and 11 by its own length
--- and words, 12 where the answer does not fit, else the same bytes
-pub data AlikeOutcome (r : Text) (words room : ℕ) (a : Text) : Reply Text → Type 0 where
-  too-long : 65536 < length r → AlikeOutcome r words room a (refused (number-for TooLong))
-  short-work : length r ≤ 65536 → words < needs r → AlikeOutcome r words room a (refused (number-for ShortWorkArea))
-  short-output : length r ≤ 65536 → needs r ≤ words → room < length a → AlikeOutcome r words room a (refused (number-for ShortOutput))
-  same-bytes : length r ≤ 65536 → needs r ≤ words → length a ≤ room → AlikeOutcome r words room a (passed a)
+-- what a call with the text r of a sheet gives, where a sheet alike in all but fuel, which has no more, has the answer a: 1 and 11 by its
+-- own length and words, 12 where that answer does not fit, else the same bytes
+pub data AlikeOutcome (r : Text) (sheet : Sheet) (words room : ℕ) (a : Text) : Reply Text → Type 0 where
+  too-long : 65536 < length r → AlikeOutcome r sheet words room a (refused (number-for TooLong))
+  short-work : length r ≤ 65536 → words < words-needed r sheet → AlikeOutcome r sheet words room a (refused (number-for ShortWorkArea))
+  short-output : length r ≤ 65536 → words-needed r sheet ≤ words → room < length a → AlikeOutcome r sheet words room a (refused (number-for ShortOutput))
+  same-bytes : length r ≤ 65536 → words-needed r sheet ≤ words → length a ≤ room → AlikeOutcome r sheet words room a (passed a)

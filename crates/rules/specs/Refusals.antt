@@ -36,15 +36,15 @@ pub data UnreadablePair : List Entry → Type 0 where
   later : {e : Entry} {es : List Entry} → UnreadablePair es → UnreadablePair (e ∷ es)
 
 -- a `left`, `right` or `term` that does not read; for `equal`, one that has no canonical text. No text of a member is asked for
-pub data Unreadable : Sheet → Type 0 where
-  equal-left : {l r : Text} → canonical-text l ≡ none → Unreadable (asks-equal l r)
-  equal-right : {l r : Text} → canonical-text r ≡ none → Unreadable (asks-equal l r)
-  unify-pair : {fuel : ℕ} {es : List Entry} → UnreadablePair es → Unreadable (asks-unify fuel es)
-  match-pair : {fuel : ℕ} {es : List Entry} → UnreadablePair es → Unreadable (asks-match fuel es)
-  reduce-term : {t : Text} → parse t ≡ none → Unreadable (asks-reduce t)
-  cover-pair : {es : List Entry} {ms : List Member} → UnreadablePair es → Unreadable (asks-cover es ms)
-  sound-term : {t : Text} {m : Member} → parse t ≡ none → Unreadable (asks-sound t m)
-  complete-term : {t : Text} {ms : List Member} → parse t ≡ none → Unreadable (asks-complete t ms)
+pub data UnreadableSheet : Sheet → Type 0 where
+  equal-left : {l r : Text} → canonical-text l ≡ none → UnreadableSheet (asks-equal l r)
+  equal-right : {l r : Text} → canonical-text r ≡ none → UnreadableSheet (asks-equal l r)
+  unify-pair : {fuel : ℕ} {es : List Entry} → UnreadablePair es → UnreadableSheet (asks-unify fuel es)
+  match-pair : {fuel : ℕ} {es : List Entry} → UnreadablePair es → UnreadableSheet (asks-match fuel es)
+  reduce-term : {t : Text} → parse t ≡ none → UnreadableSheet (asks-reduce t)
+  cover-pair : {es : List Entry} {ms : List Member} → UnreadablePair es → UnreadableSheet (asks-cover es ms)
+  sound-term : {t : Text} {m : Member} → parse t ≡ none → UnreadableSheet (asks-sound t m)
+  complete-term : {t : Text} {ms : List Member} → parse t ≡ none → UnreadableSheet (asks-complete t ms)
 
 -- a sheet, the number of words of the work area and of bytes of the output, and what the call gives
 pub data Outcome (s : Text) (words room : ℕ) : Reply Text → Type 0 where
@@ -52,7 +52,7 @@ pub data Outcome (s : Text) (words room : ℕ) : Reply Text → Type 0 where
   foreign-byte : length s ≤ 65536 → (p : ℕ) → p < length s → ¬ Allowed (getD s p 0) → Outcome s words room (refused (number-for ForeignByte))
   out-of-place : Screened s → ((sheet : Sheet) → ¬ IsSheet s sheet) → Outcome s words room (refused (number-for LineOutOfPlace))
   short-work : {sheet : Sheet} → Screened s → IsSheet s sheet → words < words-needed s sheet → Outcome s words room (refused (number-for ShortWorkArea))
-  unreadable : {sheet : Sheet} → Admitted s words sheet → Unreadable sheet → Outcome s words room (refused (number-for UnreadableTerm))
+  unreadable : {sheet : Sheet} → Admitted s words sheet → UnreadableSheet sheet → Outcome s words room (refused (number-for UnreadableTerm))
   short-output : {sheet : Sheet} {answer : Text} → Admitted s words sheet → answer-of sheet ≡ some answer → room < length answer → Outcome s words room (refused (number-for ShortOutput))
   answered : {sheet : Sheet} {answer : Text} → Admitted s words sheet → answer-of sheet ≡ some answer → length answer ≤ room → Outcome s words room (passed answer)
 

@@ -18,10 +18,10 @@ use Rattle.rules.specs.Lines.{lines, after-key, value}
 use Rattle.rules.specs.Substitution.{Pair}
 use Rattle.rules.specs.Solving.{Answer, unify}
 use Rattle.rules.specs.Matching.{matcher}
-use Rattle.rules.specs.Sheet.{Sheet, Entry, asks-unify, asks-match, pairs, members-from, at-end, Kind, Equal, Unify, Match, Reduce, Cover, Sound, Complete, kind-in, kinds, read-kind, read-sheet, raise, words-needed}
-use Rattle.rules.specs.SheetLines.{ended as joined}
+use Rattle.rules.specs.Sheet.{Sheet, Entry, asks-unify, asks-match, pairs, members-from, at-end, Kind, Equal, Unify, Match, Reduce, Cover, Sound, Complete, kind-in, kinds, read-kind, read-sheet, words-needed}
+use Rattle.rules.specs.SheetLines.{ended as joined, IsSheet}
 use Rattle.rules.specs.Answer.{verdict-lines, read-pairs, answer-of}
-use Rattle.rules.specs.Alike.{AlikeButFuel, SolvedOrFailed, needs, AlikeOutcome}
+use Rattle.rules.specs.Alike.{AlikeButFuel, SolvedOrFailed, AlikeOutcome}
 use Rattle.rules.specs.RefusalNumbers.{number-for, TooLong, ShortWorkArea, ShortOutput}
 use Rattle.rules.specs.Call.{Reply, refused, passed, plain, call}
 use Rattle.rules.specs.Refusals.{Screened, Admitted, Outcome}
@@ -29,7 +29,8 @@ use Rattle.laws.proofs.Basics.Tests.{and-left, and-right, and-both, leb
 use Rattle.laws.proofs.Basics.Options.{bound}
 use Rattle.laws.proofs.Basics.Numerals.{decimal-number}
 use Rattle.laws.proofs.Sheets.Calls.{call-sheet}
-use Rattle.laws.proofs.Sheets.Forms.{lines-has, number-found, reads-form}
+use Rattle.laws.proofs.Sheets.LineForms.{lines-has, number-found}
+use Rattle.laws.proofs.Sheets.Forms.{reads-form}
 use Rattle.laws.proofs.Sheets.Refusals.{plain-allowed, allowed-plain, all-plain, all-at, call-outcome}
 use Rattle.laws.proofs.Sheets.Answers.{Kind as Rules, of-unify, of-match, answered-pairs, same-written}
 
@@ -47,7 +48,6 @@ record Fuelled (kind : Kind) : Type 0 where
   rules : Rules asks solve
   reads : (digits : Text) (k : ℕ) (ls : List Text) → number-up-to 65536 digits ≡ some k → read-kind kind (fuel-line digits ∷ ls) ≡ with-fuel asks k ls
   answers : (k : ℕ) (texts : List Entry) (ps : List Pair) → read-pairs texts ≡ some ps → answer-of (asks k texts) ≡ some (verdict-lines (solve k ps))
-  raised : (k : ℕ) (texts : List Entry) → raise (asks k texts) ≡ 0
 
 fuel-read : (asks : ℕ → List Entry → Sheet) (digits : Text) (k : ℕ) (ls : List Text) → number-up-to 65536 digits ≡ some k
     → (number-up-to 65536 digits >>= λ fuel. with-fuel asks fuel ls) ≡ with-fuel asks k ls
@@ -59,25 +59,11 @@ pairs-answer solve k texts ps e = ap (λ (o : Option (List Pair)). o >>= λ qs. 
 
 fuelled-unify : Fuelled Unify
 unfolding read-kind value after-key answer-of
-fuelled-unify = record {
-  asks = asks-unify;
-  solve = unify;
-  rules = of-unify;
-  reads = fuel-read asks-unify;
-  answers = pairs-answer unify;
-  raised = λ k texts. refl;
-}
+fuelled-unify = record { asks = asks-unify; solve = unify; rules = of-unify; reads = fuel-read asks-unify; answers = pairs-answer unify }
 
 fuelled-match : Fuelled Match
 unfolding read-kind value after-key answer-of
-fuelled-match = record {
-  asks = asks-match;
-  solve = matcher;
-  rules = of-match;
-  reads = fuel-read asks-match;
-  answers = pairs-answer matcher;
-  raised = λ k texts. refl;
-}
+fuelled-match = record { asks = asks-match; solve = matcher; rules = of-match; reads = fuel-read asks-match; answers = pairs-answer matcher }
 
 -- no other kind reads a `fuel` line there
 fuelled : (kind : Kind) (digits : Text) (ls : List Text) (sheet : Sheet) → read-kind kind (fuel-line digits ∷ ls) ≡ some sheet → Fuelled kind
@@ -214,47 +200,41 @@ alike-plain {s} {r} {k} {m} c e =
 
 -- The other call
 
-module _ (r : Text) (words room : ℕ) (a : Text) (sheet : Sheet) (reads : read-sheet r ≡ some sheet) (bytes-plain : all plain r ≡ true)
-    (answers : answer-of sheet ≡ some a) (few : words-needed r sheet ≡ needs r) where
+module _ (r : Text) (words room : ℕ) (a : Text) (sheet : Sheet) (form : IsSheet r sheet) (bytes-plain : all plain r ≡ true) (answers : answer-of sheet ≡ some a) where
   screened : length r ≤ 65536 → Screened r
   screened h = record { short = h; allowed = λ p k. plain-allowed (getD r p 0) (all-at plain r bytes-plain p k) }
 
-  admitted : length r ≤ 65536 → needs r ≤ words → Admitted r words sheet
-  admitted h k = record { screened = screened h; form = reads-form r sheet .0 reads; enough = let e = few in omega arith }
+  admitted : length r ≤ 65536 → words-needed r sheet ≤ words → Admitted r words sheet
+  admitted h k = record { screened = screened h; form = form; enough = k }
 
-  outcome : {reply : Reply Text} → AlikeOutcome r words room a reply → Outcome r words room reply
+  outcome : {reply : Reply Text} → AlikeOutcome r sheet words room a reply → Outcome r words room reply
   outcome (AlikeOutcome.too-long h) = Outcome.too-long h
-  outcome (AlikeOutcome.short-work h k) = Outcome.short-work (screened h) (reads-form r sheet .0 reads) (let e = few in omega arith)
+  outcome (AlikeOutcome.short-work h k) = Outcome.short-work (screened h) form k
   outcome (AlikeOutcome.short-output h k l) = Outcome.short-output (admitted h k) answers l
   outcome (AlikeOutcome.same-bytes h k l) = Outcome.answered (admitted h k) answers l
 
   abbrev Some : Type 0
-  Some = (reply : Reply Text) × AlikeOutcome r words room a reply
+  Some = (reply : Reply Text) × AlikeOutcome r sheet words room a reply
 
-  by-room : length r ≤ 65536 → needs r ≤ words → (b : Bool) → leb (length a) room ≡ b → Some
+  by-room : length r ≤ 65536 → words-needed r sheet ≤ words → (b : Bool) → leb (length a) room ≡ b → Some
   by-room h k true e = (passed a, AlikeOutcome.same-bytes h k (leb-true (length a) room e))
   by-room h k false e = (refused (number-for ShortOutput), AlikeOutcome.short-output h k (leb-false (length a) room e))
 
-  by-words : length r ≤ 65536 → (b : Bool) → leb (needs r) words ≡ b → Some
-  by-words h true e = by-room h (leb-true (needs r) words e) (leb (length a) room) refl
-  by-words h false e = (refused (number-for ShortWorkArea), AlikeOutcome.short-work h (leb-false (needs r) words e))
+  by-words : length r ≤ 65536 → (b : Bool) → leb (words-needed r sheet) words ≡ b → Some
+  by-words h true e = by-room h (leb-true (words-needed r sheet) words e) (leb (length a) room) refl
+  by-words h false e = (refused (number-for ShortWorkArea), AlikeOutcome.short-work h (leb-false (words-needed r sheet) words e))
 
   by-length : (b : Bool) → leb (length r) 65536 ≡ b → Some
-  by-length true e = by-words (leb-true (length r) 65536 e) (leb (needs r) words) refl
+  by-length true e = by-words (leb-true (length r) 65536 e) (leb (words-needed r sheet) words) refl
   by-length false e = (refused (number-for TooLong), AlikeOutcome.too-long (leb-false (length r) 65536 e))
 
-  gives : {reply : Reply Text} → AlikeOutcome r words room a reply → call r words room ≡ reply
+  gives : {reply : Reply Text} → AlikeOutcome r sheet words room a reply → call r words room ≡ reply
   gives {reply} h = call-outcome r words room reply .1 (outcome h)
 
-  alike-gives : (reply : Reply Text) → (call r words room ≡ reply) ↔ AlikeOutcome r words room a reply
+  alike-gives : (reply : Reply Text) → (call r words room ≡ reply) ↔ AlikeOutcome r sheet words room a reply
   alike-gives reply =
       let (given, h) = by-length (leb (length r) 65536) refl in
-      (λ e. subst (AlikeOutcome r words room a) (sym (gives h) ∙ e) h, gives)
-
--- the words of a sheet with pairs
-pairs-need : (r : Text) (sheet : Sheet) → raise sheet ≡ 0 → words-needed r sheet ≡ needs r
-unfolding words-needed needs
-pairs-need r sheet e = omega arith
+      (λ e. subst (AlikeOutcome r sheet words room a) (sym (gives h) ∙ e) h, gives)
 
 -- an answered call had allowed bytes
 answered-plain : (s : Text) (words room : ℕ) (a : Text) → call s words room ≡ passed a → all plain s ≡ true
@@ -264,15 +244,18 @@ answered-plain s words room a e = go (call-outcome s words room (passed a) .0 e)
     go (Outcome.answered h k f) = all-plain (h .screened)
 
 pub alike-call : (s r : Text) (k m : ℕ) → AlikeButFuel s r k m → k ≤ m → (words room : ℕ) (a : Text) → call s words room ≡ passed a → SolvedOrFailed a
-    → (words′ room′ : ℕ) (reply : Reply Text) → (call r words′ room′ ≡ reply) ↔ AlikeOutcome r words′ room′ a reply
-alike-call s r k m c h words room a p y words′ room′ =
+    → (sheet : Sheet) × IsSheet r sheet × ((words′ room′ : ℕ) (reply : Reply Text) → (call r words′ room′ ≡ reply) ↔ AlikeOutcome r sheet words′ room′ a reply)
+alike-call s r k m c h words room a p y =
     let (sheet, e) = call-sheet s words room a p in
     let t = same-texts c sheet e in
     let (ps, f, x) = answered-pairs (t .by .rules) s words room k (t .texts) a (t .less-reads) p in
-    alike-gives r words′ room′ a (t .by .asks m (t .texts)) (t .more-reads) (alike-plain c (answered-plain s words room a p))
-    (t .by .answers m (t .texts) ps f ∙ ap some (same-written (t .by .rules) x m (y .verdict) (y .spent) (y .reads) (y .decided) h))
-    (pairs-need r (t .by .asks m (t .texts)) (t .by .raised m (t .texts)))
+    let form = reads-form r (t .by .asks m (t .texts)) .0 (t .more-reads) in (
+      t .by .asks m (t .texts),
+      form,
+      λ words′ room′. alike-gives r words′ room′ a (t .by .asks m (t .texts)) form (alike-plain c (answered-plain s words room a p))
+          (t .by .answers m (t .texts) ps f ∙ ap some (same-written (t .by .rules) x m (y .verdict) (y .spent) (y .reads) (y .decided) h)),
+    )
 
 -- so another answer is the same
-pub alike-answer : (r : Text) (words room : ℕ) (a b : Text) → AlikeOutcome r words room a (passed b) → b ≡ a
-alike-answer r words room a b (AlikeOutcome.same-bytes h k l) = refl
+pub alike-answer : {r : Text} {sheet : Sheet} {words room : ℕ} {a b : Text} → AlikeOutcome r sheet words room a (passed b) → b ≡ a
+alike-answer (AlikeOutcome.same-bytes h k l) = refl

@@ -130,6 +130,6 @@ alike = record {
 
 same-bytes : (words room : ℕ) (b : Text) → call (sheet "fuel=65536") words room ≡ passed b → b ≡ written
 same-bytes words room b e =
-    alike-answer (sheet "fuel=65536") words room written b
+    alike-answer
     (fuel-alike (sheet "fuel=4") (sheet "fuel=65536") 4 65536 alike (omega arith) 2000000 1000 written called
-    (record { verdict = solved bindings; spent = 3; reads = read; decided = tt }) words room (passed b) .0 e)
+    (record { verdict = solved bindings; spent = 3; reads = read; decided = tt }) .2 words room (passed b) .0 e)

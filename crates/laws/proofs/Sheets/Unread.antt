@@ -3,21 +3,14 @@ use mathlib.Core.Path.{_≡_, refl, sym, ap}
 use mathlib.Core.List.{List, [], _∷_, map}
 use mathlib.Core.Logic.{_↔_, _⊎_, inl, inr}
 use mathlib.Core.Option.{Option, some, none as nothing, Option·none-ne-some}
-use Rattle.rules.specs.Bytes.{Text, same}
-use Rattle.rules.specs.Text.{bytes}
+use Rattle.rules.specs.Bytes.{Text}
 use Rattle.rules.specs.Maybe.{_>>=_, every}
 use Rattle.rules.specs.Tree.{Tree}
 use Rattle.rules.specs.Substitution.{Pair}
-use Rattle.rules.specs.Writing.{render}
 use Rattle.rules.specs.Reading.{parse, canonical-text}
-use Rattle.rules.specs.Reduction.{normalize}
-use Rattle.rules.specs.Cover.{covered}
-use Rattle.rules.specs.Variants.{sound, complete}
-use Rattle.rules.specs.Solving.{unify}
-use Rattle.rules.specs.Matching.{matcher}
 use Rattle.rules.specs.Sheet.{Entry, Member, Sheet, asks-equal, asks-unify, asks-match, asks-reduce, asks-cover, asks-sound, asks-complete}
-use Rattle.rules.specs.Answer.{line, claim, verdict-lines, read-pair, read-pairs, answer-of}
-use Rattle.rules.specs.Refusals.{UnreadablePair, Unreadable}
+use Rattle.rules.specs.Answer.{read-pair, read-pairs, answer-of}
+use Rattle.rules.specs.Refusals.{UnreadablePair, UnreadableSheet}
 
 -- a chain that gives nothing
 
@@ -40,6 +33,11 @@ module _ {A B : Type 0} where
   first-ends : (o : Option A) (f : A → Option B) → o ≡ nothing → (o >>= f) ≡ nothing
   first-ends o f e = ap (λ (z : Option A). z >>= f) e
 
+-- one of two links, where a value is made of what they give
+one-of-two : {A B C : Type 0} (o : Option A) (q : Option B) (f : A → B → C) → (o >>= λ a. q >>= λ b. some (f a b)) ≡ nothing → (o ≡ nothing) ⊎ (q ≡ nothing)
+one-of-two nothing q f h = inl refl
+one-of-two (some a) q f h = inr (only-first q (f a) h)
+
 -- Pairs
 
 abbrev two : Tree → Tree → Pair
@@ -47,12 +45,7 @@ two l r = (l, r)
 
 pair-unread : (e : Entry) → read-pair e ≡ nothing → (parse (e .0) ≡ nothing) ⊎ (parse (e .1) ≡ nothing)
 unfolding read-pair
-pair-unread e h = go (ended-at (parse (e .0)) (λ l. parse (e .1) >>= λ r. some (two l r)) h)
-  where
-    go : (parse (e .0) ≡ nothing) ⊎ ((l : Tree) × (parse (e .0) ≡ some l) × ((parse (e .1) >>= λ r. some (two l r)) ≡ nothing))
-        → (parse (e .0) ≡ nothing) ⊎ (parse (e .1) ≡ nothing)
-    go (inl i) = inl i
-    go (inr (l, i, j)) = inr (only-first (parse (e .1)) (two l) j)
+pair-unread e h = one-of-two (parse (e .0)) (parse (e .1)) two h
 
 left-unread : (e : Entry) → parse (e .0) ≡ nothing → read-pair e ≡ nothing
 unfolding read-pair
@@ -89,55 +82,50 @@ unread-pairs (UnreadablePair.later {e} {es} h) =
 
 -- Sheets
 
-abbrev equal-line : Text → Text → Text
-equal-line l r = line (bytes "equal=") (claim (some (same l r)))
-
-no-answer : (sheet : Sheet) → answer-of sheet ≡ nothing → Unreadable sheet
+no-answer : (sheet : Sheet) → answer-of sheet ≡ nothing → UnreadableSheet sheet
 unfolding answer-of
-no-answer (asks-equal l r) h = go (ended-at (canonical-text l) (λ a. canonical-text r >>= λ b. some (equal-line a b)) h)
+no-answer (asks-equal l r) h = go (one-of-two (canonical-text l) (canonical-text r) _ h)
   where
-    go : (canonical-text l ≡ nothing) ⊎ ((a : Text) × (canonical-text l ≡ some a) × ((canonical-text r >>= λ b. some (equal-line a b)) ≡ nothing))
-        → Unreadable (asks-equal l r)
-    go (inl i) = Unreadable.equal-left i
-    go (inr (a, i, j)) = Unreadable.equal-right (only-first (canonical-text r) (equal-line a) j)
-no-answer (asks-unify k es) h = Unreadable.unify-pair (pairs-unread es (only-first (read-pairs es) (λ ps. verdict-lines (unify k ps)) h))
-no-answer (asks-match k es) h = Unreadable.match-pair (pairs-unread es (only-first (read-pairs es) (λ ps. verdict-lines (matcher k ps)) h))
-no-answer (asks-reduce t) h = Unreadable.reduce-term (only-first (parse t) (λ u. line (bytes "normal=") (render (normalize u))) h)
-no-answer (asks-cover es ms) h = Unreadable.cover-pair (pairs-unread es (only-first (read-pairs es) (λ ps. line (bytes "covered=") (claim (covered ps ms))) h))
-no-answer (asks-sound t m) h = Unreadable.sound-term (only-first (parse t) (λ u. line (bytes "sound=") (claim (sound u m))) h)
-no-answer (asks-complete t ms) h = Unreadable.complete-term (only-first (parse t) (λ u. line (bytes "complete=") (claim (complete u ms))) h)
+    go : (canonical-text l ≡ nothing) ⊎ (canonical-text r ≡ nothing) → UnreadableSheet (asks-equal l r)
+    go (inl i) = UnreadableSheet.equal-left i
+    go (inr i) = UnreadableSheet.equal-right i
+no-answer (asks-unify k es) h = UnreadableSheet.unify-pair (pairs-unread es (only-first (read-pairs es) _ h))
+no-answer (asks-match k es) h = UnreadableSheet.match-pair (pairs-unread es (only-first (read-pairs es) _ h))
+no-answer (asks-reduce t) h = UnreadableSheet.reduce-term (only-first (parse t) _ h)
+no-answer (asks-cover es ms) h = UnreadableSheet.cover-pair (pairs-unread es (only-first (read-pairs es) _ h))
+no-answer (asks-sound t m) h = UnreadableSheet.sound-term (only-first (parse t) _ h)
+no-answer (asks-complete t ms) h = UnreadableSheet.complete-term (only-first (parse t) _ h)
 
-none-answered : {sheet : Sheet} → Unreadable sheet → answer-of sheet ≡ nothing
+none-answered : {sheet : Sheet} → UnreadableSheet sheet → answer-of sheet ≡ nothing
 unfolding answer-of
-none-answered (Unreadable.equal-left {l} {r} h) = first-ends (canonical-text l) (λ a. canonical-text r >>= λ b. some (equal-line a b)) h
-none-answered (Unreadable.equal-right {l} {r} h) =
-    whatever (canonical-text l) (λ a. canonical-text r >>= λ b. some (equal-line a b)) (λ a. first-ends (canonical-text r) (λ b. some (equal-line a b)) h)
-none-answered (Unreadable.unify-pair {fuel = k} {es} h) = first-ends (read-pairs es) (λ ps. some (verdict-lines (unify k ps))) (unread-pairs h)
-none-answered (Unreadable.match-pair {fuel = k} {es} h) = first-ends (read-pairs es) (λ ps. some (verdict-lines (matcher k ps))) (unread-pairs h)
-none-answered (Unreadable.reduce-term {t} h) = first-ends (parse t) (λ u. some (line (bytes "normal=") (render (normalize u)))) h
-none-answered (Unreadable.cover-pair {es} {ms} h) = first-ends (read-pairs es) (λ ps. some (line (bytes "covered=") (claim (covered ps ms)))) (unread-pairs h)
-none-answered (Unreadable.sound-term {t} {m} h) = first-ends (parse t) (λ u. some (line (bytes "sound=") (claim (sound u m)))) h
-none-answered (Unreadable.complete-term {t} {ms} h) = first-ends (parse t) (λ u. some (line (bytes "complete=") (claim (complete u ms)))) h
+none-answered (UnreadableSheet.equal-left {l} {r} h) = first-ends (canonical-text l) _ h
+none-answered (UnreadableSheet.equal-right {l} {r} h) = whatever (canonical-text l) _ (λ a. first-ends (canonical-text r) _ h)
+none-answered (UnreadableSheet.unify-pair {fuel = k} {es} h) = first-ends (read-pairs es) _ (unread-pairs h)
+none-answered (UnreadableSheet.match-pair {fuel = k} {es} h) = first-ends (read-pairs es) _ (unread-pairs h)
+none-answered (UnreadableSheet.reduce-term {t} h) = first-ends (parse t) _ h
+none-answered (UnreadableSheet.cover-pair {es} {ms} h) = first-ends (read-pairs es) _ (unread-pairs h)
+none-answered (UnreadableSheet.sound-term {t} {m} h) = first-ends (parse t) _ h
+none-answered (UnreadableSheet.complete-term {t} {ms} h) = first-ends (parse t) _ h
 
-pub unread : (sheet : Sheet) → (answer-of sheet ≡ nothing) ↔ Unreadable sheet
+pub unread : (sheet : Sheet) → (answer-of sheet ≡ nothing) ↔ UnreadableSheet sheet
 unread sheet = (no-answer sheet, none-answered)
 
 -- so the texts of members give none
 
 pub cover-unread : (es : List Entry) (ms : List Member) → (answer-of (asks-cover es ms) ≡ nothing) ↔ UnreadablePair es
-cover-unread es ms = (λ e. go (unread (asks-cover es ms) .0 e), λ h. none-answered (Unreadable.cover-pair h))
+cover-unread es ms = (λ e. go (unread (asks-cover es ms) .0 e), λ h. none-answered (UnreadableSheet.cover-pair h))
   where
-    go : Unreadable (asks-cover es ms) → UnreadablePair es
-    go (Unreadable.cover-pair h) = h
+    go : UnreadableSheet (asks-cover es ms) → UnreadablePair es
+    go (UnreadableSheet.cover-pair h) = h
 
 pub sound-unread : (t : Text) (m : Member) → (answer-of (asks-sound t m) ≡ nothing) ↔ (parse t ≡ nothing)
-sound-unread t m = (λ e. go (unread (asks-sound t m) .0 e), λ h. none-answered (Unreadable.sound-term h))
+sound-unread t m = (λ e. go (unread (asks-sound t m) .0 e), λ h. none-answered (UnreadableSheet.sound-term h))
   where
-    go : Unreadable (asks-sound t m) → parse t ≡ nothing
-    go (Unreadable.sound-term h) = h
+    go : UnreadableSheet (asks-sound t m) → parse t ≡ nothing
+    go (UnreadableSheet.sound-term h) = h
 
 pub complete-unread : (t : Text) (ms : List Member) → (answer-of (asks-complete t ms) ≡ nothing) ↔ (parse t ≡ nothing)
-complete-unread t ms = (λ e. go (unread (asks-complete t ms) .0 e), λ h. none-answered (Unreadable.complete-term h))
+complete-unread t ms = (λ e. go (unread (asks-complete t ms) .0 e), λ h. none-answered (UnreadableSheet.complete-term h))
   where
-    go : Unreadable (asks-complete t ms) → parse t ≡ nothing
-    go (Unreadable.complete-term h) = h
+    go : UnreadableSheet (asks-complete t ms) → parse t ≡ nothing
+    go (UnreadableSheet.complete-term h) = h

@@ -194,13 +194,10 @@ compose-outgrows bs = (λ e. subst (Composed bs) e (composing bs), outgrows-only
 -- The answer of unify
 
 module _ (fuel : ℕ) (ps : List Pair) (b : BuiltPairs ps) where
-  -- what is left of a trace when its bindings are composed
-  finished : unify fuel ps ≡ (finish (verdict-of (trace fuel ps .0) (trace fuel ps .1)), trace fuel ps .2)
-  unfolding unify told
-  finished = ap (λ (a : Answer). (finish (a .0), a .1)) (run-told fuel ps)
-
+  -- a derivation, when its bindings are composed, gives the answer
   finished-as : {n : ℕ} {e : Ending} {bs : List Binding} → Derives fuel ps e bs n → unify fuel ps ≡ (finish (verdict-of e bs), n)
-  finished-as d = finished ∙ ap (λ (a : Trace). (finish (verdict-of (a .0) (a .1)), a .2)) (traced-only b d)
+  unfolding unify told
+  finished-as d = ap (λ (a : Answer). (finish (a .0), a .1)) (run-told fuel ps ∙ ap told (traced-only b d))
 
   concluded : (e : Ending) (bs : List Binding) (n : ℕ) → Derives fuel ps e bs n → UnifyDerives fuel ps (finish (verdict-of e bs)) n
   concluded emptied bs n d = go (compose bs) (composing bs)
@@ -214,7 +211,7 @@ module _ (fuel : ℕ) (ps : List Pair) (b : BuiltPairs ps) where
 
   derived : UnifyDerives fuel ps (unify fuel ps .0) (unify fuel ps .1)
   derived =
-      subst (λ (a : Answer). UnifyDerives fuel ps (a .0) (a .1)) (sym finished)
+      subst (λ (a : Answer). UnifyDerives fuel ps (a .0) (a .1)) (sym (finished-as (traced fuel ps b)))
       (concluded (trace fuel ps .0) (trace fuel ps .1) (trace fuel ps .2) (traced fuel ps b))
 
   derived-only : {v : Verdict} {n : ℕ} → UnifyDerives fuel ps v n → unify fuel ps ≡ (v, n)
@@ -295,13 +292,10 @@ match-derives-once b h d c = one-trace (sym (match-traced-only b h d) ∙ match-
 -- The answer of match
 
 module _ (fuel : ℕ) (ps : List Pair) (b : BuiltPairs ps) where
-  matched : matcher fuel ps ≡ told (match-trace fuel ps [])
-  unfolding matcher
-  matched = matching-told fuel ps []
-
+  -- a derivation gives the answer
   matched-as : {n : ℕ} {e : Ending} {bs : List Binding} → MatchDerives fuel ps [] e bs n → matcher fuel ps ≡ (verdict-of e bs, n)
-  unfolding told
-  matched-as d = matched ∙ ap told (match-traced-only b tt d)
+  unfolding matcher told
+  matched-as d = matching-told fuel ps [] ∙ ap told (match-traced-only b tt d)
 
   match-concluded : (e : Ending) (bs : List Binding) (n : ℕ) → MatchDerives fuel ps [] e bs n → MatcherDerives fuel ps (verdict-of e bs) n
   match-concluded emptied bs n d = MatcherDerives.as-bound d
@@ -310,9 +304,8 @@ module _ (fuel : ℕ) (ps : List Pair) (b : BuiltPairs ps) where
   match-concluded fuel-used-up bs n d = MatcherDerives.by-fuel d
 
   match-derived : MatcherDerives fuel ps (matcher fuel ps .0) (matcher fuel ps .1)
-  unfolding told
   match-derived =
-      subst (λ (a : Answer). MatcherDerives fuel ps (a .0) (a .1)) (sym matched)
+      subst (λ (a : Answer). MatcherDerives fuel ps (a .0) (a .1)) (sym (matched-as (match-traced fuel ps [] b tt)))
       (match-concluded (match-trace fuel ps [] .0) (match-trace fuel ps [] .1) (match-trace fuel ps [] .2) (match-traced fuel ps [] b tt))
 
   match-derived-only : {v : Verdict} {n : ℕ} → MatcherDerives fuel ps v n → matcher fuel ps ≡ (v, n)
