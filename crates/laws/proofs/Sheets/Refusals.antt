@@ -21,7 +21,7 @@ use Rattle.rules.specs.Refusals.{Allowed, Screened, Admitted, Outcome, too-long
 use Rattle.rules.specs.SheetLines.{IsSheet}
 use Rattle.laws.proofs.Basics.Tests.{and-left, and-right, and-both, and-split, or-cases, or-left, or-right, eqb-true, eqb-self, leb-true, leb-false, true-leb, false-leb}
 use Rattle.laws.proofs.Sheets.Forms.{reads-form, unread-form}
-use Rattle.laws.proofs.Sheets.Unread.{unread}
+use Rattle.laws.proofs.Sheets.Unread.{sheet-unread}
 
 -- Bytes
 
@@ -119,7 +119,7 @@ module _ (s : Text) (words room : ℕ) where
   gives (foreign-byte h p k a) = ends (number-for ForeignByte) (refuses-2 s words h (not-plain s p k a))
   gives (out-of-place h e) = ends (number-for LineOutOfPlace) (refuses-3 s words h (unread-form s .1 e))
   gives (short-work {sheet} h e k) = ends (number-for ShortWorkArea) (refuses-11 s words sheet h (reads-form s sheet .1 e) k)
-  gives (unreadable {sheet} h e) = goes-on sheet (refused (number-for UnreadableTerm)) h (refuses-4 sheet (unread sheet .1 e))
+  gives (unreadable {sheet} h e) = goes-on sheet (refused (number-for UnreadableTerm)) h (refuses-4 sheet (sheet-unread sheet .1 e))
   gives (short-output {sheet} {answer} h e k) = goes-on sheet (refused (number-for ShortOutput)) h (refuses-12 sheet answer e k)
   gives (answered {sheet} {answer} h e k) = goes-on sheet (passed answer) h (answers sheet answer e k)
 
@@ -133,7 +133,7 @@ module _ (s : Text) (words room : ℕ) where
   by-room {answer = answer} h e false k = (refused (number-for ShortOutput), short-output h e (leb-false (length answer) room k))
 
   by-answer : {sheet : Sheet} → Admitted s words sheet → (o : Option Text) → answer-of sheet ≡ o → Some
-  by-answer {sheet} h none e = (refused (number-for UnreadableTerm), unreadable h (unread sheet .0 e))
+  by-answer {sheet} h none e = (refused (number-for UnreadableTerm), unreadable h (sheet-unread sheet .0 e))
   by-answer h (some answer) e = by-room h e (leb (length answer) room) refl
 
   by-words : {sheet : Sheet} → Screened s → IsSheet s sheet → (b : Bool) → leb (words-needed s sheet) words ≡ b → Some

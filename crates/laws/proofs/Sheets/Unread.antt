@@ -107,25 +107,25 @@ none-answered (UnreadableSheet.cover-pair {es} {ms} h) = first-ends (read-pairs 
 none-answered (UnreadableSheet.sound-term {t} {m} h) = first-ends (parse t) _ h
 none-answered (UnreadableSheet.complete-term {t} {ms} h) = first-ends (parse t) _ h
 
-pub unread : (sheet : Sheet) → (answer-of sheet ≡ nothing) ↔ UnreadableSheet sheet
-unread sheet = (no-answer sheet, none-answered)
+pub sheet-unread : (sheet : Sheet) → (answer-of sheet ≡ nothing) ↔ UnreadableSheet sheet
+sheet-unread sheet = (no-answer sheet, none-answered)
 
 -- so the texts of members give none
 
 pub cover-unread : (es : List Entry) (ms : List Member) → (answer-of (asks-cover es ms) ≡ nothing) ↔ UnreadablePair es
-cover-unread es ms = (λ e. go (unread (asks-cover es ms) .0 e), λ h. none-answered (UnreadableSheet.cover-pair h))
+cover-unread es ms = (λ e. go (sheet-unread (asks-cover es ms) .0 e), λ h. none-answered (UnreadableSheet.cover-pair h))
   where
     go : UnreadableSheet (asks-cover es ms) → UnreadablePair es
     go (UnreadableSheet.cover-pair h) = h
 
 pub sound-unread : (t : Text) (m : Member) → (answer-of (asks-sound t m) ≡ nothing) ↔ (parse t ≡ nothing)
-sound-unread t m = (λ e. go (unread (asks-sound t m) .0 e), λ h. none-answered (UnreadableSheet.sound-term h))
+sound-unread t m = (λ e. go (sheet-unread (asks-sound t m) .0 e), λ h. none-answered (UnreadableSheet.sound-term h))
   where
     go : UnreadableSheet (asks-sound t m) → parse t ≡ nothing
     go (UnreadableSheet.sound-term h) = h
 
 pub complete-unread : (t : Text) (ms : List Member) → (answer-of (asks-complete t ms) ≡ nothing) ↔ (parse t ≡ nothing)
-complete-unread t ms = (λ e. go (unread (asks-complete t ms) .0 e), λ h. none-answered (UnreadableSheet.complete-term h))
+complete-unread t ms = (λ e. go (sheet-unread (asks-complete t ms) .0 e), λ h. none-answered (UnreadableSheet.complete-term h))
   where
     go : UnreadableSheet (asks-complete t ms) → parse t ≡ nothing
     go (UnreadableSheet.complete-term h) = h
