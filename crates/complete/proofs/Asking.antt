@@ -36,7 +36,7 @@ use Rattle.forms.proofs.WordLaws.{count-bound}
 use Rattle.elimination.specs.Stack.{FitPairs}
 use Rattle.elimination.specs.Area.{Room}
 use Rattle.unifier.specs.Matched.{Matched}
-use Rattle.unifier.proofs.Fitting.{fit-sides}
+use Rattle.steps.proofs.Fitting.{fit-sides}
 use Rattle.families.specs.Families.{Family, nil, next}
 use Rattle.families.specs.Generalizing.{member-pairs, AllMatched}
 use Rattle.complete.specs.Judging.{fuel-for, system-of, solved-end, Judgeable}

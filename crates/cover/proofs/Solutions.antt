@@ -30,7 +30,7 @@ use Rattle.unifier.specs.Running.{Roomy, Answers}
 use Rattle.unifier.specs.declared.unifying.Outcome.{Outcome}
 use Rattle.unifier.specs.declared.unifying.Outcome.the-variants as outcome
 use Rattle.unifier.proofs.unifying.Outcome.{the-type}
-use Rattle.unifier.proofs.Fitting.{pairs-fit}
+use Rattle.steps.proofs.Fitting.{pairs-fit}
 use Rattle.variables.specs.Listing.{backwards}
 use Rattle.variables.specs.Pairing.{names-of, names-at, OfVariables}
 use Rattle.cover.specs.Covering.{AllMatchable, CoversAny}

@@ -28,7 +28,7 @@ use Rattle.unifier.specs.Running.{Roomy, Answers}
 use Rattle.unifier.specs.declared.unifying.Outcome.{Outcome}
 use Rattle.unifier.specs.declared.unifying.Outcome.the-variants as outcome
 use Rattle.steps.proofs.Children.{pairs-flatten}
-use Rattle.unifier.proofs.Fitting.{pairs-fit}
+use Rattle.steps.proofs.Fitting.{pairs-fit}
 use Rattle.answers.specs.Deciding.{DecisionIs}
 use Rattle.admission.specs.Admission.{Decoded}
 use Rattle.kinds.specs.Outcomes.{DecidesForm}

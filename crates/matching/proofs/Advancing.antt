@@ -21,7 +21,7 @@ use Rattle.unifier.specs.Running.{Bound}
 use Rattle.moving.specs.Moves.{Moves}
 use Rattle.moving.specs.declared.Moved.{Moved}
 use Rattle.moving.specs.declared.Moved.the-variants as taken
-use Rattle.unifier.proofs.Fitting.{FitMove, move-fit}
+use Rattle.steps.proofs.Fitting.{FitMove, move-fit}
 use Rattle.unifier.proofs.Tops.{stack-empty, Top, right-some, top, top-pairs, top-weight, top-fit, top-whole}
 
 -- the answer after k pairs taken

@@ -2,3 +2,4 @@ pub mod Differing
 pub mod Children
 pub mod Leaving
 pub mod Resting
+pub mod Fitting

@@ -26,7 +26,7 @@ use Rattle.elimination.specs.declared.Taken.{Taken}
 use Rattle.elimination.specs.declared.Taken.the-variants as taken
 use Rattle.steps.proofs.Differing.{differing-none}
 use Rattle.unifier.specs.Running.{Roomy, Ran}
-use Rattle.unifier.proofs.Fitting.{FitStep, step-fit}
+use Rattle.steps.proofs.Fitting.{FitStep, step-fit}
 use Rattle.unifier.proofs.Tops.{stack-empty, Top, right-some, top, top-pairs, top-weight, top-fit}
 use Rattle.unifier.proofs.Resuming.{with-bindings, resumed, with-none, with-more, run-end, run-step, run-spent}
 

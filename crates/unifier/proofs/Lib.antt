@@ -1,4 +1,3 @@
-pub mod Fitting
 pub mod Tops
 pub mod Resuming
 pub mod Invariant

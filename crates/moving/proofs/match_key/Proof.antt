@@ -1,7 +1,7 @@
 use mathlib.Core.Path.{sym, _∙_}
 use native.Mathlib.Omega.{arith}
 use Rattle.tree.proofs.Areas.{below-same}
-use Rattle.unifier.proofs.Fitting.{bound-value}
+use Rattle.steps.proofs.Fitting.{bound-value}
 use Rattle.equivalence.proofs.Scratch.{below-kept}
 use Rattle.moving.proofs.Moving.{onwards-same, onwards-binding, bound-agrees, new-sortless, new-sorted}
 use borrow.Author.Needs.{needs}
