@@ -1,11 +1,11 @@
 // The kinds of sheet: what a sheet asks, as places and cursors, and the words of the work area that it needs.
-use super::Cursor;
-use super::Line;
-use super::PairLine;
-use super::Place;
-use super::members::members;
-use super::next_pair;
-use super::part;
+use crate::members::members;
+use sheet::Cursor;
+use sheet::Line;
+use sheet::PairLine;
+use sheet::Place;
+use sheet::next_pair;
+use sheet::part;
 use text::count_of;
 use text::decimal::Number;
 use text::decimal::number_up_to;

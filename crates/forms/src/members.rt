@@ -1,10 +1,10 @@
 // The members of a sheet: their keys as sorted places, and how many members there are.
-use super::Cursor;
-use super::Line;
-use super::PairLine;
-use super::Place;
-use super::next_entry;
-use super::next_member;
+use sheet::Cursor;
+use sheet::Line;
+use sheet::PairLine;
+use sheet::Place;
+use sheet::next_entry;
+use sheet::next_member;
 use text::decimal::Number;
 use text::places::sort_places;
 use text::places::text_at;
