@@ -2,4 +2,6 @@
 pub mod Claims
 pub mod Equal
 pub mod Reduce
-pub mod Families
+pub mod Cover
+pub mod Sound
+pub mod Complete
