@@ -1,3 +1,4 @@
+pub mod Complements
 pub mod Equals
 pub mod Reduces
 pub mod RunRooms
