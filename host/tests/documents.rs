@@ -14,13 +14,13 @@ use host::{
 /// The documents with worked sheets, and how many each has at the least.
 const DOCUMENTS: [(&str, usize); 6] = [
     ("README.md", 1),
-    ("docs/SHEET.md", 63),
-    ("docs/READING-AN-ANSWER.md", 6),
+    ("docs/SHEET.md", 72),
+    ("docs/READING-AN-ANSWER.md", 8),
     ("docs/DECISIONS.md", 11),
-    ("docs/DIFFERENCES.md", 9),
+    ("docs/DIFFERENCES.md", 38),
     ("examples/README.md", 1),
 ];
-const TABLES: usize = 8;
+const TABLES: usize = 9;
 const ROOM: usize = 1 << 20;
 
 fn needed(bytes: &[u8]) -> u64 {
