@@ -47,6 +47,12 @@ ReadsPair s w v free l r list added.Unreadable = (read-pair (sides s l r) ≡ no
 abbrev pub PairsFrom : Text → ℕ → List Entry → List Text → Type 0
 PairsFrom s at es rest = (lines-at s at >>= pairs) ≡ some (es, rest)
 
+-- the lines from a position on start with pairs
+pub record PairsThere (s : Text) (at : ℕ) : Type 0 where
+  pub entries : List Entry
+  pub rest : List Text
+  pub lines : PairsFrom s at entries rest
+
 -- the list from cell i on is that of all pairs, backwards; they end at c. Two cells for each byte of them are enough for this list and
 -- for turning it round
 pub record Reversed (s : Text) (w v : List ℕ) (at i m c : ℕ) : Type 0 where

@@ -18,7 +18,7 @@ ghost use Rattle.tree.specs.Cells.{trees-at};
 ghost use Rattle.tree.specs.Arena.{Arena};
 ghost use Rattle.closing.specs.Machine.{back};
 ghost use Rattle.substitution.specs.Building.{Made};
-ghost use Rattle.pairs.specs.Pairs.{pair-end, ReadsPair, ReadsReversed, ReadsPairs};
+ghost use Rattle.pairs.specs.Pairs.{pair-end, PairsThere, ReadsPair, ReadsReversed, ReadsPairs};
 
 // A pair before a list of sides and the free end after it, or a side that cannot be read.
 enum Added {
@@ -79,6 +79,7 @@ fn read_pair(
 // The pairs from a cursor on, the last first, each with its right side first.
 fn read_reversed(sheet: &[u8], work: &mut [u32], start: Cursor) -> Pairs
     requires { ⌜ (length (now sheet) ≤ 65536) × (1048576 + 16 * length (now sheet) ≤ length (now work)) × (start .at ≤ length (now sheet)) ⌝ }
+    requires { ⌜ PairsThere (now sheet) (start .at) ⌝ }
     ensures { λ r. ⌜ ReadsReversed (now (sheet .entry)) (now (work .entry)) (now (work .exit)) (start .at) r ⌝ }
 {
     let mut cursor = start;
@@ -130,6 +131,7 @@ fn reverse(sheet: &[u8], work: &mut [u32], free: usize, list: usize) -> Pushed
 pub fn read_pairs(sheet: &[u8], work: &mut [u32], start: Cursor) -> Pairs
     requires { ⌜ (length (now sheet) ≤ 65536) × (1048576 + 16 * length (now sheet) ≤ length (now work)) ⌝ }
     requires { ⌜ start .at ≤ length (now sheet) ⌝ }
+    requires { ⌜ PairsThere (now sheet) (start .at) ⌝ }
     ensures { λ r. ⌜ ReadsPairs (now (sheet .entry)) (now (work .entry)) (now (work .exit)) (start .at) r ⌝ }
 {
     let reversed = read_reversed(sheet, work, start);

@@ -10,7 +10,9 @@ use Rattle.pairs.proofs.read_pairs.Reads as read-pairs-reads
 use Rattle.cover.proofs.covered.covered.Reads as covered-reads
 
 read-pairs-requires : tie.Need-read-pairs-requires
-read-pairs-requires c κs = ((c .before .before .before .pre .0 .short, omega (arith, c .before .before .before .pre .1)), c .before .before .before .pre .0 .inside)
+read-pairs-requires c κs =
+    let k = c .before .before .before .pre .0 in
+    ((k .short, omega (arith, c .before .before .before .pre .1)), (k .inside, record { entries = k .entries; rest = k .rest; lines = k .lines }))
 
 enum-known-read : tie.Need-enum-known-read
 enum-known-read c = search needs

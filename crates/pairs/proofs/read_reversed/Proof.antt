@@ -16,7 +16,7 @@ abbrev μ-loop : tie.MeasureT-loop
 loop-holds : tie.Need-loop-holds Inv-loop μ-loop
 loop-holds c =
     let a = c .before .before .args in
-    let p = c .before .before .pre in
+    let p = c .before .before .pre .0 in
     reading-starts (a .sheet .now) (a .work .now) (a .start .at) (omega (arith, p .1)) (p .2)
 
 next-pair-requires : tie.Need-next-pair-requires Inv-loop μ-loop
@@ -36,7 +36,7 @@ returns c = reading-ends (c .before .before .before .loop .inv) (sym (c .enum-to
 
 read-pair-requires : tie.Need-read-pair-requires Inv-loop μ-loop
 read-pair-requires c κs =
-    let p = c .before .before .before .before .before .before .before .before .pre in
+    let p = c .before .before .before .before .before .before .before .before .pre .0 in
     let h = c .before .before .before .before .before .loop .inv in
     let l = c .before .before .pair .given .0 .0 in
     let r = c .before .before .pair .given .0 .1 .0 in
