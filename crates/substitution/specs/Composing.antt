@@ -21,6 +21,11 @@ use Rattle.substitution.specs.declared.solving.Composition.the-variants 
 abbrev pub put-pairs : Text → Tree → List Pair → List Pair
 put-pairs x t ps = instantiate-pairs ((x, t) ∷ []) ps
 
+-- the list from cell k on is one of pairs: left, right, left, right, ..
+pub record SomePairs (s : Text) (w : List ℕ) (k : ℕ) : Type 0 where
+  pub pairs : List Pair
+  pub list : trees-at s w k ≡ flatten pairs
+
 -- from w, with the free end n, to v, with the free end m: the waiting pairs are the list from cell i on
 pub record Put (s : Text) (w v : List ℕ) (n : ℕ) (x : Text) (t : Tree) (ps : List Pair) (i m : ℕ) : Type 0 where
   pub step : bind-into x t ps ≡ bind x t (put-pairs x t ps)

@@ -1,4 +1,5 @@
 use mathlib.Core.Path.{sym}
+use native.Mathlib.Omega.{arith}
 use Rattle.tree.proofs.Areas.{below-grown}
 use Rattle.elimination.proofs.Keys.{binds-put}
 use borrow.Author.Needs.{needs}
@@ -6,7 +7,10 @@ use Rattle.elimination.proofs.bind.Statement.{statement}
 use Rattle.elimination.proofs.bind.Tie as tie
 
 bind-into-requires : tie.Need-bind-into-requires
-bind-into-requires c κs = search needs
+bind-into-requires c κs =
+    let p = c .before .before .before .pre in
+    let r = p .1 .1 .1 in
+    (p .0, (p .1 .0, ((omega (arith, r .0), omega (arith, r .1)), record { pairs = _; list = sym (p .1 .1 .0 .2) })))
 
 enum-known-waiting : tie.Need-enum-known-waiting
 enum-known-waiting c = search needs
