@@ -32,7 +32,7 @@ use Rattle.equivalence.proofs.Scratch.{below-kept}
 use Rattle.substitution.specs.Bindings.{bindings-of, bindings-at}
 use Rattle.substitution.specs.Building.{Placed, instance-at}
 use Rattle.rewriting.specs.Building.{NewTree}
-use Rattle.reduction.proofs.NormalForms.{normalize-size}
+use Rattle.laws.proofs.Reduction.Sizes.{normalize-size}
 use Rattle.schemes.specs.Building.{Systems}
 use Rattle.schemes.specs.declared.systems.System.{System}
 use Rattle.elimination.specs.Stack.{pairs-at, Whole, FitPairs}

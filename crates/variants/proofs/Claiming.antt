@@ -24,7 +24,7 @@ use Rattle.substitution.specs.Bindings.{bindings-at}
 use Rattle.substitution.specs.Building.{Placed, instance-at}
 use Rattle.text.specs.Frames.{Outside}
 use Rattle.rewriting.specs.Building.{NewTree}
-use Rattle.reduction.proofs.NormalForms.{normalize-size}
+use Rattle.laws.proofs.Reduction.Sizes.{normalize-size}
 use Rattle.forms.specs.Members.{members-at}
 use Rattle.variants.specs.Members.{nameable, Alike, ReadMember, ReadsMember}
 use Rattle.sheet.specs.Claims.{truth}
