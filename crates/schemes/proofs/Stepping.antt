@@ -128,6 +128,7 @@ module _ {s : Text} {w : List ℕ} {n fresh next index ways : ℕ} (i first : �
           names = omega (arith, chosen .next, x .names, ap site ways-are, h, y, d .names);
           room = omega (arith, u, l, g, h, z, y, d .room);
           bits = omega (arith, u, g, h, z, y, d .bits);
+          pairs = record { pairs = new-children .equations; list = chosen .equations .trees };
         }
 
     -- the root's choice

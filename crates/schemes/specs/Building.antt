@@ -12,6 +12,7 @@ use Rattle.laws.specs.Schemes.{joined-at, scheme-at}
 use Rattle.laws.specs.Memory.{site, sites-in}
 use Rattle.tree.specs.Cells.{tree-at, trees-at}
 use Rattle.tree.specs.Arena.{Arena, Below}
+use Rattle.substitution.specs.Composing.{SomePairs}
 use Rattle.schemes.specs.Choices.{over, appended, ways-of, root-of, Shared}
 use Rattle.schemes.specs.declared.firing.Pattern.{Pattern}
 use Rattle.schemes.specs.declared.firing.Fired.{Fired}
@@ -100,6 +101,7 @@ pub record RootReady (s : Text) (w : List ℕ) (fresh : ℕ) (below : Chosen) (i
   pub names : below .next + 2 * site (ways-of (over (tree-at s w i) (trees-at s w (below .values)))) ≤ 24
   pub room : 4 * (below .free + 10) ≤ length w
   pub bits : below .free + 10 < 2 ^ 32
+  pub pairs : SomePairs s w (below .equations)
 
 -- the choice at the root of t after those of its children, whose equations are es: its value and equations, and what is left of the
 -- index and the ways; no cells but one where it stays

@@ -19,7 +19,7 @@ push-pair-requires c κs =
     let p = c .before .before .before .before .before .before .before .before .before .before .before .pre in
     let x = c .before .before .before .before .before .before .before .leaf .ensures in
     let y = c .before .before .before .leaf2 .ensures in
-    (y .arena, ((p .1 .0 .0, omega (arith, p .1 .0 .1, x .grew, y .grew), y .some-cell, y .inside, omega (arith, p .1 .0 .2, x .grew, y .grew)), (omega (arith, x .used, y .used, x .kept .len, y .kept .len, p .1 .1 .0), omega (arith, x .used, y .used, p .1 .1 .1))))
+    (y .arena, ((p .1 .0 .0, omega (arith, p .1 .0 .1, x .grew, y .grew), y .some-cell, y .inside, omega (arith, p .1 .0 .2, x .grew, y .grew)), (omega (arith, x .used, y .used, x .kept .len, y .kept .len, p .1 .1 .0 .0), omega (arith, x .used, y .used, p .1 .1 .0 .1))))
 
 same-length : tie.Need-same-length
 same-length c = search needs
