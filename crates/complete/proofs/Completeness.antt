@@ -38,7 +38,7 @@ use Rattle.variables.specs.Variables.{Readable}
 use Rattle.variables.proofs.Shortness.{short-read}
 use Rattle.variables.specs.Listing.{backwards}
 use Rattle.variables.specs.Pairing.{names-of, names-at, OfVariables}
-use Rattle.families.specs.Families.{ReadAll, ReadMembers, ReadsMembers}
+use Rattle.families.specs.Families.{ReadAll, MembersThere, ReadMembers, ReadsMembers}
 use Rattle.families.specs.declared.members.Members.the-variants.{Unreadable}
 use Rattle.fresh.specs.Searching.{spells}
 use Rattle.fresh.specs.Fresh.{chosen-in, WritesFresh}
@@ -74,6 +74,9 @@ module _ {s : Text} {w : List ℕ} {free term named at : ℕ} (k : CompleteInput
     built = builds (k .text) (tree-at s w term) (k .parsed);
     short = short-read s (k .text) (tree-at s w term) (k .short) (sheet-parts s (asks-complete (k .text) (k .members)) (k .reads) .0) (k .parsed);
   }
+
+  pub asked-there : MembersThere s at
+  asked-there = record { ms = k .members; are = k .later }
 
   pub term-fits : size (tree-at s w term) ≤ length s
   term-fits = omega (arith, asked-bytes k)

@@ -39,6 +39,11 @@ pub record ReadAll (s : Text) (v : List ℕ) (i : ℕ) (ms : List Member) : Type
   pub read : every (map read-member ms) ≡ some (reverse vs)
   pub family : Family (trees-at s v i) vs
 
+-- members stand from a position on, to the end of the sheet
+pub record MembersThere (s : Text) (at : ℕ) : Type 0 where
+  pub ms : List Member
+  pub are : members-at s at ≡ some ms
+
 -- the members at a position
 pub record ReadMembers (s : Text) (w v : List ℕ) (n at i m : ℕ) : Type 0 where
   pub reads : (ms : List Member) → members-at s at ≡ some ms → ReadAll s v i ms

@@ -18,6 +18,7 @@ use Rattle.forms.specs.declared.form.Form.{Form}
 use Rattle.forms.specs.declared.form.Form.the-variants as form
 use Rattle.forms.proofs.WordLaws.{raise-counted}
 use Rattle.forms.proofs.WalkLaws.{sound-member}
+use Rattle.variants.specs.Soundness.{OneMember}
 use Rattle.answers.specs.Deciding.{DecisionIs}
 use Rattle.admission.specs.Admission.{Decoded}
 use Rattle.answers.specs.declared.deciding.Decision.{Decision}
@@ -52,6 +53,12 @@ pub sound-decided : (s : Text) (t : Place) (c : Cursor) (f : Form) {w : List ℕ
 sound-decided s t c f {w} {d} e h sheet g =
     let k = sound-member s t c sheet (ap (sheet-of s) (sym e) ∙ g) in
     subst (λ (z : Sheet). DecidesSheet z s w d) (sym (k .1)) (h (k .0) (k .2))
+
+-- the member of a sheet of kind `sound`
+pub sound-asked : (s : Text) (t : Place) (c : Cursor) (f : Form) → f ≡ form.Sound t c → Decoded s f → OneMember s (c .at)
+sound-asked s t c f e d =
+    let k = sound-member s t c (d .sheet) (ap (sheet-of s) (sym e) ∙ d .decodes) in
+    record { member = k .0; is = k .2 }
 
 -- every kind has the words of what is read and of one step, and those of its colons
 pub least-words : (s : Text) (f : Form) {n : ℕ} → EnoughWords s f n → 1048576 + 16 * length s ≤ n

@@ -38,6 +38,7 @@ ghost use Rattle.forms.specs.Form.{text-of, Inside, sheet-of, EnoughWords};
 ghost use Rattle.admission.specs.Admission.{Decoded};
 ghost use Rattle.elimination.specs.Stack.{Whole, pairs-at, FitPairs};
 ghost use Rattle.unifier.specs.Running.{Roomy, Answers as Solves};
+ghost use Rattle.variants.specs.Soundness.{OneMember};
 ghost use Rattle.kinds.specs.Outcomes.{solve-by, Asked, CoverAsked, CompleteAsked, verdict-of, DecidesSheet, DecidesForm};
 
 // Kind `equal`.
@@ -148,6 +149,7 @@ fn solving(sheet: &[u8], work: &mut [u32], fuel: usize, pairs: Cursor, matching:
 fn sound_of(sheet: &[u8], work: &mut [u32], term: Place, member: Cursor) -> Decision
     requires { ⌜ (length (now sheet) ≤ 65536) × (1048576 + 16 * length (now sheet) ≤ length (now work)) ⌝ }
     requires { ⌜ Inside (now sheet) term ⌝ }
+    requires { ⌜ OneMember (now sheet) (member .at) ⌝ }
     ensures { λ r. ⌜ ((m : Member) → members-at (now (sheet .entry)) (member .at) ≡ some (m ∷ []) → DecidesSheet (asks-sound (text-of (now (sheet .entry)) term) m) (now (sheet .entry)) (now (work .exit)) r) ⌝ }
 {
     let from = term.from;

@@ -90,6 +90,12 @@ ReadsEntries s w v n at (entries.Stack i m c) = ReadEntries s w v n at i m (c .a
 ReadsEntries s w v n at entries.Unreadable =
     ((es : List Entry) (rest : List Text) → (lines-at s at >>= entries-by (bytes "key=") (bytes "value=")) ≡ some (es, rest) → every (map read-entry es) ≡ nothing) × Below w v n
 
+-- a member stands at a position, and others after it
+pub record MemberThere (s : Text) (at : ℕ) : Type 0 where
+  pub member : Member
+  pub later : List Member
+  pub are : members-at s at ≡ some (member ∷ later)
+
 -- the member m reads as the tree of cell k and the bindings bs; the list from cell i on gives every variable the same value as bs; the
 -- members ms follow at c
 pub record MemberReads (s : Text) (v : List ℕ) (k i c : ℕ) (m : Member) (ms : List Member) : Type 0 where

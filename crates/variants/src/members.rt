@@ -22,7 +22,7 @@ ghost use Rattle.forms.specs.Form.{text-of, Inside};
 ghost use Rattle.tree.specs.Cells.{variable-kind, tree-at, trees-at};
 ghost use Rattle.tree.specs.Arena.{Arena, Linked};
 ghost use Rattle.substitution.specs.Building.{Made};
-ghost use Rattle.variants.specs.Members.{nameable, binding-before, entry-end, ReadsEntry, TextsRoom, ReadsEntries, ReadsMember};
+ghost use Rattle.variants.specs.Members.{nameable, binding-before, entry-end, ReadsEntry, TextsRoom, ReadsEntries, MemberThere, ReadsMember};
 
 // A list of bindings and the free end after it, or a value that cannot be read.
 enum Bindings {
@@ -183,6 +183,7 @@ fn read_entries(sheet: &[u8], work: &mut [u32], free: usize, start: Cursor) -> E
 pub fn read_member(sheet: &[u8], work: &mut [u32], free: usize, start: Cursor) -> Variant
     requires { ⌜ Arena (now sheet) (now work) free ⌝ }
     requires { ⌜ TextsRoom (now sheet) (now work) free (start .at) ⌝ }
+    requires { ⌜ MemberThere (now sheet) (start .at) ⌝ }
     ensures { λ r. ⌜ ReadsMember (now (sheet .entry)) (now (work .entry)) (now (work .exit)) free (start .at) r ⌝ }
 {
     let line = next_member(sheet, start);

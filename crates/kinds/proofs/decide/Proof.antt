@@ -4,7 +4,7 @@ use Rattle.forms.specs.Form.{Within}
 use Rattle.kinds.proofs.Solves.{unify-asked, match-asked}
 use Rattle.kinds.proofs.Covers.{cover-asked}
 use Rattle.kinds.proofs.Completes.{complete-asked}
-use Rattle.kinds.proofs.KindLaws.{form-decided, least-words, colon-words, complete-words, equal-decided, reduce-decided, sound-decided}
+use Rattle.kinds.proofs.KindLaws.{form-decided, least-words, colon-words, complete-words, equal-decided, reduce-decided, sound-decided, sound-asked}
 use borrow.Author.Needs.{needs}
 use Rattle.kinds.proofs.decide.Statement.{statement}
 use Rattle.kinds.proofs.decide.Tie as tie
@@ -58,7 +58,7 @@ sound-of-requires : tie.Need-sound-of-requires
 sound-of-requires c κs =
     let a = c .before .before .before .before .before .before .args in
     let h = subst (Within (a .sheet .now)) (c .before .before .form5 .given .1) (c .before .before .before .before .before .before .pre .0 .within) in
-    ((c .before .before .before .before .before .before .pre .0 .short, least-words (a .sheet .now) (a .form) (c .before .before .before .before .before .before .pre .1)), h .0)
+    ((c .before .before .before .before .before .before .pre .0 .short, least-words (a .sheet .now) (a .form) (c .before .before .before .before .before .before .pre .1)), (h .0, sound-asked (a .sheet .now) _ _ (a .form) (c .before .before .form5 .given .1) (c .before .before .before .before .before .before .pre .0)))
 
 enum-known-form-6 : tie.Need-enum-known-form-6
 enum-known-form-6 c = search needs

@@ -39,7 +39,7 @@ sound-requires c κs =
     let q = c .before .before .before .before .before .before .before .before .before .before .pre in
     let p = subst (Parses (a .sheet .now) (a .work .now) (c .before .before .before .before .before .before .parse .last .1 .0) 1 (a .term .from) (a .term .to)) (c .before .before .parsed .given .1) (c .before .before .before .before .before .before .parse .ensures) in
     let r : c .before .before .parsed .given .0 .1 .0 ≤ limit-of 1 (a .term .from) (a .term .to) = p .room in
-    (p .arena, ((p .placed .0, p .placed .1), (q .0 .0, omega (arith, q .0), omega (arith, q .1))))
+    (p .arena, ((p .placed .0, p .placed .1), ((q .0 .0, omega (arith, q .0), omega (arith, q .1 .0)), q .1 .1)))
 
 claimed-requires : tie.Need-claimed-requires
 claimed-requires c κs = search needs
