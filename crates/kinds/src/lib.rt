@@ -194,7 +194,7 @@ fn complete_of(sheet: &[u8], work: &mut [u32], term: Place, members: Cursor) -> 
     claimed(Key::Complete, claim)
 }
 
-// A sheet that is admitted, by its kind.
+// A sheet that is admitted, by its kind. What was decided may stand in the work area; its other words are free afterwards.
 pub fn decide(sheet: &[u8], work: &mut [u32], form: Form) -> Decision
     requires { ⌜ Decoded (now sheet) form ⌝ }
     requires { ⌜ EnoughWords (now sheet) form (length (now work)) ⌝ }

@@ -17,7 +17,7 @@ ghost use Rattle.rules.specs.Call.{zeroed};
 ghost use Rattle.yukhtsami.specs.Answering.{SettlesForm, CallAnswers, Calls};
 ghost use Rattle.admission.specs.Admission.{refusal-code, Decoded};
 
-// Decides a sheet that is admitted, and gives what was decided.
+// Decides a sheet that is admitted, and gives what was decided. Every word of the work area is free afterwards.
 fn settle(sheet: &[u8], work: &mut [u32], output: &mut [u8], form: Form) -> Reply
     requires { ⌜ Decoded (now sheet) form ⌝ }
     requires { ⌜ EnoughWords (now sheet) form (length (now work)) ⌝ }
