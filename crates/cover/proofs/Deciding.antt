@@ -37,7 +37,7 @@ use Rattle.unifier.specs.declared.unifying.Outcome.the-variants as outcome
 use Rattle.unifier.proofs.unifying.Outcome.{the-type}
 use Rattle.unifier.proofs.Tops.{pairs-are}
 use Rattle.variables.specs.Pairing.{names-at}
-use Rattle.values.specs.Values.{EntriesFrom}
+use Rattle.values.specs.Values.{EntriesFrom, EntriesThere}
 use Rattle.values.specs.Members.{MemberPairs, PairsMember}
 use Rattle.unifier.specs.Matched.{Matched}
 use Rattle.cover.specs.Covering.{PairsOf, Matchable, CoversMember}
@@ -50,6 +50,9 @@ use Rattle.values.proofs.CoverLaws.{covers-read, covers-unread}
 -- the cells of a member's pairs end at most here
 abbrev pub member-end-of : Text → List ℕ → ℕ → ℕ → ℕ → ℕ
 member-end-of s w n names at = n + 2 * (length s - at) + 2 * count (trees-at s w names)
+
+pub entries-there : {s : Text} {w : List ℕ} {n names bindings at : ℕ} → Matchable s w n names bindings at → EntriesThere s at
+entries-there k = record { entries = k .entries; are = k .reads }
 
 pub unread-covers : (s : Text) (w v : List ℕ) (n names bindings at : ℕ) → PairsMember s w v n names bindings at sides.Unreadable → CoversMember s w v n names bindings at it.Yes
 unread-covers s w v n names bindings at h = ((λ x es f. covers-unread x es (bindings-at s w bindings) (names-at s w names) (h .0 x es f)), h .1)

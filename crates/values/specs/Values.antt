@@ -76,6 +76,11 @@ EntriesThen s at es rest = (lines-at s at >>= entries-by (bytes "key=") (bytes "
 abbrev pub EntriesFrom : Text → ℕ → List Entry → Type 0
 EntriesFrom s at es = (rest : List Text) × EntriesThen s at es rest
 
+-- entries stand from a position on, or none, and then other lines
+pub record EntriesThere (s : Text) (at : ℕ) : Type 0 where
+  pub entries : List Entry
+  pub are : EntriesFrom s at entries
+
 -- from w, with the free end n, to v, with the free end m: the bindings from cell b on give each of ns the tree that the entries from `at`
 -- to c give it
 pub record ValuesRead (s : Text) (w v : List ℕ) (n : ℕ) (ns : List Text) (at b m c : ℕ) : Type 0 where

@@ -10,6 +10,7 @@ ghost use Rattle.rules.specs.Tree.{count};
 ghost use Rattle.tree.specs.Cells.{trees-at};
 ghost use Rattle.tree.specs.Arena.{Arena};
 ghost use Rattle.variables.specs.Pairing.{OfVariables};
+ghost use Rattle.values.specs.Values.{EntriesThere};
 ghost use Rattle.values.specs.Members.{PairsMember};
 
 // A list of sides, the free end after it and where the member ends, or a value that cannot be read.
@@ -35,6 +36,7 @@ pub fn member_pairs(
     requires { ⌜ (names < free) × (bindings < free) × OfVariables (trees-at (now sheet) (now work) names) ⌝ }
     requires { ⌜ (start .at ≤ length (now sheet)) × (length (now sheet) ≤ 65536) ⌝ }
     requires { ⌜ (4 * free + 11 * length (now sheet) + 9 + 8 * count (trees-at (now sheet) (now work) names) ≤ length (now work)) × (free + 2 * length (now sheet) + 2 + 2 * count (trees-at (now sheet) (now work) names) < 2 ^ 32) ⌝ }
+    requires { ⌜ EntriesThere (now sheet) (start .at) ⌝ }
     ensures { λ r. ⌜ PairsMember (now (sheet .entry)) (now (work .entry)) (now (work .exit)) free names bindings (start .at) r ⌝ }
 {
     let read = read_values(sheet, work, free, names, start);

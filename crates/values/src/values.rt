@@ -20,7 +20,7 @@ ghost use Rattle.reading.specs.Parsing.{stack-end};
 ghost use Rattle.sheet.specs.Lines.{part-of};
 ghost use Rattle.forms.specs.Form.{Inside};
 ghost use Rattle.variables.specs.Pairing.{names-of, OfVariables};
-ghost use Rattle.values.specs.Values.{FindsVariable, ReadsValue, ReadsValues};
+ghost use Rattle.values.specs.Values.{FindsVariable, ReadsValue, EntriesThere, ReadsValues};
 
 // The cell of the variable of the list from cell `names` on whose name is the text from `from` to `to`, 0 for none.
 fn find_variable(
@@ -120,6 +120,7 @@ pub(crate) fn read_values(
     requires { ⌜ (names < free) × OfVariables (trees-at (now sheet) (now work) names) ⌝ }
     requires { ⌜ (start .at ≤ length (now sheet)) × (length (now sheet) ≤ 65536) ⌝ }
     requires { ⌜ (4 * free + 11 * length (now sheet) + 9 ≤ length (now work)) × (free + 2 * length (now sheet) + 2 < 2 ^ 32) ⌝ }
+    requires { ⌜ EntriesThere (now sheet) (start .at) ⌝ }
     ensures { λ r. ⌜ ReadsValues (now (sheet .entry)) (now (work .entry)) (now (work .exit)) free (names-of (trees-at (now (sheet .entry)) (now (work .entry)) names)) (start .at) r ⌝ }
 {
     let mut cursor = start;

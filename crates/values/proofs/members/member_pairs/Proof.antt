@@ -14,7 +14,7 @@ use Rattle.values.proofs.values.read_values.Reads as read-values-reads
 read-values-requires : tie.Need-read-values-requires
 read-values-requires c κs =
     let p = c .before .before .before .pre in
-    (p .0, ((p .1 .0 .0, p .1 .0 .2), (p .1 .1 .0, (omega (arith, p .1 .1 .1 .0), omega (arith, p .1 .1 .1 .1)))))
+    (p .0, ((p .1 .0 .0, p .1 .0 .2), (p .1 .1 .0, ((omega (arith, p .1 .1 .1 .0 .0), omega (arith, p .1 .1 .1 .0 .1)), p .1 .1 .1 .1))))
 
 enum-known-read : tie.Need-enum-known-read
 enum-known-read c = search needs
@@ -39,7 +39,7 @@ pair-variables-requires c κs =
     let g = h .grew in
     let u = h .used in
     let n = h .len in
-    (h .arena, ((omega (arith, p .1 .0 .0), h .inside, omega (arith, p .1 .0 .1), subst OfVariables t (p .1 .0 .2), h .arena .links .some), (omega (arith, p .1 .1 .1 .0), omega (arith, p .1 .1 .1 .1))))
+    (h .arena, ((omega (arith, p .1 .0 .0), h .inside, omega (arith, p .1 .0 .1), subst OfVariables t (p .1 .0 .2), h .arena .links .some), (omega (arith, p .1 .1 .1 .0 .0), omega (arith, p .1 .1 .1 .0 .1))))
 
 same-length-2 : tie.Need-same-length-2
 same-length-2 c = search needs

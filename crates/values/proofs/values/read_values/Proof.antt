@@ -48,7 +48,7 @@ read-value-requires c κs =
     let x = placed (c .before .before .before .before .before .before .before .before .args .sheet .now) (c .before .before .before .before .before .loop .cursor .at) l r n e in
     let k = walking-room (p .0) (p .1 .0 .0) h l r n e in
     let m = h .len in
-    (h .arena, ((omega (arith, h .grew, p .1 .0 .0), h .inside, names-there (p .0) (p .1 .0 .0) h (p .1 .0 .1)), ((x .key, x .value, p .1 .1 .0 .1), (omega (arith, k .0, p .1 .1 .1 .0), omega (arith, k .1, p .1 .1 .1 .1)))))
+    (h .arena, ((omega (arith, h .grew, p .1 .0 .0), h .inside, names-there (p .0) (p .1 .0 .0) h (p .1 .0 .1)), ((x .key, x .value, p .1 .1 .0 .1), (omega (arith, k .0, p .1 .1 .1 .0 .0), omega (arith, k .1, p .1 .1 .1 .0 .1)))))
 
 enum-known-read : tie.Need-enum-known-read Inv-loop μ-loop
 enum-known-read c = search needs
