@@ -11,7 +11,7 @@ use Rattle.rules.specs.Variants.{Scheme, Joined, scheme-counts, system}
 use Rattle.laws.specs.Schemes.{joined-at, scheme-at}
 use Rattle.laws.specs.Memory.{site, sites-in}
 use Rattle.tree.specs.Cells.{tree-at, trees-at}
-use Rattle.tree.specs.Arena.{Arena, Below}
+use Rattle.tree.specs.Arena.{Arena, Below, Grown}
 use Rattle.substitution.specs.Composing.{SomePairs}
 use Rattle.schemes.specs.Choices.{over, appended, ways-of, root-of, Shared}
 use Rattle.schemes.specs.declared.firing.Pattern.{Pattern}
@@ -114,10 +114,11 @@ pub record Roots (s : Text) (w v : List ℕ) (name : ℕ → Text) (below : Chos
   pub index : r .index ≡ below .index % (below .ways / ways-of t)
   pub cells : ((r .free ≤ below .free + 1) × (r .equations ≡ below .equations)) ⊎ (1 < ways-of t)
 
--- the list from cell a on before the list from cell b on; nothing is copied where one of them is empty
+-- the list from cell a on before the list from cell b on, in new cells alone; nothing is copied where one of them is empty
 pub record Appends (s : Text) (w v : List ℕ) (n a b i m : ℕ) : Type 0 where
   pub written : Written s w v n m (count (trees-at s w a))
   pub list : HoldsList s v m i (appended (trees-at s w a) (trees-at s w b))
+  pub alone : Grown w v n m
   pub first-none : a ≡ 0 → (m ≡ n) × (i ≡ b)
   pub second-none : b ≡ 0 → (m ≡ n) × (i ≡ a)
 
