@@ -325,6 +325,38 @@ fn each_law_that_refuses_is_declared_in_one_file_of_laws() {
     }
 }
 
+// The names that a file of specs makes public: definitions, types and records, not their parts.
+fn defined(source: &str) -> Names {
+    const BEFORE: [&str; 5] = ["abbrev", "unfoldable", "pub", "data", "record"];
+    let mut names = Names::new();
+    for line in source.lines() {
+        let part = line.starts_with(' ') && !line.starts_with("  pub data");
+        let mut words = line.split_whitespace().peekable();
+        if part || !words.clone().any(|word| word == "pub") {
+            continue;
+        }
+        while words.next_if(|word| BEFORE.contains(word)).is_some() {}
+        let name = words.next().filter(|name| !["mod", "use"].contains(name));
+        names.extend(name.map(str::to_owned));
+    }
+    names
+}
+
+#[test]
+fn no_name_is_defined_in_two_files_of_specs() {
+    let mut places = BTreeMap::<String, Vec<PathBuf>>::new();
+    for name in crates() {
+        for file in files(&folder(&name, "specs"), "antt") {
+            for defined in defined(&text(&file)) {
+                places.entry(defined).or_default().push(file.clone());
+            }
+        }
+    }
+    assert!(places.len() > 500, "{} names", places.len());
+    places.retain(|_, files| files.len() > 1);
+    assert!(places.is_empty(), "{places:#?}");
+}
+
 #[test]
 fn public_functions_are_found_in_code() {
     let source = "pub(crate) fn a() {\n}\nimpl Cursor {\n    pub fn line(self) -> u32 {\n    }\n    fn b() {}\n}\n\

@@ -27,7 +27,7 @@ use Rattle.syntax.specs.declared.Symbol.the-variants.{Begin, Shut, Comma, Name,
 use Rattle.syntax.proofs.Symbol.{the-type}
 use Rattle.syntax.proofs.TokenList.{joined}
 use Rattle.syntax.proofs.SymbolLaws.{means-is}
-use Rattle.closing.specs.Machine.{Stack, bottom, level, add, back, State, wants, named, has, machine-after, machine-step, ended, machine-end, machine, machine-reading, total}
+use Rattle.closing.specs.Machine.{Stack, bottom, level, add, back, State, wants, named, has, machine-after, machine-step, finished-stack, machine-end, machine, machine-reading, total}
 
 -- One token
 
@@ -238,7 +238,7 @@ step-grows (named n k) st x h = go (same (bytes "(") x) h
     go false g = omega (arith, given-grows (add (leaf n) k) x st g, add-total (leaf n) k)
 step-grows (has k) st x h = given-grows k x st h
 
-ended-size : (k : Stack) (t : Tree) → ended k ≡ some t → total k ≤ size t
+ended-size : (k : Stack) (t : Tree) → finished-stack k ≡ some t → total k ≤ size t
 unfolding size
 ended-size (bottom ts) t h = let e : sizes ts ≡ size t + 0 = ap sizes (the-only ts t h) in omega arith
 ended-size (level n ts k) t h = absurd (Option·none-ne-some t h)

@@ -44,14 +44,14 @@ machine-step (named n k) x = cond (same (bytes "(") x) (some (wants (level n non
 machine-step (has k) x = machine-after k x
 
 -- at the end the only tree of the bottom is the term
-abbrev pub ended : Stack → Option Tree
-ended (bottom ts) = single ts
-ended (level n ts k) = nothing
+abbrev pub finished-stack : Stack → Option Tree
+finished-stack (bottom ts) = single ts
+finished-stack (level n ts k) = nothing
 
 abbrev pub machine-end : State → Option Tree
 machine-end (wants k) = nothing
-machine-end (named n k) = ended (add (leaf n) k)
-machine-end (has k) = ended k
+machine-end (named n k) = finished-stack (add (leaf n) k)
+machine-end (has k) = finished-stack k
 
 unfoldable pub machine : List Text → State → Option Tree
 machine [] st = machine-end st

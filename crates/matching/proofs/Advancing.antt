@@ -17,7 +17,7 @@ use Rattle.substitution.specs.Bindings.{bindings-of, bindings-at, flatten-bindi
 use Rattle.substitution.proofs.Chains.{bindings-flatten, chain-flatten}
 use Rattle.elimination.specs.Stack.{pairs-at, Whole, Fit, FitPairs, FitBindings}
 use Rattle.elimination.specs.Area.{Room}
-use Rattle.unifier.specs.Running.{Bound}
+use Rattle.unifier.specs.Running.{BoundList}
 use Rattle.moving.specs.Moves.{Moves}
 use Rattle.moving.specs.declared.Moved.{Moved}
 use Rattle.moving.specs.declared.Moved.the-variants as taken
@@ -102,7 +102,7 @@ module _ {s : Text} {w v : List ℕ} {n fuel left waiting made end : ℕ} {start
 
   -- The ends
 
-  pub holds-solved : 0 < left → waiting ≡ 0 → (matcher fuel start ≡ (solved (bindings-at s v made), fuel - left)) × Bound s w v n made end
+  pub holds-solved : 0 < left → waiting ≡ 0 → (matcher fuel start ≡ (solved (bindings-at s v made), fuel - left)) × BoundList s w v n made end
   holds-solved p e =
       let empty = stack-empty s v waiting (h .ps) (h .waits) e in
       let z : fuel - left + 0 ≡ fuel - left = omega arith in

@@ -12,7 +12,7 @@ use Rattle.tree.proofs.Areas.{below-grown, grown-same, grown-then}
 use Rattle.substitution.specs.Building.{Before}
 use Rattle.rewriting.specs.Building.{NewTree}
 use Rattle.schemes.specs.Choices.{appended}
-use Rattle.schemes.specs.Building.{Written, KeptAs, Appends, Follows}
+use Rattle.schemes.specs.Building.{WrittenCells, KeptAs, Appends, Follows}
 use Rattle.schemes.specs.declared.choosing.Chosen.{Chosen}
 use Rattle.schemes.proofs.Writing.{written-same, written-then, lists-later, appended-none}
 use Rattle.schemes.proofs.Patterns.{cell-written}
@@ -75,7 +75,7 @@ pub follows : {s : Text} {w v u : List ℕ} {k m c e : ℕ} {rest : Chosen} (val
     → Before s w v (rest .free) (rest .values) (tree-at s w value) k m → m ≤ rest .free + 1 → Appends s v u m equations (rest .equations) c e
     → Follows s w u value equations rest (record { values = k; equations = c; next = rest .next; index = rest .index; ways = rest .ways; free = e })
 follows {s} {w} {v} {u} {k} {m} {c} {e} {rest} value equations a q r x h y =
-    let wx : Written s w v (rest .free) m 1 = record { arena = x .arena; kept = below-grown (x .grown); grew = x .grew; used = h } in
+    let wx : WrittenCells s w v (rest .free) m 1 = record { arena = x .arena; kept = below-grown (x .grown); grew = x .grew; used = h } in
     let f = frame-trees s v (a .links) (x .grown .below) equations q in
     let g = frame-trees s v (a .links) (x .grown .below) (rest .equations) r in
     record {

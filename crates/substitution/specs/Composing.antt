@@ -44,6 +44,6 @@ pub record ComposedAt (s : Text) (w v : List ℕ) (n : ℕ) (es : List Binding) 
   pub made : Made s w v n m b (trees-at s v b)
   pub used : m ≤ n + 4097 * length es
 
-abbrev pub Composes : Text → List ℕ → List ℕ → ℕ → List Binding → Composition → Type 0
-Composes s w v n es (composition.Composed b m) = ComposedAt s w v n es b m
-Composes s w v n es composition.Over = (compose (reverse es) ≡ nothing) × Grown w v n (n + 4097 * length es)
+abbrev pub ComposesCells : Text → List ℕ → List ℕ → ℕ → List Binding → Composition → Type 0
+ComposesCells s w v n es (composition.Composed b m) = ComposedAt s w v n es b m
+ComposesCells s w v n es composition.Over = (compose (reverse es) ≡ nothing) × Grown w v n (n + 4097 * length es)
