@@ -7,6 +7,7 @@ pub mod deep;
 pub mod deepest;
 pub mod definitions;
 pub mod documents;
+pub mod edits;
 pub mod examples;
 pub mod generate;
 pub mod hand;

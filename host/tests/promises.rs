@@ -1,12 +1,12 @@
 // docs/PROMISES.md against the crates: a row for each public function, as many marked wrong programs
-// as must-fail edits, the laws of the wrong definitions, and no name of anything that does not exist.
+// as the must-fail edits have, the laws of the wrong definitions, and no name of anything that does not exist.
 use std::{
     collections::{BTreeMap, BTreeSet},
     fs,
     path::{Path, PathBuf},
 };
 
-use host::documents;
+use host::{documents, edits};
 
 type Names = BTreeSet<String>;
 
@@ -189,12 +189,12 @@ fn each_public_function_has_one_row_and_no_other_has() {
 }
 
 #[test]
-fn each_edit_is_marked_once_in_the_section_of_its_crate() {
+fn each_wrong_program_is_marked_once_in_the_section_of_its_crate() {
     for (names, lines) in sections() {
-        let edits = |name: &String| files(&folder(name, "must-fail"), "edit").len();
-        let edits: usize = names.iter().map(edits).sum();
+        let wrongs = names.iter().flat_map(|name| edits::of(name));
+        let wrongs: usize = wrongs.map(|edit| edit.wrongs.len()).sum();
         let marks: usize = lines.iter().map(|line| line.matches('*').count()).sum();
-        assert_eq!(marks, edits, "marks * and must-fail edits of {names:?}");
+        assert_eq!(marks, wrongs, "marks * and wrong programs of {names:?}");
     }
 }
 
@@ -203,10 +203,11 @@ const BEGINNINGS: [&str; 3] = ["", "crates", "crates/laws/proofs"];
 
 fn exists(path: &str) -> bool {
     let below = |top: &&str| documents::file(top).join(path).exists();
-    let edit = path
-        .split_once('/')
-        .map(|(name, edit)| folder(name, "must-fail").join(format!("{edit}.edit")));
-    BEGINNINGS.iter().any(below) || edit.is_some_and(|file| file.is_file())
+    let wrong = |(name, wrong): (&str, &str)| {
+        let mut wrongs = edits::of(name).into_iter().flat_map(|edit| edit.wrongs);
+        wrongs.any(|other| other.name == wrong)
+    };
+    BEGINNINGS.iter().any(below) || path.split_once('/').is_some_and(wrong)
 }
 
 fn is_file_of_antt(name: &str) -> bool {
