@@ -2,20 +2,19 @@
 // whose size is doubled.
 mod clock;
 mod growth;
-mod members;
+pub(crate) mod members;
 mod report;
-mod rust;
-mod solving;
+pub(crate) mod solving;
 mod tables;
-mod terms;
+pub(crate) mod terms;
 
-pub use growth::{Workload, workloads};
+pub use growth::Workload;
 pub use members::slow;
 pub use report::written;
 
 use std::fs;
 
-use crate::generate::KINDS;
+use crate::kinds::Kind;
 
 /// A sheet to time.
 #[derive(Clone)]
@@ -40,19 +39,6 @@ fn numbered(numbers: std::ops::Range<usize>, one: impl Fn(usize) -> String) -> V
 
 fn reversed(list: &[String]) -> Vec<String> {
     list.iter().rev().cloned().collect()
-}
-
-/// The sheets of the first table that take the Rust less than 10 seconds.
-pub fn samples(kind: &str) -> Vec<Sample> {
-    match kind {
-        "equal" => terms::equalities(),
-        "reduce" => terms::reductions(),
-        "unify" | "match" => solving::solvings(kind),
-        "cover" => members::covers(),
-        "sound" => members::sounds(),
-        "complete" => members::completes(),
-        _ => unreachable!("one of {KINDS:?}"),
-    }
 }
 
 /// A document to put the tables into.
@@ -81,7 +67,7 @@ impl<'a> Document<'a> {
 
 /// Prints both tables, and puts them into a document if one is named. The sheets whose answer is not
 /// that of the Rust.
-pub fn run(kinds: &[&str], long: bool, file: Option<&str>) -> Result<Vec<String>, String> {
+pub fn run(kinds: &[&Kind], long: bool, file: Option<&str>) -> Result<Vec<String>, String> {
     let document = file.map(Document::read).transpose()?;
     let machine = report::machine();
     println!("{machine}");

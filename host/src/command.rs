@@ -3,8 +3,9 @@ use std::{collections::BTreeSet, fs, path::PathBuf, process::ExitCode};
 
 use crate::{
     bench, deep, deepest, definitions,
-    generate::{self, KINDS, Size},
+    generate::{self, Size},
     hostile,
+    kinds::{self, KINDS, Kind},
     linked::Comparison,
     notice,
     rng::Rng,
@@ -43,7 +44,7 @@ struct Options {
     count: usize,
     seed: u64,
     chunk: usize,
-    kinds: Vec<&'static str>,
+    kinds: Vec<&'static Kind>,
     long: bool,
     out: Option<String>,
 }
@@ -54,8 +55,8 @@ fn number<T: std::str::FromStr>(name: &str, value: &str) -> Result<T, String> {
         .map_err(|_| format!("{name} takes a number, not '{value}'"))
 }
 
-fn kinds(value: &str) -> Result<Vec<&'static str>, String> {
-    let known = |name: &str| KINDS.iter().copied().find(|kind| *kind == name);
+fn kinds(value: &str) -> Result<Vec<&'static Kind>, String> {
+    let known = |name: &str| kinds::named(name.as_bytes());
     let found = |name| known(name).ok_or_else(|| format!("--kinds takes no '{name}'"));
     value.split(',').map(found).collect()
 }
@@ -65,7 +66,7 @@ fn options(words: &[String], allowed: &[&str], count: usize) -> Result<Options, 
         count,
         seed: 1,
         chunk: 25,
-        kinds: KINDS.to_vec(),
+        kinds: kinds::all(),
         long: false,
         out: None,
     };

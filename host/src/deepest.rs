@@ -2,7 +2,7 @@
 // measuring the stack of a call (`host/stack`).
 use crate::{
     bench,
-    generate::KINDS,
+    kinds::{Form, KINDS, Kind},
     lent,
     reference::Reply,
     sheet::{self, LONGEST},
@@ -44,7 +44,7 @@ fn nested(level: (&str, &str, usize), leaf: &str, bytes: usize, nodes: usize) ->
     format!("{}{leaf}{}", front.repeat(depth), back.repeat(depth))
 }
 
-fn sheet_of(kind: &str, level: (&str, &str, usize), leaf: &str) -> String {
+fn sheet_of(kind: &Kind, level: (&str, &str, usize), leaf: &str) -> String {
     let bytes = LONGEST / 2 - 100;
     let sort = if leaf.starts_with('t') {
         "TamNat"
@@ -52,25 +52,22 @@ fn sheet_of(kind: &str, level: (&str, &str, usize), leaf: &str) -> String {
         "Msg"
     };
     let variable = format!("x0:{sort}");
-    let term = |leaf: &str| nested(level, leaf, bytes, MOST_NODES);
+    let nodes = if kind.loose { usize::MAX } else { MOST_NODES };
+    let term = |leaf: &str| nested(level, leaf, bytes, nodes);
     let (shut, open) = (term(leaf), term(&variable));
-    match kind {
-        "equal" => {
-            let loose = nested(level, leaf, bytes, usize::MAX);
-            format!("kind=equal\nleft={loose}\nright={loose}\n")
+    let lines = match kind.form {
+        Form::Sides => format!("left={shut}\nright={shut}\n"),
+        Form::Term => format!("term={shut}\n"),
+        Form::FuelPairs => format!("fuel=65536\nleft={open}\nright={shut}\n"),
+        Form::PairsMembers => {
+            format!("left=x1:{sort}\nright={shut}\nmember=\nkey=x1:{sort}\nvalue={open}\n")
         }
-        "reduce" => format!("kind=reduce\nterm={shut}\n"),
-        "cover" => {
-            format!(
-                "kind=cover\nleft=x1:{sort}\nright={shut}\nmember=\nkey=x1:{sort}\nvalue={open}\n"
-            )
+        Form::TermMember => {
+            format!("term={open}\nmember={shut}\nkey={variable}\nvalue={leaf}\n")
         }
-        "sound" => {
-            format!("kind=sound\nterm={open}\nmember={shut}\nkey={variable}\nvalue={leaf}\n")
-        }
-        "complete" => format!("kind=complete\nterm={open}\nmember={open}\n"),
-        kind => format!("kind={kind}\nfuel=65536\nleft={open}\nright={shut}\n"),
-    }
+        Form::TermMembers => format!("term={open}\nmember={open}\n"),
+    };
+    format!("kind={}\n{lines}", kind.name)
 }
 
 // A variable bound to the term, and the leaf's variable bound later.
@@ -104,22 +101,28 @@ fn record(label: String, text: String) -> Record {
     }
 }
 
-/// Every kind with each form of level, and the sheets that are timed.
-pub fn records() -> Vec<Record> {
-    let mut records = Vec::new();
+/// Every kind with each form of level, and the sheets that are timed, with their labels.
+pub fn sheets() -> Vec<(String, String)> {
+    let mut sheets = Vec::new();
     for (name, front, back, nodes, leaf) in LEVELS {
         let level = (front, back, nodes);
         for kind in KINDS {
-            let sheet = sheet_of(kind, level, leaf);
-            records.push(record(format!("{kind}-{name}"), sheet));
+            let label = format!("{}-{name}", kind.name);
+            sheets.push((label, sheet_of(kind, level, leaf)));
         }
-        records.push(record(format!("bound-{name}"), bound(level, leaf)));
+        sheets.push((format!("bound-{name}"), bound(level, leaf)));
     }
     let slow = bench::slow().into_iter().map(|(sample, _)| sample);
-    let timed = KINDS.into_iter().flat_map(bench::samples).chain(slow);
+    let timed = KINDS.iter().flat_map(|kind| (kind.samples)()).chain(slow);
     for (index, sample) in timed.enumerate() {
         let name = sample.name.replace(' ', "-").replace(',', "");
-        records.push(record(format!("timed-{index}-{name}"), sample.sheet));
+        sheets.push((format!("timed-{index}-{name}"), sample.sheet));
     }
-    records
+    sheets
+}
+
+/// These sheets with the library's replies.
+pub fn records() -> Vec<Record> {
+    let made = |(label, sheet)| record(label, sheet);
+    sheets().into_iter().map(made).collect()
 }

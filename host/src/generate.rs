@@ -1,14 +1,15 @@
 // Generated sheets: every kind, tidy and untidy, good and damaged, and what is lent with them. The
 // same seed gives the same sheets.
 mod damage;
-mod kinds;
 mod limits;
+pub(crate) mod lines;
 mod members;
 mod pairs;
 mod spelling;
 mod terms;
 
 use crate::{
+    kinds::{self, KINDS, Kind},
     reference::{self, Admitted, Reply},
     rng::Rng,
     sheet,
@@ -32,31 +33,26 @@ pub enum Size {
     Any,
 }
 
-pub const KINDS: [&str; 7] = [
-    "equal", "unify", "match", "reduce", "cover", "sound", "complete",
-];
-
-const WEIGHTS: [usize; 7] = [10, 28, 22, 10, 12, 10, 12];
-
 /// A sheet, damaged now and then.
 pub fn sheet(rng: &mut Rng, size: Size) -> Vec<u8> {
-    sheet_for(rng, size, &KINDS)
+    sheet_for(rng, size, &kinds::all())
 }
 
 /// A sheet of one of these kinds, of which there is one, damaged now and then.
-pub fn sheet_for(rng: &mut Rng, size: Size, kinds: &[&str]) -> Vec<u8> {
+pub fn sheet_for(rng: &mut Rng, size: Size, kinds: &[&Kind]) -> Vec<u8> {
     if size == Size::Any && rng.once_in(50) {
         return at_limits(rng, kinds);
     }
-    let weight = |index: usize| {
-        if kinds.contains(&KINDS[index]) {
-            WEIGHTS[index]
+    let weight = |kind| {
+        if kinds.contains(&kind) {
+            kind.weight
         } else {
             0
         }
     };
-    let kind = KINDS[rng.weighted(&std::array::from_fn::<_, 7, _>(weight))];
-    let text = kinds::sheet(rng, kind);
+    let weights: Vec<usize> = KINDS.iter().map(weight).collect();
+    let kind = &KINDS[rng.weighted(&weights)];
+    let text = format!("kind={}\n{}", kind.name, (kind.generated)(rng));
     if rng.once_in(9) {
         damage::damaged(rng, text)
     } else {
@@ -65,10 +61,10 @@ pub fn sheet_for(rng: &mut Rng, size: Size, kinds: &[&str]) -> Vec<u8> {
 }
 
 // A sheet at the limits; one of the kinds, unless many tries give none.
-fn at_limits(rng: &mut Rng, kinds: &[&str]) -> Vec<u8> {
+fn at_limits(rng: &mut Rng, kinds: &[&Kind]) -> Vec<u8> {
     let mut sheet = limits::sheet(rng);
     for _ in 0..60 {
-        if sheet::read(&sheet).map_or(true, |sheet| kinds.contains(&sheet.kind())) {
+        if sheet::read(&sheet).map_or(true, |sheet| kinds.contains(&sheet.kind)) {
             break;
         }
         sheet = limits::sheet(rng);

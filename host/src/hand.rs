@@ -4,21 +4,22 @@ use std::collections::BTreeMap;
 
 use crate::{
     model::{self, Pair, SUM, Term},
-    sheet::{self, Sheet},
+    sheet,
 };
 
 const ONE: &str = "tamXCtone";
 
 /// The pairs of a sheet of kind `unify` or `match`, and whether it is `unify`.
 pub fn pairs(bytes: &[u8]) -> Option<(bool, usize, Vec<Pair>)> {
-    let (unify, fuel, texts) = match sheet::read(bytes).ok()? {
-        Sheet::Unify(fuel, texts) => (true, fuel, texts),
-        Sheet::Match(fuel, texts) => (false, fuel, texts),
+    let sheet = sheet::read(bytes).ok()?;
+    let unify = match sheet.kind.name {
+        "unify" => true,
+        "match" => false,
         _ => return None,
     };
     let read = |(left, right): &sheet::Pair| Some((model::read(left)?, model::read(right)?));
-    let pairs: Option<Vec<Pair>> = texts.iter().map(read).collect();
-    Some((unify, fuel, pairs?))
+    let pairs: Option<Vec<Pair>> = sheet.pairs.iter().map(read).collect();
+    Some((unify, sheet.fuel, pairs?))
 }
 
 /// The pairs that a sheet of kind `unify` or `match` takes from its stack, as texts.

@@ -3,6 +3,7 @@ use std::fmt;
 
 use crate::{
     generate::{self, Case, Size},
+    kinds::Kind,
     lent::{Lent, MOST_WORDS},
     reference::Reply,
     rng::Rng,
@@ -102,7 +103,7 @@ impl Comparison {
     }
 
     /// Generated sheets of these kinds.
-    pub fn add_generated(&mut self, count: usize, seed: u64, kinds: &[&str]) {
+    pub fn add_generated(&mut self, count: usize, seed: u64, kinds: &[&Kind]) {
         let mut rng = Rng::new(seed);
         for index in 1..=count {
             let sheet = generate::sheet_for(&mut rng, Size::Any, kinds);

@@ -1,11 +1,11 @@
 // The reference of the call: refusals in their order, answers by the Rust, `spent` by the model.
 // The model answers every sheet too, and an answer of the Rust that differs is a loud failure.
-use oracle::Outcome;
+pub(crate) mod by_model;
+pub(crate) mod by_rust;
 
 use crate::{
-    deep,
-    model::{self, Verdict},
-    sheet::{self, Member, Pair, Sheet},
+    deep, model,
+    sheet::{self, Sheet},
 };
 
 #[derive(Clone, Debug, PartialEq, Eq)]
@@ -45,7 +45,7 @@ pub fn settled(answer: Option<Vec<u8>>, room: usize) -> Reply {
 pub fn admit(bytes: &[u8]) -> Result<Admitted, u32> {
     let sheet = sheet::read(bytes)?;
     Ok(Admitted {
-        kind: sheet.kind(),
+        kind: sheet.kind.name,
         words_needed: sheet::words_needed(bytes, &sheet),
         answer: answer(bytes, &sheet),
     })
@@ -53,11 +53,12 @@ pub fn admit(bytes: &[u8]) -> Result<Admitted, u32> {
 
 fn answer(bytes: &[u8], sheet: &Sheet) -> Option<Vec<u8>> {
     deep::run(|| {
-        let modelled = by_model(sheet);
+        let modelled = (sheet.kind.by_model)(sheet);
         if !oracle::present() {
             return modelled.map(String::into_bytes);
         }
-        let told = by_rust(sheet, &modelled);
+        let spent = modelled.as_deref().map_or("", spent);
+        let told = asked(sheet).map(|told| with_spent(sheet, told, spent));
         assert!(
             told == modelled,
             "the model and the Rust disagree\nsheet:\n{}\nmodel:\n{}\nRust:\n{}",
@@ -74,186 +75,57 @@ fn claim(key: &str, claim: Option<bool>) -> String {
     format!("{key}={word}\n")
 }
 
-fn verdict(word: &str, spent: &str, bindings: Vec<(String, String)>) -> String {
-    let mut answer = format!("verdict={word}\nspent={spent}\n");
-    for (key, value) in bindings {
-        answer.push_str(&format!("key={key}\nvalue={value}\n"));
+fn asked(sheet: &Sheet) -> Option<String> {
+    (sheet.kind.by_rust)(sheet)()
+}
+
+fn spent(answer: &str) -> &str {
+    let mut lines = answer.lines();
+    lines
+        .find_map(|line| line.strip_prefix("spent="))
+        .unwrap_or_default()
+}
+
+// The Rust has no count of pairs: that line of a verdict is taken from the model's answer, if the
+// Rust bears it out.
+fn with_spent(sheet: &Sheet, told: String, spent: &str) -> String {
+    if !told.starts_with("verdict=") {
+        return told;
     }
-    answer
-}
-
-fn by_model(sheet: &Sheet) -> Option<String> {
-    let read_all = |pairs: &[Pair]| -> Option<Vec<model::Pair>> {
-        pairs
-            .iter()
-            .map(|(l, r)| Some((model::read(l)?, model::read(r)?)))
-            .collect()
-    };
-    let told = |outcome: model::Outcome| {
-        let (word, bindings) = match outcome.verdict {
-            Verdict::Solved(bindings) => ("solved", bindings),
-            Verdict::Failed => ("failed", vec![]),
-            Verdict::Unsupported => ("unsupported", vec![]),
-        };
-        let written = bindings.iter().map(|(k, v)| (k.to_string(), v.to_string()));
-        verdict(word, &outcome.spent.to_string(), written.collect())
-    };
-    Some(match sheet {
-        Sheet::Equal(left, right) => {
-            let (left, right) = (model::read_loosely(left)?, model::read_loosely(right)?);
-            claim("equal", Some(model::ac_equal(&left, &right)))
-        }
-        Sheet::Unify(fuel, pairs) => told(model::unify(*fuel, &read_all(pairs)?)),
-        Sheet::Match(fuel, pairs) => told(model::matcher(*fuel, &read_all(pairs)?)),
-        Sheet::Reduce(term) => format!("normal={}\n", model::normal(&model::read(term)?)),
-        Sheet::Cover(pairs, members) => {
-            claim("covered", model::covered(&read_all(pairs)?, members))
-        }
-        Sheet::Sound(term, member) => {
-            let term = model::read(term)?;
-            claim(
-                "sound",
-                model::read_member(member).and_then(|m| model::sound(&term, &m)),
-            )
-        }
-        Sheet::Complete(term, members) => {
-            let term = model::read(term)?;
-            let family: Option<Vec<_>> = members.iter().map(model::read_member).collect();
-            claim(
-                "complete",
-                family.and_then(|family| model::complete(&term, &family)),
-            )
-        }
-    })
-}
-
-fn by_rust(sheet: &Sheet, modelled: &Option<String>) -> Option<String> {
-    let read_all = |pairs: &[Pair]| -> Option<Vec<(oracle::Term, oracle::Term)>> {
-        pairs
-            .iter()
-            .map(|(l, r)| Some((oracle::parse(l)?, oracle::parse(r)?)))
-            .collect()
-    };
-    let solved = |solve: Solve, fuel: usize, pairs: &[Pair]| -> Option<String> {
-        Some(solved_by_rust(
-            solve,
-            fuel,
-            &read_all(pairs)?,
-            spent(modelled),
-        ))
-    };
-    Some(match sheet {
-        Sheet::Equal(left, right) => claim("equal", Some(oracle::equivalent(left, right)?)),
-        Sheet::Unify(fuel, pairs) => solved(oracle::unify, *fuel, pairs)?,
-        Sheet::Match(fuel, pairs) => solved(oracle::matcher, *fuel, pairs)?,
-        Sheet::Reduce(term) => {
-            let term = oracle::parse(term)?;
-            format!("normal={}\n", oracle::render(&oracle::normalize(&term)))
-        }
-        _ => return claimed_by_rust(sheet),
-    })
-}
-
-// The Rust's answer to a sheet of kind `cover`, `sound` or `complete`.
-fn claimed_by_rust(sheet: &Sheet) -> Option<String> {
-    Some(match sheet {
-        Sheet::Cover(pairs, members) => {
-            for (left, right) in pairs {
-                oracle::parse(left)?;
-                oracle::parse(right)?;
-            }
-            claim("covered", oracle::covered(pairs, &family(members)))
-        }
-        Sheet::Sound(term, member) => claim(
-            "sound",
-            oracle::sound(&oracle::parse(term)?, &bridged(member)),
-        ),
-        Sheet::Complete(term, members) => {
-            let term = oracle::parse(term)?;
-            let kept_out = high_index(&term);
-            let told = || oracle::complete(&term, &family(members));
-            claim("complete", if kept_out { None } else { told() })
-        }
-        _ => unreachable!("a sheet of a kind without members"),
-    })
-}
-
-type Solve = fn(usize, &[(oracle::Term, oracle::Term)]) -> Outcome;
-
-// The Rust has no count of pairs: that line is taken from the model's answer, if the Rust bears it
-// out.
-fn solved_by_rust(
-    solve: Solve,
-    fuel: usize,
-    pairs: &[(oracle::Term, oracle::Term)],
-    spent: &str,
-) -> String {
-    let outcome = solve(fuel, pairs);
+    let (verdict, bindings) = told.split_once('\n').expect("a line of the Rust's answer");
     let count = spent.parse().unwrap_or(usize::MAX);
-    let spent = if borne_out(solve, fuel, pairs, &outcome, count) {
+    let spent = if borne_out(sheet, &told, count) {
         spent
     } else {
         "another number"
     };
-    let (word, bindings) = match outcome {
-        Outcome::Solved(bindings) => ("solved", bindings),
-        Outcome::Failed => ("failed", vec![]),
-        Outcome::Unsupported => ("unsupported", vec![]),
-    };
-    let written = bindings.iter().map(|(k, v)| (k.clone(), oracle::render(v)));
-    verdict(word, spent, written.collect())
+    format!("{verdict}\nspent={spent}\n{bindings}")
 }
+
+const FAILED: &str = "verdict=failed\n";
+const UNSUPPORTED: &str = "verdict=unsupported\n";
 
 // Whether the Rust runs as it must if so many pairs are taken: a solved or failed run needs just
 // that fuel, and a run that more fuel would settle has used up its own. Of a run that a pair ends
 // as unsupported the Rust tells no more.
-fn borne_out(
-    solve: Solve,
-    fuel: usize,
-    pairs: &[(oracle::Term, oracle::Term)],
-    outcome: &Outcome,
-    count: usize,
-) -> bool {
-    let least = match outcome {
-        Outcome::Solved(_) => count.saturating_add(1),
-        Outcome::Failed => count,
-        Outcome::Unsupported => {
-            return count <= fuel
-                && (count == fuel || solve(model::FUEL, pairs) == Outcome::Unsupported);
-        }
+fn borne_out(sheet: &Sheet, told: &str, count: usize) -> bool {
+    let tells = |fuel: usize, verdict: &str| {
+        let again = Sheet {
+            fuel,
+            ..sheet.clone()
+        };
+        asked(&again).as_deref() == Some(verdict)
     };
-    let before = least.checked_sub(1).map(|fuel| solve(fuel, pairs));
-    before == Some(Outcome::Unsupported) && solve(least, pairs) == *outcome
-}
-
-fn spent(modelled: &Option<String>) -> &str {
-    let lines = modelled.iter().flat_map(|answer| answer.lines());
-    lines
-        .filter_map(|line| line.strip_prefix("spent="))
-        .next()
-        .unwrap_or_default()
-}
-
-fn bridged<'a>(member: &Member<'a>) -> oracle::Member<'a> {
-    oracle::Member {
-        text: member.text,
-        entries: member.entries.clone(),
-    }
-}
-
-fn family<'a>(members: &[Member<'a>]) -> Vec<oracle::Member<'a>> {
-    members.iter().map(bridged).collect()
-}
-
-// A variable with an index of 2^63 or more: there is no claim, and the Rust is not asked.
-fn high_index(term: &oracle::Term) -> bool {
-    match term {
-        oracle::Term::Variable(name) => {
-            let digits = name[1..].split(':').next().unwrap_or_default();
-            digits.parse::<u64>().map_or(true, |index| index >= 1 << 63)
+    let least = match told {
+        UNSUPPORTED => {
+            let fuel = sheet.fuel;
+            return count <= fuel && (count == fuel || tells(model::FUEL, UNSUPPORTED));
         }
-        oracle::Term::Apply(_, children) => children.iter().any(high_index),
-    }
+        FAILED => count,
+        _ => count.saturating_add(1),
+    };
+    let before = least.checked_sub(1);
+    before.is_some_and(|fuel| tells(fuel, UNSUPPORTED)) && tells(least, told)
 }
 
 /// Whether the output after a call is as the reply says: a refusal keeps it, an answer changes

@@ -1,5 +1,6 @@
-// Reading of sheets (01, "A sheet comes in"): refusals 1, 2 and 3, the seven kinds, and the words
-// that a sheet needs.
+// Reading of sheets (01, "A sheet comes in"): refusals 1, 2 and 3, the lines of each form, and the
+// words that a sheet needs.
+use crate::kinds::{self, Form, Kind};
 
 pub const LONGEST: usize = 65_536;
 pub const MOST_FUEL: usize = 65_536;
@@ -12,27 +13,25 @@ pub struct Member<'a> {
     pub entries: Vec<Pair<'a>>,
 }
 
+/// What the lines of a sheet say; what lines of its kind have not is empty.
 #[derive(Clone, Debug, PartialEq, Eq)]
-pub enum Sheet<'a> {
-    Equal(&'a str, &'a str),
-    Unify(usize, Vec<Pair<'a>>),
-    Match(usize, Vec<Pair<'a>>),
-    Reduce(&'a str),
-    Cover(Vec<Pair<'a>>, Vec<Member<'a>>),
-    Sound(&'a str, Member<'a>),
-    Complete(&'a str, Vec<Member<'a>>),
+pub struct Sheet<'a> {
+    pub kind: &'static Kind,
+    pub fuel: usize,
+    /// The values of `left` and `right`, or of `term`, where each stands once.
+    pub terms: Vec<&'a str>,
+    pub pairs: Vec<Pair<'a>>,
+    pub members: Vec<Member<'a>>,
 }
 
 impl Sheet<'_> {
-    pub fn kind(&self) -> &'static str {
-        match self {
-            Sheet::Equal(..) => "equal",
-            Sheet::Unify(..) => "unify",
-            Sheet::Match(..) => "match",
-            Sheet::Reduce(..) => "reduce",
-            Sheet::Cover(..) => "cover",
-            Sheet::Sound(..) => "sound",
-            Sheet::Complete(..) => "complete",
+    pub fn empty(kind: &'static Kind) -> Self {
+        Self {
+            kind,
+            fuel: 0,
+            terms: Vec::new(),
+            pairs: Vec::new(),
+            members: Vec::new(),
         }
     }
 }
@@ -87,25 +86,26 @@ pub fn fuel(text: &str) -> Option<usize> {
 
 fn lines(text: &str) -> Option<Sheet<'_>> {
     let mut lines = Lines(text);
-    let sheet = match lines.value("kind")? {
-        "equal" => Sheet::Equal(lines.value("left")?, lines.value("right")?),
-        "unify" => Sheet::Unify(fuel(lines.value("fuel")?)?, lines.pairs("left", "right")?),
-        "match" => Sheet::Match(fuel(lines.value("fuel")?)?, lines.pairs("left", "right")?),
-        "reduce" => Sheet::Reduce(lines.value("term")?),
-        "cover" => Sheet::Cover(lines.pairs("left", "right")?, lines.members()?),
-        "sound" => {
-            let term = lines.value("term")?;
-            let mut members = lines.members()?;
-            let member = members.pop()?;
-            if !members.is_empty() {
-                return None;
-            }
-            Sheet::Sound(term, member)
+    let kind = kinds::named(lines.value("kind")?.as_bytes())?;
+    let mut sheet = Sheet::empty(kind);
+    match kind.form {
+        Form::Sides => sheet.terms = vec![lines.value("left")?, lines.value("right")?],
+        Form::Term => sheet.terms = vec![lines.value("term")?],
+        Form::FuelPairs => {
+            sheet.fuel = fuel(lines.value("fuel")?)?;
+            sheet.pairs = lines.pairs("left", "right")?;
         }
-        "complete" => Sheet::Complete(lines.value("term")?, lines.members()?),
-        _ => return None,
-    };
-    lines.0.is_empty().then_some(sheet)
+        Form::PairsMembers => {
+            sheet.pairs = lines.pairs("left", "right")?;
+            sheet.members = lines.members()?;
+        }
+        Form::TermMember | Form::TermMembers => {
+            sheet.terms = vec![lines.value("term")?];
+            sheet.members = lines.members()?;
+        }
+    }
+    let right_count = kind.form != Form::TermMember || sheet.members.len() == 1;
+    (right_count && lines.0.is_empty()).then_some(sheet)
 }
 
 /// The sheet, or refusal 1, 2 or 3.
@@ -126,9 +126,10 @@ fn count(byte: u8, of: &[u8]) -> u64 {
 
 /// The words of the work area that the sheet needs.
 pub fn words_needed(bytes: &[u8], sheet: &Sheet) -> u64 {
-    let raise = match sheet {
-        Sheet::Complete(term, _) => 2 * count(b'(', term.as_bytes()),
-        _ => 0,
+    let raise = if sheet.kind.schemes {
+        2 * count(b'(', sheet.terms[0].as_bytes())
+    } else {
+        0
     };
     65_536 * (count(b':', bytes) + raise + 16) + 16 * bytes.len() as u64
 }

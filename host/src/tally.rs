@@ -1,29 +1,13 @@
 // A tally of replies: how many of each kind, verdict, claim and refusal.
 use std::{collections::BTreeMap, fmt};
 
-use crate::{reference::Reply, sheet};
+use crate::{
+    kinds::{KINDS, Kind},
+    reference::Reply,
+    sheet,
+};
 
 pub const REFUSALS: [u32; 6] = [1, 2, 3, 4, 11, 12];
-
-/// Every kind with each word that its answers may begin with.
-pub const ANSWERS: [(&str, &[&str]); 7] = [
-    ("equal", &["equal=yes", "equal=no"]),
-    (
-        "unify",
-        &["verdict=solved", "verdict=failed", "verdict=unsupported"],
-    ),
-    (
-        "match",
-        &["verdict=solved", "verdict=failed", "verdict=unsupported"],
-    ),
-    ("reduce", &["normal"]),
-    ("cover", &["covered=yes", "covered=no", "covered=none"]),
-    ("sound", &["sound=yes", "sound=no", "sound=none"]),
-    (
-        "complete",
-        &["complete=yes", "complete=no", "complete=none"],
-    ),
-];
 
 #[derive(Default)]
 pub struct Tally(BTreeMap<String, usize>);
@@ -36,20 +20,27 @@ fn refusal_name(refusal: u32) -> String {
     format!("refusal {refusal:>2}")
 }
 
+// What an answer begins with: its first line, or the key where a term follows.
+fn word<'a>(kind: &Kind, answer: &'a str) -> &'a str {
+    let line = answer.lines().next().unwrap_or_default();
+    let key = line.split('=').next().unwrap_or_default();
+    if kind.answers.contains(&key) {
+        key
+    } else {
+        line
+    }
+}
+
 /// What a reply counts as: its refusal, or its kind and the word that the answer begins with.
 pub fn class(bytes: &[u8], reply: &Reply) -> String {
     match reply {
         Reply::Refused(refusal) => refusal_name(*refusal),
         Reply::Answer(answer) => {
-            let kind = sheet::read(bytes).map_or("unread", |sheet| sheet.kind());
             let text = String::from_utf8_lossy(answer);
-            let line = text.lines().next().unwrap_or_default();
-            let word = if line.starts_with("normal=") {
-                "normal"
-            } else {
-                line
-            };
-            answer_name(kind, word)
+            match sheet::read(bytes) {
+                Ok(sheet) => answer_name(sheet.kind.name, word(sheet.kind, &text)),
+                Err(_) => answer_name("unread", text.lines().next().unwrap_or_default()),
+            }
         }
     }
 }
@@ -76,9 +67,9 @@ impl Tally {
 
     /// The kinds with their words, and the refusals, that did not come up.
     pub fn missing(&self) -> Vec<String> {
-        let answers = ANSWERS
-            .iter()
-            .flat_map(|(kind, words)| words.iter().map(|word| answer_name(kind, word)));
+        let named =
+            |kind: &'static Kind| kind.answers.iter().map(|word| answer_name(kind.name, word));
+        let answers = KINDS.iter().flat_map(named);
         let refusals = REFUSALS.map(refusal_name);
         answers
             .chain(refusals)

@@ -1,8 +1,8 @@
 // The sheets of the bench: each is answered, small ones as the reference says, and what the bench
-// writes into a document.
+// writes into a document; the deepest sheets.
 use host::{
-    bench, deep,
-    generate::KINDS,
+    bench, deep, deepest,
+    kinds::{KINDS, Kind},
     lent, notice,
     reference::{self, Reply},
     sheet,
@@ -31,7 +31,7 @@ fn every_sample_is_answered() {
     if notice::library_absent("the samples were not tried on it") {
         return;
     }
-    for sample in KINDS.into_iter().flat_map(bench::samples) {
+    for sample in KINDS.iter().flat_map(|kind| (kind.samples)()) {
         is_answered(sample.name, &sample.sheet);
     }
 }
@@ -40,8 +40,8 @@ fn every_sample_is_answered() {
 fn every_kind_has_a_small_sample_and_a_workload() {
     for kind in KINDS {
         let small = |sample: &bench::Sample| sample.name.starts_with("small");
-        assert!(bench::samples(kind).iter().any(small), "{kind}");
-        assert!(!bench::workloads(&[kind]).is_empty(), "{kind}");
+        assert!((kind.samples)().iter().any(small), "{kind:?}");
+        assert!(!kind.workloads.is_empty(), "{kind:?}");
     }
 }
 
@@ -50,7 +50,7 @@ fn the_largest_size_of_every_workload_is_answered() {
     if notice::library_absent("the workloads were not tried on it") {
         return;
     }
-    for workload in bench::workloads(&KINDS) {
+    for workload in KINDS.iter().flat_map(|kind| kind.workloads) {
         let [.., largest] = workload.sizes();
         is_answered(workload.name, &(workload.sheet)(largest));
     }
@@ -66,12 +66,12 @@ fn small_sheets_are_answered_as_the_reference_says() {
         let known = deep::run(|| reference::call(text.as_bytes(), u64::MAX, usize::MAX));
         assert_eq!(replied(name, text), known, "{name}\n{text}");
     };
-    for sample in KINDS.into_iter().flat_map(bench::samples) {
+    for sample in KINDS.iter().flat_map(|kind| (kind.samples)()) {
         if sample.name.starts_with("small") {
             agree(sample.name, &sample.sheet);
         }
     }
-    for workload in bench::workloads(&KINDS) {
+    for workload in KINDS.iter().flat_map(|kind| kind.workloads) {
         for size in [2, 4, 8, 16] {
             agree(workload.name, &(workload.sheet)(size));
         }
@@ -80,12 +80,20 @@ fn small_sheets_are_answered_as_the_reference_says() {
 
 #[test]
 fn a_workload_doubles_its_sheet() {
-    for workload in bench::workloads(&KINDS) {
+    let named = |kind: &'static Kind| kind.workloads.iter().map(|workload| (kind.name, workload));
+    for (kind, workload) in KINDS.iter().flat_map(named) {
         let sheets = workload.sizes().map(workload.sheet);
         assert!(sheets[4].len() <= sheet::LONGEST, "{}", workload.name);
         assert!(sheets.is_sorted_by_key(String::len), "{}", workload.name);
-        let line = format!("kind={}\n", workload.kind);
+        let line = format!("kind={kind}\n");
         assert!(sheets[0].starts_with(&line), "{}", workload.name);
+    }
+}
+
+#[test]
+fn every_deepest_sheet_is_a_sheet() {
+    for (label, text) in deepest::sheets() {
+        assert!(sheet::read(text.as_bytes()).is_ok(), "{label}");
     }
 }
 

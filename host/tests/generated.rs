@@ -2,10 +2,11 @@
 use host::{
     deep, definitions,
     generate::{self, Size},
+    kinds::KINDS,
     model, notice,
     reference::Reply,
     rng::Rng,
-    tally::{ANSWERS, REFUSALS, Tally},
+    tally::{REFUSALS, Tally},
 };
 
 fn generated(count: usize, seed: u64) -> Tally {
@@ -31,11 +32,12 @@ fn the_model_and_the_rust_agree() {
 fn every_kind_verdict_and_refusal_comes_up() {
     let tally = generated(10_000, 4);
     assert_eq!(tally.missing(), Vec::<String>::new());
-    for (kind, words) in ANSWERS {
-        let counts: Vec<_> = words.iter().map(|word| tally.count(kind, word)).collect();
+    for kind in KINDS {
+        let count = |word: &&str| tally.count(kind.name, word);
+        let counts: Vec<_> = kind.answers.iter().map(count).collect();
         assert!(
             counts.iter().all(|count| *count >= 50),
-            "{kind}: {counts:?}"
+            "{kind:?}: {counts:?}"
         );
     }
     for kind in ["unify", "match"] {

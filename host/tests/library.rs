@@ -2,9 +2,7 @@
 // shows, and terms that fill a sheet on a small stack.
 use std::{path::Path, process::Command};
 
-use host::{
-    bench, deep, generate::KINDS, lent, linked::Comparison, notice, reference::Reply, sheet, store,
-};
+use host::{bench, deep, kinds, lent, linked::Comparison, notice, reference::Reply, sheet, store};
 use yukhtsami::Refusal;
 
 fn none_differ(comparison: &Comparison) {
@@ -37,7 +35,7 @@ fn the_library_replies_to_generated_sheets() {
     notice::absent("the library was compared with the model alone");
     let comparison = deep::run(|| {
         let mut comparison = Comparison::default();
-        comparison.add_generated(4_000, 21, &KINDS);
+        comparison.add_generated(4_000, 21, &kinds::all());
         comparison
     });
     assert_eq!(comparison.calls, 4_000);

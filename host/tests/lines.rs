@@ -1,5 +1,20 @@
 // Reading of sheets: keys, values, members, fuel, and the words needed.
-use host::sheet::{Member, Sheet, read, words_needed};
+use host::{
+    kinds,
+    sheet::{Member, Sheet, read, words_needed},
+};
+
+fn empty(kind: &str) -> Sheet<'static> {
+    Sheet::empty(kinds::named(kind.as_bytes()).unwrap())
+}
+
+fn with_terms<'a>(kind: &str, terms: &[&'a str]) -> Sheet<'a> {
+    let terms = terms.to_vec();
+    Sheet {
+        terms,
+        ..empty(kind)
+    }
+}
 
 fn refusal(text: &str) -> Option<u32> {
     read(text.as_bytes()).err()
@@ -8,7 +23,7 @@ fn refusal(text: &str) -> Option<u32> {
 #[test]
 fn a_key_ends_at_the_first_equals_sign() {
     let sheet = read(b"kind=equal\nleft=a=b\nright= a \n");
-    assert_eq!(sheet, Ok(Sheet::Equal("a=b", " a ")));
+    assert_eq!(sheet, Ok(with_terms("equal", &["a=b", " a "])));
     for text in [
         "kind=unify \nfuel=1\n",
         " kind=unify\nfuel=1\n",
@@ -22,24 +37,33 @@ fn a_key_ends_at_the_first_equals_sign() {
 fn an_empty_value_is_a_value() {
     assert_eq!(
         read(b"kind=equal\nleft=\nright=\n"),
-        Ok(Sheet::Equal("", ""))
+        Ok(with_terms("equal", &["", ""]))
     );
-    assert_eq!(read(b"kind=reduce\nterm=\n"), Ok(Sheet::Reduce("")));
+    assert_eq!(
+        read(b"kind=reduce\nterm=\n"),
+        Ok(with_terms("reduce", &[""]))
+    );
     let member = Member {
         text: "",
         entries: vec![("", "")],
     };
     let sheet = read(b"kind=sound\nterm=a\nmember=\nkey=\nvalue=\n");
-    assert_eq!(sheet, Ok(Sheet::Sound("a", member)));
+    assert_eq!(
+        sheet,
+        Ok(Sheet {
+            members: vec![member],
+            ..with_terms("sound", &["a"])
+        })
+    );
     assert_eq!(refusal("kind=unify\nfuel=\n"), Some(3));
 }
 
 #[test]
 fn members_come_in_the_numbers_allowed() {
-    assert_eq!(read(b"kind=cover\n"), Ok(Sheet::Cover(vec![], vec![])));
+    assert_eq!(read(b"kind=cover\n"), Ok(empty("cover")));
     assert_eq!(
         read(b"kind=complete\nterm=a\n"),
-        Ok(Sheet::Complete("a", vec![]))
+        Ok(with_terms("complete", &["a"]))
     );
     assert_eq!(refusal("kind=sound\nterm=a\n"), Some(3));
     assert_eq!(refusal("kind=sound\nterm=a\nmember=\nmember=\n"), Some(3));
@@ -54,7 +78,10 @@ fn a_key_is_repeated_within_one_member_only() {
     let sheet = read(b"kind=cover\nmember=\nkey=k\nvalue=a\nmember=\nkey=k\nvalue=a\n");
     assert_eq!(
         sheet,
-        Ok(Sheet::Cover(vec![], vec![member.clone(), member]))
+        Ok(Sheet {
+            members: vec![member.clone(), member],
+            ..empty("cover")
+        })
     );
     for kind in ["cover", "sound\nterm=a", "complete\nterm=a"] {
         let text =
@@ -86,7 +113,13 @@ fn lines_out_of_place_are_refused() {
 fn fuel_is_a_number_without_leading_zeros() {
     for (text, fuel) in [("0", 0), ("7", 7), ("65536", 65_536)] {
         let sheet = format!("kind=match\nfuel={text}\n");
-        assert_eq!(read(sheet.as_bytes()), Ok(Sheet::Match(fuel, vec![])));
+        assert_eq!(
+            read(sheet.as_bytes()),
+            Ok(Sheet {
+                fuel,
+                ..empty("match")
+            })
+        );
     }
     for text in [
         "+1", " 1", "1 ", "00", "01", "65537", "99999", "100000", "-1", "0x1", "1e3",

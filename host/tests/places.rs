@@ -224,15 +224,14 @@ fn the_first_foreign_byte_is_told() {
 
 // Whether each term of a sheet reads.
 fn readable(sheet: &Sheet) -> bool {
-    let reads = |text: &str| model::read(text).is_some();
-    let pairs = |pairs: &[sheet::Pair]| pairs.iter().all(|(l, r)| reads(l) && reads(r));
-    match sheet {
-        Sheet::Equal(left, right) => {
-            model::read_loosely(left).is_some() && model::read_loosely(right).is_some()
-        }
-        Sheet::Unify(_, list) | Sheet::Match(_, list) | Sheet::Cover(list, _) => pairs(list),
-        Sheet::Reduce(term) | Sheet::Sound(term, _) | Sheet::Complete(term, _) => reads(term),
-    }
+    let read = if sheet.kind.loose {
+        model::read_loosely
+    } else {
+        model::read
+    };
+    let reads = |text: &str| read(text).is_some();
+    let mut pairs = sheet.pairs.iter();
+    sheet.terms.iter().all(|text| reads(text)) && pairs.all(|(l, r)| reads(l) && reads(r))
 }
 
 // The walks find a place exactly where the sheet is at fault. What the sheet is refused with.
@@ -262,7 +261,7 @@ fn places_are_found_exactly_where_sheets_are_refused() {
     let found = deep::run(|| {
         let mut found = [0; 5];
         let mut rng = Rng::new(31);
-        for _ in 0..20_000 {
+        for _ in 0..40_000 {
             found[agree(&generate::sheet(&mut rng, Size::Any)) as usize] += 1;
         }
         for record in store::stored().unwrap() {

@@ -1,12 +1,12 @@
 // docs/PROMISES.md against the crates: a row for each public function, as many marked wrong programs
-// as must-fail edits, the laws of the wrong definitions, and no name of anything that does not exist.
+// as the must-fail edits have, the laws of the wrong definitions, and no name of anything that does not exist.
 use std::{
     collections::{BTreeMap, BTreeSet},
     fs,
     path::{Path, PathBuf},
 };
 
-use host::documents;
+use host::{documents, edits};
 
 type Names = BTreeSet<String>;
 
@@ -189,12 +189,12 @@ fn each_public_function_has_one_row_and_no_other_has() {
 }
 
 #[test]
-fn each_edit_is_marked_once_in_the_section_of_its_crate() {
+fn each_wrong_program_is_marked_once_in_the_section_of_its_crate() {
     for (names, lines) in sections() {
-        let edits = |name: &String| files(&folder(name, "must-fail"), "edit").len();
-        let edits: usize = names.iter().map(edits).sum();
+        let wrongs = names.iter().flat_map(|name| edits::of(name));
+        let wrongs: usize = wrongs.map(|edit| edit.wrongs.len()).sum();
         let marks: usize = lines.iter().map(|line| line.matches('*').count()).sum();
-        assert_eq!(marks, edits, "marks * and must-fail edits of {names:?}");
+        assert_eq!(marks, wrongs, "marks * and wrong programs of {names:?}");
     }
 }
 
@@ -203,10 +203,11 @@ const BEGINNINGS: [&str; 3] = ["", "crates", "crates/laws/proofs"];
 
 fn exists(path: &str) -> bool {
     let below = |top: &&str| documents::file(top).join(path).exists();
-    let edit = path
-        .split_once('/')
-        .map(|(name, edit)| folder(name, "must-fail").join(format!("{edit}.edit")));
-    BEGINNINGS.iter().any(below) || edit.is_some_and(|file| file.is_file())
+    let wrong = |(name, wrong): (&str, &str)| {
+        let mut wrongs = edits::of(name).into_iter().flat_map(|edit| edit.wrongs);
+        wrongs.any(|other| other.name == wrong)
+    };
+    BEGINNINGS.iter().any(below) || path.split_once('/').is_some_and(wrong)
 }
 
 fn is_file_of_antt(name: &str) -> bool {
@@ -323,6 +324,38 @@ fn each_law_that_refuses_is_declared_in_one_file_of_laws() {
             assert_eq!(count, 1, "{patch}: files of laws that declare {law}");
         }
     }
+}
+
+// The names that a file of specs makes public: definitions, types and records, not their parts.
+fn defined(source: &str) -> Names {
+    const BEFORE: [&str; 5] = ["abbrev", "unfoldable", "pub", "data", "record"];
+    let mut names = Names::new();
+    for line in source.lines() {
+        let part = line.starts_with(' ') && !line.starts_with("  pub data");
+        let mut words = line.split_whitespace().peekable();
+        if part || !words.clone().any(|word| word == "pub") {
+            continue;
+        }
+        while words.next_if(|word| BEFORE.contains(word)).is_some() {}
+        let name = words.next().filter(|name| !["mod", "use"].contains(name));
+        names.extend(name.map(str::to_owned));
+    }
+    names
+}
+
+#[test]
+fn no_name_is_defined_in_two_files_of_specs() {
+    let mut places = BTreeMap::<String, Vec<PathBuf>>::new();
+    for name in crates() {
+        for file in files(&folder(&name, "specs"), "antt") {
+            for defined in defined(&text(&file)) {
+                places.entry(defined).or_default().push(file.clone());
+            }
+        }
+    }
+    assert!(places.len() > 500, "{} names", places.len());
+    places.retain(|_, files| files.len() > 1);
+    assert!(places.is_empty(), "{places:#?}");
 }
 
 #[test]

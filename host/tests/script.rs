@@ -118,9 +118,12 @@ impl Tree {
         assert_eq!(self.asked(), asked, "{err}");
     }
 
+    // With the signals as a shell at a terminal leaves them: a test that runs in the background, or under
+    // nohup, would hand on that they are ignored.
     fn start(&self) -> Started {
-        let mut command = self.command("./yukhtsami");
-        command.arg("a").stdin(Stdio::null());
+        let mut command = self.command("env");
+        command.args(["--default-signal=HUP,INT,QUIT,TERM", "./yukhtsami", "a"]);
+        command.stdin(Stdio::null());
         command.stdout(Stdio::piped()).stderr(Stdio::piped());
         let mut child = command.spawn().unwrap();
         let err = BufReader::new(child.stderr.take().unwrap());

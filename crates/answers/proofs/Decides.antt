@@ -19,7 +19,7 @@ use Rattle.answers.specs.declared.deciding.Word.the-variants as words
 use Rattle.answers.specs.declared.deciding.Lines.the-variants.{Constant, Term}
 use Rattle.answers.specs.declared.deciding.Decision.{Decision}
 use Rattle.answers.specs.declared.deciding.Decision.the-variants.{Refused, Given}
-use Rattle.answers.specs.declared.refusal.Refusal.the-variants.{UnreadableTerm}
+use Rattle.admission.specs.declared.refusal.Refusal.the-variants.{UnreadableTerm}
 
 module _ {s : Text} {w : List ℕ} where
   pub decides-as : {o p : Option Text} {d : Decision} → o ≡ p → DecisionIs (given p 4) s w d → DecisionIs (given o 4) s w d

@@ -1,28 +1,25 @@
--- What a refusal, an answer that fits and one that does not give with an output; a line in parts.
+-- What a refusal, an answer that fits and one that does not give with an output.
 use mathlib.Core.Path.{_≡_, refl, sym, ap, _∙_}
-use Prim.Native.Nat.{ℕ, _+_, _<_, _≤_}
-use mathlib.Core.List.{[], _∷_}
-use lib.ListN.{length, length-append}
-use native.Mathlib.Omega.{arith}
+use Prim.Native.Nat.{ℕ, _<_, _≤_}
+use lib.ListN.{length}
 use native.Mathlib.Nat.{zero-add}
 use borrow.Author.Tests.{le-leb, lt-leb}
 use Rattle.rules.specs.Bytes.{Text}
+use Rattle.rules.specs.RefusalNumbers.{number-for, ShortOutput}
 use Rattle.rules.specs.Call.{Reply, refused, passed, refusal-number, written, overwritten}
-use Rattle.rules.specs.Answer.{line}
-use Rattle.tree.proofs.Printing.{printed-then}
 use Rattle.text.specs.Printing as Output
 use Rattle.text.specs.Printing.{Printed}
-use Rattle.answers.specs.Admission.{refusal-code}
+use Rattle.admission.specs.Admission.{refusal-code}
 use Rattle.answers.specs.Settling.{within-room, Settles}
-use Rattle.answers.specs.declared.refusal.Refusal.{Refusal}
-use Rattle.answers.specs.declared.refusal.Refusal.the-variants as refusal
+use Rattle.admission.specs.declared.refusal.Refusal.{Refusal}
+use Rattle.admission.specs.declared.refusal.Refusal.the-variants as refusal
 use Rattle.answers.specs.declared.giving.Reply.the-variants.{Written, Refused}
 
 fits-within : (a : Text) (room : ℕ) → length a ≤ room → within-room (passed a) room ≡ passed a
 unfolding within-room
 fits-within a room h = rw (le-leb (length a) room h)
 
-fits-over : (a : Text) (room : ℕ) → room < length a → within-room (passed a) room ≡ refused 12
+fits-over : (a : Text) (room : ℕ) → room < length a → within-room (passed a) room ≡ refused (number-for ShortOutput)
 unfolding within-room
 fits-over a room h = rw (lt-leb (length a) room h)
 
@@ -44,14 +41,3 @@ written-settles a out v n h p =
       count = p .end ∙ zero-add (length a) ∙ sym (ap written e);
       output = p .bytes ∙ rw (zero-add (length a)) (sym (ap (λ (z : Reply Text). overwritten z out) e));
     }
-
--- a line
-
-pub line-length : (key v : Text) → length (line key v) ≡ length key + length v + 1
-line-length key v = simp length-append
-
-pub line-printed : {out a b c : Text} {at i j n : ℕ} (key v : Text) → at + (length key + length v + 1) ≤ length out → Printed out a at key i → Printed a b i v j → Printed b c j (10 ∷ []) n
-    → Printed out c at (line key v) n
-line-printed key v h p q r =
-    let f = length-append key v in
-    printed-then (omega arith) (printed-then (omega arith) p q) r

@@ -13,7 +13,7 @@ use Rattle.tree.specs.Arena.{Arena}
 use Rattle.substitution.specs.Bindings.{Chain, bindings-at}
 use Rattle.sheet.specs.declared.claims.Claim.{Claim}
 use Rattle.sheet.specs.declared.claims.Claim.the-variants as claims
-use Rattle.answers.specs.Admission.{refusal-code}
+use Rattle.admission.specs.Admission.{refusal-code}
 use Rattle.answers.specs.declared.deciding.Key.{Key}
 use Rattle.answers.specs.declared.deciding.Key.the-variants as keys
 use Rattle.answers.specs.declared.deciding.Word.{Word}

@@ -1,20 +1,17 @@
 -- What a reply gives with an output, as the code answers it. Definitions only.
 use Prim.Native.Nat.{ℕ}
 use mathlib.Core.Path.{_≡_}
-use lib.Dec.{leb}
-use lib.ListN.{length}
 use Rattle.rules.specs.Bytes.{Text}
-use Rattle.rules.specs.Call.{Reply, passed, _>>=_, need, refusal-number, written, overwritten}
-use Rattle.answers.specs.Admission.{refusal-code}
+use Rattle.rules.specs.Call.{Reply, _>>=_, fitting, refusal-number, written, overwritten}
+use Rattle.admission.specs.Admission.{refusal-code}
 use Rattle.answers.specs.declared.giving.Reply as code
 use Rattle.answers.specs.declared.giving.Reply.the-variants as reply
 
--- 12 where the answer is longer than the output; rules' `settled` is this of the answer to a sheet, 4 where there is none
+-- a reply with an output of so many bytes: 12 where the answer is longer
 unfoldable pub within-room : Reply Text → ℕ → Reply Text
 within-room o room = do
   answer ← o
-  _ ← need (leb (length answer) room) 12
-  passed answer
+  fitting answer room
 
 -- 01's number, 0 for none, and the count of bytes written
 abbrev pub reply-number : code.Reply → ℕ

@@ -1,5 +1,5 @@
 // What is decided of a sheet that is admitted: a refusal, or the lines of its answer. Trees and bindings stand in the work area.
-use crate::refusal::Refusal;
+use admission::refusal::Refusal;
 use sheet::claims::Claim;
 ghost use mathlib.Core.Path.{_≡_};
 ghost use Rattle.answers.specs.Deciding.{claim-decision};

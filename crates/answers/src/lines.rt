@@ -1,11 +1,11 @@
 // A line of a key and a word, or of a key and a term: measured, and written at a place of the output.
 use crate::deciding::Key;
 use crate::deciding::Word;
-use tree::measuring::Measured;
-use tree::measuring::measure_term;
+use printing::measuring::Measured;
+use printing::measuring::measure_term;
+use printing::writing::write_term;
 use tree::names::print_byte;
 use tree::names::print_text;
-use tree::writing::write_term;
 ghost use mathlib.Core.Path.{_≡_};
 ghost use Prim.Native.Nat.{_+_, _<_, _≤_};
 ghost use lib.ListN.{length};
@@ -14,7 +14,7 @@ ghost use Rattle.rules.specs.Answer.{line};
 ghost use Rattle.tree.specs.Cells.{tree-at};
 ghost use Rattle.tree.specs.Arena.{Arena};
 ghost use Rattle.text.specs.Printing.{Printed};
-ghost use Rattle.tree.specs.Measure.{measured};
+ghost use Rattle.printing.specs.Measure.{measured};
 ghost use Rattle.answers.specs.Deciding.{key-text, claim-word};
 
 // The length of a key.

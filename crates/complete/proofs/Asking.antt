@@ -32,11 +32,11 @@ use Rattle.laws.proofs.Variants.SystemRoom.{SystemRoom, system-room, system-nod
 use Rattle.laws.proofs.Variants.CoverRoom.{keys-within, texts-within}
 use Rattle.laws.proofs.Variants.CompleteRoom.{complete-room}
 use Rattle.tree.specs.Cells.{tree-at}
-use Rattle.sheet.proofs.WordLaws.{count-bound}
-use Rattle.steps.specs.Stack.{FitPairs}
-use Rattle.steps.specs.Area.{Room}
+use Rattle.forms.proofs.WordLaws.{count-bound}
+use Rattle.elimination.specs.Stack.{FitPairs}
+use Rattle.elimination.specs.Area.{Room}
 use Rattle.unifier.specs.Matched.{Matched}
-use Rattle.unifier.proofs.Fitting.{fit-sides}
+use Rattle.steps.proofs.Fitting.{fit-sides}
 use Rattle.families.specs.Families.{Family, nil, next}
 use Rattle.families.specs.Generalizing.{member-pairs, AllMatched}
 use Rattle.complete.specs.Judging.{fuel-for, system-of, solved-end, Judgeable}

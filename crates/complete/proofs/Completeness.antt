@@ -25,8 +25,8 @@ use Rattle.tree.specs.Cells.{tree-at, trees-at}
 use Rattle.tree.specs.Arena.{Arena, Below}
 use Rattle.tree.proofs.Decoding.{frame-tree, frame-trees}
 use Rattle.tree.proofs.Areas.{below-then, below-grown}
-use Rattle.sheet.specs.Members.{members-at}
-use Rattle.sheet.proofs.WordLaws.{count-bound}
+use Rattle.forms.specs.Members.{members-at}
+use Rattle.forms.proofs.WordLaws.{count-bound}
 use Rattle.variants.specs.Members.{TextsRoom}
 use Rattle.sheet.specs.Claims.{truth}
 use Rattle.sheet.specs.declared.claims.Claim.{Claim}
@@ -38,7 +38,7 @@ use Rattle.variables.specs.Variables.{Readable}
 use Rattle.variables.proofs.Shortness.{short-read}
 use Rattle.variables.specs.Listing.{backwards}
 use Rattle.variables.specs.Pairing.{names-of, names-at, OfVariables}
-use Rattle.families.specs.Families.{ReadAll, ReadMembers, ReadsMembers}
+use Rattle.families.specs.Families.{ReadAll, MembersThere, ReadMembers, ReadsMembers}
 use Rattle.families.specs.declared.members.Members.the-variants.{Unreadable}
 use Rattle.fresh.specs.Searching.{spells}
 use Rattle.fresh.specs.Fresh.{chosen-in, WritesFresh}
@@ -74,6 +74,9 @@ module _ {s : Text} {w : List ℕ} {free term named at : ℕ} (k : CompleteInput
     built = builds (k .text) (tree-at s w term) (k .parsed);
     short = short-read s (k .text) (tree-at s w term) (k .short) (sheet-parts s (asks-complete (k .text) (k .members)) (k .reads) .0) (k .parsed);
   }
+
+  pub asked-there : MembersThere s at
+  asked-there = record { ms = k .members; are = k .later }
 
   pub term-fits : size (tree-at s w term) ≤ length s
   term-fits = omega (arith, asked-bytes k)

@@ -28,7 +28,7 @@ use Rattle.sheet.specs.declared.claims.Claim.{Claim}
 use Rattle.sheet.specs.declared.claims.Claim.the-variants.{Yes, No, Nothing}
 use Rattle.variables.specs.Pairing.{names-at, OfVariables}
 use Rattle.families.specs.Generalizing.{variants-at}
-use Rattle.complete.specs.Judging.{judgement, system-of, Judgeable, CanJudge, CanJudgeAll, Decides, Judges, Ends, JudgesAll}
+use Rattle.complete.specs.Judging.{judgement, system-of, Judgeable, CanJudge, CanJudgeAll, DecidesScheme, Judges, Ends, JudgesAll}
 use Rattle.complete.specs.declared.judging.Judged.{Judged}
 use Rattle.complete.specs.declared.judging.Judged.the-variants.{Pending, Missing, Over, Unsupported}
 use Rattle.complete.proofs.judging.Judged.{the-type}
@@ -55,16 +55,16 @@ ends-unsupported j g = absurd (Option·none-ne-some j g)
 
 module _ (name : ℕ → Text) (xs : List Text) (ms : List Variant) (term : Tree) (i : ℕ) (before : Judged) where
   verdict-by : {v : Verdict} → unify 65536 (system-of name term i) .0 ≡ v → (r : Judged)
-      → ((j : Judgement) → judgement before ≡ some j → judgement r ≡ judge-verdict xs ms (scheme-at name term 0 i .value) v j) → Decides name xs ms term i before r
+      → ((j : Judgement) → judgement before ≡ some j → judgement r ≡ judge-verdict xs ms (scheme-at name term 0 i .value) v j) → DecidesScheme name xs ms term i before r
   verdict-by e r h j f = h j f ∙ ap (λ (v : Verdict). judge-verdict xs ms (scheme-at name term 0 i .value) v j) (sym e)
 
-  unsupported-ends : unify 65536 (system-of name term i) .0 ≡ unsupported → Decides name xs ms term i before Unsupported
+  unsupported-ends : unify 65536 (system-of name term i) .0 ≡ unsupported → DecidesScheme name xs ms term i before Unsupported
   unsupported-ends e = verdict-by e Unsupported (λ j f. refl)
 
-  failed-stays : unify 65536 (system-of name term i) .0 ≡ failed → Decides name xs ms term i before before
+  failed-stays : unify 65536 (system-of name term i) .0 ≡ failed → DecidesScheme name xs ms term i before before
   failed-stays e = verdict-by e before (λ j f. f)
 
-  settled-stays : (bs : List Binding) → unify 65536 (system-of name term i) .0 ≡ solved bs → OneOf (1 ∷ 2 ∷ 3 ∷ []) (tagOf the-type before) → Decides name xs ms term i before before
+  settled-stays : (bs : List Binding) → unify 65536 (system-of name term i) .0 ≡ solved bs → OneOf (1 ∷ 2 ∷ 3 ∷ []) (tagOf the-type before) → DecidesScheme name xs ms term i before before
   unfolding judge
   settled-stays bs e o = verdict-by e before (λ j f. f ∙ go before o j f)
     where
@@ -78,7 +78,7 @@ module _ (name : ℕ → Text) (xs : List Text) (ms : List Variant) (term : Tree
       go Unsupported o j g = absurd (Option·none-ne-some j g)
 
   solved-decides : (bs : List Binding) → unify 65536 (system-of name term i) .0 ≡ solved bs → before ≡ Pending → (r : Judged)
-      → judgement r ≡ some (judge xs ms bs (scheme-at name term 0 i .value) pending) → Decides name xs ms term i before r
+      → judgement r ≡ some (judge xs ms bs (scheme-at name term 0 i .value) pending) → DecidesScheme name xs ms term i before r
   solved-decides bs e b r h = verdict-by e r (λ j f. (
       let k : pending ≡ j = Option·some-injective pending j (sym (ap judgement b) ∙ f) in
       h ∙ ap (λ (j : Judgement). some (judge xs ms bs (scheme-at name term 0 i .value) j)) k
@@ -86,7 +86,7 @@ module _ (name : ℕ → Text) (xs : List Text) (ms : List Variant) (term : Tree
 
 -- a scheme decides the same by all names that its cells have
 by-names : {s : Text} {w v : List ℕ} {n i : ℕ} {term : Tree} {c : System} (name other : ℕ → Text) (xs : List Text) (ms : List Variant) (before r : Judged)
-    → Systems s w v n other i term c → Systems s w v n name i term c → Decides name xs ms term i before r → Decides other xs ms term i before r
+    → Systems s w v n other i term c → Systems s w v n name i term c → DecidesScheme name xs ms term i before r → DecidesScheme other xs ms term i before r
 by-names {i = i} {term = term} name other xs ms before r a b h j f =
     h j f
     ∙ ap₂ (λ (t : Tree) (ps : List Pair). judge-verdict xs ms t (unify 65536 ps .0) j) (sym (b .value .tree) ∙ a .value .tree)
@@ -97,7 +97,7 @@ module _ {s : Text} {w v : List ℕ} {n fresh named names members term i : ℕ} 
   abbrev its-verdict : Verdict
   its-verdict = unify 65536 (system-of (k .name) (tree-at s w term) i) .0
 
-  judged-by : {u : List ℕ} (r : Judged) → Decides (k .name) (names-at s w names) (variants-at s w members) (tree-at s w term) i before r → Below w u n → Judges s w u n fresh names members term i before r
+  judged-by : {u : List ℕ} (r : Judged) → DecidesScheme (k .name) (names-at s w names) (variants-at s w members) (tree-at s w term) i before r → Below w u n → Judges s w u n fresh names members term i before r
   judged-by r d b = ((λ other f. by-names (k .name) other (names-at s w names) (variants-at s w members) before r (systems other f) (systems (k .name) (k .cells)) d), b)
 
   pub judged-unsupported : {u : List ℕ} → (its-verdict ≡ unsupported) × Below w u n → Judges s w u n fresh names members term i before Unsupported

@@ -31,11 +31,11 @@ use Rattle.tree.proofs.Areas.{below-then, below-grown, arena-below}
 use Rattle.equivalence.proofs.Scratch.{below-kept}
 use Rattle.substitution.specs.Bindings.{bindings-of, bindings-at}
 use Rattle.substitution.specs.Building.{Placed, instance-at}
-use Rattle.reduction.specs.Building.{NewTree}
-use Rattle.reduction.proofs.NormalForms.{normalize-size}
+use Rattle.rewriting.specs.Building.{NewTree}
+use Rattle.laws.proofs.Reduction.Sizes.{normalize-size}
 use Rattle.schemes.specs.Building.{Systems}
 use Rattle.schemes.specs.declared.systems.System.{System}
-use Rattle.steps.specs.Stack.{pairs-at, Whole, FitPairs}
+use Rattle.elimination.specs.Stack.{pairs-at, Whole, FitPairs}
 use Rattle.unifier.specs.Running.{Roomy, Answers}
 use Rattle.unifier.specs.declared.unifying.Outcome.the-variants as outcome
 use Rattle.unifier.proofs.Tops.{pairs-are, whole-are}

@@ -15,8 +15,8 @@ use Rattle.laws.specs.Schemes.{scheme-at, Judgement, pending, settled, answered
 use Rattle.laws.specs.Memory.{OverPairs}
 use Rattle.tree.specs.Cells.{tree-at, trees-at}
 use Rattle.tree.specs.Arena.{Below}
-use Rattle.steps.specs.Stack.{FitPairs}
-use Rattle.steps.specs.Area.{Room}
+use Rattle.elimination.specs.Stack.{FitPairs}
+use Rattle.elimination.specs.Area.{Room}
 use Rattle.sheet.specs.Claims.{truth}
 use Rattle.sheet.specs.declared.claims.Claim.{Claim}
 use Rattle.schemes.specs.Building.{Fresh}
@@ -73,14 +73,14 @@ pub record CanJudgeAll (s : Text) (w : List ℕ) (n fresh named names members te
   pub schemes : (i : ℕ) → i < count → Judgeable name s w n named (names-at s w names) (trees-at s w members) (tree-at s w term) i
 
 -- what the i-th scheme makes of what was decided before it
-abbrev pub Decides : (ℕ → Text) → List Text → List Variant → Tree → ℕ → Judged → Judged → Type 0
-Decides name xs ms term i before r =
+abbrev pub DecidesScheme : (ℕ → Text) → List Text → List Variant → Tree → ℕ → Judged → Judged → Type 0
+DecidesScheme name xs ms term i before r =
     (j : Judgement) → judgement before ≡ some j → judgement r ≡ judge-verdict xs ms (scheme-at name term 0 i .value) (unify 65536 (system-of name term i) .0) j
 
 -- by any names that the fresh variables from cell `fresh` on have
 abbrev pub Judges : Text → List ℕ → List ℕ → ℕ → ℕ → ℕ → ℕ → ℕ → ℕ → Judged → Judged → Type 0
 Judges s w v n fresh names members term i before r =
-    ((name : ℕ → Text) → Fresh s w n fresh name → Decides name (names-at s w names) (variants-at s w members) (tree-at s w term) i before r) × Below w v n
+    ((name : ℕ → Text) → Fresh s w n fresh name → DecidesScheme name (names-at s w names) (variants-at s w members) (tree-at s w term) i before r) × Below w v n
 
 -- the answer after the last scheme
 abbrev pub Ends : Judged → Claim → Type 0

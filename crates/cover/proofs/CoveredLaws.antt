@@ -8,7 +8,7 @@ use Rattle.rules.specs.Bytes.{Text}
 use Rattle.rules.specs.Tree.{Trees, variable-names-in}
 use Rattle.text.specs.Places.{text-at}
 use Rattle.tree.specs.Cells.{trees-at}
-use Rattle.steps.specs.Stack.{Whole, pairs-at}
+use Rattle.elimination.specs.Stack.{Whole, pairs-at}
 use Rattle.variables.specs.Ordered.{ordered-once}
 use Rattle.variables.specs.Variables.{Ordered}
 use Rattle.variables.specs.Listing.{ListsVariables}

@@ -24,32 +24,35 @@ use Rattle.tree.proofs.Decoding.{frame-trees}
 use Rattle.tree.proofs.Areas.{below-same, below-then}
 use Rattle.substitution.specs.Bindings.{bindings-of, bindings-at}
 use Rattle.sheet.specs.Lines.{part-of, value-at}
-use Rattle.sheet.specs.Members.{members-at}
+use Rattle.forms.specs.Members.{members-at}
 use Rattle.sheet.specs.declared.Cursor.{Cursor}
 use Rattle.sheet.specs.declared.Line.the-variants.{Whole as a-line, Missing}
 use Rattle.sheet.proofs.LineLaws.{keyed}
-use Rattle.sheet.proofs.WalkLaws.{FirstMember, member-end, member-next, members-later}
-use Rattle.steps.specs.Stack.{pairs-at, Whole, FitPairs}
-use Rattle.steps.specs.Area.{Room}
+use Rattle.forms.proofs.WalkLaws.{FirstMember, member-end, member-next, members-later}
+use Rattle.elimination.specs.Stack.{pairs-at, Whole, FitPairs}
+use Rattle.elimination.specs.Area.{Room}
 use Rattle.unifier.specs.Running.{Answers}
 use Rattle.unifier.specs.declared.unifying.Outcome.{Outcome}
 use Rattle.unifier.specs.declared.unifying.Outcome.the-variants as outcome
 use Rattle.unifier.proofs.unifying.Outcome.{the-type}
 use Rattle.unifier.proofs.Tops.{pairs-are}
 use Rattle.variables.specs.Pairing.{names-at}
-use Rattle.cover.specs.Values.{EntriesFrom}
-use Rattle.cover.specs.Members.{MemberPairs, PairsMember}
+use Rattle.values.specs.Values.{EntriesFrom, EntriesThere}
+use Rattle.values.specs.Members.{MemberPairs, PairsMember}
 use Rattle.unifier.specs.Matched.{Matched}
 use Rattle.cover.specs.Covering.{PairsOf, Matchable, CoversMember}
-use Rattle.cover.specs.declared.members.Sides.the-variants as sides
+use Rattle.values.specs.declared.members.Sides.the-variants as sides
 use Rattle.cover.specs.declared.covering.Covering.the-variants as it
-use Rattle.cover.proofs.CoverLaws.{covers-read, covers-unread}
+use Rattle.values.proofs.CoverLaws.{covers-read, covers-unread}
 
 -- ---- one member
 
 -- the cells of a member's pairs end at most here
 abbrev pub member-end-of : Text → List ℕ → ℕ → ℕ → ℕ → ℕ
 member-end-of s w n names at = n + 2 * (length s - at) + 2 * count (trees-at s w names)
+
+pub entries-there : {s : Text} {w : List ℕ} {n names bindings at : ℕ} → Matchable s w n names bindings at → EntriesThere s at
+entries-there k = record { entries = k .entries; are = k .reads }
 
 pub unread-covers : (s : Text) (w v : List ℕ) (n names bindings at : ℕ) → PairsMember s w v n names bindings at sides.Unreadable → CoversMember s w v n names bindings at it.Yes
 unread-covers s w v n names bindings at h = ((λ x es f. covers-unread x es (bindings-at s w bindings) (names-at s w names) (h .0 x es f)), h .1)

@@ -37,9 +37,9 @@ use Rattle.laws.proofs.Variants.Covered.{paired}
 use Rattle.laws.proofs.Variants.VariableNames.{variables-of-length}
 use Rattle.laws.proofs.Variants.CoverRoom.{texts-within, cover-room}
 use Rattle.tree.specs.Cells.{trees-at}
-use Rattle.sheet.proofs.WordLaws.{count-bound}
-use Rattle.steps.specs.Stack.{pairs-at}
-use Rattle.unifier.proofs.Fitting.{fit-sides}
+use Rattle.forms.proofs.WordLaws.{count-bound}
+use Rattle.elimination.specs.Stack.{pairs-at}
+use Rattle.steps.proofs.Fitting.{fit-sides}
 use Rattle.variables.proofs.Shortness.{short-read}
 use Rattle.variables.specs.Variables.{Short, ReadableAll}
 use Rattle.unifier.specs.Matched.{Matched}

@@ -24,13 +24,13 @@ use Rattle.tree.specs.Arena.{Arena, Below}
 use Rattle.tree.proofs.Decoding.{frame-trees}
 use Rattle.tree.proofs.Areas.{below-then}
 use Rattle.substitution.specs.Bindings.{bindings-of, bindings-at}
-use Rattle.sheet.specs.Members.{members-at}
-use Rattle.steps.specs.Stack.{pairs-of, pairs-at, Whole, FitPairs}
+use Rattle.forms.specs.Members.{members-at}
+use Rattle.elimination.specs.Stack.{pairs-of, pairs-at, Whole, FitPairs}
 use Rattle.unifier.specs.Running.{Roomy, Answers}
 use Rattle.unifier.specs.declared.unifying.Outcome.{Outcome}
 use Rattle.unifier.specs.declared.unifying.Outcome.the-variants as outcome
 use Rattle.unifier.proofs.unifying.Outcome.{the-type}
-use Rattle.unifier.proofs.Fitting.{pairs-fit}
+use Rattle.steps.proofs.Fitting.{pairs-fit}
 use Rattle.variables.specs.Listing.{backwards}
 use Rattle.variables.specs.Pairing.{names-of, names-at, OfVariables}
 use Rattle.cover.specs.Covering.{AllMatchable, CoversAny}

@@ -12,8 +12,8 @@ use Rattle.rules.specs.Answer.{read-pairs}
 use Rattle.rules.specs.Cover.{variables-of, covered}
 use Rattle.tree.specs.Cells.{trees-at}
 use Rattle.tree.specs.Arena.{Arena, Below}
-use Rattle.sheet.specs.Members.{members-at}
-use Rattle.steps.specs.Stack.{Whole, pairs-at}
+use Rattle.forms.specs.Members.{members-at}
+use Rattle.elimination.specs.Stack.{Whole, pairs-at}
 use Rattle.sheet.specs.Claims.{truth}
 use Rattle.sheet.specs.declared.claims.Claim.{Claim}
 use Rattle.variables.specs.Pairing.{names-at, OfVariables}

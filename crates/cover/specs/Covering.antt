@@ -12,11 +12,11 @@ use Rattle.rules.specs.Sheet.{Entry, Member}
 use Rattle.rules.specs.Cover.{pair-at, covers, any-covers}
 use Rattle.substitution.specs.Bindings.{bindings-at}
 use Rattle.sheet.specs.Lines.{lines-at}
-use Rattle.sheet.specs.Members.{members-at}
+use Rattle.forms.specs.Members.{members-at}
 use Rattle.tree.specs.Arena.{Below}
 use Rattle.unifier.specs.Matched.{Matched}
 use Rattle.variables.specs.Pairing.{names-at}
-use Rattle.cover.specs.Values.{EntriesThen, EntriesFrom}
+use Rattle.values.specs.Values.{EntriesThen, EntriesFrom}
 use Rattle.cover.specs.declared.covering.Covering.{Covering}
 use Rattle.cover.specs.declared.covering.Covering.the-variants.{Yes, No}
 

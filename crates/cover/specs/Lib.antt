@@ -1,4 +1,2 @@
-pub mod Values
-pub mod Members
 pub mod Covering
 pub mod Covered

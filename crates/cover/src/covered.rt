@@ -16,7 +16,7 @@ ghost use lib.ListN.{length};
 ghost use Rattle.rules.specs.Tree.{sizes};
 ghost use Rattle.tree.specs.Cells.{trees-at};
 ghost use Rattle.tree.specs.Arena.{Arena};
-ghost use Rattle.steps.specs.Stack.{Whole};
+ghost use Rattle.elimination.specs.Stack.{Whole};
 ghost use Rattle.variables.specs.Variables.{ReadableAll};
 ghost use Rattle.cover.specs.Covered.{Names, CoverInput, ClaimsCovered};
 

@@ -1,11 +1,11 @@
 // Whether one member covers, and whether one of the members does (unifier.rs, `Principal::covered`).
-use crate::members::Sides;
-use crate::members::member_pairs;
 use matching::matcher;
 use sheet::Cursor;
 use sheet::Line;
 use sheet::next_member;
 use unifier::unifying::Outcome;
+use values::members::Sides;
+use values::members::member_pairs;
 ghost use mathlib.Core.Path.{_≡_};
 ghost use Prim.Native.Nat.{_+_, _*_, _-_, _<_, _≤_, _^_};
 ghost use lib.ListN.{length};

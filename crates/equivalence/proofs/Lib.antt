@@ -2,9 +2,3 @@ pub mod Scratch
 pub mod Wording
 pub mod Canons
 pub mod Comparing
-pub mod Gathering
-pub mod Fingerprinting
-pub mod Describing
-pub mod Cancelling
-pub mod Preparing
-pub mod Rebuilding

@@ -1,7 +1,5 @@
-// Equality of trees up to order and grouping of sums, and cancelling of sums (unifier.rs, `equivalent`, `cancel_sums`).
-mod fingerprints; // fingerprints.rt: fingerprints of texts
-pub mod sums; // sums.rt: summands and cancelling
-mod words; // words.rt: the words of a tree
+// Equality of trees up to order and grouping of sums (unifier.rs, `equivalent`).
+pub mod words; // words.rt: the words of a tree
 
 ghost use mathlib.Core.Path.{_≡_};
 ghost use Prim.Native.Nat.{_+_, _*_, _<_, _≤_};

@@ -111,13 +111,7 @@ fn put_list(
 
 // Writes the canonical words of the tree of cell i from `base` on, and answers where they end. Fifteen words for each node, from `base`
 // on, may change.
-pub(crate) fn tree_words(
-    sheet: &[u8],
-    work: &mut [u32],
-    free: usize,
-    i: usize,
-    base: usize,
-) -> usize
+pub fn tree_words(sheet: &[u8], work: &mut [u32], free: usize, i: usize, base: usize) -> usize
     requires { ⌜ Arena (now sheet) (now work) free ⌝ }
     requires { ⌜ (0 < i) × (i < free) × (4 * free ≤ base) ⌝ }
     requires { ⌜ (5 * size (tree-at (now sheet) (now work) i) < 65536) × (base + 15 * size (tree-at (now sheet) (now work) i) ≤ length (now work)) ⌝ }
@@ -129,7 +123,7 @@ pub(crate) fn tree_words(
 }
 
 // Whether the words from `from` to `to` have the text of the words from `start` to `end`.
-pub(crate) fn same_text(
+pub fn same_text(
     sheet: &[u8],
     work: &[u32],
     from: usize,

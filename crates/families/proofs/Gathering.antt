@@ -18,13 +18,13 @@ use Rattle.tree.proofs.Areas.{below-same, below-grown, below-then, grown-then}
 use Rattle.substitution.specs.Building.{Made}
 use Rattle.reduction.proofs.Placing.{linked-fixed-over}
 use Rattle.sheet.specs.Lines.{value-at}
-use Rattle.sheet.specs.Members.{members-at}
+use Rattle.forms.specs.Members.{members-at}
 use Rattle.sheet.specs.declared.Cursor.{Cursor}
 use Rattle.sheet.specs.declared.Line.the-variants.{Whole, Missing}
-use Rattle.sheet.proofs.WalkLaws.{member-end, member-next}
-use Rattle.variants.specs.Members.{texts-end, ReadMember, ReadsMember}
+use Rattle.forms.proofs.WalkLaws.{member-end, member-next}
+use Rattle.variants.specs.Members.{texts-end, MemberThere, ReadMember, ReadsMember}
 use Rattle.variants.specs.declared.members.Variant.the-variants as variant
-use Rattle.families.specs.Families.{member-tree, Family, nil, next, ReadAll, ReadMembers, ReadsMembers}
+use Rattle.families.specs.Families.{member-tree, Family, nil, next, ReadAll, MembersThere, ReadMembers, ReadsMembers}
 use Rattle.families.specs.declared.members.Members.the-variants as members
 
 -- ---- one member as a tree
@@ -124,6 +124,13 @@ module _ {s : Text} {w : List ℕ} {n at : ℕ} {v : List ℕ} {c list m : ℕ} 
           record { vs = x .vs; read = x .read ∙ ap (λ (l : List Member). after (x .vs) (read-all l)) z; family = x .family }
 
   module _ (f t : ℕ) (d : Cursor) (e : Whole f t d ≡ value-at s (bytes "member=") c) where
+    -- the next of the members
+    pub gathering-next : MembersThere s at → MemberThere s c
+    gathering-next o =
+        let y = h .seen (o .ms) (o .are) in
+        let z = member-next s c (y .rest) (y .later) f t d e in
+        record { member = _; later = z .others; are = y .later ∙ ap some (z .members) }
+
     pub gathering-unread : {u : List ℕ} → ReadsMember s v u m c variant.Unreadable → ReadsMembers s w u n at members.Unreadable
     gathering-unread {u} x = (all, below-then (h .kept) (x .1) (h .grew))
       where

@@ -23,8 +23,8 @@ use Rattle.tree.proofs.Decoding.{Kind, application, a-variable, an-atom, kind, 
 use Rattle.tree.proofs.Areas.{below-same, below-then, below-grown}
 use Rattle.substitution.specs.Bindings.{bindings-of, bindings-at}
 use Rattle.substitution.specs.Building.{Made}
-use Rattle.steps.specs.Stack.{pairs-at, Whole, FitPairs}
-use Rattle.steps.specs.Area.{Room}
+use Rattle.elimination.specs.Stack.{pairs-at, Whole, FitPairs}
+use Rattle.elimination.specs.Area.{Room}
 use Rattle.unifier.specs.Running.{Answers}
 use Rattle.unifier.specs.declared.unifying.Outcome.{Outcome}
 use Rattle.unifier.specs.declared.unifying.Outcome.the-variants as outcome

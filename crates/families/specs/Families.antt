@@ -12,7 +12,7 @@ use Rattle.rules.specs.Variants.{Variant, read-member}
 use Rattle.tree.specs.Cells.{fixed-name, trees-at}
 use Rattle.tree.specs.Arena.{Arena, Below}
 use Rattle.substitution.specs.Bindings.{bindings-of, Chain}
-use Rattle.sheet.specs.Members.{members-at}
+use Rattle.forms.specs.Members.{members-at}
 use Rattle.variants.specs.Members.{Alike, texts-end}
 use Rattle.families.specs.declared.members.Members.{Members}
 use Rattle.families.specs.declared.members.Members.the-variants as members
@@ -38,6 +38,11 @@ pub record ReadAll (s : Text) (v : List ℕ) (i : ℕ) (ms : List Member) : Type
   pub vs : List Variant
   pub read : every (map read-member ms) ≡ some (reverse vs)
   pub family : Family (trees-at s v i) vs
+
+-- members stand from a position on, to the end of the sheet
+pub record MembersThere (s : Text) (at : ℕ) : Type 0 where
+  pub ms : List Member
+  pub are : members-at s at ≡ some ms
 
 -- the members at a position
 pub record ReadMembers (s : Text) (w v : List ℕ) (n at i m : ℕ) : Type 0 where

@@ -17,7 +17,7 @@ ghost use Rattle.tree.specs.Cells.{tree-at, trees-at};
 ghost use Rattle.tree.specs.Arena.{Arena};
 ghost use Rattle.substitution.specs.Building.{Made};
 ghost use Rattle.variants.specs.Members.{TextsRoom};
-ghost use Rattle.families.specs.Families.{member-tree, ReadsMembers};
+ghost use Rattle.families.specs.Families.{member-tree, MembersThere, ReadsMembers};
 
 // A list of trees and the free end after it, or a member's text that cannot be read.
 pub enum Members {
@@ -53,6 +53,7 @@ fn push_member(
 pub fn read_members(sheet: &[u8], work: &mut [u32], free: usize, start: Cursor) -> Members
     requires { ⌜ Arena (now sheet) (now work) free ⌝ }
     requires { ⌜ TextsRoom (now sheet) (now work) free (start .at) ⌝ }
+    requires { ⌜ MembersThere (now sheet) (start .at) ⌝ }
     ensures { λ r. ⌜ ReadsMembers (now (sheet .entry)) (now (work .entry)) (now (work .exit)) free (start .at) r ⌝ }
 {
     let mut cursor = start;

@@ -6,6 +6,7 @@ use mathlib.Core.List.{[], _∷_}
 use lib.Dec.{eqb}
 use lib.ListN.{length, getD, take, drop, drop-of-length-le, length-drop}
 use lib.Seq.{take-length, take-nil, drop-nil}
+use native.Mathlib.Decide.{decLt}
 use native.Mathlib.Omega.{arith}
 use borrow.Author.Tests.{eq-eqb, ne-eqb, eqb-true}
 use Rattle.rules.specs.Bytes.{Text}
@@ -39,6 +40,20 @@ spells-next : (s x : Text) (i : ℕ) → i < length s → spells (drop i s) x �
 unfolding spells
 spells-next s x i p = rw (drop-next s i p)
 
+-- the text begins nowhere before a position
+abbrev pub NotBefore : Text → Text → ℕ → Type 0
+NotBefore s x i = (p : ℕ) → p < i → begins-with x (drop p s) ≡ false
+
+pub none-before : (s x : Text) → NotBefore s x 0
+none-before s x p h = absurd (omega arith)
+
+pub one-more-not : (s x : Text) (i : ℕ) → NotBefore s x i → begins-with x (drop i s) ≡ false → NotBefore s x (i + 1)
+one-more-not s x i h e p q = go (decLt p i)
+  where
+    go : Dec (p < i) → begins-with x (drop p s) ≡ false
+    go (yes l) = h p l
+    go (no l) = let z : p ≡ i = omega arith in ap (λ (k : ℕ). begins-with x (drop k s)) z ∙ e
+
 module _ (s x : Text) (i : ℕ) (some : 0 < length x) where
   pub search-ends : length s ≤ i → {r : Bool} → spells (drop i s) x ≡ r → r ≡ false
   search-ends p h = sym h ∙ ap (λ (l : Text). spells l x) (drop-of-length-le s p) ∙ at-none x some
@@ -61,13 +76,14 @@ module _ (s x : Text) (i : ℕ) (some : 0 < length x) where
             ap (begins-with (b ∷ x)) (drop-next s i p)
             ∙ (unfold begins-with in (ap (λ (t : Bool). t && begins-with x (drop (i + 1) s)) (ne-eqb (getD s i 0) b e)))
 
-    pub search-finds : begins-with x (drop i s) ≡ true → spells (drop i s) x ≡ spells s x → SpelledAt s x i
-    search-finds e h =
+    pub search-finds : begins-with x (drop i s) ≡ true → spells (drop i s) x ≡ spells s x → NotBefore s x i → SpelledAt s x i
+    search-finds e h n =
         let k = begins-part x (drop i s) e in
         record {
           inside = omega (arith, k .0, length-drop i s);
           part = k .1;
           spelled = sym h ∙ spells-next s x i p ∙ or-left (begins-with x (drop i s)) (spells (drop (i + 1) s) x) e;
+          first = n;
         }
 
 -- the sheet from a position on, as the code cuts it

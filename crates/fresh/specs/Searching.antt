@@ -1,5 +1,5 @@
 -- Whether a text is spelled somewhere in a sheet, and what a search for it answers. Definitions only.
-use Prim.Native.Nat.{ℕ, _+_, _≤_}
+use Prim.Native.Nat.{ℕ, _+_, _<_, _≤_}
 use mathlib.Core.Path.{_≡_}
 use mathlib.Core.Bool.{Bool, true, false, _||_}
 use mathlib.Core.List.{[], _∷_}
@@ -15,11 +15,12 @@ unfolding begins-with
 spells [] x = begins-with x []
 spells (b ∷ s) x = begins-with x (b ∷ s) || spells s x
 
--- it does from `at` on
+-- it does from `at` on, and nowhere before
 pub record SpelledAt (s x : Text) (at : ℕ) : Type 0 where
   pub inside : at + length x ≤ length s
   pub part : take (length x) (drop at s) ≡ x
   pub spelled : spells s x ≡ true
+  pub first : (p : ℕ) → p < at → begins-with x (drop p s) ≡ false
 
 abbrev pub FindsText : Text → Text → Found → Type 0
 FindsText s x (At at) = SpelledAt s x at

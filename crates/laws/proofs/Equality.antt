@@ -4,6 +4,7 @@ pub mod Sound
 pub mod Texts
 pub mod Normal
 pub mod Rebuilding
+pub mod Regrouping
 pub mod Canonical
 pub mod Building
 pub mod Bags

@@ -5,11 +5,17 @@ pub mod BuiltRun
 pub mod BuiltMatch
 pub mod AnswerText
 pub mod Calls
+pub mod LineForms
+pub mod Forms
+pub mod Unread
 pub mod Refusals
+pub mod Saying
 pub mod Answers
 pub mod SheetTexts
 pub mod SheetParts
 pub mod NamesRead
+pub mod Derivations
 pub mod Alike
 pub mod Table
+pub mod RefusalRows
 mod Example

@@ -19,3 +19,6 @@ pub mod Names
 pub mod Weights
 pub mod MatchFuel
 pub mod UnifyFuel
+pub mod MatchRules
+pub mod MatchKeeping
+pub mod Derived

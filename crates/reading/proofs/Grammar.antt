@@ -13,7 +13,7 @@ use Rattle.rules.specs.Maybe.{_>>=_, guard}
 use Rattle.rules.specs.Tree.{Tree, Trees, none, more}
 use Rattle.rules.specs.Tokens.{tokens}
 use Rattle.rules.specs.Reading.{leaf, close, after-token, wholly, read-term, read-list, read-text}
-use Rattle.reading.specs.Machine.{Stack, bottom, level, add, back, wants, named, has, machine-after, machine, machine-reading}
+use Rattle.closing.specs.Machine.{Stack, bottom, level, add, back, wants, named, has, machine-after, machine, machine-reading}
 
 abbrev Term : Type 0
 Term = Tree × List Text

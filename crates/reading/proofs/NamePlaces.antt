@@ -23,7 +23,7 @@ use Rattle.syntax.specs.declared.Symbol.{Symbol}
 use Rattle.syntax.specs.declared.Symbol.the-variants.{Begin, Shut, Comma, Name, Stop, Bad}
 use Rattle.syntax.proofs.TokenList.{placed}
 use Rattle.syntax.proofs.SymbolLaws.{means-is}
-use Rattle.reading.specs.Words.{NamePlaced}
+use Rattle.closing.specs.Words.{NamePlaced}
 
 pub part-within : (s : Text) (a e to : ℕ) → a ≤ e → e ≤ to → to ≤ length s → take (e - a) (drop a (take to s)) ≡ part s a (e - a)
 part-within s a e to p q r = ap (take (e - a)) (drop-take a to s) ∙ take-take (e - a) (to - a) (drop a s) (omega arith)

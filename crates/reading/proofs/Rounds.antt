@@ -21,16 +21,16 @@ use Rattle.tree.specs.Cells.{part, next-of, tree-at, trees-at}
 use Rattle.tree.specs.Arena.{Links, Arena}
 use Rattle.tree.proofs.Decoding.{trees-none, trees-more}
 use Rattle.tree.proofs.Areas.{arena-frame}
-use Rattle.reading.specs.Machine.{Stack, bottom, level, add, wants, named, has, machine-reading, Bare, HasOne, closing-room}
+use Rattle.closing.specs.Machine.{Stack, bottom, level, add, wants, named, has, machine-reading, Bare, HasOne, closing-room}
 use Rattle.text.specs.Frames.{Outside}
-use Rattle.reading.specs.Words.{stack-at, Held, Added, Opened}
-use Rattle.reading.specs.declared.closing.Closed.{Closed}
-use Rattle.reading.specs.Closing.{most, NoTree, closed-level, Popped, Pops}
+use Rattle.closing.specs.Words.{stack-at, Held, Added, Opened}
+use Rattle.closing.specs.declared.Closed.{Closed}
+use Rattle.closing.specs.Closing.{most, NoTree, closed-level, Popped, Pops}
 use Rattle.reading.specs.declared.Parsed.{Parsed}
 use Rattle.reading.specs.declared.Parsed.the-variants.{Tree as Parsed-tree, Unreadable}
 use Rattle.reading.specs.Parsing.{ended-at, limit-of, stack-end, Read, Parses}
 use Rattle.reading.proofs.Grammar.{reads}
-use Rattle.reading.proofs.Turns.{limited, name-turn, open-turn, comma-turn, shut-turn, comma-bare, shut-bare, stop-turn, not-name, no-delimiter, leaf-turn, shut-out, small-enough, parse-limited}
+use Rattle.closing.proofs.Turns.{limited, name-turn, open-turn, comma-turn, shut-turn, comma-bare, shut-bare, stop-turn, not-name, no-delimiter, leaf-turn, shut-out, small-enough, parse-limited}
 use Rattle.reading.proofs.Stacks.{stack-top}
 use Rattle.reading.proofs.NamePlaces.{NameAt, mark-past}
 

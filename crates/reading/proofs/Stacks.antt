@@ -16,13 +16,13 @@ use Rattle.tree.specs.Cells.{named, part, variable-kind, made, trees-at}
 use Rattle.tree.specs.Arena.{Links, Arena, Grown, WroteCell, Linked}
 use Rattle.tree.proofs.Decoding.{Agree, frame-trees, trees-none}
 use Rattle.tree.proofs.Areas.{arena-frame, grown-same}
-use Rattle.reading.specs.Machine.{Stack, bottom, level, add, back}
-use Rattle.reading.specs.Leaves.{leaf-kind}
+use Rattle.closing.specs.Machine.{Stack, bottom, level, add, back}
+use Rattle.leaves.specs.Leaves.{leaf-kind}
 use Rattle.text.specs.Frames.{Outside}
-use Rattle.reading.specs.Words.{stack-at, NamePlaced, Held, LastCell, Added, Opened}
-use Rattle.reading.specs.Closing.{most, Done, NoTree, closed-level, Popped}
-use Rattle.reading.proofs.LeafLaws.{leaf-made, leaf-sorted}
-use Rattle.reading.proofs.Making.{named-part, place-of, linked-at, made-on}
+use Rattle.closing.specs.Words.{stack-at, NamePlaced, Held, LastCell, Added, Opened}
+use Rattle.closing.specs.Closing.{most, Done, NoTree, closed-level, Popped}
+use Rattle.leaves.proofs.LeafLaws.{leaf-made, leaf-sorted}
+use Rattle.closing.proofs.Making.{named-part, place-of, linked-at, made-on}
 
 level-path : {a b : Text} {ts us : Trees} {k l : Stack} → a ≡ b → ts ≡ us → k ≡ l → level a ts k ≡ level b us l
 level-path p q r = cc

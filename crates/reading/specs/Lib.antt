@@ -1,5 +1,1 @@
-pub mod Machine
-pub mod Words
-pub mod Leaves
-pub mod Closing
 pub mod Parsing

@@ -1,13 +1,11 @@
 // The term reader (unifier.rs, `parse`): the term of a text as cells.
-pub mod closing;
-pub mod leaves;
 pub mod stack;
 
-use crate::closing::Closed;
 use crate::stack::begin;
 use crate::stack::close;
 use crate::stack::leaf;
 use crate::stack::top_of;
+use closing::Closed;
 use syntax::Symbol;
 use syntax::next_symbol;
 ghost use mathlib.Core.Path.{_≡_};

@@ -1,7 +1,7 @@
 // The stack of open lists, in words above the cells (specs/Words.antt): a leaf on its top, a list opened, a list closed.
-use crate::closing::Closed;
-use crate::closing::shut;
-use crate::leaves::leaf_kind;
+use closing::Closed;
+use closing::shut;
+use leaves::leaf_kind;
 use text::places::wide;
 use tree::cells::push_cell;
 ghost use mathlib.Core.Path.{_≡_};
@@ -11,8 +11,8 @@ ghost use lib.ListN.{length, getD};
 ghost use Rattle.rules.specs.Tree.{none};
 ghost use Rattle.rules.specs.Reading.{leaf, close};
 ghost use Rattle.tree.specs.Cells.{part};
-ghost use Rattle.reading.specs.Words.{NamePlaced, Held, Added, Opened};
-ghost use Rattle.reading.specs.Closing.{most, Pops};
+ghost use Rattle.closing.specs.Words.{NamePlaced, Held, Added, Opened};
+ghost use Rattle.closing.specs.Closing.{most, Pops};
 
 // The cell of the last tree of the bottom.
 pub(crate) fn top_of(work: &[u32], limit: usize) -> usize

@@ -1,4 +1,2 @@
-pub mod Holding
-pub mod Fired
 pub mod Placing
 pub mod NormalForms

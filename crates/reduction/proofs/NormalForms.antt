@@ -1,22 +1,21 @@
--- One step at the root, and normal forms, over cells; normal forms have no more nodes.
-use Prim.Native.Nat.{ℕ, zero, suc, _+_, _<_, _≤_}
+-- One step at the root, and normal forms, over cells.
+use Prim.Native.Nat.{ℕ, zero, suc, _<_}
 use mathlib.Core.Path.{_≡_, refl, sym, ap, ap₂, _∙_}
 use mathlib.Core.List.{List}
 use mathlib.Core.Option.{Option, some, none as nothing}
 use native.Mathlib.Omega.{arith}
 use Rattle.rules.specs.Bytes.{Text}
 use Rattle.rules.specs.Maybe.{otherwise}
-use Rattle.rules.specs.Tree.{Tree, variable, atom, apply, Trees, none, more, size, sizes}
+use Rattle.rules.specs.Tree.{Tree, apply, Trees, none, more, size, sizes}
 use Rattle.rules.specs.Reduction.{Rule, fst, snd, flip, sdec, kdec, constant, rule-named, fire, root, normalize, normalizes}
-use Rattle.laws.proofs.Reduction.Shapes.{Shape, fst-shape, snd-shape, a-shape, b-shape, sdec-shape, kdec-shape, Rooted, fired, stays, rooted}
 use Rattle.tree.specs.Cells.{kind-of, first-of, next-of, name-at, fixed-name, tree-at, trees-at}
 use Rattle.tree.specs.Arena.{Links, Arena, Below}
 use Rattle.tree.proofs.Decoding.{Agree, Kind, application, a-variable, an-atom, kind, same-name, tree-variable, tree-atom, tree-apply, trees-none, trees-more, frame-tree, frame-trees, size-leaf, size-apply, sizes-more}
 use Rattle.tree.proofs.Areas.{below-same, below-then}
-use Rattle.reduction.specs.Building.{NewTree, NewTrees}
-use Rattle.reduction.specs.Held.{coded-rule, held, fixed}
-use Rattle.reduction.specs.declared.naming.RuleName.{RuleName}
-use Rattle.reduction.specs.declared.naming.RuleName.the-variants.{Fst, Snd, Flip, Sdec, Kdec, None}
+use Rattle.rewriting.specs.Building.{NewTree, NewTrees}
+use Rattle.rewriting.specs.Held.{coded-rule, held, fixed}
+use Rattle.rewriting.specs.declared.naming.RuleName.{RuleName}
+use Rattle.rewriting.specs.declared.naming.RuleName.the-variants.{Fst, Snd, Flip, Sdec, Kdec, None}
 use Rattle.reduction.proofs.Placing.{new-later}
 
 -- rules as the code has them
@@ -66,42 +65,6 @@ pub becomes-later : {s : Text} {w v u : List ℕ} {n next j m : ℕ} (k i first 
 becomes-later {s} {w} {v} k i first a h p q r l x =
     rw (held-frame s v (a .links) (h .words) k p, same-name w v (h .words) i q s, frame-trees s v (a .links) (h .words) first r)
     (new-later a l h (omega arith) (omega arith) x)
-
--- normal forms have no more nodes
-shape-size : {r : Rule} {ts : Trees} {u : Tree} → Shape r ts u → size u ≤ sizes ts
-unfolding size
-shape-size (fst-shape p q) = omega arith
-shape-size (snd-shape p q) = omega arith
-shape-size a-shape = omega arith
-shape-size b-shape = omega arith
-shape-size (sdec-shape o) = omega arith
-shape-size (kdec-shape o) = omega arith
-
-root-size : (f : Text) (ts : Trees) → size (root f ts) ≤ 1 + sizes ts
-unfolding size
-root-size f ts = go (rooted f ts)
-  where
-    go : {u : Tree} → Rooted f ts u → size u ≤ 1 + sizes ts
-    go (fired e x) = let h = shape-size x in omega arith
-    go (stays n) = omega arith
-
-mutual
-  unfolding size normalize
-
-  pub normalize-size : (t : Tree) → size (normalize t) ≤ size t
-  normalize-size (variable x) = omega arith
-  normalize-size (atom c d) = omega arith
-  normalize-size (apply f ts) =
-      let h = normalizes-size ts in
-      let k = root-size f (normalizes ts) in
-      omega arith
-
-  pub normalizes-size : (ts : Trees) → sizes (normalizes ts) ≤ sizes ts
-  normalizes-size none = omega arith
-  normalizes-size (more t ts) =
-      let h = normalize-size t in
-      let k = normalizes-size ts in
-      omega arith
 
 -- normal forms of cells
 module _ (s : Text) (w : List ℕ) where

@@ -8,13 +8,13 @@ use Rattle.rules.specs.Bytes.{Text}
 use Rattle.rules.specs.Tree.{Tree, apply, more, size, sizes}
 use Rattle.rules.specs.Reduction.{constant}
 use Rattle.tree.specs.Cells.{start-of, length-of, kind-of, nodes-of, next-of, name-at, fixed-name, made, trees-at}
-use Rattle.tree.specs.Arena.{Arena, WroteCell, Linked, Below}
+use Rattle.tree.specs.Arena.{Arena, WroteCell, Linked, Below, Grown}
 use Rattle.tree.proofs.Decoding.{made-apply, trees-none, frame-trees, sizes-more}
 use Rattle.tree.proofs.Pushing.{linked-like, linked-fixed as linked-coded}
 use Rattle.tree.proofs.Areas.{below-grown, below-then}
 use Rattle.substitution.specs.Building.{Before}
 use Rattle.substitution.proofs.Placing.{before-linked}
-use Rattle.reduction.specs.Building.{NewTree}
+use Rattle.rewriting.specs.Building.{NewTree}
 
 -- one new cell at most
 pub new-kept : {s : Text} {w v : List ℕ} {n next i m : ℕ} {t : Tree} → Before s w v n next t i m → m ≤ n + 1 → NewTree s w v n 1 next t i m
@@ -31,6 +31,13 @@ new-kept x h = record {
 
 pub new-linked : {s : Text} {w v : List ℕ} {n next : ℕ} {t : Tree} (e : ℕ) → 0 < n → Linked s w v n next t → e ≡ n + 1 → NewTree s w v n 1 next t n e
 new-linked e p x f = new-kept (before-linked e p x f) (omega arith)
+
+-- and no other cell is written
+pub alone-kept : {s : Text} {w v : List ℕ} {n next i m : ℕ} {t : Tree} → Before s w v n next t i m → m ≤ n + 1 → NewTree s w v n 1 next t i m × Grown w v n m
+alone-kept x h = (new-kept x h, x .grown)
+
+pub alone-linked : {s : Text} {w v : List ℕ} {n next : ℕ} {t : Tree} (e : ℕ) → 0 < n → Linked s w v n next t → e ≡ n + 1 → NewTree s w v n 1 next t n e × Grown w v n e
+alone-linked e p x f = alone-kept (before-linked e p x f) (omega arith)
 
 -- after other cells were written
 pub new-later : {s : Text} {w v u : List ℕ} {n m b d next i e : ℕ} {t : Tree} → Arena s w n → next < n → Below w v n → n ≤ m → m + b ≤ n + d → NewTree s v u m b next t i e → NewTree s w u n d next t i e

@@ -14,16 +14,16 @@ ghost use Rattle.rules.specs.Tree.{apply, sizes};
 ghost use Rattle.rules.specs.Maybe.{otherwise};
 ghost use Rattle.rules.specs.Reduction.{constant};
 ghost use Rattle.tree.specs.Cells.{kind-of, name-at, fixed-name, trees-at};
-ghost use Rattle.tree.specs.Arena.{Arena};
-ghost use Rattle.reduction.specs.Building.{NewTree};
-ghost use Rattle.reduction.specs.Held.{held};
+ghost use Rattle.tree.specs.Arena.{Arena, Grown};
+ghost use Rattle.rewriting.specs.Building.{NewTree};
+ghost use Rattle.rewriting.specs.Held.{held};
 
 // A fixed name without arguments, by its code.
 pub fn leaf(sheet: &[u8], work: &mut [u32], free: usize, code: usize, next: usize) -> Pushed
     requires { ⌜ Arena (now sheet) (now work) free ⌝ }
     requires { ⌜ (0 < code) × (code < 7) × (next < free) ⌝ }
     requires { ⌜ (4 * free + 4 ≤ length (now work)) × (free < 2 ^ 32) ⌝ }
-    ensures { λ r. ⌜ NewTree (now (sheet .entry)) (now (work .entry)) (now (work .exit)) free 1 next (constant (fixed-name code)) (r .index) (r .free) ⌝ }
+    ensures { λ r. ⌜ NewTree (now (sheet .entry)) (now (work .entry)) (now (work .exit)) free 1 next (constant (fixed-name code)) (r .index) (r .free) × Grown (now (work .entry)) (now (work .exit)) free (r .free) ⌝ }
 {
     let end = push_cell(work, free, code, 0, APPLICATION, 0, next, 1);
     Pushed {
@@ -60,7 +60,7 @@ pub fn stay(
     requires { ⌜ (0 < i) × (i < free) × (first < free) × (next < free) ⌝ }
     requires { ⌜ (kind-of (now work) i ≡ 0) × (sizes (trees-at (now sheet) (now work) first) < 65535) ⌝ }
     requires { ⌜ (4 * free + 4 ≤ length (now work)) × (free < 2 ^ 32) ⌝ }
-    ensures { λ r. ⌜ NewTree (now (sheet .entry)) (now (work .entry)) (now (work .exit)) free 1 next (apply (name-at (now (sheet .entry)) (now (work .entry)) i) (trees-at (now (sheet .entry)) (now (work .entry)) first)) (r .index) (r .free) ⌝ }
+    ensures { λ r. ⌜ NewTree (now (sheet .entry)) (now (work .entry)) (now (work .exit)) free 1 next (apply (name-at (now (sheet .entry)) (now (work .entry)) i) (trees-at (now (sheet .entry)) (now (work .entry)) first)) (r .index) (r .free) × Grown (now (work .entry)) (now (work .exit)) free (r .free) ⌝ }
 {
     if first_of(work, free, i) == first {
         return keep(sheet, work, free, i, next);
@@ -87,7 +87,7 @@ pub(crate) fn becomes(
     requires { ⌜ (0 < i) × (i < free) × (first < free) × (next < free) ⌝ }
     requires { ⌜ (kind-of (now work) i ≡ 0) × (sizes (trees-at (now sheet) (now work) first) < 65535) ⌝ }
     requires { ⌜ (4 * free + 4 ≤ length (now work)) × (free < 2 ^ 32) × (k < free) ⌝ }
-    ensures { λ r. ⌜ NewTree (now (sheet .entry)) (now (work .entry)) (now (work .exit)) free 1 next (otherwise (held (now (sheet .entry)) (now (work .entry)) k) (apply (name-at (now (sheet .entry)) (now (work .entry)) i) (trees-at (now (sheet .entry)) (now (work .entry)) first))) (r .index) (r .free) ⌝ }
+    ensures { λ r. ⌜ NewTree (now (sheet .entry)) (now (work .entry)) (now (work .exit)) free 1 next (otherwise (held (now (sheet .entry)) (now (work .entry)) k) (apply (name-at (now (sheet .entry)) (now (work .entry)) i) (trees-at (now (sheet .entry)) (now (work .entry)) first))) (r .index) (r .free) × Grown (now (work .entry)) (now (work .exit)) free (r .free) ⌝ }
 {
     if k == 0 {
         return stay(sheet, work, free, i, first, next);

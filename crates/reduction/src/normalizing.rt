@@ -1,11 +1,11 @@
 // Normalization: a list's later trees first, then a tree's children, then one step at its root.
 use crate::building::becomes;
 use crate::building::leaf;
-use crate::firing::flipped;
-use crate::firing::part_of;
-use crate::keys::decrypted;
-use crate::naming::RuleName;
-use crate::naming::rule_named;
+use rewriting::firing::flipped;
+use rewriting::firing::part_of;
+use rewriting::keys::decrypted;
+use rewriting::naming::RuleName;
+use rewriting::naming::rule_named;
 use substitution::bindings::Pushed;
 use substitution::instances::keep;
 use tree::cells::APPLICATION;
@@ -19,7 +19,7 @@ ghost use Rattle.rules.specs.Tree.{size, sizes};
 ghost use Rattle.rules.specs.Reduction.{root, normalize, normalizes};
 ghost use Rattle.tree.specs.Cells.{kind-of, name-at, tree-at, trees-at};
 ghost use Rattle.tree.specs.Arena.{Arena};
-ghost use Rattle.reduction.specs.Building.{NewTree, NewTrees, key-room};
+ghost use Rattle.rewriting.specs.Building.{NewTree, NewTrees, key-room};
 
 // One step at the root: the name of cell i over the list from cell first on.
 fn root(sheet: &[u8], work: &mut [u32], free: usize, i: usize, first: usize, next: usize) -> Pushed

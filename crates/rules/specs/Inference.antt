@@ -8,12 +8,12 @@ use mathlib.Core.Logic.{_↔_, _⊎_}
 use mathlib.Core.Option.{some, none as nothing}
 use Prim.Native.Nat.{ℕ, _≤_, _<_}
 use Rattle.rules.specs.Bytes.{Text}
-use Rattle.rules.specs.Tree.{Tree, variable, atom, apply, Trees, none, atom-text, tamtplus}
+use Rattle.rules.specs.Tree.{Tree, variable, atom, apply, Trees, none, more, atom-text, tamtplus}
 use Rattle.rules.specs.Substitution.{Substitution, substitute, Pair, instantiate-pairs, size-pairs}
 use Rattle.rules.specs.Sums.{summands, rebuild}
 use Rattle.rules.specs.Equality.{AC}
 use Rattle.rules.specs.Sorts.{Sort, TamNat, variable-sort, natural, sorted, refinable}
-use Rattle.rules.specs.Solving.{push-children, Step, goes-on, bind, fails, unknown}
+use Rattle.rules.specs.Solving.{Step, goes-on, bind, fails, unknown}
 use Rattle.rules.specs.Meaning.{WellSorted, Unifier, Free}
 
 -- Applications: an atom is one without arguments, named by its text
@@ -21,6 +21,12 @@ use Rattle.rules.specs.Meaning.{WellSorted, Unifier, Free}
 pub data Applies : Tree → Text → Trees → Type 0 where
   of-atom : {c : ℕ} {d : Text} → Applies (atom c d) (atom-text c d) none
   of-apply : {f : Text} {ts : Trees} → Applies (apply f ts) f ts
+
+-- the children pairwise, as far as both go, first child next, and then the waiting pairs
+pub data Pairwise : Trees → Trees → List Pair → List Pair → Type 0 where
+  left-ends : {us : Trees} {ps : List Pair} → Pairwise none us ps ps
+  right-ends : {t : Tree} {ts : Trees} {ps : List Pair} → Pairwise (more t ts) none ps ps
+  both-go-on : {t u : Tree} {ts us : Trees} {ps qs : List Pair} → Pairwise ts us ps qs → Pairwise (more t ts) (more u us) ps ((t, u) ∷ qs)
 
 -- Sums
 
@@ -72,8 +78,8 @@ pub data Infers : Tree → Tree → List Pair → Step → Type 0 where
   trivial : {t : Tree} {ps : List Pair} → Infers t t ps (goes-on ps)
   -- two applications
   symbol-clash : {l r : Tree} {f g : Text} {ts us : Trees} {ps : List Pair} → Applies l f ts → Applies r g us → ¬ (f ≡ g) → Infers l r ps fails
-  decomposition : {l r : Tree} {f : Text} {ts us : Trees} {ps : List Pair} → Applies l f ts → Applies r f us → ¬ (f ≡ tamtplus) → ¬ (l ≡ r)
-      → Infers l r ps (goes-on (push-children ts us ps))
+  decomposition : {l r : Tree} {f : Text} {ts us : Trees} {ps qs : List Pair} → Applies l f ts → Applies r f us → ¬ (f ≡ tamtplus) → ¬ (l ≡ r)
+      → Pairwise ts us ps qs → Infers l r ps (goes-on qs)
   -- two sums
   nothing-left : {l r : Tree} {ps : List Pair} → SumsLeave l r [] [] → Infers l r ps (goes-on ps)
   left-used-up : {l r o : Tree} {os : List Tree} {ps : List Pair} → SumsLeave l r [] (o ∷ os) → Infers l r ps fails

@@ -8,11 +8,11 @@ use Rattle.rules.specs.Tree.{Tree, Trees, more, count}
 use Rattle.tree.specs.Cells.{next-of, tree-at, trees-at}
 use Rattle.tree.specs.Arena.{Links, Arena, Linked}
 use Rattle.tree.proofs.Decoding.{trees-none, trees-more, frame-tree, frame-trees}
-use Rattle.tree.proofs.Areas.{below-grown}
+use Rattle.tree.proofs.Areas.{below-grown, grown-same, grown-then}
 use Rattle.substitution.specs.Building.{Before}
-use Rattle.reduction.specs.Building.{NewTree}
+use Rattle.rewriting.specs.Building.{NewTree}
 use Rattle.schemes.specs.Choices.{appended}
-use Rattle.schemes.specs.Building.{Written, KeptAs, Appends, Follows}
+use Rattle.schemes.specs.Building.{WrittenCells, KeptAs, Appends, Follows}
 use Rattle.schemes.specs.declared.choosing.Chosen.{Chosen}
 use Rattle.schemes.proofs.Writing.{written-same, written-then, lists-later, appended-none}
 use Rattle.schemes.proofs.Patterns.{cell-written}
@@ -26,6 +26,7 @@ module _ {s : Text} {w : List ℕ} {n : ℕ} (a b : ℕ) (o : Arena s w n) where
   appends-second e q = record {
     written = written-same _ o;
     list = record { inside = q; trees = sym (ap (λ (ts : Trees). appended ts (trees-at s w b)) (trees-none s w a e)) };
+    alone = grown-same w n n;
     first-none = λ f. (refl, refl);
     second-none = λ f. (refl, f ∙ sym e);
   }
@@ -34,6 +35,7 @@ module _ {s : Text} {w : List ℕ} {n : ℕ} (a b : ℕ) (o : Arena s w n) where
   appends-first p q e = record {
     written = written-same _ o;
     list = record { inside = q; trees = sym (ap (appended (trees-at s w a)) (trees-none s w b e) ∙ appended-none (trees-at s w a)) };
+    alone = grown-same w n n;
     first-none = λ f. absurd (omega arith);
     second-none = λ f. (refl, refl);
   }
@@ -53,6 +55,7 @@ module _ {s : Text} {w : List ℕ} {n : ℕ} (a b : ℕ) (o : Arena s w n) where
               ∙ ap₂ more (sym t) (x .list .trees)
               ∙ sym (ap (λ (ts : Trees). appended ts (trees-at s w b)) (trees-more s (o .links) a p q ∙ ap (λ (k : ℕ). more (tree-at s w a) (trees-at s w k)) (sym f)));
         };
+        alone = grown-then (x .alone) (y .grown) (x .written .grew) (omega arith) (omega arith);
         first-none = λ h. absurd (omega arith);
         second-none = λ h. absurd (omega arith);
       }
@@ -72,7 +75,7 @@ pub follows : {s : Text} {w v u : List ℕ} {k m c e : ℕ} {rest : Chosen} (val
     → Before s w v (rest .free) (rest .values) (tree-at s w value) k m → m ≤ rest .free + 1 → Appends s v u m equations (rest .equations) c e
     → Follows s w u value equations rest (record { values = k; equations = c; next = rest .next; index = rest .index; ways = rest .ways; free = e })
 follows {s} {w} {v} {u} {k} {m} {c} {e} {rest} value equations a q r x h y =
-    let wx : Written s w v (rest .free) m 1 = record { arena = x .arena; kept = below-grown (x .grown); grew = x .grew; used = h } in
+    let wx : WrittenCells s w v (rest .free) m 1 = record { arena = x .arena; kept = below-grown (x .grown); grew = x .grew; used = h } in
     let f = frame-trees s v (a .links) (x .grown .below) equations q in
     let g = frame-trees s v (a .links) (x .grown .below) (rest .equations) r in
     record {

@@ -19,7 +19,7 @@ use Rattle.tree.proofs.Areas.{below-grown}
 use Rattle.substitution.specs.Building.{Made}
 use Rattle.substitution.proofs.Chains.{head-more, none-more}
 use Rattle.schemes.specs.Choices.{appended, Shared}
-use Rattle.schemes.specs.Building.{Fresh, SomeFresh, Written, Holds, HoldsList, ChoicesReady, Chooses, Appends, Systems}
+use Rattle.schemes.specs.Building.{Fresh, SomeFresh, WrittenCells, Holds, HoldsList, ChoicesReady, Chooses, Appends, Systems}
 use Rattle.schemes.specs.declared.choosing.Chosen.{Chosen}
 use Rattle.schemes.proofs.Bounds.{scheme-fits}
 use Rattle.schemes.proofs.Counts.{count-positive}
@@ -117,7 +117,7 @@ module _ {s : Text} {w v : List ℕ} {n fresh : ℕ} (term c i m : ℕ) (a : Are
     value-is : Holds s u (r .free) (r .values) (the-scheme .value)
     value-is = first-holds s (chosen .written .arena .links) (r .values) values-are
 
-    term-written : Written s w u n (r .free) (2 * size t₀ + 800)
+    term-written : WrittenCells s w u n (r .free) (2 * size t₀ + 800)
     term-written = written-then (2 * size t₀ + 800) (cell-written m me x) (chosen-list .written) (omega (arith, chosen-list .written .used, sizes-is, sites-is, twelve))
 
     pub chosen-arena : Arena s u (r .free)
@@ -141,10 +141,10 @@ module _ {s : Text} {w v : List ℕ} {n fresh : ℕ} (term c i m : ℕ) (a : Are
     -- the value, and then the term, beside itself
     module _ {x₁ : List ℕ} {k₁ e₁ : ℕ} (d₁ : Made s u x₁ (r .free) e₁ k₁ (more (tree-at s u (r .values)) (more (tree-at s u (r .values)) (trees-at s u 0)))) (f₁ : e₁ ≡ r .free + 2)
         {x₂ : List ℕ} {k₂ e₂ : ℕ} (d₂ : Made s x₁ x₂ e₁ e₂ k₂ (more (tree-at s x₁ term) (more (tree-at s x₁ term) (trees-at s x₁ k₁)))) (f₂ : e₂ ≡ e₁ + 2) where
-      written₁ : Written s w x₁ n e₁ (2 * size t₀ + 802)
+      written₁ : WrittenCells s w x₁ n e₁ (2 * size t₀ + 802)
       written₁ = pair-written term-written d₁ f₁ (2 * size t₀ + 802) (omega arith)
 
-      written₂ : Written s w x₂ n e₂ (2 * size t₀ + 804)
+      written₂ : WrittenCells s w x₂ n e₂ (2 * size t₀ + 804)
       written₂ = pair-written written₁ d₂ f₂ (2 * size t₀ + 804) (omega arith)
 
       last-list : HoldsList s x₂ e₂ k₂ (flatten ((t₀, t₀) ∷ (the-scheme .value, the-scheme .value) ∷ []))

@@ -14,14 +14,14 @@ use Rattle.tree.specs.Arena.{Arena, Linked}
 use Rattle.tree.proofs.Decoding.{trees-none, frame-tree, frame-trees}
 use Rattle.tree.proofs.Areas.{below-grown, below-then}
 use Rattle.substitution.specs.Building.{Made}
-use Rattle.reduction.specs.Building.{NewTree}
-use Rattle.schemes.specs.Building.{Written, Holds, HoldsList, Opens, FiredIs}
+use Rattle.rewriting.specs.Building.{NewTree}
+use Rattle.schemes.specs.Building.{WrittenCells, Holds, HoldsList, Opens, FiredIs}
 use Rattle.schemes.specs.declared.firing.Fired.{Fired}
 use Rattle.schemes.proofs.Writing.{written-then, holds-later}
 
 -- a cell written
 module _ {s : Text} {w v : List ℕ} {n next : ℕ} {t : Tree} (m : ℕ) (e : m ≡ n + 1) (x : Linked s w v n next t) where
-  pub cell-written : Written s w v n m 1
+  pub cell-written : WrittenCells s w v n m 1
   cell-written = record { arena = subst (Arena s v) (sym e) (x .arena); kept = below-grown (x .grown); grew = omega arith; used = omega arith }
 
   pub cell-holds : 0 < n → Holds s v m n t
@@ -91,8 +91,8 @@ opens-boxed {s} {w} {v} {u} {x} {y} {n} {m₁} {m₂} {m₃} {m₄} {a} {b} o e�
     }
 
 -- two trees put before a list
-module _ {s : Text} {w v u : List ℕ} {n m b e k : ℕ} {ts : Trees} (x : Written s w v n m b) (d : Made s v u m e k ts) (f : e ≡ m + 2) where
-  pub pair-written : (c : ℕ) → b + 2 ≤ c → Written s w u n e c
+module _ {s : Text} {w v u : List ℕ} {n m b e k : ℕ} {ts : Trees} (x : WrittenCells s w v n m b) (d : Made s v u m e k ts) (f : e ≡ m + 2) where
+  pub pair-written : (c : ℕ) → b + 2 ≤ c → WrittenCells s w u n e c
   pair-written c h = record {
     arena = d .arena;
     kept = below-then (x .kept) (below-grown (d .grown)) (x .grew);
@@ -108,7 +108,7 @@ pub pair-lists : {s : Text} {v u : List ℕ} {m e k : ℕ} (i j l : ℕ) {x y : 
 pair-lists i j l d f g h = record { inside = d .inside; trees = d .trees ∙ (rw (f, g, h)) }
 
 -- a tree and a list of before
-module _ {s : Text} {w v : List ℕ} {n m b : ℕ} (a : Arena s w n) (x : Written s w v n m b) where
+module _ {s : Text} {w v : List ℕ} {n m b : ℕ} (a : Arena s w n) (x : WrittenCells s w v n m b) where
   pub old-tree : (i : ℕ) → 0 < i → i < n → tree-at s v i ≡ tree-at s w i
   old-tree i p q = sym (frame-tree s v (a .links) (x .kept .words) i p q)
 
@@ -117,7 +117,7 @@ module _ {s : Text} {w v : List ℕ} {n m b : ℕ} (a : Arena s w n) (x : Writte
 
 -- a tree that was made
 module _ {s : Text} {w v : List ℕ} {n b next i m : ℕ} {t : Tree} (x : NewTree s w v n b next t i m) where
-  pub new-written : Written s w v n m b
+  pub new-written : WrittenCells s w v n m b
   new-written = record { arena = x .arena; kept = x .kept; grew = x .grew; used = x .used }
 
   pub new-holds : Holds s v m i t
@@ -135,7 +135,7 @@ pub fires-as : {s : Text} {w v : List ℕ} {n : ℕ} {x y : Scheme} {r : Fired} 
 fires-as {s} {w} {v} {n} {r = r} e h = subst (λ (z : Scheme). FiredIs s w v n z r) (sym e) h
 
 -- a firing with one equation, and one with two
-module _ {s : Text} {w v u : List ℕ} {n m b e c : ℕ} (i list : ℕ) (a : Arena s w n) (p : 0 < i) (q : i < n) (r : list < n) (x : Written s w v n m b) where
+module _ {s : Text} {w v u : List ℕ} {n m b e c : ℕ} (i list : ℕ) (a : Arena s w n) (p : 0 < i) (q : i < n) (r : list < n) (x : WrittenCells s w v n m b) where
   pub fires-one : {k l : ℕ} {y t : Tree} (j : ℕ) → Holds s v m k y → Holds s v m l t → Made s v u m e c (more (tree-at s v i) (more (tree-at s v l) (trees-at s v list))) → e ≡ m + 2 → b + 2 ≤ 10
       → (es : List Pair) → trees-at s w list ≡ flatten es → FiredIs s w u n (scheme y ((tree-at s w i, t) ∷ es) j) (record { value = k; equations = c; next = j; free = e })
   unfolding flatten

@@ -16,7 +16,7 @@ use Rattle.tree.specs.Cells.{next-of, tree-at, trees-at}
 use Rattle.tree.specs.Arena.{Arena}
 use Rattle.tree.proofs.Decoding.{same-next, trees-none, trees-more, frame-tree, frame-trees, size-pos}
 use Rattle.schemes.specs.Choices.{over, appended, ways-of, root-of, Shared}
-use Rattle.schemes.specs.Building.{Fresh, Written, Holds, HoldsList, ChoicesReady, RootReady, Roots, Follows, Chooses, joined-as}
+use Rattle.schemes.specs.Building.{Fresh, WrittenCells, Holds, HoldsList, ChoicesReady, RootReady, Roots, Follows, Chooses, joined-as}
 use Rattle.schemes.specs.declared.choosing.Chosen.{Chosen}
 use Rattle.schemes.proofs.Dividing.{Split}
 use Rattle.schemes.proofs.ByChildren.{count-children, scheme-children, sites-children, size-children, over-children, over-ways, over-root, joined-count, a-site, tree-split, child-split}
@@ -25,7 +25,7 @@ use Rattle.schemes.proofs.Writing.{fresh-later, named-later, written-sa
 
 -- the choices for one tree, before it is put into its list, for which a cell is left
 pub record Picks (s : Text) (w v : List ℕ) (n : ℕ) (name : ℕ → Text) (k i c : ℕ) (t : Tree) (r : Chosen) : Type 0 where
-  pub written : Written s w v n (r .free) (2 * size t + 64 * sites t)
+  pub written : WrittenCells s w v n (r .free) (2 * size t + 64 * sites t)
   pub room : r .free + 1 ≤ n + 2 * size t + 64 * sites t
   pub spare : (r .equations ≡ 0) ⊎ (r .free + 49 ≤ n + 2 * size t + 64 * sites t)
   pub value : Holds s v (r .free) (r .values) (scheme-at name t k (i / (c / scheme-count t)) .value)
@@ -128,6 +128,7 @@ module _ {s : Text} {w : List ℕ} {n fresh next index ways : ℕ} (i first : �
           names = omega (arith, chosen .next, x .names, ap site ways-are, h, y, d .names);
           room = omega (arith, u, l, g, h, z, y, d .room);
           bits = omega (arith, u, g, h, z, y, d .bits);
+          pairs = record { pairs = new-children .equations; list = chosen .equations .trees };
         }
 
     -- the root's choice

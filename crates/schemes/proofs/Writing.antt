@@ -11,12 +11,12 @@ use Rattle.tree.specs.Arena.{Arena, Below}
 use Rattle.tree.proofs.Decoding.{frame-tree, frame-trees}
 use Rattle.tree.proofs.Areas.{below-same, below-then}
 use Rattle.schemes.specs.Choices.{appended, Shared}
-use Rattle.schemes.specs.Building.{Fresh, SomeFresh, Single, Written, Holds, HoldsList}
+use Rattle.schemes.specs.Building.{Fresh, SomeFresh, Single, WrittenCells, Holds, HoldsList}
 
-pub written-same : {s : Text} {w : List ℕ} {n : ℕ} (b : ℕ) → Arena s w n → Written s w w n n b
+pub written-same : {s : Text} {w : List ℕ} {n : ℕ} (b : ℕ) → Arena s w n → WrittenCells s w w n n b
 written-same {s} {w} {n} b a = record { arena = a; kept = below-same w n; grew = omega arith; used = omega arith }
 
-pub written-then : {s : Text} {w v u : List ℕ} {n m e b c : ℕ} (d : ℕ) → Written s w v n m b → Written s v u m e c → e ≤ n + d → Written s w u n e d
+pub written-then : {s : Text} {w v u : List ℕ} {n m e b c : ℕ} (d : ℕ) → WrittenCells s w v n m b → WrittenCells s v u m e c → e ≤ n + d → WrittenCells s w u n e d
 written-then d x y h = record {
   arena = y .arena;
   kept = below-then (x .kept) (y .kept) (x .grew);

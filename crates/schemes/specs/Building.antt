@@ -11,7 +11,8 @@ use Rattle.rules.specs.Variants.{Scheme, Joined, scheme-counts, system}
 use Rattle.laws.specs.Schemes.{joined-at, scheme-at}
 use Rattle.laws.specs.Memory.{site, sites-in}
 use Rattle.tree.specs.Cells.{tree-at, trees-at}
-use Rattle.tree.specs.Arena.{Arena, Below}
+use Rattle.tree.specs.Arena.{Arena, Below, Grown}
+use Rattle.substitution.specs.Composing.{SomePairs}
 use Rattle.schemes.specs.Choices.{over, appended, ways-of, root-of, Shared}
 use Rattle.schemes.specs.declared.firing.Pattern.{Pattern}
 use Rattle.schemes.specs.declared.firing.Fired.{Fired}
@@ -30,7 +31,7 @@ pub record SomeFresh (s : Text) (w : List ℕ) (n fresh : ℕ) : Type 0 where
   pub cells : Fresh s w n fresh name
 
 -- from w, with the free end n, to v, with the free end m, by at most b cells
-pub record Written (s : Text) (w v : List ℕ) (n m b : ℕ) : Type 0 where
+pub record WrittenCells (s : Text) (w v : List ℕ) (n m b : ℕ) : Type 0 where
   pub arena : Arena s v m
   pub kept : Below w v n
   pub grew : n ≤ m
@@ -55,14 +56,14 @@ pub record Single (s : Text) (w : List ℕ) (n k : ℕ) : Type 0 where
 
 -- a pattern t with its variables a and b
 pub record Opens (s : Text) (w v : List ℕ) (n : ℕ) (t a b : Tree) (r : Pattern) : Type 0 where
-  pub written : Written s w v n (r .free) 4
+  pub written : WrittenCells s w v n (r .free) 4
   pub whole : Holds s v (r .free) (r .tree) t
   pub left : Holds s v (r .free) (r .left) a
   pub right : Holds s v (r .free) (r .right) b
 
 -- the scheme x of a rule that fires, its equations left, right, left, right
 pub record FiredIs (s : Text) (w v : List ℕ) (n : ℕ) (x : Scheme) (r : Fired) : Type 0 where
-  pub written : Written s w v n (r .free) 10
+  pub written : WrittenCells s w v n (r .free) 10
   pub value : Holds s v (r .free) (r .value) (x .value)
   pub equations : HoldsList s v (r .free) (r .equations) (flatten (x .equations))
   pub next : r .next ≡ x .next
@@ -84,7 +85,7 @@ pub record ChoicesReady (s : Text) (w : List ℕ) (n fresh next index ways i : �
 
 -- cell i is t, by one new cell at most
 pub record KeptAs (s : Text) (w v : List ℕ) (n : ℕ) (t : Tree) (i m : ℕ) : Type 0 where
-  pub written : Written s w v n m 1
+  pub written : WrittenCells s w v n m 1
   pub value : Holds s v m i t
 
 -- the choice at the root of cell i can be made, after those of its children
@@ -100,11 +101,12 @@ pub record RootReady (s : Text) (w : List ℕ) (fresh : ℕ) (below : Chosen) (i
   pub names : below .next + 2 * site (ways-of (over (tree-at s w i) (trees-at s w (below .values)))) ≤ 24
   pub room : 4 * (below .free + 10) ≤ length w
   pub bits : below .free + 10 < 2 ^ 32
+  pub pairs : SomePairs s w (below .equations)
 
 -- the choice at the root of t after those of its children, whose equations are es: its value and equations, and what is left of the
 -- index and the ways; no cells but one where it stays
 pub record Roots (s : Text) (w v : List ℕ) (name : ℕ → Text) (below : Chosen) (t : Tree) (es : List Pair) (r : Chosen) : Type 0 where
-  pub written : Written s w v (below .free) (r .free) 10
+  pub written : WrittenCells s w v (below .free) (r .free) 10
   pub value : Holds s v (r .free) (r .values) (root-of name t (joined-as (children t) es (below .next)) (below .index / (below .ways / ways-of t)) .value)
   pub equations : HoldsList s v (r .free) (r .equations) (flatten (root-of name t (joined-as (children t) es (below .next)) (below .index / (below .ways / ways-of t)) .equations))
   pub next : r .next ≡ root-of name t (joined-as (children t) es (below .next)) (below .index / (below .ways / ways-of t)) .next
@@ -112,16 +114,17 @@ pub record Roots (s : Text) (w v : List ℕ) (name : ℕ → Text) (below : Chos
   pub index : r .index ≡ below .index % (below .ways / ways-of t)
   pub cells : ((r .free ≤ below .free + 1) × (r .equations ≡ below .equations)) ⊎ (1 < ways-of t)
 
--- the list from cell a on before the list from cell b on; nothing is copied where one of them is empty
+-- the list from cell a on before the list from cell b on, in new cells alone; nothing is copied where one of them is empty
 pub record Appends (s : Text) (w v : List ℕ) (n a b i m : ℕ) : Type 0 where
-  pub written : Written s w v n m (count (trees-at s w a))
+  pub written : WrittenCells s w v n m (count (trees-at s w a))
   pub list : HoldsList s v m i (appended (trees-at s w a) (trees-at s w b))
+  pub alone : Grown w v n m
   pub first-none : a ≡ 0 → (m ≡ n) × (i ≡ b)
   pub second-none : b ≡ 0 → (m ≡ n) × (i ≡ a)
 
 -- a value with its equations before the choices for later trees
 pub record Follows (s : Text) (w v : List ℕ) (value equations : ℕ) (rest r : Chosen) : Type 0 where
-  pub written : Written s w v (rest .free) (r .free) (1 + count (trees-at s w equations))
+  pub written : WrittenCells s w v (rest .free) (r .free) (1 + count (trees-at s w equations))
   pub values : HoldsList s v (r .free) (r .values) (more (tree-at s w value) (trees-at s w (rest .values)))
   pub list : HoldsList s v (r .free) (r .equations) (appended (trees-at s w equations) (trees-at s w (rest .equations)))
   pub next : r .next ≡ rest .next
@@ -134,7 +137,7 @@ pub record Follows (s : Text) (w v : List ℕ) (value equations : ℕ) (rest r :
 -- and of c is for later trees. A list with equations leaves 48 cells unused: they are for copying its equations before those of a
 -- later list, of which there are at most 24.
 pub record Chooses (s : Text) (w v : List ℕ) (n : ℕ) (name : ℕ → Text) (k i c : ℕ) (ts : Trees) (r : Chosen) : Type 0 where
-  pub written : Written s w v n (r .free) (2 * sizes ts + 64 * sites-in ts)
+  pub written : WrittenCells s w v n (r .free) (2 * sizes ts + 64 * sites-in ts)
   pub spare : (r .equations ≡ 0) ⊎ (r .free + 48 ≤ n + 2 * sizes ts + 64 * sites-in ts)
   pub values : HoldsList s v (r .free) (r .values) (joined-at name ts k (i / (c / scheme-counts ts)) .values)
   pub equations : HoldsList s v (r .free) (r .equations) (flatten (joined-at name ts k (i / (c / scheme-counts ts)) .equations))
@@ -144,6 +147,6 @@ pub record Chooses (s : Text) (w v : List ℕ) (n : ℕ) (name : ℕ → Text) (
 
 -- the value and the system of the i-th scheme of a term
 pub record Systems (s : Text) (w v : List ℕ) (n : ℕ) (name : ℕ → Text) (i : ℕ) (term : Tree) (r : code.System) : Type 0 where
-  pub written : Written s w v n (r .free) (2 * size term + 1024)
+  pub written : WrittenCells s w v n (r .free) (2 * size term + 1024)
   pub value : Holds s v (r .free) (r .value) (scheme-at name term 0 i .value)
   pub stack : HoldsList s v (r .free) (r .stack) (flatten (system term (scheme-at name term 0 i)))

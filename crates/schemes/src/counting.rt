@@ -1,8 +1,8 @@
 // The choices at a root, and the count of schemes.
-use reduction::naming::RuleName;
-use reduction::naming::one_argument;
-use reduction::naming::rule_named;
-use reduction::naming::two_arguments;
+use rewriting::naming::RuleName;
+use rewriting::naming::one_argument;
+use rewriting::naming::rule_named;
+use rewriting::naming::two_arguments;
 use tree::cells::APPLICATION;
 use tree::cells::kind_of;
 use tree::cells::next_of;

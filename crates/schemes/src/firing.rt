@@ -1,7 +1,7 @@
 // A rule that fires: its pattern over fresh variables, its value and its equations.
 use reduction::building::leaf;
-use reduction::naming::RuleName;
-use reduction::naming::rule_named;
+use rewriting::naming::RuleName;
+use rewriting::naming::rule_named;
 use substitution::bindings::push_pair;
 use tree::cells::APPLICATION;
 use tree::cells::next_of;
@@ -19,6 +19,7 @@ ghost use Rattle.rules.specs.Variants.{scheme};
 ghost use Rattle.laws.specs.Schemes.{root-count, root-at};
 ghost use Rattle.tree.specs.Cells.{name-at, fixed-name, tree-at, trees-at};
 ghost use Rattle.tree.specs.Arena.{Arena, Linked};
+ghost use Rattle.substitution.specs.Composing.{SomePairs};
 ghost use Rattle.schemes.specs.Choices.{cipher};
 ghost use Rattle.schemes.specs.Building.{Fresh, SomeFresh, Single, Opens, FiredIs, joined-as};
 
@@ -108,6 +109,7 @@ fn take_part(
     requires { ⌜ Arena (now sheet) (now work) free × SomeFresh (now sheet) (now work) free fresh ⌝ }
     requires { ⌜ (0 < i) × (i < free) × (list < free) × (n + 1 < 24) ⌝ }
     requires { ⌜ (4 * (free + 10) ≤ length (now work)) × (free + 10 < 2 ^ 32) ⌝ }
+    requires { ⌜ SomePairs (now sheet) (now work) list ⌝ }
     ensures { λ r. ⌜ ((es : List Pair) → trees-at (now (sheet .entry)) (now (work .entry)) list ≡ flatten es → FiredIs (now (sheet .entry)) (now (work .entry)) (now (work .exit)) free (scheme (pick first (tree-at (now (sheet .entry)) (now (work .entry)) (fresh + n)) (tree-at (now (sheet .entry)) (now (work .entry)) (fresh + (n + 1)))) ((tree-at (now (sheet .entry)) (now (work .entry)) i, two (fixed-name 3) (tree-at (now (sheet .entry)) (now (work .entry)) (fresh + n)) (tree-at (now (sheet .entry)) (now (work .entry)) (fresh + (n + 1)))) ∷ es) (n + 2)) r) ⌝ }
 {
     let pair = plain(sheet, work, free, 3, fresh + n, fresh + (n + 1));
@@ -141,6 +143,7 @@ fn take_role(
     requires { ⌜ Arena (now sheet) (now work) free ⌝ }
     requires { ⌜ (0 < i) × (i < free) × (list < free) × (0 < code) × (code < 3) ⌝ }
     requires { ⌜ (4 * (free + 10) ≤ length (now work)) × (free + 10 < 2 ^ 32) ⌝ }
+    requires { ⌜ SomePairs (now sheet) (now work) list ⌝ }
     ensures { λ r. ⌜ ((es : List Pair) → trees-at (now (sheet .entry)) (now (work .entry)) list ≡ flatten es → FiredIs (now (sheet .entry)) (now (work .entry)) (now (work .exit)) free (scheme (constant (fixed-name (3 - code))) ((tree-at (now (sheet .entry)) (now (work .entry)) i, constant (fixed-name code)) ∷ es) n) r) ⌝ }
 {
     let value = leaf(sheet, work, free, 3 - code, 0);
@@ -182,6 +185,7 @@ fn take_payload(
     requires { ⌜ Arena (now sheet) (now work) free × SomeFresh (now sheet) (now work) free fresh ⌝ }
     requires { ⌜ (0 < i) × (i < free) × (0 < j) × (j < free) × (list < free) × (n + 1 < 24) ⌝ }
     requires { ⌜ (4 * (free + 10) ≤ length (now work)) × (free + 10 < 2 ^ 32) ⌝ }
+    requires { ⌜ SomePairs (now sheet) (now work) list ⌝ }
     ensures { λ r. ⌜ ((es : List Pair) → trees-at (now (sheet .entry)) (now (work .entry)) list ≡ flatten es → FiredIs (now (sheet .entry)) (now (work .entry)) (now (work .exit)) free (scheme (tree-at (now (sheet .entry)) (now (work .entry)) (fresh + n)) ((tree-at (now (sheet .entry)) (now (work .entry)) i, cipher kem (tree-at (now (sheet .entry)) (now (work .entry)) (fresh + n)) (tree-at (now (sheet .entry)) (now (work .entry)) (fresh + (n + 1)))) ∷ (tree-at (now (sheet .entry)) (now (work .entry)) j, tree-at (now (sheet .entry)) (now (work .entry)) (fresh + (n + 1))) ∷ es) (n + 2)) r) ⌝ }
 {
     let sealed = sealing(sheet, work, free, fresh + n, fresh + (n + 1), kem);
@@ -211,6 +215,7 @@ pub(crate) fn fire(
     requires { ⌜ (0 < i) × (i < free) × (first < free) × (list < free) × (n + 1 < 24) ⌝ }
     requires { ⌜ (0 < choice) × (choice < root-count (name-at (now sheet) (now work) i) (trees-at (now sheet) (now work) first)) ⌝ }
     requires { ⌜ (4 * (free + 10) ≤ length (now work)) × (free + 10 < 2 ^ 32) ⌝ }
+    requires { ⌜ SomePairs (now sheet) (now work) list ⌝ }
     ensures { λ r. ⌜ ((name : ℕ → Text) → Fresh (now (sheet .entry)) (now (work .entry)) free fresh name → (es : List Pair) → trees-at (now (sheet .entry)) (now (work .entry)) list ≡ flatten es → FiredIs (now (sheet .entry)) (now (work .entry)) (now (work .exit)) free (root-at name (name-at (now (sheet .entry)) (now (work .entry)) i) (joined-as (trees-at (now (sheet .entry)) (now (work .entry)) first) es n) choice) r) ⌝ }
 {
     let rule = rule_named(sheet, work, free, i);

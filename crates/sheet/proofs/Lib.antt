@@ -1,9 +1,1 @@
 pub mod LineLaws
-pub mod PairLaws
-pub mod Distinct
-pub mod MemberLaws
-pub mod KeyLaws
-pub mod FormLaws
-pub mod SheetLaws
-pub mod WalkLaws
-pub mod WordLaws

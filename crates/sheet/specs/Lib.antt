@@ -1,5 +1,3 @@
 pub mod Lines
 pub mod Pairs
-pub mod Members
-pub mod Form
 pub mod Claims

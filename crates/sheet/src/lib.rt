@@ -1,7 +1,5 @@
 // The lines of a sheet: a cursor that is handed on by value, lines with a key, two lines that belong together.
-pub mod form; // form.rt: the kinds of sheet
 pub mod claims; // claims.rt: what is claimed of members
-mod members; // members.rt: the members of a sheet
 
 use text::begins;
 ghost use mathlib.Core.Path.{_≡_};

@@ -14,7 +14,7 @@ use Rattle.tree.proofs.Decoding.{trees-none, trees-more}
 use Rattle.tree.proofs.Areas.{grown-then}
 use Rattle.substitution.specs.Building.{Made}
 use Rattle.substitution.proofs.Growing.{made-same, made-tree}
-use Rattle.steps.specs.Stack.{pairs-of, pushes}
+use Rattle.elimination.specs.Stack.{pairs-of, pushes}
 
 -- pairs read back
 pub pairs-flatten : (ps : List Pair) → pairs-of (flatten ps) ≡ ps

@@ -14,7 +14,7 @@ use Rattle.rules.specs.Solving.{push-children}
 use Rattle.tree.specs.Cells.{next-of, trees-at}
 use Rattle.tree.specs.Arena.{Links}
 use Rattle.tree.proofs.Decoding.{trees-none, trees-more}
-use Rattle.steps.specs.Differing.{all-same, Differing, common-count}
+use Rattle.elimination.specs.Differing.{all-same, Differing, common-count}
 
 pub differing-none : (ps : List Pair) → Differing 0 ps
 differing-none ps p = absurd (omega arith)

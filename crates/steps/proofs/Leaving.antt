@@ -11,8 +11,8 @@ use Rattle.rules.specs.Bytes.{Text}
 use Rattle.rules.specs.Tree.{Tree}
 use Rattle.text.proofs.Slices.{slice-none}
 use Rattle.tree.specs.Cells.{tree-at}
-use Rattle.equivalence.specs.Sums.{remaining}
-use Rattle.equivalence.proofs.Gathering.{remaining-some, remaining-zero}
+use Rattle.sums.specs.Sums.{remaining}
+use Rattle.sums.proofs.Gathering.{remaining-some, remaining-zero}
 use Rattle.steps.specs.Resting.{Several, LeftIs}
 use Rattle.steps.specs.declared.rest.Left.the-variants as left
 

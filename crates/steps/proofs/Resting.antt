@@ -19,11 +19,11 @@ use Rattle.tree.specs.Cells.{kind-of, nodes-of, name-at, tree-at}
 use Rattle.tree.specs.Arena.{Arena, Below}
 use Rattle.tree.proofs.Decoding.{Agree, same-kind, same-name, frame-tree}
 use Rattle.tree.proofs.Areas.{below-same, below-grown, below-then}
-use Rattle.equivalence.specs.Sums.{remaining, heavy, test, SumsCancelled, Rebuilt}
-use Rattle.equivalence.proofs.Gathering.{remaining-frame}
+use Rattle.sums.specs.Sums.{remaining, heavy, test, SumsCancelled, Rebuilt}
+use Rattle.sums.proofs.Gathering.{remaining-frame}
 use Rattle.equivalence.proofs.Scratch.{below-kept}
-use Rattle.steps.specs.Area.{Room}
-use Rattle.steps.specs.Stack.{Fit}
+use Rattle.elimination.specs.Area.{Room}
+use Rattle.elimination.specs.Stack.{Fit}
 use Rattle.steps.specs.Resting.{Several, LeftIs, Summable, RestIs, RemainderIs}
 use Rattle.steps.specs.declared.rest.Left.{Left}
 use Rattle.steps.specs.declared.rest.Left.the-variants as left

@@ -1,5 +1,1 @@
-pub mod Stack
-pub mod Differing
-pub mod Area
 pub mod Resting
-pub mod Stepping

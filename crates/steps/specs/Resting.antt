@@ -10,7 +10,7 @@ use Rattle.rules.specs.Tree.{Tree}
 use Rattle.rules.specs.Solving as rules
 use Rattle.tree.specs.Cells.{tree-at}
 use Rattle.tree.specs.Arena.{Arena, Below}
-use Rattle.equivalence.specs.Sums.{remaining, heavy}
+use Rattle.sums.specs.Sums.{remaining, heavy}
 use Rattle.steps.specs.declared.rest.Left.{Left}
 use Rattle.steps.specs.declared.rest.Left.the-variants as left
 use Rattle.steps.specs.declared.rest.Rest.{Rest}

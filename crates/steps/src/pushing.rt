@@ -10,8 +10,8 @@ ghost use Rattle.laws.specs.Memory.{pushed};
 ghost use Rattle.tree.specs.Cells.{trees-at};
 ghost use Rattle.tree.specs.Arena.{Links, Arena};
 ghost use Rattle.substitution.specs.Building.{Made};
-ghost use Rattle.steps.specs.Stack.{pushes};
-ghost use Rattle.steps.specs.Differing.{common-count};
+ghost use Rattle.elimination.specs.Stack.{pushes};
+ghost use Rattle.elimination.specs.Differing.{common-count};
 
 // How many pairs the lists from cells left and right on make, if both are of one length; else 0.
 pub fn paired(work: &[u32], free: usize, left: usize, right: usize) -> usize

@@ -1,7 +1,7 @@
 // What is left of two sums when their summands have cancelled (unifier.rs, `cancel_sums`). The `cancels` closure is two functions over
 // shared parts.
-use equivalence::sums::prepare;
-use equivalence::sums::rebuild;
+use sums::prepare;
+use sums::rebuild;
 use text::places::wide;
 use tree::cells::count_of;
 ghost use mathlib.Core.Path.{_≡_};
@@ -18,9 +18,9 @@ ghost use Rattle.rules.specs.Matching.{ground-eq};
 ghost use Rattle.laws.specs.Memory.{kept-summands};
 ghost use Rattle.tree.specs.Cells.{kind-of, name-at, tree-at};
 ghost use Rattle.tree.specs.Arena.{Arena};
-ghost use Rattle.equivalence.specs.Sums.{test, remaining};
-ghost use Rattle.steps.specs.Stack.{Fit};
-ghost use Rattle.steps.specs.Area.{Room};
+ghost use Rattle.sums.specs.Sums.{test, remaining};
+ghost use Rattle.elimination.specs.Stack.{Fit};
+ghost use Rattle.elimination.specs.Area.{Room};
 ghost use Rattle.steps.specs.Resting.{Several, LeftIs, Summable, RestIs, RemainderIs};
 
 // How many of the cells are not taken out: none, one, which it is, or more.

@@ -21,6 +21,11 @@ use Rattle.substitution.specs.declared.solving.Composition.the-variants 
 abbrev pub put-pairs : Text → Tree → List Pair → List Pair
 put-pairs x t ps = instantiate-pairs ((x, t) ∷ []) ps
 
+-- the list from cell k on is one of pairs: left, right, left, right, ..
+pub record SomePairs (s : Text) (w : List ℕ) (k : ℕ) : Type 0 where
+  pub pairs : List Pair
+  pub list : trees-at s w k ≡ flatten pairs
+
 -- from w, with the free end n, to v, with the free end m: the waiting pairs are the list from cell i on
 pub record Put (s : Text) (w v : List ℕ) (n : ℕ) (x : Text) (t : Tree) (ps : List Pair) (i m : ℕ) : Type 0 where
   pub step : bind-into x t ps ≡ bind x t (put-pairs x t ps)
@@ -39,6 +44,6 @@ pub record ComposedAt (s : Text) (w v : List ℕ) (n : ℕ) (es : List Binding) 
   pub made : Made s w v n m b (trees-at s v b)
   pub used : m ≤ n + 4097 * length es
 
-abbrev pub Composes : Text → List ℕ → List ℕ → ℕ → List Binding → Composition → Type 0
-Composes s w v n es (composition.Composed b m) = ComposedAt s w v n es b m
-Composes s w v n es composition.Over = (compose (reverse es) ≡ nothing) × Grown w v n (n + 4097 * length es)
+abbrev pub ComposesCells : Text → List ℕ → List ℕ → ℕ → List Binding → Composition → Type 0
+ComposesCells s w v n es (composition.Composed b m) = ComposedAt s w v n es b m
+ComposesCells s w v n es composition.Over = (compose (reverse es) ≡ nothing) × Grown w v n (n + 4097 * length es)

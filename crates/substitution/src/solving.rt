@@ -14,7 +14,7 @@ ghost use Rattle.rules.specs.Substitution.{Pair, flatten};
 ghost use Rattle.tree.specs.Cells.{name-at, tree-at, trees-at};
 ghost use Rattle.tree.specs.Arena.{Arena};
 ghost use Rattle.substitution.specs.Bindings.{bindings-at, Chain};
-ghost use Rattle.substitution.specs.Composing.{BindsInto, Composes};
+ghost use Rattle.substitution.specs.Composing.{SomePairs, BindsInto, ComposesCells};
 
 // The waiting pairs after a binding, or too many nodes in all.
 pub enum Waiting {
@@ -35,6 +35,7 @@ pub fn bind_into(
     requires { ⌜ Arena (now sheet) (now work) free ⌝ }
     requires { ⌜ (0 < key) × (key < free) × (0 < value) × (value < free) × (stack < free) ⌝ }
     requires { ⌜ (4 * (free + 4098) ≤ length (now work)) × (free + 4098 < 2 ^ 32) ⌝ }
+    requires { ⌜ SomePairs (now sheet) (now work) stack ⌝ }
     ensures { λ r. ⌜ ((ps : List Pair) → trees-at (now (sheet .entry)) (now (work .entry)) stack ≡ flatten ps → BindsInto (now (sheet .entry)) (now (work .entry)) (now (work .exit)) free (name-at (now (sheet .entry)) (now (work .entry)) key) (tree-at (now (sheet .entry)) (now (work .entry)) value) ps r) ⌝ }
 {
     let one = push_pair(sheet, work, free, key, value, 0);
@@ -65,7 +66,7 @@ pub fn compose(sheet: &[u8], work: &mut [u32], free: usize, made: usize) -> Comp
     requires { ⌜ Arena (now sheet) (now work) free ⌝ }
     requires { ⌜ (made < free) × Chain (trees-at (now sheet) (now work) made) ⌝ }
     requires { ⌜ (4 * (free + 4097 * length (bindings-at (now sheet) (now work) made)) ≤ length (now work)) × (free + 4097 * length (bindings-at (now sheet) (now work) made) < 2 ^ 32) ⌝ }
-    ensures { λ r. ⌜ Composes (now (sheet .entry)) (now (work .entry)) (now (work .exit)) free (bindings-at (now (sheet .entry)) (now (work .entry)) made) r ⌝ }
+    ensures { λ r. ⌜ ComposesCells (now (sheet .entry)) (now (work .entry)) (now (work .exit)) free (bindings-at (now (sheet .entry)) (now (work .entry)) made) r ⌝ }
 {
     let mut left = made;
     let mut end = free;

@@ -7,6 +7,4 @@ pub mod Areas
 pub mod Naming
 pub mod Printing
 pub mod Comparing
-pub mod Rendering
-pub mod Lengths
 pub mod Example

@@ -8,6 +8,7 @@ use native.Mathlib.Nat.{add-zero}
 use native.Mathlib.Numerals.{add-one}
 use native.Mathlib.Omega.{arith}
 use Rattle.rules.specs.Bytes.{Text}
+use Rattle.rules.specs.Answer.{line}
 use Rattle.text.specs.Printing.{printed-over, Printed}
 
 pub written-none : (out : List ℕ) (at : ℕ) → printed-over out at [] ≡ out
@@ -63,3 +64,13 @@ written-more out text at i h l =
 
 pub printed-none : (out : Text) (at : ℕ) {t : Text} → t ≡ [] → Printed out out at t at
 printed-none out at e = rw e record { bytes = sym (written-none out at); end = omega arith }
+
+-- a line: its key, its value, byte 10
+pub line-length : (key v : Text) → length (line key v) ≡ length key + length v + 1
+line-length key v = simp length-append
+
+pub line-printed : {out a b c : Text} {at i j n : ℕ} (key v : Text) → at + (length key + length v + 1) ≤ length out → Printed out a at key i → Printed a b i v j → Printed b c j (10 ∷ []) n
+    → Printed out c at (line key v) n
+line-printed key v h p q r =
+    let f = length-append key v in
+    printed-then (omega arith) (printed-then (omega arith) p q) r

@@ -1,4 +1,2 @@
 pub mod Cells
 pub mod Arena
-pub mod Marked
-pub mod Measure

@@ -1,4 +1,5 @@
 // The words of a cell, and new cells at the free end.
+use text::places::wide;
 ghost use mathlib.Core.Path.{_≡_};
 ghost use Prim.Native.Nat.{_+_, _*_, _<_, _≤_, _^_};
 ghost use lib.ListN.{length};
@@ -27,13 +28,6 @@ pub const ATOMS: usize = 7;
 
 // The first code of a name that no sheet spells.
 const UNSPELLED: usize = 7;
-
-// A word as an index, and its bound.
-fn wide(x: u32) -> usize
-    ensures { λ r. ⌜ (r ≡ x) × (r < 2 ^ 32) ⌝ }
-{
-    x as usize
-}
 
 // The start of a cell's name in the sheet, or the code of its name.
 pub fn start_of(work: &[u32], k: usize) -> usize

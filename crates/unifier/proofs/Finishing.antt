@@ -8,7 +8,7 @@ use Rattle.rules.specs.Bytes.{Text}
 use Rattle.rules.specs.Substitution.{Binding, Pair}
 use Rattle.rules.specs.Solving.{unsupported, Answer, composed, finish, run, unify}
 use Rattle.substitution.specs.Bindings.{bindings-at}
-use Rattle.substitution.specs.Composing.{ComposedAt, Composes}
+use Rattle.substitution.specs.Composing.{ComposedAt, ComposesCells}
 use Rattle.substitution.specs.declared.solving.Composition.the-variants as composition
 use Rattle.tree.specs.Arena.{Below}
 use Rattle.tree.proofs.Areas.{below-then, below-grown}
@@ -33,7 +33,7 @@ module _ {s : Text} {w v u : List ℕ} {n b m spent : ℕ} (k : ℕ) (ps : List 
     },
   )
 
-  pub finished-over : Composes s v u m (bindings-at s v b) composition.Over → (unify k ps ≡ (unsupported, spent)) × Below w u n
+  pub finished-over : ComposesCells s v u m (bindings-at s v b) composition.Over → (unify k ps ≡ (unsupported, spent)) × Below w u n
   finished-over j = (
     finished k ps _ (r .is) ∙ ap (λ (o : Option (List Binding)). (composed o, spent)) (j .0),
     below-then (r .list .below) (below-grown (j .1)) (r .list .grew),

@@ -18,15 +18,15 @@ use Rattle.tree.proofs.Areas.{below-same, below-then, below-grown}
 use Rattle.substitution.specs.Bindings.{bindings-of, bindings-at, flatten-bindings, Chain}
 use Rattle.substitution.specs.Building.{Made}
 use Rattle.substitution.proofs.Chains.{bindings-flatten, chain-flatten}
-use Rattle.steps.specs.Stack.{pairs-at, Whole, FitPairs}
-use Rattle.steps.specs.Area.{Room}
-use Rattle.steps.specs.Differing.{Differing}
-use Rattle.steps.specs.Stepping.{TakenIs}
-use Rattle.steps.specs.declared.elimination.Taken.{Taken}
-use Rattle.steps.specs.declared.elimination.Taken.the-variants as taken
+use Rattle.elimination.specs.Stack.{pairs-at, Whole, FitPairs}
+use Rattle.elimination.specs.Area.{Room}
+use Rattle.elimination.specs.Differing.{Differing}
+use Rattle.elimination.specs.Stepping.{TakenIs}
+use Rattle.elimination.specs.declared.Taken.{Taken}
+use Rattle.elimination.specs.declared.Taken.the-variants as taken
 use Rattle.steps.proofs.Differing.{differing-none}
 use Rattle.unifier.specs.Running.{Roomy, Ran}
-use Rattle.unifier.proofs.Fitting.{FitStep, step-fit}
+use Rattle.steps.proofs.Fitting.{FitStep, step-fit}
 use Rattle.unifier.proofs.Tops.{stack-empty, Top, right-some, top, top-pairs, top-weight, top-fit}
 use Rattle.unifier.proofs.Resuming.{with-bindings, resumed, with-none, with-more, run-end, run-step, run-spent}
 

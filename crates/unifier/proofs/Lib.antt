@@ -1,8 +1,5 @@
-pub mod Fitting
 pub mod Tops
 pub mod Resuming
 pub mod Invariant
 pub mod Finishing
-pub mod Sums
-pub mod Steps
 pub mod Parts

@@ -11,7 +11,7 @@ use Rattle.laws.specs.Memory.{load, weight}
 use Rattle.tree.specs.Cells.{next-of, tree-at, trees-at}
 use Rattle.tree.specs.Arena.{Links}
 use Rattle.tree.proofs.Decoding.{trees-none, trees-more}
-use Rattle.steps.specs.Stack.{pairs-of, pairs-at, Whole, Fit, FitPairs}
+use Rattle.elimination.specs.Stack.{pairs-of, pairs-at, Whole, Fit, FitPairs}
 use Rattle.steps.proofs.Children.{pairs-flatten}
 
 -- a list of trees that is that of pairs

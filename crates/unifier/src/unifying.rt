@@ -1,6 +1,6 @@
 // `unify`: pairs are taken from the stack until there are none, a pair ends the run or the fuel is spent; then the bindings are composed.
-use crate::stepping::step;
-use steps::elimination::Taken;
+use elimination::Taken;
+use stepping::step;
 use substitution::bindings::push_pair;
 use substitution::solving::Composition;
 use substitution::solving::compose;
@@ -9,7 +9,7 @@ ghost use Prim.Native.Nat.{_<_, _≤_};
 ghost use Rattle.rules.specs.Solving.{run, unify};
 ghost use Rattle.tree.specs.Cells.{trees-at};
 ghost use Rattle.tree.specs.Arena.{Arena};
-ghost use Rattle.steps.specs.Stack.{Whole, pairs-at, FitPairs};
+ghost use Rattle.elimination.specs.Stack.{Whole, pairs-at, FitPairs};
 ghost use Rattle.unifier.specs.Running.{Roomy, Runs, Answers};
 
 // A verdict with the number of pairs taken from the stack. The bindings are a list: the key and the value of each in turn.

@@ -22,8 +22,8 @@ use Rattle.tree.specs.Arena.{Arena, WroteCell, Linked}
 use Rattle.tree.proofs.Decoding.{made-variable, trees-none}
 use Rattle.tree.proofs.Pushing.{name-push, arena-push, linked}
 use Rattle.tree.proofs.Areas.{grown-same}
-use Rattle.reading.specs.Leaves.{leaf-kind}
-use Rattle.reading.proofs.LeafLaws.{Leaf, plain, sorted, leaf-by, kind-some}
+use Rattle.leaves.specs.Leaves.{leaf-kind}
+use Rattle.leaves.proofs.LeafLaws.{Leaf, plain, sorted, leaf-by, kind-some}
 use Rattle.substitution.specs.Building.{Made}
 use Rattle.substitution.proofs.Growing.{made-linked}
 use Rattle.text.proofs.Slices.{slice-none}

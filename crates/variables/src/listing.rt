@@ -1,5 +1,5 @@
 // Variables at places of the sheet as a list of cells.
-use reading::leaves::leaf_kind;
+use leaves::leaf_kind;
 use substitution::bindings::Pushed;
 use text::places::text_at;
 use text::places::wide;

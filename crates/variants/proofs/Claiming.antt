@@ -23,12 +23,12 @@ use Rattle.equivalence.proofs.Scratch.{below-kept}
 use Rattle.substitution.specs.Bindings.{bindings-at}
 use Rattle.substitution.specs.Building.{Placed, instance-at}
 use Rattle.text.specs.Frames.{Outside}
-use Rattle.reduction.specs.Building.{NewTree}
-use Rattle.reduction.proofs.NormalForms.{normalize-size}
-use Rattle.sheet.specs.Members.{members-at}
-use Rattle.variants.specs.Members.{nameable, Alike, ReadMember, ReadsMember}
+use Rattle.rewriting.specs.Building.{NewTree}
+use Rattle.laws.proofs.Reduction.Sizes.{normalize-size}
+use Rattle.forms.specs.Members.{members-at}
+use Rattle.variants.specs.Members.{nameable, Alike, MemberThere, ReadMember, ReadsMember}
 use Rattle.sheet.specs.Claims.{truth}
-use Rattle.variants.specs.Soundness.{reduces-to, ClaimsInstance, ClaimsSound}
+use Rattle.variants.specs.Soundness.{reduces-to, ClaimsInstance, OneMember, ClaimsSound}
 use Rattle.variants.specs.declared.members.Variant.the-variants as variant
 use Rattle.sheet.specs.declared.claims.Claim.{Claim}
 use Rattle.sheet.specs.declared.claims.Claim.the-variants.{Nothing}
@@ -106,6 +106,9 @@ module _ {s : Text} {w v u : List ℕ} {n index end left i stop : ℕ} (term lis
   reduced-kept k = below-then (below-then (below-grown (one .before .grown)) (two .kept) (one .before .grew)) (below-kept {n = stop} k (omega arith)) (omega (arith, one .before .grew, two .grew))
 
 -- ---- a member
+
+pub one-there : {s : Text} {at : ℕ} → OneMember s at → MemberThere s at
+one-there o = record { member = o .member; later = []; are = o .is }
 
 sound-unread : (term : Tree) (m : Member) → read-member m ≡ nothing → nothing ≡ sound term m
 unfolding sound

@@ -30,13 +30,13 @@ use Rattle.substitution.proofs.Keys.{bindings-none}
 use Rattle.substitution.proofs.Chains.{chain-none}
 use Rattle.sheet.specs.Lines.{part-of, lines-at}
 use Rattle.sheet.specs.Pairs.{two-lines-at, entries-by, entries-before}
-use Rattle.sheet.specs.Members.{Walks}
-use Rattle.sheet.specs.Form.{text-of, Inside}
+use Rattle.forms.specs.Members.{Walks}
+use Rattle.forms.specs.Form.{text-of, Inside}
 use Rattle.sheet.specs.declared.Cursor.{Cursor}
 use Rattle.sheet.specs.declared.Place.{Place}
 use Rattle.sheet.specs.declared.PairLine.the-variants.{Sides, End}
-use Rattle.sheet.proofs.PairLaws.{paired, walk-starts, walk-turn}
-use Rattle.sheet.proofs.WalkLaws.{two-there}
+use Rattle.forms.proofs.PairLaws.{paired, walk-starts, walk-turn}
+use Rattle.forms.proofs.WalkLaws.{two-there}
 use Rattle.variants.specs.Members.{nameable, binding-before, entry-end, ReadEntry, ReadsEntry, texts-end, ReadEntries, ReadsEntries}
 use Rattle.variants.specs.declared.members.Bindings.the-variants as bindings
 use Rattle.variants.specs.declared.members.Entries.the-variants as entries

@@ -16,8 +16,8 @@ use Rattle.text.proofs.Sameness.{same-swap}
 use Rattle.laws.proofs.Basics.Tests.{and-split, and-both, neither, neither-left, neither-right, same-eq, same-self, differ-of-ne}
 use Rattle.substitution.specs.Bindings.{bindings-of, Chain}
 use Rattle.substitution.proofs.Chains.{chain-more}
-use Rattle.sheet.specs.Members.{keys-of, distinct}
-use Rattle.sheet.proofs.Distinct.{distinct-keys-are}
+use Rattle.forms.specs.Members.{keys-of, distinct}
+use Rattle.forms.proofs.Distinct.{distinct-keys-are}
 use Rattle.variants.specs.Members.{nameable, binding-before, Alike}
 
 -- ---- keys

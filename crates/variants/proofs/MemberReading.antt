@@ -22,11 +22,11 @@ use Rattle.reading.specs.Parsing.{Read, Parses}
 use Rattle.reading.specs.declared.Parsed.the-variants as parsed
 use Rattle.sheet.specs.Lines.{part-of, lines-at, value-at}
 use Rattle.sheet.specs.Pairs.{entries-by, entries-before}
-use Rattle.sheet.specs.Members.{members-at}
+use Rattle.forms.specs.Members.{members-at}
 use Rattle.sheet.specs.declared.Cursor.{Cursor}
 use Rattle.sheet.specs.declared.Line.the-variants.{Whole, Missing}
 use Rattle.sheet.proofs.LineLaws.{keyed}
-use Rattle.sheet.proofs.WalkLaws.{two-end, member-end, member-next, members-later}
+use Rattle.forms.proofs.WalkLaws.{two-end, member-end, member-next, members-later}
 use Rattle.variants.specs.Members.{ReadEntries, ReadsEntries, MemberReads, ReadMember, ReadsMember}
 use Rattle.variants.specs.declared.members.Entries.the-variants as entries
 use Rattle.variants.specs.declared.members.Variant.the-variants as variant

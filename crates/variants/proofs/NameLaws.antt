@@ -16,10 +16,10 @@ use Rattle.tree.specs.Cells.{kind-of, start-of, length-of, named, name-at, part
 use Rattle.tree.specs.Arena.{Place, Arena, WroteCell, Linked}
 use Rattle.tree.proofs.Decoding.{made-variable}
 use Rattle.tree.proofs.FixedNames.{fixed-some}
-use Rattle.reading.specs.Leaves.{leaf-kind}
-use Rattle.reading.specs.Words.{NamePlaced}
-use Rattle.reading.proofs.LeafLaws.{kind-some, leaf-sorted}
-use Rattle.reading.proofs.Making.{named-part, place-of, linked-at}
+use Rattle.leaves.specs.Leaves.{leaf-kind}
+use Rattle.closing.specs.Words.{NamePlaced}
+use Rattle.leaves.proofs.LeafLaws.{kind-some, leaf-sorted}
+use Rattle.closing.proofs.Making.{named-part, place-of, linked-at}
 use Rattle.variants.specs.Members.{nameable}
 
 -- ---- the test, byte by byte

@@ -19,8 +19,8 @@ use Rattle.tree.specs.Arena.{Arena, Below}
 use Rattle.substitution.specs.Bindings.{bindings-at, Chain}
 use Rattle.sheet.specs.Lines.{lines-at}
 use Rattle.sheet.specs.Pairs.{two-lines-at, entries-by}
-use Rattle.sheet.specs.Members.{members-at, Walks}
-use Rattle.sheet.specs.Form.{text-of}
+use Rattle.forms.specs.Members.{members-at, Walks}
+use Rattle.forms.specs.Form.{text-of}
 use Rattle.sheet.specs.declared.Place.{Place}
 use Rattle.sheet.specs.declared.PairLine.the-variants.{End}
 use Rattle.variants.specs.declared.members.Bindings.{Bindings}
@@ -89,6 +89,12 @@ abbrev pub ReadsEntries : Text → List ℕ → List ℕ → ℕ → ℕ → Ent
 ReadsEntries s w v n at (entries.Stack i m c) = ReadEntries s w v n at i m (c .at)
 ReadsEntries s w v n at entries.Unreadable =
     ((es : List Entry) (rest : List Text) → (lines-at s at >>= entries-by (bytes "key=") (bytes "value=")) ≡ some (es, rest) → every (map read-entry es) ≡ nothing) × Below w v n
+
+-- a member stands at a position, and others after it
+pub record MemberThere (s : Text) (at : ℕ) : Type 0 where
+  pub member : Member
+  pub later : List Member
+  pub are : members-at s at ≡ some (member ∷ later)
 
 -- the member m reads as the tree of cell k and the bindings bs; the list from cell i on gives every variable the same value as bs; the
 -- members ms follow at c

@@ -15,7 +15,7 @@ use Rattle.rules.specs.Variants.{instance-of, sound}
 use Rattle.tree.specs.Cells.{tree-at}
 use Rattle.tree.specs.Arena.{Below}
 use Rattle.substitution.specs.Bindings.{bindings-at}
-use Rattle.sheet.specs.Members.{members-at}
+use Rattle.forms.specs.Members.{members-at}
 use Rattle.sheet.specs.Claims.{truth}
 use Rattle.sheet.specs.declared.claims.Claim.{Claim}
 
@@ -26,6 +26,11 @@ reduces-to bs term t = instance-of bs term >>= λ i. some (equivalent (normalize
 
 abbrev pub ClaimsInstance : Text → List ℕ → List ℕ → ℕ → ℕ → ℕ → ℕ → Claim → Type 0
 ClaimsInstance s w v n term list value r = (truth r ≡ reduces-to (bindings-at s w list) (tree-at s w term) (tree-at s w value)) × Below w v n
+
+-- exactly one member stands at a position
+pub record OneMember (s : Text) (at : ℕ) : Type 0 where
+  pub member : Member
+  pub is : members-at s at ≡ some (member ∷ [])
 
 abbrev pub ClaimsSound : Text → List ℕ → List ℕ → ℕ → ℕ → ℕ → Claim → Type 0
 ClaimsSound s w v n term at r = ((m : Member) → members-at s at ≡ some (m ∷ []) → truth r ≡ sound (tree-at s w term) m) × Below w v n

@@ -1,6 +1,6 @@
 // A member's texts as trees in cells: its own, and the values of its keys, with the keys, as one list of bindings.
+use leaves::leaf_kind;
 use reading::Parsed;
-use reading::leaves::leaf_kind;
 use reading::parse;
 use sheet::Cursor;
 use sheet::Line;
@@ -18,11 +18,11 @@ ghost use mathlib.Core.Bool.{true};
 ghost use Prim.Native.Nat.{_+_, _*_, _<_, _≤_, _^_};
 ghost use lib.ListN.{length};
 ghost use Rattle.rules.specs.Tree.{variable};
-ghost use Rattle.sheet.specs.Form.{text-of, Inside};
+ghost use Rattle.forms.specs.Form.{text-of, Inside};
 ghost use Rattle.tree.specs.Cells.{variable-kind, tree-at, trees-at};
 ghost use Rattle.tree.specs.Arena.{Arena, Linked};
 ghost use Rattle.substitution.specs.Building.{Made};
-ghost use Rattle.variants.specs.Members.{nameable, binding-before, entry-end, ReadsEntry, TextsRoom, ReadsEntries, ReadsMember};
+ghost use Rattle.variants.specs.Members.{nameable, binding-before, entry-end, ReadsEntry, TextsRoom, ReadsEntries, MemberThere, ReadsMember};
 
 // A list of bindings and the free end after it, or a value that cannot be read.
 enum Bindings {
@@ -183,6 +183,7 @@ fn read_entries(sheet: &[u8], work: &mut [u32], free: usize, start: Cursor) -> E
 pub fn read_member(sheet: &[u8], work: &mut [u32], free: usize, start: Cursor) -> Variant
     requires { ⌜ Arena (now sheet) (now work) free ⌝ }
     requires { ⌜ TextsRoom (now sheet) (now work) free (start .at) ⌝ }
+    requires { ⌜ MemberThere (now sheet) (start .at) ⌝ }
     ensures { λ r. ⌜ ReadsMember (now (sheet .entry)) (now (work .entry)) (now (work .exit)) free (start .at) r ⌝ }
 {
     let line = next_member(sheet, start);

@@ -13,7 +13,7 @@ ghost use Rattle.rules.specs.Tree.{size};
 ghost use Rattle.tree.specs.Cells.{tree-at};
 ghost use Rattle.tree.specs.Arena.{Arena};
 ghost use Rattle.variants.specs.Members.{texts-end};
-ghost use Rattle.variants.specs.Soundness.{ClaimsInstance, ClaimsSound};
+ghost use Rattle.variants.specs.Soundness.{ClaimsInstance, OneMember, ClaimsSound};
 
 // Whether the instance of the tree of cell term under the bindings from cell bindings on reduces to the tree of cell value, up to
 // the order of summands.
@@ -48,11 +48,12 @@ fn reduces_to(
     Claim::No
 }
 
-// Whether the member at the cursor is a sound variant of the tree of cell term.
+// Whether the one member at the cursor is a sound variant of the tree of cell term.
 pub fn sound(sheet: &[u8], work: &mut [u32], free: usize, term: usize, start: Cursor) -> Claim
     requires { ⌜ Arena (now sheet) (now work) free ⌝ }
     requires { ⌜ (0 < term) × (term < free) ⌝ }
     requires { ⌜ (length (now sheet) ≤ 65536) × (1048576 + 16 * length (now sheet) ≤ length (now work)) × (texts-end (now sheet) free (start .at) ≤ 1 + 4 * length (now sheet)) ⌝ }
+    requires { ⌜ OneMember (now sheet) (start .at) ⌝ }
     ensures { λ r. ⌜ ClaimsSound (now (sheet .entry)) (now (work .entry)) (now (work .exit)) free term (start .at) r ⌝ }
 {
     let member = read_member(sheet, work, free, start);

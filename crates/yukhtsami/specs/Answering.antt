@@ -6,16 +6,9 @@ use mathlib.Core.Option.{Option, some}
 use lib.ListN.{length}
 use Rattle.rules.specs.Bytes.{Text}
 use Rattle.rules.specs.Sheet.{Sheet}
-use Rattle.rules.specs.Answer.{answer-of}
-use Rattle.rules.specs.Call.{given, settled, call, refusal-number, written, overwritten, work-after}
-use Rattle.answers.specs.Deciding.{DecisionIs}
+use Rattle.rules.specs.Call.{settled, call, refusal-number, written, overwritten, work-after}
 use Rattle.answers.specs.Settling.{reply-number, reply-count, Settles}
-use Rattle.answers.specs.declared.deciding.Decision.{Decision}
 use Rattle.answers.specs.declared.giving.Reply as code
-
--- what is decided of a sheet that was read is its answer, or 4 where there is none
-abbrev pub DecidesForm : Option Sheet → Text → List ℕ → Decision → Type 0
-DecidesForm o s w d = (sheet : Sheet) → o ≡ some sheet → DecisionIs (given (answer-of sheet) 4) s w d
 
 -- a sheet that was read is settled
 abbrev pub SettlesForm : Option Sheet → Text → Text → code.Reply → Type 0

@@ -1,24 +1,23 @@
 // The call: a sheet, a work area and an output, all lent.
-mod kinds; // kinds.rt: one function for each kind
 
-use answers::admission::Admitted;
-use answers::admission::admit;
-use answers::clearing::clear;
+use admission::Admitted;
+use admission::admit;
+use admission::clearing::clear;
+use admission::refusal::Refusal;
 use answers::giving::Reply;
 use answers::giving::give;
-use answers::refusal::Refusal;
+use forms::form::Form;
 use kinds::decide;
-use sheet::form::Form;
 ghost use mathlib.Core.Path.{_≡_};
 ghost use Prim.Native.Nat.{_≤_};
 ghost use lib.ListN.{length};
-ghost use Rattle.sheet.specs.Form.{sheet-of, EnoughWords};
+ghost use Rattle.forms.specs.Form.{sheet-of, EnoughWords};
 ghost use Rattle.answers.specs.Settling.{reply-number, reply-count};
-ghost use Rattle.answers.specs.Clearing.{zeroed};
+ghost use Rattle.rules.specs.Call.{zeroed};
 ghost use Rattle.yukhtsami.specs.Answering.{SettlesForm, CallAnswers, Calls};
-ghost use Rattle.answers.specs.Admission.{refusal-code, Decoded};
+ghost use Rattle.admission.specs.Admission.{refusal-code, Decoded};
 
-// Decides a sheet that is admitted, and gives what was decided.
+// Decides a sheet that is admitted, and gives what was decided. Every word of the work area is free afterwards.
 fn settle(sheet: &[u8], work: &mut [u32], output: &mut [u8], form: Form) -> Reply
     requires { ⌜ Decoded (now sheet) form ⌝ }
     requires { ⌜ EnoughWords (now sheet) form (length (now work)) ⌝ }

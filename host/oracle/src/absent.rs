@@ -1,5 +1,5 @@
 // The bridge without the sources: every question ends the program with the notice.
-use crate::{Member, Outcome, Term, notice};
+use crate::{Term, notice};
 
 pub fn parse(_: &str) -> Option<Term> {
     panic!("{}", notice())
@@ -10,30 +10,6 @@ pub fn render(_: &Term) -> String {
 }
 
 pub fn equivalent(_: &str, _: &str) -> Option<bool> {
-    panic!("{}", notice())
-}
-
-pub fn unify(_: usize, _: &[(Term, Term)]) -> Outcome {
-    panic!("{}", notice())
-}
-
-pub fn matcher(_: usize, _: &[(Term, Term)]) -> Outcome {
-    panic!("{}", notice())
-}
-
-pub fn normalize(_: &Term) -> Term {
-    panic!("{}", notice())
-}
-
-pub fn covered(_: &[(&str, &str)], _: &[Member]) -> Option<bool> {
-    panic!("{}", notice())
-}
-
-pub fn sound(_: &Term, _: &Member) -> Option<bool> {
-    panic!("{}", notice())
-}
-
-pub fn complete(_: &Term, _: &[Member]) -> Option<bool> {
     panic!("{}", notice())
 }
 

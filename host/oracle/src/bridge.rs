@@ -2,9 +2,9 @@
 use std::collections::{BTreeMap, BTreeSet};
 
 use crate::{
-    Member, Outcome, Term, certificate,
+    Member, Term, certificate,
     query::{Kind, Query},
-    reduction, syntax, unifier, variants,
+    syntax, unifier, variants,
 };
 
 type Tree = unifier::Tree;
@@ -27,20 +27,6 @@ fn term(tree: &Tree) -> Term {
     }
 }
 
-fn trees(pairs: &[(Term, Term)]) -> Vec<(Tree, Tree)> {
-    pairs.iter().map(|(l, r)| (tree(l), tree(r))).collect()
-}
-
-fn outcome(found: unifier::Outcome) -> Outcome {
-    match found {
-        unifier::Outcome::Solved(bindings) => {
-            Outcome::Solved(bindings.iter().map(|(k, v)| (k.clone(), term(v))).collect())
-        }
-        unifier::Outcome::Failed => Outcome::Failed,
-        unifier::Outcome::Unsupported => Outcome::Unsupported,
-    }
-}
-
 /// The term of a text; none where it is unreadable.
 pub fn parse(text: &str) -> Option<Term> {
     unifier::parse(text).as_ref().map(term)
@@ -53,18 +39,6 @@ pub fn render(term: &Term) -> String {
 /// Equality of two texts; none where one is unreadable.
 pub fn equivalent(left: &str, right: &str) -> Option<bool> {
     certificate::equivalent(left, right).ok()
-}
-
-pub fn unify(fuel: usize, pairs: &[(Term, Term)]) -> Outcome {
-    outcome(unifier::unify(fuel, trees(pairs)).expect("trees that were read render readably"))
-}
-
-pub fn matcher(fuel: usize, pairs: &[(Term, Term)]) -> Outcome {
-    outcome(unifier::matcher(fuel, trees(pairs)).expect("trees that were read render readably"))
-}
-
-pub fn normalize(of: &Term) -> Term {
-    term(&reduction::normalize(&tree(of)).expect("trees that were read render readably"))
 }
 
 fn add_variables(tree: &Tree, found: &mut BTreeSet<String>) {
@@ -111,11 +85,6 @@ pub(crate) fn claimed(pairs: &[(&str, &str)], members: &[Member]) -> Option<Opti
     Some(Some(covered.expect("trees that were read render readably")))
 }
 
-/// Whether a member generalizes the most general unifier; none where the pairs are not solved.
-pub fn covered(pairs: &[(&str, &str)], members: &[Member]) -> Option<bool> {
-    claimed(pairs, members).flatten()
-}
-
 pub(crate) fn variant(member: &Member) -> Option<variants::Member> {
     let value = unifier::parse(member.text)?;
     let entries: BTreeMap<&str, &str> = member.entries.iter().copied().collect();
@@ -124,18 +93,4 @@ pub(crate) fn variant(member: &Member) -> Option<variants::Member> {
         .map(|(key, text)| Some((key.to_owned(), unifier::parse(text)?)))
         .collect::<Option<Vec<_>>>()?;
     Some(variants::Member { value, bindings })
-}
-
-/// Whether the member is the normal form of its instance; none where a text is unreadable or the
-/// Rust makes no claim.
-pub fn sound(term: &Term, member: &Member) -> Option<bool> {
-    let read = variant(member)?;
-    variants::sound(&tree(term), &read, member.text).expect("texts that were read")
-}
-
-/// Whether the family has every variant; none where a text is unreadable or the Rust makes no
-/// claim.
-pub fn complete(term: &Term, members: &[Member]) -> Option<bool> {
-    let family = members.iter().map(variant).collect::<Option<Vec<_>>>()?;
-    variants::complete(&tree(term), &family).expect("trees that were read render readably")
 }

@@ -36,13 +36,6 @@ pub enum Term {
     Apply(String, Vec<Term>),
 }
 
-#[derive(Clone, Debug, PartialEq, Eq)]
-pub enum Outcome {
-    Solved(Vec<(String, Term)>),
-    Failed,
-    Unsupported,
-}
-
 /// A member of a family: the text of its `member` line, then keys and values.
 #[derive(Clone, Debug)]
 pub struct Member<'a> {

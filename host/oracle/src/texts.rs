@@ -1,4 +1,5 @@
-// Questions to the Rust from texts to texts, with no types of this crate in between: what is timed.
+// Questions to the Rust from texts to texts, with no types of this crate in between: what is
+// compared and timed.
 use crate::{
     Member,
     bridge::{claimed, variant},

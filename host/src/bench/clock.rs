@@ -5,7 +5,6 @@ use std::{
     time::{Duration, Instant},
 };
 
-use super::rust;
 use crate::{deep, lent, sheet};
 
 /// The time of one turn, if a run is not longer.
@@ -111,16 +110,16 @@ fn without_spent(answer: &str) -> String {
 pub fn times(name: &str, text: &str, ask_rust: bool, enough: Duration) -> Found {
     let bytes = text.as_bytes();
     let read = sheet::read(bytes).expect("a workload is a sheet");
-    let question = rust::question(&read);
+    let ask_rust = ask_rust && oracle::present();
+    let question = ask_rust.then(|| deep::run(|| (read.kind.by_rust)(&read)));
     let mut work = vec![u32::MAX; sheet::words_needed(bytes, &read) as usize];
     let mut output = vec![0; 64 * sheet::LONGEST];
     let (mut rust, mut port, mut clearing) = (Runs::new(), Runs::new(), Runs::new());
-    let ask_rust = ask_rust && oracle::present();
     loop {
-        let asked = ask_rust
-            && rust.again(enough, |runs| {
-                deep::run(|| runs.turn(|| clocked(&question)));
-            });
+        let asked = question.as_ref().is_some_and(|question| {
+            let ask = || question().unwrap_or("refusal 4".to_owned());
+            rust.again(enough, |runs| deep::run(|| runs.turn(|| clocked(ask))))
+        });
         let called = port.again(enough, |runs| {
             lent::on_a_small_stack(name, || runs.turn(|| call(bytes, &mut work, &mut output)));
         });
@@ -132,7 +131,7 @@ pub fn times(name: &str, text: &str, ask_rust: bool, enough: Duration) -> Found 
         }
     }
     Found {
-        kind: read.kind(),
+        kind: read.kind.name,
         bytes: bytes.len(),
         words: work.len(),
         rust: rust.least,

@@ -1,5 +1,18 @@
 // Sheets to time: of `cover`, `sound` and `complete`.
-use super::{Sample, nested, numbered, sum};
+use super::{Sample, Workload, nested, numbered, sum};
+
+pub const COVERS: &[Workload] = &[
+    Workload::new("members", "members", 20, cover_members),
+    Workload::new("values", "values", 12, cover_values),
+];
+
+pub const SOUNDS: &[Workload] = &[Workload::new("chain", "levels", 250, sound_chain)];
+
+pub const COMPLETES: &[Workload] = &[
+    Workload::new("schemes", "schemes", 256, complete_schemes),
+    Workload::new("members", "members", 20, complete_members),
+    Workload::new("levels", "levels", 30, complete_levels),
+];
 
 fn sample(name: &'static str, sheet: String) -> Sample {
     Sample { name, sheet }
@@ -26,13 +39,13 @@ fn others(count: usize, variables: usize) -> String {
     (0..count).map(member).collect()
 }
 
-/// So many members, none of which covers, against 50 values of 401 nodes.
-pub fn cover_members(count: usize) -> String {
+// So many members, none of which covers, against 50 values of 401 nodes.
+fn cover_members(count: usize) -> String {
     format!("kind=cover\n{}{}", bound(50, 10), others(count, 50))
 }
 
-/// So many values of 401 nodes against 20 members, none of which covers.
-pub fn cover_values(count: usize) -> String {
+// So many values of 401 nodes against 20 members, none of which covers.
+fn cover_values(count: usize) -> String {
     format!("kind=cover\n{}{}", bound(count, 10), others(20, count))
 }
 
@@ -50,8 +63,8 @@ pub fn covers() -> Vec<Sample> {
     ]
 }
 
-/// A chain over a variable, and as its variant the chain over an atom.
-pub fn sound_chain(depth: usize) -> String {
+// A chain over a variable, and as its variant the chain over an atom.
+fn sound_chain(depth: usize) -> String {
     let under = |leaf| nested("h(", leaf, ")", depth);
     format!(
         "kind=sound\nterm={}\nmember={}\nkey=x0:Msg\nvalue=c(1)\n",
@@ -90,13 +103,13 @@ fn general(term: &str) -> String {
     format!("kind=complete\nterm={term}\nmember=#0:Msg\n")
 }
 
-/// So many schemes, a power of two, and one member that generalizes each.
-pub fn complete_schemes(count: usize) -> String {
+// So many schemes, a power of two, and one member that generalizes each.
+fn complete_schemes(count: usize) -> String {
     general(&projections(count.ilog2() as usize))
 }
 
-/// 256 schemes against so many members, of which the last alone generalizes.
-pub fn complete_members(count: usize) -> String {
+// 256 schemes against so many members, of which the last alone generalizes.
+fn complete_members(count: usize) -> String {
     let others = "member=c(9)\n".repeat(count - 1);
     format!(
         "kind=complete\nterm={}\n{others}member=#0:Msg\n",
@@ -104,8 +117,8 @@ pub fn complete_members(count: usize) -> String {
     )
 }
 
-/// 16 schemes under so many levels of `h`.
-pub fn complete_levels(depth: usize) -> String {
+// 16 schemes under so many levels of `h`.
+fn complete_levels(depth: usize) -> String {
     general(&nested("h(", &projections(4), ")", depth))
 }
 

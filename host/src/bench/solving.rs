@@ -1,5 +1,18 @@
 // Sheets to time: of `unify` and `match`.
-use super::{Sample, nested, numbered, reversed, sum};
+use super::{Sample, Workload, nested, numbered, reversed, sum};
+
+pub const UNIFICATIONS: &[Workload] = &[
+    Workload::new("chains, leaf bound", "levels", 255, |n| chains("unify", n)),
+    Workload::new("sums, reversed", "summands", 128, |n| sums("unify", n)),
+    Workload::new("bindings", "bindings", 90, |n| bindings("unify", n)),
+    Workload::new("linked bindings", "bindings", 30, |n| linked("unify", n)),
+];
+
+pub const MATCHES: &[Workload] = &[
+    Workload::new("chains, leaf bound", "levels", 255, |n| chains("match", n)),
+    Workload::new("sums, reversed", "summands", 128, |n| sums("match", n)),
+    Workload::new("bindings", "bindings", 90, |n| bindings("match", n)),
+];
 
 fn solving(kind: &str, pairs: &[(String, String)]) -> String {
     let mut sheet = format!("kind={kind}\nfuel=65536\n");
@@ -13,20 +26,20 @@ fn one(kind: &str, left: &str, right: &str) -> String {
     solving(kind, &[(left.to_owned(), right.to_owned())])
 }
 
-/// `h` so many levels deep, over a variable and over an atom.
-pub fn chains(kind: &str, depth: usize) -> String {
+// `h` so many levels deep, over a variable and over an atom.
+fn chains(kind: &str, depth: usize) -> String {
     let under = |leaf| nested("h(", leaf, ")", depth);
     one(kind, &under("x0:Msg"), &under("c(1)"))
 }
 
-/// Sums of so many numbered atoms, one of them backward.
-pub fn sums(kind: &str, count: usize) -> String {
+// Sums of so many numbered atoms, one of them backward.
+fn sums(kind: &str, count: usize) -> String {
     let list = numbered(0..count, |index| format!("t({index})"));
     one(kind, &sum(&list), &sum(&reversed(&list)))
 }
 
-/// So many variables, each bound to an atom.
-pub fn bindings(kind: &str, count: usize) -> String {
+// So many variables, each bound to an atom.
+fn bindings(kind: &str, count: usize) -> String {
     let apply = |list: Vec<String>| format!("g({})", list.join(","));
     one(
         kind,
@@ -35,8 +48,8 @@ pub fn bindings(kind: &str, count: usize) -> String {
     )
 }
 
-/// So many variables, each bound to a term with the next.
-pub fn linked(kind: &str, count: usize) -> String {
+// So many variables, each bound to a term with the next.
+fn linked(kind: &str, count: usize) -> String {
     let pair = |index| (format!("x{index}:Msg"), format!("h(x{}:Msg)", index + 1));
     let pairs: Vec<_> = (0..count).map(pair).collect();
     solving(kind, &pairs)

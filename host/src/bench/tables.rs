@@ -7,10 +7,10 @@ use std::{
 
 use super::{
     clock::{self, Found},
-    growth::{Workload, workloads},
+    growth::{Workload, ordered},
     members::slow,
-    samples,
 };
+use crate::kinds::Kind;
 
 /// The time that is spent on each of Rust, port and clearing.
 const ENOUGH: Duration = Duration::from_millis(200);
@@ -109,16 +109,16 @@ fn milliseconds(time: Duration) -> String {
 
 /// The first table. The Rust is asked about the sheets that take it over 10 seconds only if that is
 /// wanted; else their answers are compared with the stored ones.
-pub fn lines(kinds: &[&str], long: bool) -> Table {
+pub fn lines(kinds: &[&Kind], long: bool) -> Table {
     let mut table = Table::headed(
         "| kind | workload | bytes | words | Rust ms | port ms | clearing ms | ratio |",
     );
     for kind in kinds {
-        for sample in samples(kind) {
+        for sample in (kind.samples)() {
             let found = clock::times(sample.name, &sample.sheet, true, ENOUGH);
             table.line(&found, sample.name);
         }
-        let line = format!("kind={kind}\n");
+        let line = format!("kind={}\n", kind.name);
         let of_kind = |(sample, _): &(super::Sample, _)| sample.sheet.starts_with(&line);
         for (sample, answer) in slow().into_iter().filter(of_kind) {
             let mut found = clock::times(sample.name, &sample.sheet, long, ENOUGH);
@@ -148,7 +148,7 @@ fn growth_row(table: &mut Table, title: &str, who: &str, times: &[Duration]) {
     ));
 }
 
-fn grow(table: &mut Table, workload: &Workload) {
+fn grow(table: &mut Table, kind: &Kind, workload: &Workload) {
     let found: Vec<Found> = workload
         .sizes()
         .into_iter()
@@ -161,7 +161,7 @@ fn grow(table: &mut Table, workload: &Workload) {
         .collect();
     let title = format!(
         "{}: {} | {} {}",
-        workload.kind,
+        kind.name,
         workload.name,
         grouped(workload.least),
         workload.unit
@@ -176,12 +176,14 @@ fn grow(table: &mut Table, workload: &Workload) {
 }
 
 /// The second table: n, 2n, 4n, 8n and 16n, and how much a doubling costs.
-pub fn growths(kinds: &[&str]) -> Table {
+pub fn growths(kinds: &[&Kind]) -> Table {
     let mut table = Table::headed(
         "| workload | n | of | n ms | 2n ms | 4n ms | 8n ms | 16n ms | mean factor | last factor |",
     );
-    for workload in workloads(kinds) {
-        grow(&mut table, &workload);
+    for kind in ordered(kinds) {
+        for workload in kind.workloads {
+            grow(&mut table, kind, workload);
+        }
     }
     table
 }

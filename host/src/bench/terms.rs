@@ -1,5 +1,20 @@
 // Sheets to time: of `equal` and `reduce`.
-use super::{Sample, nested, numbered, reversed, sum};
+use super::{Sample, Workload, nested, numbered, reversed, sum};
+
+pub const EQUALITIES: &[Workload] = &[
+    Workload::new("chains", "levels", 675, equal_chains),
+    Workload::new("flat sums, reversed", "summands", 225, flat_sums),
+    Workload::new("sums of two, right and left", "levels", 168, deep_sums),
+    Workload::new("sums under f, swapped", "levels", 134, sums_under_f),
+    Workload::new("balanced sums of f, mirrored", "leaves", 64, |leaves| {
+        balanced_sums(leaves.ilog2() as usize)
+    }),
+];
+
+pub const REDUCTIONS: &[Workload] = &[
+    Workload::new("chain of h", "levels", 255, reduce_chain),
+    Workload::new("first of pairs", "levels", 85, reduce_pairs),
+];
 
 fn equal(name: &'static str, left: &str, right: &str) -> Sample {
     Sample {
@@ -31,36 +46,36 @@ fn balanced(depth: usize, number: usize, mirror: bool) -> String {
     }
 }
 
-/// `f` so many levels deep on both sides.
-pub fn equal_chains(depth: usize) -> String {
+// `f` so many levels deep on both sides.
+fn equal_chains(depth: usize) -> String {
     let chain = nested("f(", "a", ")", depth);
     equality(&chain, &chain)
 }
 
-/// Flat sums of so many numbered atoms, one of them backward.
-pub fn flat_sums(count: usize) -> String {
+// Flat sums of so many numbered atoms, one of them backward.
+fn flat_sums(count: usize) -> String {
     let list = numbered(0..count, |index| format!("t({index})"));
     equality(&sum(&list), &sum(&reversed(&list)))
 }
 
-/// So many sums of two, nested to the right on one side and to the left on the other.
-pub fn deep_sums(depth: usize) -> String {
+// So many sums of two, nested to the right on one side and to the left on the other.
+fn deep_sums(depth: usize) -> String {
     equality(
         &nested("tamtplus(a,", "b", ")", depth),
         &nested("tamtplus(", "b", ",a)", depth),
     )
 }
 
-/// So many sums of two, each under `f` in the one around it, exchanged on one side.
-pub fn sums_under_f(depth: usize) -> String {
+// So many sums of two, each under `f` in the one around it, exchanged on one side.
+fn sums_under_f(depth: usize) -> String {
     equality(
         &nested("f(tamtplus(a,", "b", "))", depth),
         &nested("f(tamtplus(", "b", ",a))", depth),
     )
 }
 
-/// A sum of two `f` at each of so many levels, exchanged on one side.
-pub fn balanced_sums(depth: usize) -> String {
+// A sum of two `f` at each of so many levels, exchanged on one side.
+fn balanced_sums(depth: usize) -> String {
     equality(&balanced(depth, 1, false), &balanced(depth, 1, true))
 }
 
@@ -138,13 +153,13 @@ pub fn equalities() -> Vec<Sample> {
     list
 }
 
-/// A name over `h` so many levels deep.
-pub fn reduce_chain(depth: usize) -> String {
+// A name over `h` so many levels deep.
+fn reduce_chain(depth: usize) -> String {
     format!("kind=reduce\nterm={}\n", nested("h(", "a", ")", depth))
 }
 
-/// So many projections of pairs, each in the next.
-pub fn reduce_pairs(depth: usize) -> String {
+// So many projections of pairs, each in the next.
+fn reduce_pairs(depth: usize) -> String {
     let term = nested("tamXCfst(tamXCpair(", "a", ",b))", depth);
     format!("kind=reduce\nterm={term}\n")
 }

@@ -3,7 +3,7 @@
 use std::rc::Rc;
 
 use super::{
-    kinds::{at, instance},
+    lines::{at, instance},
     pairs::changed,
     spelling::{shuffled, spelled},
     terms::Terms,

@@ -1,10 +1,10 @@
 // Whether the reference answers a sheet soon. The bound is on the sheet alone, so that the same
 // sheets are always compared.
-use crate::sheet::Sheet;
+use crate::{kinds::Form, sheet::Sheet};
 
 /// The bytes up to which sheets with pairs are soon answered: each pair taken copies its terms.
 const PAIRS: usize = 6_000;
-/// The same for `complete`: schemes times the bytes squared.
+/// The same for kinds that make schemes: schemes times the bytes squared.
 const SCHEMES: u64 = 20_000_000;
 const MOST_SCHEMES: u64 = 4_096;
 
@@ -20,13 +20,14 @@ fn schemes(term: &str) -> u64 {
 }
 
 pub fn soon(bytes: &[u8], sheet: &Sheet) -> bool {
-    match sheet {
-        Sheet::Equal(..) | Sheet::Reduce(_) | Sheet::Sound(..) => true,
-        Sheet::Unify(..) | Sheet::Match(..) | Sheet::Cover(..) => written(bytes) <= PAIRS,
-        Sheet::Complete(term, _) => {
-            let length = written(bytes) as u64;
-            schemes(term) * length * length <= SCHEMES
-        }
+    let length = written(bytes);
+    if sheet.kind.schemes {
+        let length = length as u64;
+        return schemes(sheet.terms[0]) * length * length <= SCHEMES;
+    }
+    match sheet.kind.form {
+        Form::Sides | Form::Term | Form::TermMember | Form::TermMembers => true,
+        Form::FuelPairs | Form::PairsMembers => length <= PAIRS,
     }
 }
 

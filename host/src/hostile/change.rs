@@ -3,11 +3,11 @@
 use std::ops::Range;
 
 use super::CHOICE;
-use crate::rng::Rng;
+use crate::{
+    kinds::{Form, KINDS},
+    rng::Rng,
+};
 
-const KINDS: [&str; 7] = [
-    "equal", "unify", "match", "reduce", "cover", "sound", "complete",
-];
 const LINES: [&str; 10] = [
     "left=x0:Msg\nright=x1:Pub\n",
     "left=tamtplus(x0:TamNat,t(1))\nright=tamtplus(t(2),t(1))\n",
@@ -172,18 +172,23 @@ fn after(rng: &mut Rng, sheet: &[u8], mark: &[u8], of: fn(&u8) -> bool) -> Optio
     Some(start..start + length)
 }
 
-// A kind with the same lines where there is one, now and then any.
-fn other_kind(rng: &mut Rng, kind: &[u8]) -> &'static str {
-    match kind {
-        _ if rng.once_in(8) => rng.pick(&KINDS),
-        b"unify" => "match",
-        b"match" => "unify",
-        b"sound" => "complete",
-        b"complete" => "sound",
-        b"cover" => "cover",
-        b"equal" => "equal",
-        _ => "reduce",
+// Whether lines of the one form are mostly lines of the other.
+fn alike(one: Form, other: Form) -> bool {
+    let with_members = |form| matches!(form, Form::TermMember | Form::TermMembers);
+    one == other || with_members(one) && with_members(other)
+}
+
+// The next kind with such lines, now and then any.
+fn other_kind(rng: &mut Rng, name: &[u8]) -> &'static str {
+    if rng.once_in(8) {
+        return KINDS[rng.below(KINDS.len())].name;
     }
+    let Some(at) = KINDS.iter().position(|kind| kind.name.as_bytes() == name) else {
+        return "reduce";
+    };
+    let others = KINDS.iter().cycle().skip(at + 1);
+    let mut alike = others.filter(|kind| alike(kind.form, KINDS[at].form));
+    alike.next().expect("a kind is like itself").name
 }
 
 fn words(rng: &mut Rng, sheet: &mut Vec<u8>) -> Option<()> {

@@ -2,7 +2,10 @@
 use std::collections::BTreeMap;
 
 use super::{Place, shown};
-use crate::sheet;
+use crate::{
+    kinds::{self, Form, Kind},
+    sheet,
+};
 
 /// A line whose value must be a term.
 #[derive(Clone, Copy, Debug, PartialEq, Eq)]
@@ -14,8 +17,8 @@ pub struct TermLine<'a> {
 }
 
 /// What the walk finds in a sheet whose lines are in place.
-pub struct Form<'a> {
-    pub kind: &'a [u8],
+pub struct Walked<'a> {
+    pub kind: &'static Kind,
     pub terms: Vec<TermLine<'a>>,
 }
 
@@ -152,50 +155,50 @@ impl<'a> Walk<'a> {
     }
 
     // What comes after the line `kind`.
-    fn body(&mut self, kind: TermLine) -> Result<(), Place> {
-        match kind.text {
-            b"equal" => {
+    fn body(&mut self, form: Form) -> Result<(), Place> {
+        match form {
+            Form::Sides => {
                 self.term("left")?;
                 self.term("right")?;
                 self.end(END)
             }
-            b"unify" | b"match" => {
+            Form::Term => {
+                self.term("term")?;
+                self.end(END)
+            }
+            Form::FuelPairs => {
                 self.fuel()?;
                 self.pairs()?;
                 self.end(&format!("`left` or {END}"))
             }
-            b"reduce" => {
-                self.term("term")?;
-                self.end(END)
-            }
-            b"cover" => {
+            Form::PairsMembers => {
                 self.pairs()?;
                 self.members("`left`, `member`")
             }
-            b"sound" => {
+            Form::TermMember => {
                 self.term("term")?;
                 self.member()?;
                 self.end(&format!("`key` or {END}"))
             }
-            b"complete" => {
+            Form::TermMembers => {
                 self.term("term")?;
                 self.members("`member`")
-            }
-            other => {
-                let reason = format!("{} is no kind of sheet", shown(other));
-                Err(Place::new(kind.number, kind.column, reason))
             }
         }
     }
 }
 
 /// The terms of a sheet without foreign bytes, or the first line that is out of place.
-pub fn walk(bytes: &[u8]) -> Result<Form<'_>, Place> {
+pub fn walk(bytes: &[u8]) -> Result<Walked<'_>, Place> {
     let mut walk = Walk::new(bytes);
-    let kind = walk.value("kind")?;
-    walk.body(kind)?;
-    let (kind, terms) = (kind.text, walk.terms);
-    Ok(Form { kind, terms })
+    let line = walk.value("kind")?;
+    let Some(kind) = kinds::named(line.text) else {
+        let reason = format!("{} is no kind of sheet", shown(line.text));
+        return Err(Place::new(line.number, line.column, reason));
+    };
+    walk.body(kind.form)?;
+    let terms = walk.terms;
+    Ok(Walked { kind, terms })
 }
 
 /// The first line that is out of place.

@@ -165,9 +165,9 @@ pub fn stop(text: &[u8], loose: bool) -> Option<Stop> {
 
 /// The first line of a sheet that has to be a term and is none.
 pub fn unreadable(bytes: &[u8]) -> Option<Place> {
-    let form = lines::walk(bytes).ok()?;
-    let loose = form.kind == b"equal";
-    form.terms.iter().find_map(|line| {
+    let walked = lines::walk(bytes).ok()?;
+    let loose = walked.kind.loose;
+    walked.terms.iter().find_map(|line| {
         let (offset, reason) = stop(line.text, loose)?;
         Some(Place {
             line: line.number,

@@ -12,7 +12,7 @@ use Rattle.rules.specs.Decimal.{value-from, proper, digits-in, decimal}
 use Rattle.rules.specs.AnswerReading.{read-number}
 use Rattle.laws.proofs.Basics.Tests.{and-left, and-right, and-both, ltb-true, true-leb, true-ltb, leb-true, leb-false, eqb-true}
 
-ltb-false : (x y : ℕ) → ltb x y ≡ false → y ≤ x
+pub ltb-false : (x y : ℕ) → ltb x y ≡ false → y ≤ x
 ltb-false x y e = go (leb y x) refl
   where
     go : (b : Bool) → leb y x ≡ b → y ≤ x

@@ -103,7 +103,7 @@ insert-filled a (b ∷ l) = go (upto (render a) (render b))
     go true = (a, b ∷ l, refl)
     go false = (b, insert-tree a l, refl)
 
-sort-filled : (l m : List Tree) → Filled l → Filled (sort-trees (l ++ m))
+pub sort-filled : (l m : List Tree) → Filled l → Filled (sort-trees (l ++ m))
 unfolding sort-trees
 sort-filled l m (t, k, e) = rw e (insert-filled t (sort-trees (k ++ m)))
 

@@ -1,11 +1,11 @@
 -- The reduced form of a built tree, up to AC equality: no AC-equal tree takes a step, and steps up to AC equality reach no other tree
 -- that takes none.
-use mathlib.Core.Path.{sym}
+use mathlib.Core.Path.{_≡_, refl, sym, _∙_}
 use Prim.Native.Nat.{_≤_, _<_}
 use native.Mathlib.Omega.{arith}
 use Rattle.rules.specs.Tree.{Tree, Trees, size, sizes}
 use Rattle.rules.specs.Tidy.{Built}
-use Rattle.rules.specs.Equality.{AC, transitive}
+use Rattle.rules.specs.Equality.{AC, reflexive, transitive}
 use Rattle.rules.specs.Reduction.{Rule, normalize}
 use Rattle.rules.specs.Rewriting.{Fires, takes-first, takes-second, flips-a, flips-b, opens-senc, opens-kem, Rewrites, here, inside, RewritesIn, first, later, Steps, done, then, StepsModulo, equal, step, Normal, NormalModulo, Reduced}
 use Rattle.laws.proofs.Equality.Kept.{size-kept}
@@ -13,7 +13,7 @@ use Rattle.laws.proofs.Equality.Rebuilding.{of-path}
 use Rattle.laws.proofs.Equality.Building.{built-kept}
 use Rattle.laws.proofs.Reduction.Reaching.{built-normal, reached}
 use Rattle.laws.proofs.Reduction.Normality.{normal}
-use Rattle.laws.proofs.Reduction.Unique.{normalize-AC, step-AC, built-step, still}
+use Rattle.laws.proofs.Reduction.Unique.{normalize-AC, step-same, step-AC, built-step, still}
 
 -- A step makes a tree smaller
 
@@ -67,3 +67,16 @@ reduced t b = record {
   to-normal = normal-modulo (normalize t) (built-normal t b) (normal t);
   only = λ v s n. transitive (modulo-AC s) (of-path (still v (modulo-built s b) n));
 }
+
+-- Plain steps reach no other tree that takes none
+
+steps-same : {t u : Tree} → Steps t u → normalize t ≡ normalize u
+steps-same done = refl
+steps-same (then r s) = step-same r ∙ steps-same s
+
+steps-built : {t u : Tree} → Steps t u → Built t → Built u
+steps-built done b = b
+steps-built (then r s) b = steps-built s (built-step r b)
+
+pub reduced-only : {t u : Tree} → Built t → Reduced t u → u ≡ normalize t
+reduced-only {t} {u} b r = sym (steps-same (r .by-steps) ∙ still u (steps-built (r .by-steps) b) (r .to-normal u reflexive))

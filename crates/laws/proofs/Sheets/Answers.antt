@@ -72,6 +72,15 @@ module _ {kind : ℕ → List Entry → Sheet} {solve : ℕ → List Pair → An
       let q = as-ruled c v n e in
       subst (λ (w : Answer). needed (w .0) (w .1) ≤ k) q (rules .fuelled k k ps .within (subst (λ (w : Answer). Decided (w .0)) (sym q) y))
 
+  -- so with as much fuel or more the rules' answer, written out, is the same text
+  pub same-written : {k : ℕ} {ps : List Pair} {a : Text} → Answered kind k ps a → (m : ℕ) (v : Verdict) (n : ℕ) → read-answer a ≡ some (v, n) → Decided v → k ≤ m
+      → verdict-lines (solve m ps) ≡ a
+  same-written {k} {ps} c m v n e y h =
+      let z = fuel-within c v n e y in
+      let q = sym (as-ruled c v n e) in
+      let l : needed v n ≤ m = omega arith in
+      ap verdict-lines (rules .fuelled k m ps .enough (subst (λ (w : Answer). Decided (w .0)) q y) (subst (λ (w : Answer). needed (w .0) (w .1) ≤ m) q l)) ∙ sym (written c)
+
   -- so with as much fuel or more the answer is the same
   pub same-answer : {k m : ℕ} {ps : List Pair} {a b : Text} → Answered kind k ps a → Answered kind m ps b
       → (v : Verdict) (n : ℕ) → read-answer a ≡ some (v, n) → Decided v → k ≤ m → b ≡ a

@@ -13,21 +13,14 @@ use Rattle.rules.specs.Sums.{summands, rebuild, equivalent}
 use Rattle.rules.specs.Sorts.{Sort, variable-sort, sorted, refinable, sort-refuted}
 use Rattle.rules.specs.Solving.{Verdict, solved, failed, unsupported, Answer, Step, goes-on, bind, fails, unknown, Rest, emptied, mismatch, stuck, equation, keep, remove-at, remove, cancel-at, cancel, remainder, cancel-sums, fits, bind-into, unless-refinable, swap-at, swap-for, swap-key, sort-check, occurs-check, eliminate-at, eliminate, push-children, if-refuted, sum-step, decompose-at, decompose, against, differ, step-at, step, with-binding, after, run, extended, compose-over, compose, composed, finish, unify}
 use Rattle.rules.specs.Tidy.{Built, a-variable, an-atom, a-leaf, a-list, a-sum, Builts, nil, both}
+pub use Rattle.rules.specs.Tidy.{BuiltPairs, BuiltBindings}
 use Rattle.laws.proofs.Equality.Building.{built-children}
 use Rattle.laws.proofs.Equality.Summands.{BuiltList, summands-built}
-
-abbrev pub BuiltPairs : List Pair → Type 0
-BuiltPairs [] = Unit {0}
-BuiltPairs (p ∷ ps) = Built (p .0) × Built (p .1) × BuiltPairs ps
 
 -- right sides within the limit of reading
 abbrev pub SmallPairs : List Pair → Type 0
 SmallPairs [] = Unit {0}
 SmallPairs (p ∷ ps) = (size (p .1) ≤ 4096) × SmallPairs ps
-
-abbrev pub BuiltBindings : List Binding → Type 0
-BuiltBindings [] = Unit {0}
-BuiltBindings (b ∷ bs) = (variable-token (b .0) ≡ true) × Built (b .1) × BuiltBindings bs
 
 -- Substitution
 

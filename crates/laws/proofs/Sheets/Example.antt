@@ -23,8 +23,10 @@ use Rattle.rules.specs.Lines.{lines}
 use Rattle.rules.specs.Call.{passed, call}
 use Rattle.rules.specs.AnswerReading.{read-answer, Answered}
 use Rattle.rules.specs.Alike.{AlikeButFuel}
+use Rattle.rules.specs.Derivation.{UnifyDerives}
 use Rattle.rules.specs.Table.{text}
-use Rattle.laws.proofs.Promises.{unify-solved, unify-sheet-solved, fuel-alike}
+use Rattle.laws.proofs.Promises.{unify-solved, unify-sheet-solved, unify-sheet-derived, fuel-alike}
+use Rattle.laws.proofs.Sheets.Alike.{alike-answer}
 
 abbrev g : Text
 g = bytes "g"
@@ -108,6 +110,10 @@ read = refl
 most-general-sheet : MostGeneral arity pairs bindings
 most-general-sheet = unify-sheet-solved arity counts tidy 3 answered bindings read
 
+-- it is derived by the rules
+derived-sheet : UnifyDerives 4 pairs (solved bindings) 3
+derived-sheet = unify-sheet-derived answered (solved bindings) 3 .0 read
+
 -- with more fuel the answer has the same bytes
 alike : AlikeButFuel (sheet "fuel=4") (sheet "fuel=65536") 4 65536
 unfolding lines number-up-to
@@ -124,5 +130,6 @@ alike = record {
 
 same-bytes : (words room : ℕ) (b : Text) → call (sheet "fuel=65536") words room ≡ passed b → b ≡ written
 same-bytes words room b e =
-    fuel-alike (sheet "fuel=4") (sheet "fuel=65536") 4 65536 alike (omega arith) 2000000 1000 words room written b called e
-    (record { verdict = solved bindings; spent = 3; reads = read; decided = tt })
+    alike-answer
+    (fuel-alike (sheet "fuel=4") (sheet "fuel=65536") 4 65536 alike (omega arith) 2000000 1000 written called
+    (record { verdict = solved bindings; spent = 3; reads = read; decided = tt }) .2 words room (passed b) .0 e)

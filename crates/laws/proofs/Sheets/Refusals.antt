@@ -18,13 +18,16 @@ use Rattle.rules.specs.Answer.{answer-of}
 use Rattle.rules.specs.RefusalNumbers.{number-for, TooLong, ForeignByte, LineOutOfPlace, UnreadableTerm, ShortWorkArea, ShortOutput}
 use Rattle.rules.specs.Call.{Reply, refused, passed, refusal-number, plain, admitted, settled, call, written, output-after, work-after}
 use Rattle.rules.specs.Refusals.{Allowed, Screened, Admitted, Outcome, too-long, foreign-byte, out-of-place, short-work, unreadable, short-output, answered, Overwritten, KeepsWork, Cleared}
+use Rattle.rules.specs.SheetLines.{IsSheet}
 use Rattle.laws.proofs.Basics.Tests.{and-left, and-right, and-both, and-split, or-cases, or-left, or-right, eqb-true, eqb-self, leb-true, leb-false, true-leb, false-leb}
+use Rattle.laws.proofs.Sheets.Forms.{reads-form, unread-form}
+use Rattle.laws.proofs.Sheets.Unread.{sheet-unread}
 
 -- Bytes
 
 -- a test of all bytes, index by index
 module _ (t : ℕ → Bool) where
-  all-at : (s : Text) → all t s ≡ true → (p : ℕ) → p < length s → t (getD s p 0) ≡ true
+  pub all-at : (s : Text) → all t s ≡ true → (p : ℕ) → p < length s → t (getD s p 0) ≡ true
   unfolding all
   all-at [] e p h = absurd (omega arith)
   all-at (b ∷ s) e zero h = and-left (t b) (all t s) e
@@ -45,18 +48,18 @@ module _ (t : ℕ → Bool) where
       go false k f = (0, omega arith, k)
       go true k f = let (p, l, j) = f (rw k at e) in (suc p, omega arith, j)
 
-plain-allowed : (b : ℕ) → plain b ≡ true → Allowed b
+pub plain-allowed : (b : ℕ) → plain b ≡ true → Allowed b
 plain-allowed b e = go (or-cases (eqb b 10) (within 32 126 b) e)
   where
     go : (eqb b 10 ≡ true) ⊎ (within 32 126 b ≡ true) → Allowed b
     go (inl h) = inl (eqb-true b 10 h)
     go (inr h) = let (l, r) = and-split (leb 32 b) (leb b 126) h in inr (leb-true 32 b l, leb-true b 126 r)
 
-allowed-plain : (b : ℕ) → Allowed b → plain b ≡ true
+pub allowed-plain : (b : ℕ) → Allowed b → plain b ≡ true
 allowed-plain b (inl e) = or-left (eqb b 10) (within 32 126 b) (rw e (eqb-self 10))
 allowed-plain b (inr (l, r)) = rw (true-leb 32 b l, true-leb b 126 r) (or-right (eqb b 10))
 
-all-plain : {s : Text} → Screened s → all plain s ≡ true
+pub all-plain : {s : Text} → Screened s → all plain s ≡ true
 all-plain {s} h = at-all plain s (λ p k. allowed-plain (getD s p 0) (h .allowed p k))
 
 not-plain : (s : Text) (p : ℕ) → p < length s → ¬ Allowed (getD s p 0) → all plain s ≡ false
@@ -87,7 +90,7 @@ module _ (s : Text) (words : ℕ) where
 
   admits : (sheet : Sheet) → Admitted s words sheet → admitted s words ≡ passed sheet
   unfolding admitted
-  admits sheet h = rw (true-leb (length s) 65536 (h .screened .short), all-plain (h .screened), h .reads, true-leb (words-needed s sheet) words (h .enough))
+  admits sheet h = rw (true-leb (length s) 65536 (h .screened .short), all-plain (h .screened), reads-form s sheet .1 (h .form), true-leb (words-needed s sheet) words (h .enough))
 
 module _ (s : Text) (words room : ℕ) where
   -- a refusal from the sheet and the number of words ends the call
@@ -114,9 +117,9 @@ module _ (s : Text) (words room : ℕ) where
   gives : {r : Reply Text} → Outcome s words room r → call s words room ≡ r
   gives (too-long h) = ends (number-for TooLong) (refuses-1 s words h)
   gives (foreign-byte h p k a) = ends (number-for ForeignByte) (refuses-2 s words h (not-plain s p k a))
-  gives (out-of-place h e) = ends (number-for LineOutOfPlace) (refuses-3 s words h e)
-  gives (short-work {sheet} h e k) = ends (number-for ShortWorkArea) (refuses-11 s words sheet h e k)
-  gives (unreadable {sheet} h e) = goes-on sheet (refused (number-for UnreadableTerm)) h (refuses-4 sheet e)
+  gives (out-of-place h e) = ends (number-for LineOutOfPlace) (refuses-3 s words h (unread-form s .1 e))
+  gives (short-work {sheet} h e k) = ends (number-for ShortWorkArea) (refuses-11 s words sheet h (reads-form s sheet .1 e) k)
+  gives (unreadable {sheet} h e) = goes-on sheet (refused (number-for UnreadableTerm)) h (refuses-4 sheet (sheet-unread sheet .1 e))
   gives (short-output {sheet} {answer} h e k) = goes-on sheet (refused (number-for ShortOutput)) h (refuses-12 sheet answer e k)
   gives (answered {sheet} {answer} h e k) = goes-on sheet (passed answer) h (answers sheet answer e k)
 
@@ -130,17 +133,17 @@ module _ (s : Text) (words room : ℕ) where
   by-room {answer = answer} h e false k = (refused (number-for ShortOutput), short-output h e (leb-false (length answer) room k))
 
   by-answer : {sheet : Sheet} → Admitted s words sheet → (o : Option Text) → answer-of sheet ≡ o → Some
-  by-answer h none e = (refused (number-for UnreadableTerm), unreadable h e)
+  by-answer {sheet} h none e = (refused (number-for UnreadableTerm), unreadable h (sheet-unread sheet .0 e))
   by-answer h (some answer) e = by-room h e (leb (length answer) room) refl
 
-  by-words : {sheet : Sheet} → Screened s → read-sheet s ≡ some sheet → (b : Bool) → leb (words-needed s sheet) words ≡ b → Some
+  by-words : {sheet : Sheet} → Screened s → IsSheet s sheet → (b : Bool) → leb (words-needed s sheet) words ≡ b → Some
   by-words {sheet} h e true k =
-      by-answer (record { screened = h; reads = e; enough = leb-true (words-needed s sheet) words k }) (answer-of sheet) refl
+      by-answer (record { screened = h; form = e; enough = leb-true (words-needed s sheet) words k }) (answer-of sheet) refl
   by-words {sheet} h e false k = (refused (number-for ShortWorkArea), short-work h e (leb-false (words-needed s sheet) words k))
 
   by-lines : Screened s → (o : Option Sheet) → read-sheet s ≡ o → Some
-  by-lines h none e = (refused (number-for LineOutOfPlace), out-of-place h e)
-  by-lines h (some sheet) e = by-words h e (leb (words-needed s sheet) words) refl
+  by-lines h none e = (refused (number-for LineOutOfPlace), out-of-place h (unread-form s .0 e))
+  by-lines h (some sheet) e = by-words h (reads-form s sheet .0 e) (leb (words-needed s sheet) words) refl
 
   by-bytes : length s ≤ 65536 → (b : Bool) → all plain s ≡ b → Some
   by-bytes h true e =
@@ -233,7 +236,7 @@ module _ (s : Text) (work : List ℕ) where
 
   clears-needed : {sheet : Sheet} → Admitted s (length work) sheet → (h : Sheet) × (read-sheet s ≡ some h) × Cleared (words-needed s h) work (work-after s work)
   unfolding work-after
-  clears-needed {sheet} a = (sheet, a .reads, rw (admits s (length work) sheet a) (clears (words-needed s sheet) work (a .enough)))
+  clears-needed {sheet} a = (sheet, reads-form s sheet .1 (a .form), rw (admits s (length work) sheet a) (clears (words-needed s sheet) work (a .enough)))
 
   module _ (room : ℕ) where
     -- after 1, 2, 3, 11 the work area is unchanged
@@ -243,8 +246,8 @@ module _ (s : Text) (work : List ℕ) where
         go : {r : Reply Text} → Outcome s (length work) room r → KeepsWork r → work-after s work ≡ work
         go (too-long h) k = keeps (number-for TooLong) (refuses-1 s (length work) h)
         go (foreign-byte h p l a) k = keeps (number-for ForeignByte) (refuses-2 s (length work) h (not-plain s p l a))
-        go (out-of-place h e) k = keeps (number-for LineOutOfPlace) (refuses-3 s (length work) h e)
-        go (short-work {sheet} h e l) k = keeps (number-for ShortWorkArea) (refuses-11 s (length work) sheet h e l)
+        go (out-of-place h e) k = keeps (number-for LineOutOfPlace) (refuses-3 s (length work) h (unread-form s .1 e))
+        go (short-work {sheet} h e l) k = keeps (number-for ShortWorkArea) (refuses-11 s (length work) sheet h (reads-form s sheet .1 e) l)
         go (unreadable h e) k = absurd (other-number (number-for UnreadableTerm) (omega arith) (λ i. omega arith) k)
         go (short-output h e l) k = absurd (other-number (number-for ShortOutput) (omega arith) (λ i. omega arith) k)
         go (answered h e l) k = absurd k

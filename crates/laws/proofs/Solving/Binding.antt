@@ -14,21 +14,11 @@ use Rattle.rules.specs.Equality.{AC, reflexive, symmetric, transitive}
 use Rattle.rules.specs.Sorts.{Sort, variable-sort, sorted}
 use Rattle.rules.specs.Tidy.{Arity, Tidy, TidyPairs}
 use Rattle.rules.specs.Meaning.{WellSorted, Unifier, Free}
+pub use Rattle.rules.specs.Derivation.{GoodBinding, GoodBindings}
 use Rattle.laws.proofs.Basics.Tests.{same-eq, ne-of-differ}
 use Rattle.laws.proofs.Solving.Substituting.{FreePairs, substitute-twice, substitute-AC, substitute-free, substitute-stays-free}
 use Rattle.laws.proofs.Sorts.Sorting.{below-self, sorted-variable}
 use Rattle.laws.proofs.Sorts.Instances.{substitute-tidy}
-
--- the value has the key's sort
-pub record GoodBinding (arity : Text → ℕ) (x : Text) (v : Tree) : Type 0 where
-  pub key-sort : Sort
-  pub key-has : variable-sort x ≡ some key-sort
-  pub value-has : sorted key-sort v ≡ true
-  pub tidy : Tidy arity v
-
-abbrev pub GoodBindings : (Text → ℕ) → List Binding → Type 0
-GoodBindings arity [] = Unit {0}
-GoodBindings arity (b ∷ bs) = GoodBinding arity (b .0) (b .1) × GoodBindings arity bs
 
 -- what holds of the value at its key, and of what is looked up at every other variable, holds at every variable
 pub at-lookup : (P : Text → Tree → Type 0) (x : Text) (v : Tree) (bs : List Binding) → P x v → ((y : Text) → (x ≡ y → ⊥) → P y (lookup bs y)) → (y : Text)

@@ -19,7 +19,7 @@ use Rattle.laws.proofs.Solving.Binding.{GoodBindings, good-bindings}
 use Rattle.laws.proofs.Solving.Composing.{lookup-here, lookup-past}
 use Rattle.laws.proofs.Solving.Moving.{unchanged, still, Agrees, FreePatterns, Finds, finds, Advances, MoveMeans, move-means}
 
-matcher-equates : (σ : Substitution) (ps : List Pair) → Matcher σ ps ↔ Equates σ unchanged ps
+pub matcher-equates : (σ : Substitution) (ps : List Pair) → Matcher σ ps ↔ Equates σ unchanged ps
 matcher-equates σ [] = (λ h. h, λ h. h)
 matcher-equates σ (p ∷ ps) =
     let k = matcher-equates σ ps in

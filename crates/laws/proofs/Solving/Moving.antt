@@ -17,6 +17,7 @@ use Rattle.rules.specs.Solving.{Rest, emptied, mismatch, stuck, equation, cance
 use Rattle.rules.specs.Matching.{or-else, bound, Move, onward, clash, beyond, agree, bind-new, sort-new, match-key, match-rest, ground-eq, match-at, match-roots, move}
 use Rattle.rules.specs.Tidy.{Arity, Tidy, TidyPairs}
 use Rattle.rules.specs.Meaning.{WellSorted, Equates, Free, Frees, NoKey, Distinct}
+pub use Rattle.rules.specs.Derivation.{Agrees}
 use Rattle.laws.proofs.Basics.Tests.{and-left, and-right, same-eq, ne-of-differ}
 use Rattle.laws.proofs.Equality.Kept.{sorted-kept}
 use Rattle.laws.proofs.Basics.Spelling.{same-head, same-count}
@@ -39,11 +40,6 @@ unfolding substitute head children
 still-root (variable x) = (refl, refl)
 still-root (atom c d) = (refl, refl)
 still-root (apply f ts) = (refl, refl)
-
--- the substitution gives each key its value
-abbrev pub Agrees : Substitution → List Binding → Type 0
-Agrees σ [] = Unit {0}
-Agrees σ (b ∷ bs) = AC (σ (b .0)) (b .1) × Agrees σ bs
 
 -- bindings that were searched for a variable
 

@@ -16,7 +16,7 @@ use Rattle.rules.specs.Sorts.{Sort, variable-sort, sorted, refinable}
 use Rattle.rules.specs.Solving.{remove-at, remove, cancel-at, cancel, remainder, cancel-sums, Step, goes-on, bind, fails, unknown, fits, bind-into, unless-refinable, swap-at, swap-for, swap-key, sort-check, occurs-check, eliminate-at, eliminate, push-children, if-refuted, sum-step, decompose-at, decompose, differ, step-at, step}
 use Rattle.rules.specs.Tidy.{Built, Arity, Tidy, TidyPairs}
 use Rattle.rules.specs.Meaning.{Free}
-use Rattle.rules.specs.Inference.{Applies, of-atom, of-apply, Removes, first, later, Without, Cancels, done, paired, single, SumsLeave, sums, Key, Orientable, put, Infers, Keeps}
+use Rattle.rules.specs.Inference.{Applies, of-atom, of-apply, Pairwise, left-ends, right-ends, both-go-on, Removes, first, later, Without, Cancels, done, paired, single, SumsLeave, sums, Key, Orientable, put, Infers, Keeps}
 use Rattle.laws.proofs.Basics.Tests.{true-leb, false-leb, same-self, differ-of-ne, tree-eq}
 use Rattle.laws.proofs.Equality.Canonical.{equivalent-sound, equivalent-complete}
 use Rattle.laws.proofs.Equality.Building.{tidy-built}
@@ -28,16 +28,16 @@ use Rattle.laws.proofs.Equality.Summands.{BuiltList, summands-built}
 -- Cancelling
 
 -- the test of AC equality, refused
-not-equivalent : {t u : Tree} → Built t → Built u → ¬ AC t u → equivalent t u ≡ false
+pub not-equivalent : {t u : Tree} → Built t → Built u → ¬ AC t u → equivalent t u ≡ false
 not-equivalent {t} {u} bt bu h = eq-false-of-not-eq-true (λ e. h (equivalent-sound bt bu e))
 
 module _ (t : Tree) (bt : Built t) where
-  removes-only : {us vs : List Tree} → BuiltList us → Removes t us vs → remove equivalent t us ≡ some vs
+  pub removes-only : {us vs : List Tree} → BuiltList us → Removes t us vs → remove equivalent t us ≡ some vs
   unfolding remove
   removes-only b (first {u = u} {us = us} h) = ap (λ (c : Bool). remove-at c u us (remove equivalent t us)) (equivalent-complete h)
   removes-only b (later {u = u} {us = us} n h) = rw (not-equivalent bt (b .0) n, removes-only (b .1) h)
 
-  without-only : (us : List Tree) → BuiltList us → Without t us → remove equivalent t us ≡ nothing
+  pub without-only : (us : List Tree) → BuiltList us → Without t us → remove equivalent t us ≡ nothing
   unfolding remove
   without-only [] b h = refl
   without-only (u ∷ us) b h = rw (not-equivalent bt (b .0) (h .0), without-only us (b .1) (h .1))
@@ -59,10 +59,16 @@ unfolding head
 applied-head of-atom = refl
 applied-head of-apply = refl
 
-applied-children : {t : Tree} {f : Text} {ts : Trees} → Applies t f ts → children t ≡ ts
+pub applied-children : {t : Tree} {f : Text} {ts : Trees} → Applies t f ts → children t ≡ ts
 unfolding children
 applied-children of-atom = refl
 applied-children of-apply = refl
+
+pub pairwise-only : {ts us : Trees} {ps qs : List Pair} → Pairwise ts us ps qs → push-children ts us ps ≡ qs
+unfolding push-children
+pairwise-only left-ends = refl
+pairwise-only right-ends = refl
+pairwise-only (both-go-on {t = t} {u = u} w) = ap (λ (rs : List Pair). (t, u) ∷ rs) (pairwise-only w)
 
 applied-differ : {l r : Tree} {f g : Text} {ts us : Trees} (ps : List Pair) → Applies l f ts → Applies r g us
     → differ l r ps ≡ decompose-at (same f g) (same f tamtplus) l r ps
@@ -145,7 +151,7 @@ gives : {l r : Tree} {ps : List Pair} {a : Step} → Built l → Built r → Inf
 unfolding step
 gives bl br (Infers.trivial {t = t} {ps = ps}) = ap (λ (b : Bool). step-at b t t ps) (same-tree-self t)
 gives bl br (Infers.symbol-clash {ps = ps} p q n) = clash-step ps p q n
-gives bl br (Infers.decomposition {ps = ps} p q m n) = decomposed-step ps p q m n
+gives bl br (Infers.decomposition {ps = ps} p q m n w) = decomposed-step ps p q m n ∙ ap goes-on (pairwise-only w)
 gives bl br (Infers.nothing-left {ps = ps} c) = sums-step ps bl br c
 gives bl br (Infers.left-used-up {ps = ps} c) = sums-step ps bl br c
 gives bl br (Infers.right-used-up {ps = ps} c) = sums-step ps bl br c

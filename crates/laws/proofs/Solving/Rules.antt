@@ -14,9 +14,9 @@ use Rattle.rules.specs.Substitution.{Pair, size-pairs}
 use Rattle.rules.specs.Sums.{summands, equivalent}
 use Rattle.rules.specs.Equality.{AC}
 use Rattle.rules.specs.Sorts.{Sort, TamNat, variable-sort, natural, sorted, refinable, sort-refuted}
-use Rattle.rules.specs.Solving.{remove-at, remove, cancel-at, cancel, remainder, cancel-sums, goes-on, fits, bind-into, unless-refinable, swap-at, swap-for, swap-key, sort-check, occurs-check, eliminate-at, eliminate, if-refuted, sum-step, decompose-at, decompose, differ, step-at, step}
+use Rattle.rules.specs.Solving.{remove-at, remove, cancel-at, cancel, remainder, cancel-sums, goes-on, fits, bind-into, unless-refinable, swap-at, swap-for, swap-key, sort-check, occurs-check, eliminate-at, eliminate, push-children, if-refuted, sum-step, decompose-at, decompose, differ, step-at, step}
 use Rattle.rules.specs.Tidy.{Built}
-use Rattle.rules.specs.Inference.{Applies, of-atom, of-apply, Removes, first, later, Without, Cancels, done, paired, single, SumsLeave, sums, NeverEqual, Key, Orientable, put, Infers}
+use Rattle.rules.specs.Inference.{Applies, of-atom, of-apply, Pairwise, left-ends, right-ends, both-go-on, Removes, first, later, Without, Cancels, done, paired, single, SumsLeave, sums, NeverEqual, Key, Orientable, put, Infers}
 use Rattle.laws.proofs.Basics.Tests.{and-left, and-right, and-both, or-cases, or-right, eqb-self, leb-true, leb-false, same-eq, same-self, ne-of-differ, tree-eq}
 use Rattle.laws.proofs.Equality.Canonical.{equivalent-sound, equivalent-complete}
 use Rattle.laws.proofs.Solving.Substituting.{free-of, free-occurs}
@@ -25,7 +25,7 @@ use Rattle.laws.proofs.Equality.Summands.{BuiltList, summands-built}
 
 -- Tests
 
-not-AC : {t u : Tree} → equivalent t u ≡ false → ¬ AC t u
+pub not-AC : {t u : Tree} → equivalent t u ≡ false → ¬ AC t u
 not-AC e h = true≢false (sym (equivalent-complete h) ∙ e)
 
 mutual
@@ -44,11 +44,11 @@ mutual
 
 module _ (t : Tree) (bt : Built t) where
   -- what taking t out of a list gives
-  abbrev Removed : List Tree → Option (List Tree) → Type 0
+  abbrev pub Removed : List Tree → Option (List Tree) → Type 0
   Removed us nothing = Without t us
   Removed us (some vs) = Removes t us vs
 
-  removed : (us : List Tree) → BuiltList us → Removed us (remove equivalent t us)
+  pub removed : (us : List Tree) → BuiltList us → Removed us (remove equivalent t us)
   unfolding remove
   removed [] b = tt
   removed (u ∷ us) b = go (equivalent t u) refl (remove equivalent t us) (removed us (b .1))
@@ -94,7 +94,13 @@ refuted l r (inr h) = rw (h .0, h .1)
 
 -- Every step is by a rule
 
-applies : (t : Tree) → NotVariable t → Applies t (head t) (children t)
+pub pairwise : (ts us : Trees) (ps : List Pair) → Pairwise ts us ps (push-children ts us ps)
+unfolding push-children
+pairwise none us ps = left-ends
+pairwise (more t ts) none ps = right-ends
+pairwise (more t ts) (more u us) ps = both-go-on (pairwise ts us ps)
+
+pub applies : (t : Tree) → NotVariable t → Applies t (head t) (children t)
 unfolding head children
 applies (variable x) n = absurd n
 applies (atom c d) n = of-atom
@@ -128,7 +134,7 @@ module _ (l r : Tree) (ps : List Pair) where
           sum-infers (cancel equivalent (summands l) (summands r) .0) (cancel equivalent (summands l) (summands r) .1)
           (sums (named l nl tamtplus e) (named r nr tamtplus d) n (cancels (summands l) (summands r) (summands-built l bl) (summands-built r br)))
       go true false p q =
-          Infers.decomposition (applies l nl) (named r nr (head l) (sym (same-eq (head l) (head r) p))) (ne-of-differ q) n
+          Infers.decomposition (applies l nl) (named r nr (head l) (sym (same-eq (head l) (head r) p))) (ne-of-differ q) n (pairwise (children l) (children r) ps)
 
 -- a variable and another tree
 module _ (ps : List Pair) where

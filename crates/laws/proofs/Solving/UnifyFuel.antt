@@ -17,7 +17,7 @@ use Rattle.laws.specs.Memory.{without, OverPairs}
 use Rattle.laws.proofs.Basics.Tests.{same-of-eq}
 use Rattle.laws.proofs.Equality.Summands.{summands-built}
 use Rattle.laws.proofs.Solving.Rules.{step-infers}
-use Rattle.laws.proofs.Solving.OnlyRules.{cancels-only, applied-head}
+use Rattle.laws.proofs.Solving.OnlyRules.{cancels-only, applied-head, pairwise-only}
 use Rattle.laws.proofs.Solving.Names.{StepOver, step-over}
 use Rattle.laws.proofs.Solving.Weights.{size-some, sum-nodes}
 use Rattle.laws.proofs.Sheets.BuiltRun.{BuiltPairs, BuiltStep, step-built}
@@ -53,7 +53,8 @@ infers-fewer : {l r : Tree} {ps : List Pair} {s : Step} → Infers l r ps s → 
 unfolding size-pairs
 infers-fewer (Infers.trivial {t} {ps}) bl br = omega (arith, size-some t)
 infers-fewer (Infers.symbol-clash a b n) bl br = tt
-infers-fewer (Infers.decomposition {ts = ts} {us = us} {ps = ps} a b m n) bl br = omega (arith, push-size ts us ps, applied-size a, applied-size b)
+infers-fewer (Infers.decomposition {ts = ts} {us = us} {ps = ps} a b m n w) bl br =
+    omega (arith, push-size ts us ps, ap size-pairs (pairwise-only w), applied-size a, applied-size b)
 infers-fewer (Infers.nothing-left {l} {r} {ps} c) bl br = omega (arith, size-some l)
 infers-fewer (Infers.left-used-up c) bl br = tt
 infers-fewer (Infers.right-used-up c) bl br = tt

@@ -1,6 +1,6 @@
 use Prim.Native.Nat.{_<_}
 use native.Mathlib.Omega.{arith}
-use Rattle.steps.specs.Stack.{pairs-at}
+use Rattle.elimination.specs.Stack.{pairs-at}
 use Rattle.matching.proofs.Advancing.{Holds, holds-start, holds-solved, holds-spent, holds-right, holds-top, move-fits, move-room, holds-clash, holds-beyond, holds-onward}
 use borrow.Author.Needs.{needs}
 use Rattle.matching.proofs.matcher.Statement.{statement}

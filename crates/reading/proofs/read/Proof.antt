@@ -3,7 +3,7 @@ use Prim.Native.Nat.{_+_, _*_, _-_}
 use mathlib.Core.Path.{_≡_, refl, sym, ap, _∙_, subst}
 use borrow.Author.Needs.{needs}
 use Rattle.syntax.specs.declared.Symbol.the-variants.{Begin, Shut, Comma, Name, Stop, Bad}
-use Rattle.reading.specs.Words.{Held}
+use Rattle.closing.specs.Words.{Held}
 use Rattle.reading.proofs.NamePlaces.{name-at-place, mark-past}
 use Rattle.reading.proofs.Rounds.{Wants, Has, task, wants-start, wants-out, wants-open, has-leaf, has-out, comma-out, shut-alone, stop-ends, has-comma, has-shut, shut-refused, shut-room, outside-inner, outside-on, pops-is}
 use Rattle.reading.proofs.read.Statement.{statement}

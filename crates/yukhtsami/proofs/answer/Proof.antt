@@ -1,14 +1,14 @@
 use mathlib.Core.Path.{subst}
 use native.Mathlib.Omega.{arith}
 use lib.ListN.{length}
-use Rattle.answers.specs.Admission.{Admits}
-use Rattle.yukhtsami.proofs.KindLaws.{refused-answers, enough-words, settled-answers}
+use Rattle.admission.specs.Admission.{Admits}
+use Rattle.yukhtsami.proofs.Calling.{refused-answers, enough-words, settled-answers}
 use borrow.Author.Needs.{needs}
 use Rattle.yukhtsami.proofs.answer.Statement.{statement}
 use Rattle.yukhtsami.proofs.answer.Tie as tie
 use Rattle.yukhtsami.proofs.answer.Reads as reads
 use Rattle.yukhtsami.proofs.answer.Lts as lts
-use Rattle.answers.proofs.admission.admit.Reads as admit-reads
+use Rattle.admission.proofs.admit.Reads as admit-reads
 use Rattle.yukhtsami.proofs.settle_and_clear.Reads as settle-and-clear-reads
 
 admit-requires : tie.Need-admit-requires

@@ -1,11 +1,11 @@
-use Rattle.yukhtsami.proofs.KindLaws.{decided-held, decided-settles}
+use Rattle.yukhtsami.proofs.Calling.{decided-held, decided-settles}
 use borrow.Author.Needs.{needs}
 use Rattle.yukhtsami.proofs.settle.Statement.{statement}
 use Rattle.yukhtsami.proofs.settle.Tie as tie
 use Rattle.yukhtsami.proofs.settle.Reads as reads
 use Rattle.yukhtsami.proofs.settle.Lts as lts
 use Rattle.answers.proofs.giving.give.Reads as give-reads
-use Rattle.yukhtsami.proofs.kinds.decide.Reads as decide-reads
+use Rattle.kinds.proofs.decide.Reads as decide-reads
 
 decide-requires : tie.Need-decide-requires
 decide-requires c κs = search needs

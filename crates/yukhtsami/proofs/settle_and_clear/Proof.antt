@@ -2,14 +2,14 @@ use mathlib.Core.Path.{_≡_, sym, _∙_}
 use native.Mathlib.Omega.{arith}
 use lib.ListN.{length, take}
 use lib.Seq.{length-take-le}
-use Rattle.answers.proofs.Zeroing.{zeroed-over}
-use Rattle.yukhtsami.proofs.KindLaws.{more-words}
+use Rattle.admission.proofs.Zeroing.{zeroed-over}
+use Rattle.yukhtsami.proofs.Calling.{more-words}
 use borrow.Author.Needs.{needs}
 use Rattle.yukhtsami.proofs.settle_and_clear.Statement.{statement}
 use Rattle.yukhtsami.proofs.settle_and_clear.Tie as tie
 use Rattle.yukhtsami.proofs.settle_and_clear.Reads as reads
 use Rattle.yukhtsami.proofs.settle_and_clear.Lts as lts
-use Rattle.answers.proofs.clearing.clear.Reads as clear-reads
+use Rattle.admission.proofs.clearing.clear.Reads as clear-reads
 use Rattle.yukhtsami.proofs.settle.Reads as settle-reads
 
 slice-relend-prefix-settle : tie.Need-slice-relend-prefix-settle

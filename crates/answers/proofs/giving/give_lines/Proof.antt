@@ -1,6 +1,6 @@
 use native.Mathlib.Omega.{arith}
 use lib.ListN.{length}
-use Rattle.tree.proofs.Lengths.{told, told-over}
+use Rattle.printing.proofs.Lengths.{told, told-over}
 use Rattle.answers.specs.Deciding.{lines-text}
 use Rattle.answers.proofs.Gives.{short-settles, written-settles}
 use borrow.Author.Needs.{needs}

@@ -1,6 +1,6 @@
 use mathlib.Core.Path.{subst, sym}
 use Rattle.answers.specs.Deciding.{LinesHeld}
-use Rattle.answers.proofs.VerdictLines.{failed-lines, unsupported-lines}
+use Rattle.verdicts.proofs.VerdictLines.{failed-lines, unsupported-lines}
 use borrow.Author.Needs.{needs}
 use Rattle.answers.proofs.giving.measure.Statement.{statement}
 use Rattle.answers.proofs.giving.measure.Tie as tie
@@ -8,8 +8,8 @@ use Rattle.answers.proofs.giving.measure.Reads as reads
 use Rattle.answers.proofs.giving.measure.Lts as lts
 use Rattle.answers.proofs.lines.measure_constant.Reads as measure-constant-reads
 use Rattle.answers.proofs.lines.measure_keyed.Reads as measure-keyed-reads
-use Rattle.answers.proofs.verdicts.measure_head.Reads as measure-head-reads
-use Rattle.answers.proofs.verdicts.measure_solved.Reads as measure-solved-reads
+use Rattle.verdicts.proofs.measure_head.Reads as measure-head-reads
+use Rattle.verdicts.proofs.measure_solved.Reads as measure-solved-reads
 
 enum-known-lines : tie.Need-enum-known-lines
 enum-known-lines c = search needs

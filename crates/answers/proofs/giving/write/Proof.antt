@@ -4,7 +4,7 @@ use Prim.Native.Nat.{_+_, _≤_}
 use lib.ListN.{length}
 use Rattle.answers.specs.Deciding.{lines-text, LinesHeld}
 use Rattle.answers.specs.declared.deciding.Lines.{Lines}
-use Rattle.answers.proofs.VerdictLines.{failed-lines, unsupported-lines}
+use Rattle.verdicts.proofs.VerdictLines.{failed-lines, unsupported-lines}
 use borrow.Author.Needs.{needs}
 use Rattle.answers.proofs.giving.write.Statement.{statement}
 use Rattle.answers.proofs.giving.write.Tie as tie
@@ -12,8 +12,8 @@ use Rattle.answers.proofs.giving.write.Reads as reads
 use Rattle.answers.proofs.giving.write.Lts as lts
 use Rattle.answers.proofs.lines.write_constant.Reads as write-constant-reads
 use Rattle.answers.proofs.lines.write_keyed.Reads as write-keyed-reads
-use Rattle.answers.proofs.verdicts.write_head.Reads as write-head-reads
-use Rattle.answers.proofs.verdicts.write_solved.Reads as write-solved-reads
+use Rattle.verdicts.proofs.write_head.Reads as write-head-reads
+use Rattle.verdicts.proofs.write_solved.Reads as write-solved-reads
 
 enum-known-lines : tie.Need-enum-known-lines
 enum-known-lines c = search needs

@@ -1,8 +1,8 @@
 use native.Mathlib.Omega.{arith}
 use lib.ListN.{length}
-use Rattle.tree.proofs.Lengths.{fits-is, over-is}
+use Rattle.printing.proofs.Lengths.{fits-is, over-is}
 use Rattle.answers.specs.Deciding.{key-text, claim-word}
-use Rattle.answers.proofs.Gives.{line-length}
+use Rattle.tree.proofs.Printing.{line-length}
 use borrow.Author.Needs.{needs}
 use Rattle.answers.proofs.lines.measure_constant.Statement.{statement}
 use Rattle.answers.proofs.lines.measure_constant.Tie as tie

@@ -2,16 +2,16 @@ use native.Mathlib.Omega.{arith}
 use lib.ListN.{length}
 use Rattle.rules.specs.Writing.{render}
 use Rattle.tree.specs.Cells.{tree-at}
-use Rattle.tree.proofs.Lengths.{told, told-over, fits-is, over-is}
+use Rattle.printing.proofs.Lengths.{told, told-over, fits-is, over-is}
 use Rattle.answers.specs.Deciding.{key-text}
-use Rattle.answers.proofs.Gives.{line-length}
+use Rattle.tree.proofs.Printing.{line-length}
 use borrow.Author.Needs.{needs}
 use Rattle.answers.proofs.lines.measure_keyed.Statement.{statement}
 use Rattle.answers.proofs.lines.measure_keyed.Tie as tie
 use Rattle.answers.proofs.lines.measure_keyed.Reads as reads
 use Rattle.answers.proofs.lines.measure_keyed.Lts as lts
 use Rattle.answers.proofs.lines.key_len.Reads as key-len-reads
-use Rattle.tree.proofs.measuring.measure_term.Reads as measure-term-reads
+use Rattle.printing.proofs.measuring.measure_term.Reads as measure-term-reads
 
 key-len-requires : tie.Need-key-len-requires
 key-len-requires c κs = search needs

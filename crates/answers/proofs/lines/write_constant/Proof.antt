@@ -1,6 +1,6 @@
 use native.Mathlib.Omega.{arith}
 use Rattle.answers.specs.Deciding.{key-text, claim-word}
-use Rattle.answers.proofs.Gives.{line-length, line-printed}
+use Rattle.tree.proofs.Printing.{line-length, line-printed}
 use borrow.Author.Needs.{needs}
 use Rattle.answers.proofs.lines.write_constant.Statement.{statement}
 use Rattle.answers.proofs.lines.write_constant.Tie as tie

@@ -2,7 +2,7 @@ use native.Mathlib.Omega.{arith}
 use Rattle.rules.specs.Writing.{render}
 use Rattle.tree.specs.Cells.{tree-at}
 use Rattle.answers.specs.Deciding.{key-text}
-use Rattle.answers.proofs.Gives.{line-length, line-printed}
+use Rattle.tree.proofs.Printing.{line-length, line-printed}
 use borrow.Author.Needs.{needs}
 use Rattle.answers.proofs.lines.write_keyed.Statement.{statement}
 use Rattle.answers.proofs.lines.write_keyed.Tie as tie
@@ -10,7 +10,7 @@ use Rattle.answers.proofs.lines.write_keyed.Reads as reads
 use Rattle.answers.proofs.lines.write_keyed.Lts as lts
 use Rattle.answers.proofs.lines.print_key.Reads as print-key-reads
 use Rattle.tree.proofs.names.print_byte.Reads as print-byte-reads
-use Rattle.tree.proofs.writing.write_term.Reads as write-term-reads
+use Rattle.printing.proofs.writing.write_term.Reads as write-term-reads
 
 print-key-requires : tie.Need-print-key-requires
 print-key-requires c κs =

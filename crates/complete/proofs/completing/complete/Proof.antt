@@ -3,7 +3,7 @@ use native.Mathlib.Omega.{arith}
 use Rattle.rules.specs.Tree.{size}
 use Rattle.rules.specs.Variants.{scheme-count}
 use Rattle.complete.proofs.Asking.{asked-small}
-use Rattle.complete.proofs.Completeness.{term-spelled, term-fits, term-room, claims-unindexed, term-inside, over-claims, count-now, members-room, unread-claims, chosen-judge, chosen-kept, chosen-variables, chosen-inside, chosen-claims}
+use Rattle.complete.proofs.Completeness.{asked-there, term-spelled, term-fits, term-room, claims-unindexed, term-inside, over-claims, count-now, members-room, unread-claims, chosen-judge, chosen-kept, chosen-variables, chosen-inside, chosen-claims}
 use borrow.Author.Needs.{needs}
 use Rattle.complete.proofs.completing.complete.Statement.{statement}
 use Rattle.complete.proofs.completing.complete.Tie as tie
@@ -66,7 +66,7 @@ read-members-requires c κs =
     let p = c .before .before .before .before .before .before .before .before .before .before .before .before .before .before .before .before .before .before .before .pre in
     let t = rw (c .before .before .before .before .before .before .before .before .before .before .before .found .given .1) at (c .before .before .before .before .before .before .before .before .before .before .before .before .before .before .before .name-variables .ensures) in
     let f = c .before .before .before .fresh-cells .ensures in
-    (f .arena, members-room (p .1 .2) (p .0) (p .1 .0) (p .1 .1) t (c .before .before .before .fresh-cells .last .1 .0) _ (f .end) (f .grown .len))
+    (f .arena, (members-room (p .1 .2) (p .0) (p .1 .0) (p .1 .1) t (c .before .before .before .fresh-cells .last .1 .0) _ (f .end) (f .grown .len), asked-there (p .1 .2)))
 
 enum-known-read : tie.Need-enum-known-read
 enum-known-read c = search needs

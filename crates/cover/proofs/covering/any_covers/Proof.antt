@@ -7,7 +7,7 @@ use Prim.Native.Nat.{_-_}
 use lib.ListN.{length}
 use Rattle.rules.specs.Tree.{count}
 use Rattle.rules.specs.Sheet.{Member}
-use Rattle.sheet.specs.Members.{members-at}
+use Rattle.forms.specs.Members.{members-at}
 use Rattle.tree.proofs.Areas.{arena-frame}
 use Rattle.variables.specs.Pairing.{OfVariables}
 use Rattle.cover.proofs.Deciding.{Deciding, deciding-starts, deciding-ends, names-now, next-after, next-matchable, deciding-yes, deciding-no}

@@ -1,14 +1,16 @@
-use Rattle.cover.proofs.Deciding.{unread-covers, pairs-whole, pairs-fit, pairs-room, failed-uncovered, other-covers}
+use Rattle.cover.proofs.Deciding.{entries-there, unread-covers, pairs-whole, pairs-fit, pairs-room, failed-uncovered, other-covers}
 use borrow.Author.Needs.{needs}
 use Rattle.cover.proofs.covering.covers.Statement.{statement}
 use Rattle.cover.proofs.covering.covers.Tie as tie
 use Rattle.cover.proofs.covering.covers.Reads as reads
 use Rattle.cover.proofs.covering.covers.Lts as lts
-use Rattle.cover.proofs.members.member_pairs.Reads as member-pairs-reads
+use Rattle.values.proofs.members.member_pairs.Reads as member-pairs-reads
 use Rattle.matching.proofs.matcher.Reads as matcher-reads
 
 member-pairs-requires : tie.Need-member-pairs-requires
-member-pairs-requires c κs = search needs
+member-pairs-requires c κs =
+    let p = c .before .before .before .pre in
+    (p .0, (p .1 .0, (p .1 .1 .0, (p .1 .1 .1 .0, entries-there (p .1 .1 .1 .1)))))
 
 enum-known-sides : tie.Need-enum-known-sides
 enum-known-sides c = search needs

@@ -3,7 +3,7 @@ use borrow.Author.Needs.{needs}
 use native.Mathlib.Omega.{arith}
 use Prim.Native.Nat.{_-_}
 use lib.ListN.{length}
-use Rattle.families.proofs.Gathering.{Gathering, gathering-starts, gathering-ends, gathering-unread, gathering-turn}
+use Rattle.families.proofs.Gathering.{Gathering, gathering-starts, gathering-ends, gathering-next, gathering-unread, gathering-turn}
 use Rattle.families.proofs.members.read_members.Statement.{statement}
 use Rattle.families.proofs.members.read_members.Tie as tie
 use Rattle.families.proofs.members.read_members.Reads as reads
@@ -40,7 +40,8 @@ read-member-requires : tie.Need-read-member-requires Inv-loop μ-loop
 read-member-requires c κs =
     let p = c .before .before .before .before .before .before .before .pre in
     let h = c .before .before .before .before .loop .inv in
-    (h .arena, (p .1 .0, omega (arith, p .1, h .kept .len, h .used), omega (arith, p .1, h .used)))
+    let k = c .before .enum-told .given in
+    (h .arena, ((p .1 .0 .0, omega (arith, p .1 .0, h .kept .len, h .used), omega (arith, p .1 .0, h .used)), gathering-next h (k .0 .0) (k .0 .1 .0) (k .0 .1 .1 .0) (sym (k .1) ∙ c .before .before .before .next-member .ensures) (p .1 .1)))
 
 enum-known-member : tie.Need-enum-known-member Inv-loop μ-loop
 enum-known-member c = search needs
@@ -59,7 +60,7 @@ push-member-requires c κs =
     let p = c .before .before .before .before .before .before .before .before .before .before .before .before .before .before .pre in
     let h = c .before .before .before .before .before .before .before .before .before .before .before .loop .inv in
     let x = rw (c .before .before .member .given .1) at (c .before .before .before .before .before .before .read-member .ensures) in
-    (x .arena, ((x .placed .0, x .placed .1, x .inside, omega (arith, h .inside, x .grew)), (omega (arith, x .light, x .within, p .1), (omega (arith, x .used, x .onward, x .within, h .used, p .1, h .kept .len, x .kept .len), omega (arith, x .used, x .onward, x .within, h .used, p .1)))))
+    (x .arena, ((x .placed .0, x .placed .1, x .inside, omega (arith, h .inside, x .grew)), (omega (arith, x .light, x .within, p .1 .0), (omega (arith, x .used, x .onward, x .within, h .used, p .1 .0, h .kept .len, x .kept .len), omega (arith, x .used, x .onward, x .within, h .used, p .1 .0)))))
 
 loop-less : tie.Need-loop-less Inv-loop μ-loop
 loop-less c =

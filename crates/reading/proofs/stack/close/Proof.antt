@@ -5,16 +5,16 @@ use mathlib.Core.Path.{_≡_, refl, sym, ap, _∙_}
 use Rattle.rules.specs.Tree.{none}
 use Rattle.rules.specs.Reading.{close}
 use Rattle.tree.specs.Cells.{part, trees-at}
-use Rattle.reading.specs.Machine.{back}
-use Rattle.reading.specs.Closing.{most}
-use Rattle.reading.proofs.Making.{closes-is}
+use Rattle.closing.specs.Machine.{back}
+use Rattle.closing.specs.Closing.{most}
+use Rattle.closing.proofs.Making.{closes-is}
 use Rattle.reading.proofs.Stacks.{popped, not-popped, outside-grown, placed-at, most-is, chain-below}
 use borrow.Author.Needs.{needs}
 use Rattle.reading.proofs.stack.close.Statement.{statement}
 use Rattle.reading.proofs.stack.close.Tie as tie
 use Rattle.reading.proofs.stack.close.Reads as reads
 use Rattle.reading.proofs.stack.close.Lts as lts
-use Rattle.reading.proofs.closing.shut.Reads as shut-reads
+use Rattle.closing.proofs.shut.Reads as shut-reads
 use Rattle.text.proofs.places.wide.Reads as wide-reads
 
 mul-top : tie.Need-mul-top
@@ -76,8 +76,8 @@ shut-requires c κs =
     let a = c .before .before .before .before .before .before .before .before .before .before .before .args in
     let p = c .before .before .before .before .before .before .before .before .before .before .before .pre in
     let h = p .0 in
-    let m = most-is (a .sheet .now) (a .work .now) (a .limit) (a .depth) (c .before .before .before .before .before .wide2 .ensures) (c .before .before .before .wide3 .ensures) (c .before .wide4 .ensures) (a .free) in
-    (h .arena, ((chain-below (a .sheet .now) (a .work .now) (a .limit) (a .depth) (c .before .before .before .before .before .wide2 .ensures) (c .before .before .before .wide3 .ensures) (c .before .wide4 .ensures) h, omega (arith, c .before .before .before .before .before .before .before .wide .ensures, h .trees (a .depth) (omega arith))), ((omega (arith, h .room), omega arith), (placed-at (a .sheet .now) (a .work .now) (a .limit) (a .depth) (c .before .before .before .before .before .wide2 .ensures) (c .before .before .before .wide3 .ensures) (c .before .wide4 .ensures) h, p .1 .1))))
+    let m = most-is (a .sheet .now) (a .work .now) (a .limit) (a .depth) (c .before .before .before .before .before .wide2 .ensures .0) (c .before .before .before .wide3 .ensures .0) (c .before .wide4 .ensures .0) (a .free) in
+    (h .arena, ((chain-below (a .sheet .now) (a .work .now) (a .limit) (a .depth) (c .before .before .before .before .before .wide2 .ensures .0) (c .before .before .before .wide3 .ensures .0) (c .before .wide4 .ensures .0) h, omega (arith, c .before .before .before .before .before .before .before .wide .ensures .0, h .trees (a .depth) (omega arith))), ((omega (arith, h .room), omega arith), (placed-at (a .sheet .now) (a .work .now) (a .limit) (a .depth) (c .before .before .before .before .before .wide2 .ensures .0) (c .before .before .before .wide3 .ensures .0) (c .before .wide4 .ensures .0) h, p .1 .1))))
 
 enum-known-closed : tie.Need-enum-known-closed
 enum-known-closed c = search needs
@@ -92,9 +92,9 @@ returns : tie.Need-returns
 returns c =
     let a = c .before .before .before .before .before .before .before .before .before .before .before .before .before .before .before .before .args in
     let p = c .before .before .before .before .before .before .before .before .before .before .before .before .before .before .before .before .pre in
-    let m = most-is (a .sheet .now) (a .work .now) (a .limit) (a .depth) (c .before .before .before .before .before .before .before .before .before .before .wide2 .ensures) (c .before .before .before .before .before .before .before .before .wide3 .ensures) (c .before .before .before .before .before .before .wide4 .ensures) (a .free) in
+    let m = most-is (a .sheet .now) (a .work .now) (a .limit) (a .depth) (c .before .before .before .before .before .before .before .before .before .before .wide2 .ensures .0) (c .before .before .before .before .before .before .before .before .wide3 .ensures .0) (c .before .before .before .before .before .before .wide4 .ensures .0) (a .free) in
     let o = closes-is (a .sheet .now) (a .work .now) (c .before .before .before .before .shut .last .1 .0) (a .free) (most (a .sheet .now) (a .work .now) (a .free) (c .before .before .before .before .before .before .wide4 .result)) (c .before .before .before .before .before .before .before .before .before .before .before .before .wide .result) (close (part (a .sheet .now) (c .before .before .before .before .before .before .before .before .before .before .wide2 .result) (c .before .before .before .before .before .before .before .before .wide3 .result)) (back (trees-at (a .sheet .now) (a .work .now) (c .before .before .before .before .before .before .wide4 .result)) none)) (c .before .before .before .before .shut .ensures) (c .enum-told .given .1) in
-    (not-popped (a .sheet .now) (a .work .now) (a .limit) (a .depth) (c .before .before .before .before .before .before .before .before .before .before .wide2 .ensures) (c .before .before .before .before .before .before .before .before .wide3 .ensures) (c .before .before .before .before .before .before .wide4 .ensures) (o .0), outside-grown (omega arith) (o .1))
+    (not-popped (a .sheet .now) (a .work .now) (a .limit) (a .depth) (c .before .before .before .before .before .before .before .before .before .before .wide2 .ensures .0) (c .before .before .before .before .before .before .before .before .wide3 .ensures .0) (c .before .before .before .before .before .before .wide4 .ensures .0) (o .0), outside-grown (omega arith) (o .1))
 
 sub-work : tie.Need-sub-work
 sub-work c =
@@ -106,7 +106,7 @@ cast-work : tie.Need-cast-work
 cast-work c =
     let a = c .before .before .before .before .before .before .before .before .before .before .before .before .before .before .before .before .before .args in
     let p = c .before .before .before .before .before .before .before .before .before .before .before .before .before .before .before .before .before .pre in
-    let m = most-is (a .sheet .now) (a .work .now) (a .limit) (a .depth) (c .before .before .before .before .before .before .before .before .before .before .before .wide2 .ensures) (c .before .before .before .before .before .before .before .before .before .wide3 .ensures) (c .before .before .before .before .before .before .before .wide4 .ensures) (a .free) in
+    let m = most-is (a .sheet .now) (a .work .now) (a .limit) (a .depth) (c .before .before .before .before .before .before .before .before .before .before .before .wide2 .ensures .0) (c .before .before .before .before .before .before .before .before .before .wide3 .ensures .0) (c .before .before .before .before .before .before .before .wide4 .ensures .0) (a .free) in
     let o = closes-is (a .sheet .now) (a .work .now) (c .before .before .before .before .before .shut .last .1 .0) (a .free) (most (a .sheet .now) (a .work .now) (a .free) (c .before .before .before .before .before .before .before .wide4 .result)) (c .before .before .before .before .before .before .before .before .before .before .before .before .before .wide .result) (close (part (a .sheet .now) (c .before .before .before .before .before .before .before .before .before .before .before .wide2 .result) (c .before .before .before .before .before .before .before .before .before .wide3 .result)) (back (trees-at (a .sheet .now) (a .work .now) (c .before .before .before .before .before .before .before .wide4 .result)) none)) (c .before .before .before .before .before .shut .ensures) (c .before .closed .given .1) in
     let r = o .room in
     omega arith
@@ -125,7 +125,7 @@ returns-2 c =
     let a = c .before .before .before .before .before .before .before .before .before .before .before .before .before .before .before .before .before .args in
     let p = c .before .before .before .before .before .before .before .before .before .before .before .before .before .before .before .before .before .pre in
     let o = closes-is (a .sheet .now) (a .work .now) (c .before .before .before .before .before .shut .last .1 .0) (a .free) (most (a .sheet .now) (a .work .now) (a .free) (c .before .before .before .before .before .before .before .wide4 .result)) (c .before .before .before .before .before .before .before .before .before .before .before .before .before .wide .result) (close (part (a .sheet .now) (c .before .before .before .before .before .before .before .before .before .before .before .wide2 .result) (c .before .before .before .before .before .before .before .before .before .wide3 .result)) (back (trees-at (a .sheet .now) (a .work .now) (c .before .before .before .before .before .before .before .wide4 .result)) none)) (c .before .before .before .before .before .shut .ensures) (c .before .closed .given .1) in
-    popped (a .sheet .now) (a .work .now) (a .limit) (a .depth) (c .before .before .before .before .before .before .before .before .before .before .before .wide2 .ensures) (c .before .before .before .before .before .before .before .before .before .wide3 .ensures) (c .before .before .before .before .before .before .before .wide4 .ensures) _ (p .0) (c .before .before .before .before .before .before .before .before .before .before .before .before .before .wide .ensures) (p .1 .0 .0) o (omega (arith, o .made .some))
+    popped (a .sheet .now) (a .work .now) (a .limit) (a .depth) (c .before .before .before .before .before .before .before .before .before .before .before .wide2 .ensures .0) (c .before .before .before .before .before .before .before .before .before .wide3 .ensures .0) (c .before .before .before .before .before .before .before .wide4 .ensures .0) _ (p .0) (c .before .before .before .before .before .before .before .before .before .before .before .before .before .wide .ensures .0) (p .1 .0 .0) o (omega (arith, o .made .some))
 
 pub close-spec : {M : Type 1} → statement M
 close-spec =

@@ -5,7 +5,7 @@ use Rattle.reading.proofs.stack.leaf.Statement.{statement}
 use Rattle.reading.proofs.stack.leaf.Tie as tie
 use Rattle.reading.proofs.stack.leaf.Reads as reads
 use Rattle.reading.proofs.stack.leaf.Lts as lts
-use Rattle.reading.proofs.leaves.leaf_kind.Reads as leaf-kind-reads
+use Rattle.leaves.proofs.leaf_kind.Reads as leaf-kind-reads
 use Rattle.text.proofs.places.wide.Reads as wide-reads
 use Rattle.tree.proofs.cells.push_cell.Reads as push-cell-reads
 
@@ -47,7 +47,7 @@ push-cell-requires c κs =
     let p = c .before .before .before .before .before .before .before .pre in
     let h = p .0 in
     let n = p .1 .1 .1 in
-    (omega (arith, h .room), ((omega (arith, n .inside, n .some), n .short, omega (arith, c .before .before .before .leaf-kind .ensures .1), omega arith), (omega arith, omega (arith, c .before .wide .ensures, h .trees (c .before .before .before .before .before .before .before .args .depth) (omega arith)))))
+    (omega (arith, h .room), ((omega (arith, n .inside, n .some), n .short, omega (arith, c .before .before .before .leaf-kind .ensures .1), omega arith), (omega arith, omega (arith, c .before .wide .ensures .0, h .trees (c .before .before .before .before .before .before .before .args .depth) (omega arith)))))
 
 cast-work : tie.Need-cast-work
 cast-work c = search needs
@@ -64,7 +64,7 @@ same-length c = search needs
 returns : tie.Need-returns
 returns c =
     let p = c .before .before .before .before .before .before .before .before .before .before .pre in
-    (c .before .before .push-cell .ensures .0, leaf-added (p .0) (p .1 .0 .0) (p .1 .1 .1) (c .before .before .before .before .wide .ensures) (c .before .before .before .before .before .before .leaf-kind .ensures .0) (c .before .before .before .before .before .before .leaf-kind .ensures .1) (c .before .before .push-cell .ensures .0) (c .before .before .push-cell .ensures .1))
+    (c .before .before .push-cell .ensures .0, leaf-added (p .0) (p .1 .0 .0) (p .1 .1 .1) (c .before .before .before .before .wide .ensures .0) (c .before .before .before .before .before .before .leaf-kind .ensures .0) (c .before .before .before .before .before .before .leaf-kind .ensures .1) (c .before .before .push-cell .ensures .0) (c .before .before .push-cell .ensures .1))
 
 pub leaf-spec : {M : Type 1} → statement M
 leaf-spec =

@@ -1,6 +1,6 @@
 use native.Mathlib.Omega.{arith}
-use Rattle.reduction.proofs.Placing.{new-kept}
-use Rattle.reduction.proofs.Holding.{held-none, held-some}
+use Rattle.reduction.proofs.Placing.{alone-kept}
+use Rattle.rewriting.proofs.Holding.{held-none, held-some}
 use borrow.Author.Needs.{needs}
 use Rattle.reduction.proofs.building.becomes.Statement.{statement}
 use Rattle.reduction.proofs.building.becomes.Tie as tie
@@ -29,7 +29,7 @@ same-length-2 c = search needs
 returns-2 : tie.Need-returns-2
 returns-2 c =
     let a = c .before .before .before .before .before .before .before .args in
-    rw (held-some (a .sheet .now) (a .work .now) (a .k) (omega (arith, c .before .before .before .before .if1 .left))) (new-kept (c .before .before .keep .ensures .0) (c .before .before .keep .ensures .1))
+    rw (held-some (a .sheet .now) (a .work .now) (a .k) (omega (arith, c .before .before .before .before .if1 .left))) (alone-kept (c .before .before .keep .ensures .0) (c .before .before .keep .ensures .1))
 
 pub becomes-spec : {M : Type 1} → statement M
 becomes-spec =

@@ -5,7 +5,8 @@ use Rattle.rules.specs.Tree.{size, sizes}
 use Rattle.tree.specs.Cells.{kind-of, tree-at, trees-at}
 use Rattle.tree.proofs.Decoding.{same-kind, frame-tree, size-pos, size-apply, sizes-more, sizes-is}
 use Rattle.reduction.proofs.Placing.{new-kept}
-use Rattle.reduction.proofs.NormalForms.{normalizes-size, new-leaf, new-root, new-none, new-more}
+use Rattle.laws.proofs.Reduction.Sizes.{normalizes-size}
+use Rattle.reduction.proofs.NormalForms.{new-leaf, new-root, new-none, new-more}
 use Prim.Native.Nat.{ℕ, _<_}
 use borrow.Fn.Kinds.{In}
 use borrow.Fn.PlainCycle.{Measures, is, falls, and}

@@ -4,7 +4,8 @@ use Rattle.rules.specs.Tree.{sizes}
 use Rattle.tree.specs.Cells.{kind-of, tree-at, trees-at}
 use Rattle.tree.proofs.Decoding.{same-kind, size-pos, size-apply, sizes-is}
 use Rattle.reduction.proofs.Placing.{new-kept}
-use Rattle.reduction.proofs.NormalForms.{normalizes-size, new-leaf, new-root}
+use Rattle.laws.proofs.Reduction.Sizes.{normalizes-size}
+use Rattle.reduction.proofs.NormalForms.{new-leaf, new-root}
 use borrow.Author.Needs.{needs}
 use Rattle.reduction.proofs.normalizing.normalize.Statement.{statement}
 use Rattle.reduction.proofs.normalizing.normalize.Tie as tie

@@ -14,10 +14,10 @@ use Rattle.reduction.proofs.normalizing.root.Reads as reads
 use Rattle.reduction.proofs.normalizing.root.Lts as lts
 use Rattle.reduction.proofs.building.becomes.Reads as becomes-reads
 use Rattle.reduction.proofs.building.leaf.Reads as leaf-reads
-use Rattle.reduction.proofs.firing.flipped.Reads as flipped-reads
-use Rattle.reduction.proofs.firing.part_of.Reads as part-of-reads
-use Rattle.reduction.proofs.keys.decrypted.Reads as decrypted-reads
-use Rattle.reduction.proofs.naming.rule_named.Reads as rule-named-reads
+use Rattle.rewriting.proofs.firing.flipped.Reads as flipped-reads
+use Rattle.rewriting.proofs.firing.part_of.Reads as part-of-reads
+use Rattle.rewriting.proofs.keys.decrypted.Reads as decrypted-reads
+use Rattle.rewriting.proofs.naming.rule_named.Reads as rule-named-reads
 
 rule-named-requires : tie.Need-rule-named-requires
 rule-named-requires c κs = search needs
@@ -73,7 +73,7 @@ returns c =
     let f = name-at s w (a .i) in
     let ts = trees-at s w (a .first) in
     let e = rule-is (rule-named f) (c .before .before .before .before .before .before .before .before .before .rule-named .ensures) (c .before .before .before .before .before .before .before .enum-told3 .given .1) in
-    rw (root-by f ts flip _ e (c .before .before .before .before .before .flipped .ensures .1 ∙ fixed-none (c .before .before .before .before .if1 .taken))) (c .before .before .becomes3 .ensures)
+    rw (root-by f ts flip _ e (c .before .before .before .before .before .flipped .ensures .1 ∙ fixed-none (c .before .before .before .before .if1 .taken))) (c .before .before .becomes3 .ensures .0)
 
 leaf-requires : tie.Need-leaf-requires
 leaf-requires c κs =
@@ -136,7 +136,7 @@ returns-2 c =
     let f = name-at s w (a .i) in
     let ts = trees-at s w (a .first) in
     let e = rule-is (rule-named f) (c .before .before .before .before .before .before .before .before .rule-named .ensures) (c .before .before .before .before .before .before .enum-told .given .1) in
-    rw (root-by f ts fst _ e (c .before .before .before .before .part-of .ensures .1)) (c .before .before .becomes .ensures)
+    rw (root-by f ts fst _ e (c .before .before .before .before .part-of .ensures .1)) (c .before .before .becomes .ensures .0)
 
 same-length-3 : tie.Need-same-length-3
 same-length-3 c = search needs
@@ -150,7 +150,7 @@ returns-3 c =
     let f = name-at s w (a .i) in
     let ts = trees-at s w (a .first) in
     let e = rule-is (rule-named f) (c .before .before .before .before .before .before .before .before .rule-named .ensures) (c .before .before .before .before .before .before .enum-told2 .given .1) in
-    rw (root-by f ts snd _ e (c .before .before .before .before .part-of2 .ensures .1)) (c .before .before .becomes2 .ensures)
+    rw (root-by f ts snd _ e (c .before .before .before .before .part-of2 .ensures .1)) (c .before .before .becomes2 .ensures .0)
 
 same-length-4 : tie.Need-same-length-4
 same-length-4 c = search needs
@@ -164,7 +164,7 @@ returns-4 c =
     let f = name-at s w (a .i) in
     let ts = trees-at s w (a .first) in
     let e = rule-is (rule-named f) (c .before .before .before .before .before .before .before .before .before .rule-named .ensures) (c .before .before .before .before .before .before .before .enum-told3 .given .1) in
-    rw (root-by f ts flip _ e (c .before .before .before .before .before .flipped .ensures .1 ∙ fixed-some (c .before .before .before .before .before .flipped .result) (omega (arith, c .before .before .before .before .if1 .left)))) (c .before .before .leaf .ensures)
+    rw (root-by f ts flip _ e (c .before .before .before .before .before .flipped .ensures .1 ∙ fixed-some (c .before .before .before .before .before .flipped .result) (omega (arith, c .before .before .before .before .if1 .left)))) (c .before .before .leaf .ensures .0)
 
 same-length-5 : tie.Need-same-length-5
 same-length-5 c = search needs
@@ -178,7 +178,7 @@ returns-5 c =
     let f = name-at s w (a .i) in
     let ts = trees-at s w (a .first) in
     let e = rule-is (rule-named f) (c .before .before .before .before .before .before .before .before .before .before .rule-named .ensures) (c .before .before .before .before .before .before .before .before .enum-told4 .given .1) in
-    rw (root-by f ts sdec _ e (c .before .before .before .before .before .before .decrypted .ensures .1)) (becomes-later (c .before .before .before .before .before .before .decrypted .result) (a .i) (a .first) (p .0) (c .before .before .before .before .before .before .decrypted .ensures .2) (c .before .before .before .before .before .before .decrypted .ensures .0) (p .1 .0 .1) (p .1 .0 .2) (p .1 .0 .3) (c .before .before .becomes4 .ensures))
+    rw (root-by f ts sdec _ e (c .before .before .before .before .before .before .decrypted .ensures .1)) (becomes-later (c .before .before .before .before .before .before .decrypted .result) (a .i) (a .first) (p .0) (c .before .before .before .before .before .before .decrypted .ensures .2) (c .before .before .before .before .before .before .decrypted .ensures .0) (p .1 .0 .1) (p .1 .0 .2) (p .1 .0 .3) (c .before .before .becomes4 .ensures .0))
 
 same-length-6 : tie.Need-same-length-6
 same-length-6 c = search needs
@@ -192,7 +192,7 @@ returns-6 c =
     let f = name-at s w (a .i) in
     let ts = trees-at s w (a .first) in
     let e = rule-is (rule-named f) (c .before .before .before .before .before .before .before .before .before .before .rule-named .ensures) (c .before .before .before .before .before .before .before .before .enum-told5 .given .1) in
-    rw (root-by f ts kdec _ e (c .before .before .before .before .before .before .decrypted2 .ensures .1)) (becomes-later (c .before .before .before .before .before .before .decrypted2 .result) (a .i) (a .first) (p .0) (c .before .before .before .before .before .before .decrypted2 .ensures .2) (c .before .before .before .before .before .before .decrypted2 .ensures .0) (p .1 .0 .1) (p .1 .0 .2) (p .1 .0 .3) (c .before .before .becomes5 .ensures))
+    rw (root-by f ts kdec _ e (c .before .before .before .before .before .before .decrypted2 .ensures .1)) (becomes-later (c .before .before .before .before .before .before .decrypted2 .result) (a .i) (a .first) (p .0) (c .before .before .before .before .before .before .decrypted2 .ensures .2) (c .before .before .before .before .before .before .decrypted2 .ensures .0) (p .1 .0 .1) (p .1 .0 .2) (p .1 .0 .3) (c .before .before .becomes5 .ensures .0))
 
 same-length-7 : tie.Need-same-length-7
 same-length-7 c = search needs
@@ -206,7 +206,7 @@ returns-7 c =
     let f = name-at s w (a .i) in
     let ts = trees-at s w (a .first) in
     let e = rule-is (rule-named f) (c .before .before .before .before .before .before .rule-named .ensures) (c .before .before .before .before .enum-told6 .given .1) in
-    rw (root-none f ts e) (c .before .before .becomes6 .ensures)
+    rw (root-none f ts e) (c .before .before .becomes6 .ensures .0)
 
 pub root-spec : {M : Type 1} → statement M
 root-spec =

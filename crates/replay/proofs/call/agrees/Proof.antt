@@ -29,7 +29,7 @@ returns : tie.Need-returns
 returns c =
     let a = c .before .before .before .before .before .before .before .before .before .before .before .before .before .before .before .before .args in
     let k = c .before .before .before .before .before .before .before .before .before .yukhtsami-answer in
-    compares (a .sheet .now) (a .work .now) _ (a .output .now) _ (k .result .refusal) (k .result .written) (a .refusal) (a .answer .now) (k .ensures) _ (and-next _ _ _ (ap (λ (n : ℕ). eqb n (a .refusal)) (sym (c .before .before .wide .ensures)) ∙ sym (c .before .equals .ensures) ∙ c .if1 .taken) (c .before .before .before .holds .ensures))
+    compares (a .sheet .now) (a .work .now) _ (a .output .now) _ (k .result .refusal) (k .result .written) (a .refusal) (a .answer .now) (k .ensures) _ (and-next _ _ _ (ap (λ (n : ℕ). eqb n (a .refusal)) (sym (c .before .before .wide .ensures .0)) ∙ sym (c .before .equals .ensures) ∙ c .if1 .taken) (c .before .before .before .holds .ensures))
 
 same-length-3 : tie.Need-same-length-3
 same-length-3 c = search needs
@@ -41,7 +41,7 @@ returns-2 : tie.Need-returns-2
 returns-2 c =
     let a = c .before .before .before .before .before .before .before .before .before .before .before .before .before .before .before .before .args in
     let k = c .before .before .before .before .before .before .before .before .before .yukhtsami-answer in
-    compares (a .sheet .now) (a .work .now) _ (a .output .now) _ (k .result .refusal) (k .result .written) (a .refusal) (a .answer .now) (k .ensures) _ (and-no _ _ _ (c .before .equals .ensures ∙ ap (λ (n : ℕ). eqb n (a .refusal)) (c .before .before .wide .ensures)) (c .if1 .left))
+    compares (a .sheet .now) (a .work .now) _ (a .output .now) _ (k .result .refusal) (k .result .written) (a .refusal) (a .answer .now) (k .ensures) _ (and-no _ _ _ (c .before .equals .ensures ∙ ap (λ (n : ℕ). eqb n (a .refusal)) (c .before .before .wide .ensures .0)) (c .if1 .left))
 
 pub agrees-spec : {M : Type 1} → statement M
 agrees-spec =

@@ -78,7 +78,7 @@ loop-less c =
     let l = c .before .before .before .before .before .before .before .before .loop in
     let p = c .before .before .before .before .before .before .before .if1 .left in
     let q = c .before .before .before .before .before .before .if3 .left in
-    skip-falls (a .sheet .now) (a .work .now) (a .from) (a .to) (a .start) (a .end) (c .before .before .before .before .before .before .before .before .before .before .before .pre .0 .1) (c .before .before .before .before .before .before .before .before .before .before .before .pre .1 .0 .1) (l .left) (l .right) (l .inv .0) (l .inv .1) p q (c .before .before .before .before .before .before .before .before .before .before .before .pre .1 .1 .0 (l .left .word) (l .inv .0 .since) p) (c .before .before .before .before .before .before .before .before .before .before .before .pre .1 .1 .1 (l .right .word) (l .inv .1 .since) q) (c .before .before .before .before .wide .result) (c .before .before .wide2 .result) (c .before .before .before .before .wide .ensures) (c .before .before .wide2 .ensures)
+    skip-falls (a .sheet .now) (a .work .now) (a .from) (a .to) (a .start) (a .end) (c .before .before .before .before .before .before .before .before .before .before .before .pre .0 .1) (c .before .before .before .before .before .before .before .before .before .before .before .pre .1 .0 .1) (l .left) (l .right) (l .inv .0) (l .inv .1) p q (c .before .before .before .before .before .before .before .before .before .before .before .pre .1 .1 .0 (l .left .word) (l .inv .0 .since) p) (c .before .before .before .before .before .before .before .before .before .before .before .pre .1 .1 .1 (l .right .word) (l .inv .1 .since) q) (c .before .before .before .before .wide .result) (c .before .before .wide2 .result) (c .before .before .before .before .wide .ensures .0) (c .before .before .wide2 .ensures .0)
 
 loop-again : tie.Need-loop-again Inv-loop μ-loop
 loop-again c =
@@ -86,7 +86,7 @@ loop-again c =
     let l = c .before .before .before .before .before .before .before .before .loop in
     let p = c .before .before .before .before .before .before .before .if1 .left in
     let q = c .before .before .before .before .before .before .if3 .left in
-    (next-at (a .sheet .now) (a .work .now) (a .to) (c .before .before .before .before .before .before .before .before .before .before .before .pre .0 .1) (a .from) (l .left) (l .inv .0) p, next-at (a .sheet .now) (a .work .now) (a .end) (c .before .before .before .before .before .before .before .before .before .before .before .pre .1 .0 .1) (a .start) (l .right) (l .inv .1) q, l .inv .2 ∙ skip (a .sheet .now) (a .work .now) (a .from) (a .to) (a .start) (a .end) (c .before .before .before .before .before .before .before .before .before .before .before .pre .0 .1) (c .before .before .before .before .before .before .before .before .before .before .before .pre .1 .0 .1) (l .left) (l .right) (l .inv .0) (l .inv .1) p q (c .before .before .before .before .before .before .before .before .before .before .before .pre .1 .1 .0 (l .left .word) (l .inv .0 .since) p) (c .before .before .before .before .before .before .before .before .before .before .before .pre .1 .1 .1 (l .right .word) (l .inv .1 .since) q) (c .before .before .before .before .wide .result) (c .before .before .wide2 .result) (c .before .before .before .before .wide .ensures) (c .before .before .wide2 .ensures) (c .before .if4 .taken) (c .if5 .taken))
+    (next-at (a .sheet .now) (a .work .now) (a .to) (c .before .before .before .before .before .before .before .before .before .before .before .pre .0 .1) (a .from) (l .left) (l .inv .0) p, next-at (a .sheet .now) (a .work .now) (a .end) (c .before .before .before .before .before .before .before .before .before .before .before .pre .1 .0 .1) (a .start) (l .right) (l .inv .1) q, l .inv .2 ∙ skip (a .sheet .now) (a .work .now) (a .from) (a .to) (a .start) (a .end) (c .before .before .before .before .before .before .before .before .before .before .before .pre .0 .1) (c .before .before .before .before .before .before .before .before .before .before .before .pre .1 .0 .1) (l .left) (l .right) (l .inv .0) (l .inv .1) p q (c .before .before .before .before .before .before .before .before .before .before .before .pre .1 .1 .0 (l .left .word) (l .inv .0 .since) p) (c .before .before .before .before .before .before .before .before .before .before .before .pre .1 .1 .1 (l .right .word) (l .inv .1 .since) q) (c .before .before .before .before .wide .result) (c .before .before .wide2 .result) (c .before .before .before .before .wide .ensures .0) (c .before .before .wide2 .ensures .0) (c .before .if4 .taken) (c .if5 .taken))
 
 more-zeros-requires : tie.Need-more-zeros-requires Inv-loop μ-loop
 more-zeros-requires c κs = search needs
@@ -97,7 +97,7 @@ returns-4 c =
     let l = c .before .before .before .before .before .before .before .before .before .loop in
     let p = c .before .before .before .before .before .before .before .before .if1 .left in
     let q = c .before .before .before .before .before .before .before .if3 .left in
-    sym (l .inv .2 ∙ told-less (a .sheet .now) (a .work .now) (a .from) (a .to) (a .start) (a .end) (c .before .before .before .before .before .before .before .before .before .before .before .before .pre .0 .1) (c .before .before .before .before .before .before .before .before .before .before .before .before .pre .1 .0 .1) (l .left) (l .right) (l .inv .0) (l .inv .1) p q (c .before .before .before .before .before .before .before .before .before .before .before .before .pre .1 .1 .0 (l .left .word) (l .inv .0 .since) p) (c .before .before .before .before .before .before .before .before .before .before .before .before .pre .1 .1 .1 (l .right .word) (l .inv .1 .since) q) (c .before .before .before .before .before .wide .result) (c .before .before .before .wide2 .result) (c .before .before .before .before .before .wide .ensures) (c .before .before .before .wide2 .ensures) (sym (c .before .more-zeros .ensures) ∙ c .if6 .taken))
+    sym (l .inv .2 ∙ told-less (a .sheet .now) (a .work .now) (a .from) (a .to) (a .start) (a .end) (c .before .before .before .before .before .before .before .before .before .before .before .before .pre .0 .1) (c .before .before .before .before .before .before .before .before .before .before .before .before .pre .1 .0 .1) (l .left) (l .right) (l .inv .0) (l .inv .1) p q (c .before .before .before .before .before .before .before .before .before .before .before .before .pre .1 .1 .0 (l .left .word) (l .inv .0 .since) p) (c .before .before .before .before .before .before .before .before .before .before .before .before .pre .1 .1 .1 (l .right .word) (l .inv .1 .since) q) (c .before .before .before .before .before .wide .result) (c .before .before .before .wide2 .result) (c .before .before .before .before .before .wide .ensures .0) (c .before .before .before .wide2 .ensures .0) (sym (c .before .more-zeros .ensures) ∙ c .if6 .taken))
 
 more-zeros-requires-2 : tie.Need-more-zeros-requires-2 Inv-loop μ-loop
 more-zeros-requires-2 c κs = search needs
@@ -108,7 +108,7 @@ returns-5 c =
     let l = c .before .before .before .before .before .before .before .before .before .before .before .loop in
     let p = c .before .before .before .before .before .before .before .before .before .before .if1 .left in
     let q = c .before .before .before .before .before .before .before .before .before .if3 .left in
-    sym (l .inv .2 ∙ told-greater (a .sheet .now) (a .work .now) (a .from) (a .to) (a .start) (a .end) (c .before .before .before .before .before .before .before .before .before .before .before .before .before .before .pre .0 .1) (c .before .before .before .before .before .before .before .before .before .before .before .before .before .before .pre .1 .0 .1) (l .left) (l .right) (l .inv .0) (l .inv .1) p q (c .before .before .before .before .before .before .before .before .before .before .before .before .before .before .pre .1 .1 .0 (l .left .word) (l .inv .0 .since) p) (c .before .before .before .before .before .before .before .before .before .before .before .before .before .before .pre .1 .1 .1 (l .right .word) (l .inv .1 .since) q) (c .before .before .before .before .before .before .before .wide .result) (c .before .before .before .before .before .wide2 .result) (c .before .before .before .before .before .before .before .wide .ensures) (c .before .before .before .before .before .wide2 .ensures) (sym (c .before .more-zeros2 .ensures) ∙ c .if7 .taken))
+    sym (l .inv .2 ∙ told-greater (a .sheet .now) (a .work .now) (a .from) (a .to) (a .start) (a .end) (c .before .before .before .before .before .before .before .before .before .before .before .before .before .before .pre .0 .1) (c .before .before .before .before .before .before .before .before .before .before .before .before .before .before .pre .1 .0 .1) (l .left) (l .right) (l .inv .0) (l .inv .1) p q (c .before .before .before .before .before .before .before .before .before .before .before .before .before .before .pre .1 .1 .0 (l .left .word) (l .inv .0 .since) p) (c .before .before .before .before .before .before .before .before .before .before .before .before .before .before .pre .1 .1 .1 (l .right .word) (l .inv .1 .since) q) (c .before .before .before .before .before .before .before .wide .result) (c .before .before .before .before .before .wide2 .result) (c .before .before .before .before .before .before .before .wide .ensures .0) (c .before .before .before .before .before .wide2 .ensures .0) (sym (c .before .more-zeros2 .ensures) ∙ c .if7 .taken))
 
 byte-of-requires : tie.Need-byte-of-requires Inv-loop μ-loop
 byte-of-requires c κs =
@@ -116,7 +116,7 @@ byte-of-requires c κs =
     let l = c .before .before .before .before .before .before .before .before .before .before .before .loop in
     let p = c .before .before .before .before .before .before .before .before .before .before .if1 .left in
     let q = c .before .before .before .before .before .before .before .before .before .if3 .left in
-    let e = c .before .before .before .before .before .before .before .wide .ensures in
+    let e = c .before .before .before .before .before .before .before .wide .ensures .0 in
     (rw e (c .before .before .before .before .before .before .before .before .before .before .before .before .before .before .pre .1 .1 .0 (l .left .word) (l .inv .0 .since) p), rw e (l .inv .0 .within p))
 
 byte-of-requires-2 : tie.Need-byte-of-requires-2 Inv-loop μ-loop
@@ -125,7 +125,7 @@ byte-of-requires-2 c κs =
     let l = c .before .before .before .before .before .before .before .before .before .before .before .before .loop in
     let p = c .before .before .before .before .before .before .before .before .before .before .before .if1 .left in
     let q = c .before .before .before .before .before .before .before .before .before .before .if3 .left in
-    let e = c .before .before .before .before .before .before .wide2 .ensures in
+    let e = c .before .before .before .before .before .before .wide2 .ensures .0 in
     (rw e (c .before .before .before .before .before .before .before .before .before .before .before .before .before .before .before .pre .1 .1 .1 (l .right .word) (l .inv .1 .since) q), rw e (l .inv .1 .within q))
 
 returns-6 : tie.Need-returns-6 Inv-loop μ-loop
@@ -134,7 +134,7 @@ returns-6 c =
     let l = c .before .before .before .before .before .before .before .before .before .before .before .before .before .before .loop in
     let p = c .before .before .before .before .before .before .before .before .before .before .before .before .before .if1 .left in
     let q = c .before .before .before .before .before .before .before .before .before .before .before .before .if3 .left in
-    sym (l .inv .2 ∙ less (a .sheet .now) (a .work .now) (a .from) (a .to) (a .start) (a .end) (c .before .before .before .before .before .before .before .before .before .before .before .before .before .before .before .before .before .pre .0 .1) (c .before .before .before .before .before .before .before .before .before .before .before .before .before .before .before .before .before .pre .1 .0 .1) (l .left) (l .right) (l .inv .0) (l .inv .1) p q (c .before .before .before .before .before .before .before .before .before .before .before .before .before .before .before .before .before .pre .1 .1 .0 (l .left .word) (l .inv .0 .since) p) (c .before .before .before .before .before .before .before .before .before .before .before .before .before .before .before .before .before .pre .1 .1 .1 (l .right .word) (l .inv .1 .since) q) (c .before .before .before .before .before .before .before .before .before .before .wide .result) (c .before .before .before .before .before .before .before .before .wide2 .result) (c .before .before .before .before .before .before .before .before .before .before .wide .ensures) (c .before .before .before .before .before .before .before .before .wide2 .ensures) (c .before .before .byte-of .result) (c .before .byte-of2 .result) (c .before .before .byte-of .ensures) (c .before .byte-of2 .ensures) (c .if8 .taken))
+    sym (l .inv .2 ∙ less (a .sheet .now) (a .work .now) (a .from) (a .to) (a .start) (a .end) (c .before .before .before .before .before .before .before .before .before .before .before .before .before .before .before .before .before .pre .0 .1) (c .before .before .before .before .before .before .before .before .before .before .before .before .before .before .before .before .before .pre .1 .0 .1) (l .left) (l .right) (l .inv .0) (l .inv .1) p q (c .before .before .before .before .before .before .before .before .before .before .before .before .before .before .before .before .before .pre .1 .1 .0 (l .left .word) (l .inv .0 .since) p) (c .before .before .before .before .before .before .before .before .before .before .before .before .before .before .before .before .before .pre .1 .1 .1 (l .right .word) (l .inv .1 .since) q) (c .before .before .before .before .before .before .before .before .before .before .wide .result) (c .before .before .before .before .before .before .before .before .wide2 .result) (c .before .before .before .before .before .before .before .before .before .before .wide .ensures .0) (c .before .before .before .before .before .before .before .before .wide2 .ensures .0) (c .before .before .byte-of .result) (c .before .byte-of2 .result) (c .before .before .byte-of .ensures) (c .before .byte-of2 .ensures) (c .if8 .taken))
 
 returns-7 : tie.Need-returns-7 Inv-loop μ-loop
 returns-7 c =
@@ -142,7 +142,7 @@ returns-7 c =
     let l = c .before .before .before .before .before .before .before .before .before .before .before .before .before .before .before .loop in
     let p = c .before .before .before .before .before .before .before .before .before .before .before .before .before .before .if1 .left in
     let q = c .before .before .before .before .before .before .before .before .before .before .before .before .before .if3 .left in
-    sym (l .inv .2 ∙ greater (a .sheet .now) (a .work .now) (a .from) (a .to) (a .start) (a .end) (c .before .before .before .before .before .before .before .before .before .before .before .before .before .before .before .before .before .before .pre .0 .1) (c .before .before .before .before .before .before .before .before .before .before .before .before .before .before .before .before .before .before .pre .1 .0 .1) (l .left) (l .right) (l .inv .0) (l .inv .1) p q (c .before .before .before .before .before .before .before .before .before .before .before .before .before .before .before .before .before .before .pre .1 .1 .0 (l .left .word) (l .inv .0 .since) p) (c .before .before .before .before .before .before .before .before .before .before .before .before .before .before .before .before .before .before .pre .1 .1 .1 (l .right .word) (l .inv .1 .since) q) (c .before .before .before .before .before .before .before .before .before .before .before .wide .result) (c .before .before .before .before .before .before .before .before .before .wide2 .result) (c .before .before .before .before .before .before .before .before .before .before .before .wide .ensures) (c .before .before .before .before .before .before .before .before .before .wide2 .ensures) (c .before .before .before .byte-of .result) (c .before .before .byte-of2 .result) (c .before .before .before .byte-of .ensures) (c .before .before .byte-of2 .ensures) (c .if9 .taken))
+    sym (l .inv .2 ∙ greater (a .sheet .now) (a .work .now) (a .from) (a .to) (a .start) (a .end) (c .before .before .before .before .before .before .before .before .before .before .before .before .before .before .before .before .before .before .pre .0 .1) (c .before .before .before .before .before .before .before .before .before .before .before .before .before .before .before .before .before .before .pre .1 .0 .1) (l .left) (l .right) (l .inv .0) (l .inv .1) p q (c .before .before .before .before .before .before .before .before .before .before .before .before .before .before .before .before .before .before .pre .1 .1 .0 (l .left .word) (l .inv .0 .since) p) (c .before .before .before .before .before .before .before .before .before .before .before .before .before .before .before .before .before .before .pre .1 .1 .1 (l .right .word) (l .inv .1 .since) q) (c .before .before .before .before .before .before .before .before .before .before .before .wide .result) (c .before .before .before .before .before .before .before .before .before .wide2 .result) (c .before .before .before .before .before .before .before .before .before .before .before .wide .ensures .0) (c .before .before .before .before .before .before .before .before .before .wide2 .ensures .0) (c .before .before .before .byte-of .result) (c .before .before .byte-of2 .result) (c .before .before .before .byte-of .ensures) (c .before .before .byte-of2 .ensures) (c .if9 .taken))
 
 after-requires : tie.Need-after-requires Inv-loop μ-loop
 after-requires c κs =
@@ -166,7 +166,7 @@ loop-less-2 c =
     let l = c .before .before .before .before .before .before .before .before .before .before .before .before .before .before .before .before .before .loop in
     let p = c .before .before .before .before .before .before .before .before .before .before .before .before .before .before .before .before .if1 .left in
     let q = c .before .before .before .before .before .before .before .before .before .before .before .before .before .before .before .if3 .left in
-    falls (a .sheet .now) (a .work .now) (a .from) (a .to) (a .start) (a .end) (c .before .before .before .before .before .before .before .before .before .before .before .before .before .before .before .before .before .before .before .before .pre .0 .1) (c .before .before .before .before .before .before .before .before .before .before .before .before .before .before .before .before .before .before .before .before .pre .1 .0 .1) (l .left) (l .right) (l .inv .0) (l .inv .1) p q (c .before .before .before .before .before .before .before .before .before .before .before .before .before .before .before .before .before .before .before .before .pre .1 .1 .0 (l .left .word) (l .inv .0 .since) p) (c .before .before .before .before .before .before .before .before .before .before .before .before .before .before .before .before .before .before .before .before .pre .1 .1 .1 (l .right .word) (l .inv .1 .since) q) (c .before .before .before .before .before .before .before .before .before .before .before .before .before .wide .result) (c .before .before .before .before .before .before .before .before .before .before .before .wide2 .result) (c .before .before .before .before .before .before .before .before .before .before .before .before .before .wide .ensures) (c .before .before .before .before .before .before .before .before .before .before .before .wide2 .ensures) (c .before .before .before .before .before .byte-of .result) (c .before .before .before .before .byte-of2 .result) (c .before .before .before .before .before .byte-of .ensures) (c .before .before .before .before .byte-of2 .ensures) (c .before .after .result) (c .before .after .ensures)
+    falls (a .sheet .now) (a .work .now) (a .from) (a .to) (a .start) (a .end) (c .before .before .before .before .before .before .before .before .before .before .before .before .before .before .before .before .before .before .before .before .pre .0 .1) (c .before .before .before .before .before .before .before .before .before .before .before .before .before .before .before .before .before .before .before .before .pre .1 .0 .1) (l .left) (l .right) (l .inv .0) (l .inv .1) p q (c .before .before .before .before .before .before .before .before .before .before .before .before .before .before .before .before .before .before .before .before .pre .1 .1 .0 (l .left .word) (l .inv .0 .since) p) (c .before .before .before .before .before .before .before .before .before .before .before .before .before .before .before .before .before .before .before .before .pre .1 .1 .1 (l .right .word) (l .inv .1 .since) q) (c .before .before .before .before .before .before .before .before .before .before .before .before .before .wide .result) (c .before .before .before .before .before .before .before .before .before .before .before .wide2 .result) (c .before .before .before .before .before .before .before .before .before .before .before .before .before .wide .ensures .0) (c .before .before .before .before .before .before .before .before .before .before .before .wide2 .ensures .0) (c .before .before .before .before .before .byte-of .result) (c .before .before .before .before .byte-of2 .result) (c .before .before .before .before .before .byte-of .ensures) (c .before .before .before .before .byte-of2 .ensures) (c .before .after .result) (c .before .after .ensures)
 
 loop-again-2 : tie.Need-loop-again-2 Inv-loop μ-loop
 loop-again-2 c =
@@ -174,7 +174,7 @@ loop-again-2 c =
     let l = c .before .before .before .before .before .before .before .before .before .before .before .before .before .before .before .before .before .loop in
     let p = c .before .before .before .before .before .before .before .before .before .before .before .before .before .before .before .before .if1 .left in
     let q = c .before .before .before .before .before .before .before .before .before .before .before .before .before .before .before .if3 .left in
-    let h = on (a .sheet .now) (a .work .now) (a .from) (a .to) (a .start) (a .end) (c .before .before .before .before .before .before .before .before .before .before .before .before .before .before .before .before .before .before .before .before .pre .0 .1) (c .before .before .before .before .before .before .before .before .before .before .before .before .before .before .before .before .before .before .before .before .pre .1 .0 .1) (l .left) (l .right) (l .inv .0) (l .inv .1) p q (c .before .before .before .before .before .before .before .before .before .before .before .before .before .before .before .before .before .before .before .before .pre .1 .1 .0 (l .left .word) (l .inv .0 .since) p) (c .before .before .before .before .before .before .before .before .before .before .before .before .before .before .before .before .before .before .before .before .pre .1 .1 .1 (l .right .word) (l .inv .1 .since) q) (c .before .before .before .before .before .before .before .before .before .before .before .before .before .wide .result) (c .before .before .before .before .before .before .before .before .before .before .before .wide2 .result) (c .before .before .before .before .before .before .before .before .before .before .before .before .before .wide .ensures) (c .before .before .before .before .before .before .before .before .before .before .before .wide2 .ensures) (c .before .before .before .before .before .byte-of .result) (c .before .before .before .before .byte-of2 .result) (c .before .before .before .before .before .byte-of .ensures) (c .before .before .before .before .byte-of2 .ensures) (c .before .after .result) (c .after2 .result) (c .before .after .ensures) (c .after2 .ensures) (c .before .before .if9 .left) (c .before .before .before .if8 .left) in
+    let h = on (a .sheet .now) (a .work .now) (a .from) (a .to) (a .start) (a .end) (c .before .before .before .before .before .before .before .before .before .before .before .before .before .before .before .before .before .before .before .before .pre .0 .1) (c .before .before .before .before .before .before .before .before .before .before .before .before .before .before .before .before .before .before .before .before .pre .1 .0 .1) (l .left) (l .right) (l .inv .0) (l .inv .1) p q (c .before .before .before .before .before .before .before .before .before .before .before .before .before .before .before .before .before .before .before .before .pre .1 .1 .0 (l .left .word) (l .inv .0 .since) p) (c .before .before .before .before .before .before .before .before .before .before .before .before .before .before .before .before .before .before .before .before .pre .1 .1 .1 (l .right .word) (l .inv .1 .since) q) (c .before .before .before .before .before .before .before .before .before .before .before .before .before .wide .result) (c .before .before .before .before .before .before .before .before .before .before .before .wide2 .result) (c .before .before .before .before .before .before .before .before .before .before .before .before .before .wide .ensures .0) (c .before .before .before .before .before .before .before .before .before .before .before .wide2 .ensures .0) (c .before .before .before .before .before .byte-of .result) (c .before .before .before .before .byte-of2 .result) (c .before .before .before .before .before .byte-of .ensures) (c .before .before .before .before .byte-of2 .ensures) (c .before .after .result) (c .after2 .result) (c .before .after .ensures) (c .after2 .ensures) (c .before .before .if9 .left) (c .before .before .before .if8 .left) in
     (h .0, h .1, l .inv .2 ∙ h .2)
 
 pub compare-spec : {M : Type 1} → statement M

@@ -38,7 +38,7 @@ returns c = λ name f. root-stays (c .before .before .before .before .before .be
 fire-requires : tie.Need-fire-requires
 fire-requires c κs =
     let d = c .before .before .before .before .before .before .before .before .before .pre in
-    ((d .arena, d .named), ((d .some-cell, d .inside, d .values, d .equations, names-left d (c .before .before .before .before .before .ways-of .ensures) (omega (arith, c .before .if1 .left))), ((omega (arith, c .before .if1 .left), choice-inside d (c .before .before .before .before .before .ways-of .ensures) (omega (arith, c .before .if1 .left))), (d .room, d .bits))))
+    ((d .arena, d .named), ((d .some-cell, d .inside, d .values, d .equations, names-left d (c .before .before .before .before .before .ways-of .ensures) (omega (arith, c .before .if1 .left))), ((omega (arith, c .before .if1 .left), choice-inside d (c .before .before .before .before .before .ways-of .ensures) (omega (arith, c .before .if1 .left))), ((d .room, d .bits), d .pairs))))
 
 same-length-2 : tie.Need-same-length-2
 same-length-2 c = search needs

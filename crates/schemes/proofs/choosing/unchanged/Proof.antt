@@ -37,7 +37,7 @@ returns-2 c =
     let a = c .before .before .before .before .before .before .before .before .before .before .before .args in
     let s = a .sheet .now in
     let w = a .work .now in
-    keeps-node (c .before .before .stay .ensures) (sym (node-over s w (a .i) (trees-at s w (a .first)) (omega (arith, c .before .before .before .before .before .before .before .kind-of .ensures, c .before .before .before .before .before .before .if1 .left))))
+    keeps-node (c .before .before .stay .ensures .0) (sym (node-over s w (a .i) (trees-at s w (a .first)) (omega (arith, c .before .before .before .before .before .before .before .kind-of .ensures, c .before .before .before .before .before .before .if1 .left))))
 
 pub unchanged-spec : {M : Type 1} → statement M
 unchanged-spec =

@@ -1,7 +1,7 @@
 use native.Mathlib.Omega.{arith}
 use mathlib.Core.Path.{_∙_}
 use Rattle.tree.specs.Cells.{tree-at, trees-at}
-use Rattle.reduction.proofs.Holding.{held-none, held-some}
+use Rattle.rewriting.proofs.Holding.{held-none, held-some}
 use Rattle.schemes.proofs.Counts.{one-none, one-some}
 use borrow.Author.Needs.{needs}
 use Rattle.schemes.proofs.counting.one_ways.Statement.{statement}

@@ -1,7 +1,7 @@
 use native.Mathlib.Omega.{arith}
 use mathlib.Core.Path.{_∙_}
 use Rattle.tree.specs.Cells.{tree-at, trees-at}
-use Rattle.reduction.proofs.Holding.{two-none as held-none, two-some as held-some}
+use Rattle.rewriting.proofs.Holding.{two-none as held-none, two-some as held-some}
 use Rattle.schemes.proofs.Counts.{two-none, two-some}
 use borrow.Author.Needs.{needs}
 use Rattle.schemes.proofs.counting.two_ways.Statement.{statement}

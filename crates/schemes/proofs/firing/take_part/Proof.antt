@@ -20,13 +20,13 @@ plain-requires : tie.Need-plain-requires
 plain-requires c κs =
     let a = c .before .before .before .args in
     let p = c .before .before .before .pre in
-    (p .0 .0, ((omega arith, omega arith, fresh-single (p .0 .1) (a .n) (omega (arith, p .1 .0 .3)), fresh-single (p .0 .1) (a .n + 1) (p .1 .0 .3)), (omega (arith, p .1 .1 .0), omega (arith, p .1 .1 .1))))
+    (p .0 .0, ((omega arith, omega arith, fresh-single (p .0 .1) (a .n) (omega (arith, p .1 .0 .3)), fresh-single (p .0 .1) (a .n + 1) (p .1 .0 .3)), (omega (arith, p .1 .1 .0 .0), omega (arith, p .1 .1 .0 .1))))
 
 push-pair-requires : tie.Need-push-pair-requires
 push-pair-requires c κs =
     let p = c .before .before .before .before .before .before .before .pre in
     let o = c .before .before .before .plain .ensures in
-    (o .written .arena, ((p .1 .0 .0, omega (arith, p .1 .0 .1, o .written .grew), o .whole .some-cell, o .whole .inside, omega (arith, p .1 .0 .2, o .written .grew)), (omega (arith, o .written .used, o .written .kept .len, p .1 .1 .0), omega (arith, o .written .used, p .1 .1 .1))))
+    (o .written .arena, ((p .1 .0 .0, omega (arith, p .1 .0 .1, o .written .grew), o .whole .some-cell, o .whole .inside, omega (arith, p .1 .0 .2, o .written .grew)), (omega (arith, o .written .used, o .written .kept .len, p .1 .1 .0 .0), omega (arith, o .written .used, p .1 .1 .0 .1))))
 
 add-t19 : tie.Need-add-t19
 add-t19 c = search needs

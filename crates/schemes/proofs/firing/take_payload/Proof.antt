@@ -19,13 +19,13 @@ sealing-requires : tie.Need-sealing-requires
 sealing-requires c κs =
     let a = c .before .before .before .args in
     let p = c .before .before .before .pre in
-    (p .0 .0, ((fresh-single (p .0 .1) (a .n) (omega (arith, p .1 .0 .5)), fresh-single (p .0 .1) (a .n + 1) (p .1 .0 .5)), (omega (arith, p .1 .1 .0), omega (arith, p .1 .1 .1))))
+    (p .0 .0, ((fresh-single (p .0 .1) (a .n) (omega (arith, p .1 .0 .5)), fresh-single (p .0 .1) (a .n + 1) (p .1 .0 .5)), (omega (arith, p .1 .1 .0 .0), omega (arith, p .1 .1 .0 .1))))
 
 push-pair-requires : tie.Need-push-pair-requires
 push-pair-requires c κs =
     let p = c .before .before .before .before .before .before .before .pre in
     let o = c .before .before .before .sealing .ensures in
-    (o .written .arena, ((p .1 .0 .2, omega (arith, p .1 .0 .3, o .written .grew), o .right .some-cell, o .right .inside, omega (arith, p .1 .0 .4, o .written .grew)), (omega (arith, o .written .used, o .written .kept .len, p .1 .1 .0), omega (arith, o .written .used, p .1 .1 .1))))
+    (o .written .arena, ((p .1 .0 .2, omega (arith, p .1 .0 .3, o .written .grew), o .right .some-cell, o .right .inside, omega (arith, p .1 .0 .4, o .written .grew)), (omega (arith, o .written .used, o .written .kept .len, p .1 .1 .0 .0), omega (arith, o .written .used, p .1 .1 .0 .1))))
 
 push-pair-requires-2 : tie.Need-push-pair-requires-2
 push-pair-requires-2 c κs =
@@ -33,7 +33,7 @@ push-pair-requires-2 c κs =
     let o = c .before .before .before .before .before .before .before .sealing .ensures in
     let d = c .before .before .before .push-pair .ensures in
     let h = pair-holds (o .written) (d .0) (d .1) (o .whole) in
-    (d .0 .arena, ((p .1 .0 .0, omega (arith, p .1 .0 .1, o .written .grew, d .1), h .some-cell, h .inside, d .0 .inside), (omega (arith, o .written .used, o .written .kept .len, d .1, d .0 .grown .len, p .1 .1 .0), omega (arith, o .written .used, d .1, p .1 .1 .1))))
+    (d .0 .arena, ((p .1 .0 .0, omega (arith, p .1 .0 .1, o .written .grew, d .1), h .some-cell, h .inside, d .0 .inside), (omega (arith, o .written .used, o .written .kept .len, d .1, d .0 .grown .len, p .1 .1 .0 .0), omega (arith, o .written .used, d .1, p .1 .1 .0 .1))))
 
 add-t15 : tie.Need-add-t15
 add-t15 c = omega (arith, c .before .before .before .before .before .before .before .before .before .before .before .before .before .before .pre .1 .0 .5)

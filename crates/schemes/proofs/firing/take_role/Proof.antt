@@ -17,9 +17,9 @@ leaf-requires-2 c κs = search needs
 push-pair-requires : tie.Need-push-pair-requires
 push-pair-requires c κs =
     let p = c .before .before .before .before .before .before .before .before .before .before .before .pre in
-    let x = c .before .before .before .before .before .before .before .leaf .ensures in
-    let y = c .before .before .before .leaf2 .ensures in
-    (y .arena, ((p .1 .0 .0, omega (arith, p .1 .0 .1, x .grew, y .grew), y .some-cell, y .inside, omega (arith, p .1 .0 .2, x .grew, y .grew)), (omega (arith, x .used, y .used, x .kept .len, y .kept .len, p .1 .1 .0), omega (arith, x .used, y .used, p .1 .1 .1))))
+    let x = c .before .before .before .before .before .before .before .leaf .ensures .0 in
+    let y = c .before .before .before .leaf2 .ensures .0 in
+    (y .arena, ((p .1 .0 .0, omega (arith, p .1 .0 .1, x .grew, y .grew), y .some-cell, y .inside, omega (arith, p .1 .0 .2, x .grew, y .grew)), (omega (arith, x .used, y .used, x .kept .len, y .kept .len, p .1 .1 .0 .0), omega (arith, x .used, y .used, p .1 .1 .0 .1))))
 
 same-length : tie.Need-same-length
 same-length c = search needs
@@ -28,8 +28,8 @@ returns : tie.Need-returns
 returns c =
     let a = c .before .before .before .before .before .before .before .before .before .before .before .before .before .before .args in
     let p = c .before .before .before .before .before .before .before .before .before .before .before .before .before .before .pre in
-    let x = c .before .before .before .before .before .before .before .before .before .before .leaf .ensures in
-    let y = c .before .before .before .before .before .before .leaf2 .ensures in
+    let x = c .before .before .before .before .before .before .before .before .before .before .leaf .ensures .0 in
+    let y = c .before .before .before .before .before .before .leaf2 .ensures .0 in
     let d = c .before .before .push-pair .ensures in
     fires-one (a .i) (a .list) (p .0) (p .1 .0 .0) (p .1 .0 .1) (p .1 .0 .2) (written-then 2 (new-written x) (new-written y) (omega (arith, x .used, y .used))) (a .n) (holds-later (x .arena) (y .kept) (y .grew) (new-holds x)) (new-holds y) (d .0) (d .1) (omega arith)
 

@@ -1,7 +1,7 @@
 use Prim.Native.Nat.{ℕ, _<_}
 use native.Mathlib.Omega.{arith}
 use Rattle.tree.specs.Cells.{trees-at}
-use Rattle.steps.specs.Stack.{pushes}
+use Rattle.elimination.specs.Stack.{pushes}
 use Rattle.steps.proofs.Children.{pushes-left, pushes-right, pushes-more, made-none, made-pair}
 use borrow.Author.Needs.{needs}
 use borrow.Fn.Kinds.{In}

@@ -35,12 +35,12 @@ loop-less c = omega (arith, c .before .before .before .loop-test .taken)
 loop-again : tie.Need-loop-again Inv-loop μ-loop
 loop-again c =
     let a = c .before .before .before .before .before .before .args in
-    seen-zero (a .work .now) (a .at) (a .end) (c .before .before .before .before .before .before .pre .1) (c .before .before .before .before .loop .k) (c .before .before .before .before .loop .found) (c .before .wide .result) (c .before .before .before .before .loop .inv) (c .before .before .before .loop-test .taken) (c .before .wide .ensures) (c .if1 .taken)
+    seen-zero (a .work .now) (a .at) (a .end) (c .before .before .before .before .before .before .pre .1) (c .before .before .before .before .loop .k) (c .before .before .before .before .loop .found) (c .before .wide .result) (c .before .before .before .before .loop .inv) (c .before .before .before .loop-test .taken) (c .before .wide .ensures .0) (c .if1 .taken)
 
 returns : tie.Need-returns Inv-loop μ-loop
 returns c =
     let a = c .before .before .before .before .before .before .before .args in
-    seen-second (a .work .now) (a .at) (a .end) (c .before .before .before .before .before .before .before .pre .1) (c .before .before .before .before .before .loop .k) (c .before .before .before .before .before .loop .found) (c .before .before .wide .result) (c .before .before .before .before .before .loop .inv) (c .before .before .before .before .loop-test .taken) (c .before .before .wide .ensures) (omega (arith, c .if2 .taken)) (omega (arith, c .before .if1 .left))
+    seen-second (a .work .now) (a .at) (a .end) (c .before .before .before .before .before .before .before .pre .1) (c .before .before .before .before .before .loop .k) (c .before .before .before .before .before .loop .found) (c .before .before .wide .result) (c .before .before .before .before .before .loop .inv) (c .before .before .before .before .loop-test .taken) (c .before .before .wide .ensures .0) (omega (arith, c .if2 .taken)) (omega (arith, c .before .if1 .left))
 
 loop-less-2 : tie.Need-loop-less-2 Inv-loop μ-loop
 loop-less-2 c = omega (arith, c .before .before .before .before .loop-test .taken)
@@ -48,7 +48,7 @@ loop-less-2 c = omega (arith, c .before .before .before .before .loop-test .take
 loop-again-2 : tie.Need-loop-again-2 Inv-loop μ-loop
 loop-again-2 c =
     let a = c .before .before .before .before .before .before .before .args in
-    seen-first (a .work .now) (a .at) (a .end) (c .before .before .before .before .before .before .before .pre .1) (c .before .before .before .before .before .loop .k) (c .before .before .before .before .before .loop .found) (c .before .before .wide .result) (c .before .before .before .before .before .loop .inv) (c .before .before .before .before .loop-test .taken) (c .before .before .wide .ensures) (omega (arith, c .if2 .left))
+    seen-first (a .work .now) (a .at) (a .end) (c .before .before .before .before .before .before .before .pre .1) (c .before .before .before .before .before .loop .k) (c .before .before .before .before .before .loop .found) (c .before .before .wide .result) (c .before .before .before .before .before .loop .inv) (c .before .before .before .before .loop-test .taken) (c .before .before .wide .ensures .0) (omega (arith, c .if2 .left))
 
 returns-2 : tie.Need-returns-2 Inv-loop μ-loop
 returns-2 c =

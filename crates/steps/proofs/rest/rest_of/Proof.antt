@@ -4,7 +4,7 @@ use Rattle.steps.proofs.rest.rest_of.Statement.{statement}
 use Rattle.steps.proofs.rest.rest_of.Tie as tie
 use Rattle.steps.proofs.rest.rest_of.Reads as reads
 use Rattle.steps.proofs.rest.rest_of.Lts as lts
-use Rattle.equivalence.proofs.sums.prepare.Reads as prepare-reads
+use Rattle.sums.proofs.prepare.Reads as prepare-reads
 use Rattle.tree.proofs.cells.count_of.Reads as count-of-reads
 use Rattle.steps.proofs.rest.left_of.Reads as left-of-reads
 use Rattle.steps.proofs.rest.rest_of_none.Reads as rest-of-none-reads

@@ -5,7 +5,7 @@ use Rattle.steps.proofs.rest.rest_of_one.Statement.{statement}
 use Rattle.steps.proofs.rest.rest_of_one.Tie as tie
 use Rattle.steps.proofs.rest.rest_of_one.Reads as reads
 use Rattle.steps.proofs.rest.rest_of_one.Lts as lts
-use Rattle.equivalence.proofs.sums.rebuild.Reads as rebuild-reads
+use Rattle.sums.proofs.rebuild.Reads as rebuild-reads
 use Rattle.steps.proofs.rest.left_of.Reads as left-of-reads
 
 left-of-requires : tie.Need-left-of-requires

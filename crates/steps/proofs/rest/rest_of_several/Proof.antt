@@ -1,12 +1,12 @@
 use lib.Seq.{slice}
-use Rattle.equivalence.specs.Sums.{remaining}
+use Rattle.sums.specs.Sums.{remaining}
 use Rattle.steps.proofs.Resting.{several-none, several-one, several-several, several-paired}
 use borrow.Author.Needs.{needs}
 use Rattle.steps.proofs.rest.rest_of_several.Statement.{statement}
 use Rattle.steps.proofs.rest.rest_of_several.Tie as tie
 use Rattle.steps.proofs.rest.rest_of_several.Reads as reads
 use Rattle.steps.proofs.rest.rest_of_several.Lts as lts
-use Rattle.equivalence.proofs.sums.rebuild.Reads as rebuild-reads
+use Rattle.sums.proofs.rebuild.Reads as rebuild-reads
 use Rattle.steps.proofs.rest.left_of.Reads as left-of-reads
 
 left-of-requires : tie.Need-left-of-requires

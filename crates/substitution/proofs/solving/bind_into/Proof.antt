@@ -7,14 +7,14 @@ use Rattle.substitution.proofs.solving.bind_into.Tie as tie
 push-pair-requires : tie.Need-push-pair-requires
 push-pair-requires c κs =
     let p = c .before .before .before .pre in
-    (p .0, ((p .1 .0 .0, p .1 .0 .1, p .1 .0 .2, p .1 .0 .3, p .0 .links .some), (omega (arith, p .1 .1 .0), omega (arith, p .1 .1 .1))))
+    (p .0, ((p .1 .0 .0, p .1 .0 .1, p .1 .0 .2, p .1 .0 .3, p .0 .links .some), (omega (arith, p .1 .1 .0 .0), omega (arith, p .1 .1 .0 .1))))
 
 substitute-list-requires : tie.Need-substitute-list-requires
 substitute-list-requires c κs =
     let p = c .before .before .before .before .before .before .before .pre in
     let d = c .before .before .before .push-pair .ensures .0 in
     let e = c .before .before .before .push-pair .ensures .1 in
-    (d .arena, ((omega (arith, p .1 .0 .4, e), d .inside), (omega (arith, p .1 .1 .0, d .grown .len, e), omega (arith, p .1 .1 .1, e), omega arith)))
+    (d .arena, ((omega (arith, p .1 .0 .4, e), d .inside), (omega (arith, p .1 .1 .0 .0, d .grown .len, e), omega (arith, p .1 .1 .0 .1, e), omega arith)))
 
 enum-known-built : tie.Need-enum-known-built
 enum-known-built c = search needs

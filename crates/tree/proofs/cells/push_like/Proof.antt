@@ -5,7 +5,7 @@ use Rattle.tree.proofs.cells.push_like.Tie as tie
 use Rattle.tree.proofs.cells.push_like.Reads as reads
 use Rattle.tree.proofs.cells.push_like.Lts as lts
 use Rattle.tree.proofs.cells.push_cell.Reads as push-cell-reads
-use Rattle.tree.proofs.cells.wide.Reads as wide-reads
+use Rattle.text.proofs.places.wide.Reads as wide-reads
 
 mul-wide : tie.Need-mul-wide
 mul-wide c = search needs

@@ -1,6 +1,6 @@
 use borrow.Author.Needs.{needs}
 use native.Mathlib.Omega.{arith}
-use Rattle.steps.specs.Stack.{pairs-at}
+use Rattle.elimination.specs.Stack.{pairs-at}
 use Rattle.unifier.proofs.Tops.{top-whole, top-fit}
 use Rattle.unifier.proofs.Invariant.{Holds, holds-start, holds-solved, holds-spent, holds-right, holds-top, step-room, step-differs, bind-room, holds-fails, holds-unknown, holds-next, holds-bind}
 use Rattle.unifier.proofs.unifying.run.Statement.{statement}

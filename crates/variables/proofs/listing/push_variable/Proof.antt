@@ -1,12 +1,12 @@
 use mathlib.Core.Path.{ap, _∙_}
-use Rattle.reading.specs.Leaves.{leaf-kind}
+use Rattle.leaves.specs.Leaves.{leaf-kind}
 use Rattle.variables.proofs.Listings.{variable-linked}
 use borrow.Author.Needs.{needs}
 use Rattle.variables.proofs.listing.push_variable.Statement.{statement}
 use Rattle.variables.proofs.listing.push_variable.Tie as tie
 use Rattle.variables.proofs.listing.push_variable.Reads as reads
 use Rattle.variables.proofs.listing.push_variable.Lts as lts
-use Rattle.reading.proofs.leaves.leaf_kind.Reads as leaf-kind-reads
+use Rattle.leaves.proofs.leaf_kind.Reads as leaf-kind-reads
 use Rattle.text.proofs.places.text_at.Reads as text-at-reads
 use Rattle.text.proofs.places.wide.Reads as wide-reads
 use Rattle.tree.proofs.cells.push_cell.Reads as push-cell-reads
@@ -30,7 +30,7 @@ returns : tie.Need-returns
 returns c =
     let a = c .before .before .before .before .before .before .before .before .before .args in
     let p = c .before .before .before .before .before .before .before .before .before .pre in
-    (c .before .before .push-cell .ensures .0, variable-linked (a .sheet .now) (a .x) (p .1 .0 .0) (p .0) (c .before .before .before .before .leaf-kind .ensures .0 ∙ ap leaf-kind (c .before .before .before .before .before .text-at .ensures)) (c .before .before .before .before .leaf-kind .ensures .1) (p .1 .1 .0) (p .1 .1 .1) (rw (c .before .before .before .before .before .before .wide .ensures) at (c .before .before .push-cell .ensures .1)))
+    (c .before .before .push-cell .ensures .0, variable-linked (a .sheet .now) (a .x) (p .1 .0 .0) (p .0) (c .before .before .before .before .leaf-kind .ensures .0 ∙ ap leaf-kind (c .before .before .before .before .before .text-at .ensures)) (c .before .before .before .before .leaf-kind .ensures .1) (p .1 .1 .0) (p .1 .1 .1) (rw (c .before .before .before .before .before .before .wide .ensures .0) at (c .before .before .push-cell .ensures .1)))
 
 pub push-variable-spec : {M : Type 1} → statement M
 push-variable-spec =

@@ -1,7 +1,7 @@
 use mathlib.Core.Path.{sym, ap, _∙_}
 use native.Mathlib.Omega.{arith}
 use borrow.Author.Tests.{not-true, not-false}
-use Rattle.sheet.specs.Form.{text-of}
+use Rattle.forms.specs.Form.{text-of}
 use Rattle.tree.specs.Cells.{tree-at}
 use Rattle.variants.specs.Members.{nameable}
 use Rattle.variants.proofs.Entering.{key-out, key-in}

@@ -21,7 +21,7 @@ parse-requires : tie.Need-parse-requires
 parse-requires c κs =
     let p = c .before .before .before .before .before .before .before .pre in
     let q = member-placed (c .before .before .before .before .before .before .before .args .sheet .now) (c .before .before .before .before .before .before .before .args .start .at) (c .before .before .line .given .0 .0) (c .before .before .line .given .0 .1 .0) (c .before .before .line .given .0 .1 .1 .0) (sym (c .before .before .line .given .1) ∙ c .before .before .before .before .next-member .ensures) in
-    (p .0, ((q .2, omega (arith, q), p .1 .0, omega (arith, q, p .1)), (omega (arith, q, p .1), omega (arith, q, p .1))))
+    (p .0, ((q .2, omega (arith, q), p .1 .0 .0, omega (arith, q, p .1 .0)), (omega (arith, q, p .1 .0), omega (arith, q, p .1 .0))))
 
 enum-known-parsed : tie.Need-enum-known-parsed
 enum-known-parsed c = search needs
@@ -40,7 +40,7 @@ read-entries-requires c κs =
     let p = c .before .before .before .before .before .before .before .before .before .before .before .before .before .before .pre in
     let q = member-placed (c .before .before .before .before .before .before .before .before .before .before .before .before .before .before .args .sheet .now) (c .before .before .before .before .before .before .before .before .before .before .before .before .before .before .args .start .at) (c .before .before .before .before .before .before .before .before .before .line .given .0 .0) (c .before .before .before .before .before .before .before .before .before .line .given .0 .1 .0) (c .before .before .before .before .before .before .before .before .before .line .given .0 .1 .1 .0) (sym (c .before .before .before .before .before .before .before .before .before .line .given .1) ∙ c .before .before .before .before .before .before .before .before .before .before .before .next-member .ensures) in
     let one = rw (c .before .before .parsed .given .1) at (c .before .before .before .before .before .before .parse .ensures) in
-    (one .arena, (q .1, (p .1 .0, omega (arith, q, p .1, one .room, one .outside .len), omega (arith, q, p .1, one .room))))
+    (one .arena, (q .1, (p .1 .0 .0, omega (arith, q, p .1 .0, one .room, one .outside .len), omega (arith, q, p .1 .0, one .room))))
 
 enum-known-entries : tie.Need-enum-known-entries
 enum-known-entries c = search needs

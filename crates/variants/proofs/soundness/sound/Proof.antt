@@ -1,11 +1,13 @@
 use native.Mathlib.Omega.{arith}
-use Rattle.variants.proofs.Claiming.{unread-claims, sound-claims}
+use Rattle.variants.proofs.Claiming.{one-there, unread-claims, sound-claims}
 use borrow.Author.Needs.{needs}
 use Rattle.variants.proofs.soundness.sound.Statement.{statement}
 use Rattle.variants.proofs.soundness.sound.Tie as tie
 
 read-member-requires : tie.Need-read-member-requires
-read-member-requires c κs = search needs
+read-member-requires c κs =
+    let p = c .before .before .before .pre in
+    (p .0, ((p .1 .1 .0 .0, omega (arith, p .1 .1 .0), omega (arith, p .1 .1 .0)), one-there (p .1 .1 .1)))
 
 enum-known-member : tie.Need-enum-known-member
 enum-known-member c = search needs
@@ -25,7 +27,7 @@ reduces-to-requires : tie.Need-reduces-to-requires
 reduces-to-requires c κs =
     let p = c .before .before .before .before .before .before .before .before .before .before .pre in
     let x = rw (c .before .before .member .given .1) at (c .before .before .before .before .before .before .read-member .ensures) in
-    (x .arena, ((p .1 .0 .0, omega (arith, p .1 .0, x .grew), x .inside, x .placed .0, x .placed .1), (x .small, omega (arith, p .1 .1, x .used, x .within, x .kept .len), omega (arith, p .1 .1, x .used, x .within))))
+    (x .arena, ((p .1 .0 .0, omega (arith, p .1 .0, x .grew), x .inside, x .placed .0, x .placed .1), (x .small, omega (arith, p .1 .1 .0, x .used, x .within, x .kept .len), omega (arith, p .1 .1 .0, x .used, x .within))))
 
 same-length-2 : tie.Need-same-length-2
 same-length-2 c = search needs

@@ -1,0 +1,3 @@
+pub mod Zeroing
+pub mod Screening
+pub mod Admitting

@@ -1,0 +1,4 @@
+pub mod Stack
+pub mod Differing
+pub mod Area
+pub mod Stepping

@@ -1,0 +1,2 @@
+pub mod PairReading
+pub mod Reversing

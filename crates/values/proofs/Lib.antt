@@ -1,0 +1,4 @@
+pub mod Valuing
+pub mod Entries
+pub mod CoverLaws
+pub mod MemberLaws
