@@ -120,6 +120,7 @@ module _ (term : Tree) where
 
   -- so none is unsupported
   all_decided : {ss : List Scheme} {vs : List Variant} → Solves ss vs → (s : Scheme) → Memᴰ s ss → (unify 65536 (system term s)).0 ≡ unsupported → ⊥
+  all_decided nil s x7 u = elim x7 [ ]
   all_decided (solved_one e f h) s (Memᴰ.head p) u =
       let z = ap verdict_number (sym f ∙ ap (λ (x : Scheme). (unify 65536 (system term x)).0) (sym p) ∙ u) in
       omega arith

@@ -192,6 +192,7 @@ unify_limited k ps bs b e xs = all_each Token (Limited bs) (λ x t. (lookup_buil
 module _ (f : Text → ℕ) where
   pub keys_within : (ms : List Member) (m : Member) → Memᴰ m ms → total f (entry_keys m.1) ≤ total f (member_keys ms)
   unfolding member_keys
+  keys_within [] m x' = elim x' [ ]
   keys_within (n ∷ ms) m (Memᴰ.head e) =
       let i = ap (λ (z : Member). total f (entry_keys z.1)) e in
       omega (arith, total_append f (entry_keys n.1) (member_keys ms))
@@ -199,6 +200,7 @@ module _ (f : Text → ℕ) where
 
   pub texts_within : (ms : List Member) (m : Member) → Memᴰ m ms → f m.0 + total f (entry_values m.1) ≤ total f (member_texts ms)
   unfolding member_texts total
+  texts_within [] m x' = elim x' [ ]
   texts_within (n ∷ ms) m (Memᴰ.head e) =
       let i = ap (λ (z : Member). f z.0 + total f (entry_values z.1)) e in
       omega (arith, total_append f (entry_values n.1) (member_texts ms))

@@ -87,6 +87,7 @@ module _ (bs : List Binding) (m : Member) where
 
   none_paired : (xs : List Text) (x : Text) → Memᴰ x xs → general m x ≡ nothing → every (map (pair_at bs m) xs) ≡ nothing
   unfolding every pair_at
+  none_paired [] x x4 h = elim x4 [ ]
   none_paired (y ∷ xs) x (Memᴰ.head e) h =
       ap (λ (o : Option Tree). (o >>= at_value y) >>= λ p. every (map (pair_at bs m) xs) >>= λ rs. some (p ∷ rs)) (ap (general m) (sym e) ∙ h)
   none_paired (y ∷ xs) x (Memᴰ.tail a) h =
@@ -133,6 +134,7 @@ module _ {A : Type 0} (test : A → Bool) where
 
   pub some_any : (l : List A) (a : A) → Memᴰ a l → test a ≡ true → any l ≡ true
   unfolding any
+  some_any [] a x'' h = elim x'' [ ]
   some_any (b ∷ l) a (Memᴰ.head e) h = ap {B = Bool} (λ (c : Bool). elim c [ true ↦ true | false ↦ any l ]) (ap test (sym e) ∙ h)
   some_any (b ∷ l) a (Memᴰ.tail k) h = go (test b) (some_any l a k h)
     where

@@ -18,6 +18,7 @@ use Rattle.laws.proofs.Reading.Builds.{builds}
 use Rattle.laws.proofs.Sheets.BuiltRun.{substitute_built}
 
 unreadable_left : (ss us : List Text) → Unreadable ss → Unreadable (ss ++ us)
+unreadable_left [] us x' = elim x' [ ]
 unreadable_left (s ∷ ss) us (this e) = this e
 unreadable_left (s ∷ ss) us (later h) = later (unreadable_left ss us h)
 
@@ -56,6 +57,7 @@ unreadable_cases P (s ∷ ss) us (later h) f g = unreadable_cases P ss us h (λ 
 module _ {A B : Type 0} (read : A → Option B) (texts : A → List Text) where
   unread_every : ((a : A) → ReadsAt read texts a) → (l : List A) → Unreadable (all_texts read texts l) → every (map read l) ≡ nothing
   unfolding every
+  unread_every h [] u = elim u [ ]
   unread_every h (a ∷ l) u =
       unreadable_cases (every (map read (a ∷ l)) ≡ nothing) (texts a) (all_texts read texts l) u
       (λ k. ap (λ (o : Option B). o >>= λ b. every (map read l) >>= λ bs. some (b ∷ bs)) ((h a).1 k))
@@ -82,6 +84,7 @@ parse_reads e = (λ h. this (unread (parse e.1) h), λ u. read_none u)
     unread (some t) h = absurd (none-ne-some (e.0, t) (sym h))
 
     read_none : Unreadable (e.1 ∷ []) → (parse e.1 >>= named e) ≡ nothing
+    read_none (later x3) = elim x3 [ ]
     read_none (this h) = ap (λ (o : Option Tree). o >>= named e) h
 
 values_texts : (es : List Entry) → all_texts read_entry (λ e. e.1 ∷ []) es ≡ entry_values es

@@ -36,6 +36,7 @@ module _ {A : Type 0} where
   all_append P (a ∷ l) r h k = (h.0, all_append P l r h.1 k)
 
   pub all_at : (P : A → Type 0) (l : List A) (a : A) → Memᴰ a l → All P l → P a
+  all_at P [] a x'' h = elim x'' [ ]
   all_at P (b ∷ l) a (Memᴰ.head e) h = subst P (sym e) h.0
   all_at P (b ∷ l) a (Memᴰ.tail m) h = all_at P l a m h.1
 

@@ -80,6 +80,7 @@ ended (suc k) w l = l
 run_limit : (k : ℕ) (ps : List Pair) (w : Tree) → Waits w ps → size w ≤ 4096 → WithinLimit w (run k ps).0
 unfolding run
 run_limit zero ps w h l = tt
+run_limit (suc k) [] w h l = elim h [ ]
 run_limit (suc k) (p ∷ ps) w last l = subst (λ (s : Step). WithinLimit w (after s (λ qs. run k qs)).0) (sym (dropped w)) (ended k w l)
 run_limit (suc k) (p ∷ ps) w (under h) l = go (step p.0 p.1 ps) (step_keep Any any_kept ps (any_sides ps) p.0 p.1 tt tt) (λ qs u i j. run_limit k qs u i j)
   where

@@ -55,6 +55,7 @@ test_decides b {P} h q = (λ e. subst (Decides P) e (go b h), back b h q)
     go false k = fails (λ p. false≢true (k.0 p))
 
     back : (c : Bool) → (P ↔ (c ≡ true)) → (q : Option Bool) → Decides P q → some c ≡ q
+    back c k nothing x' = elim x' [ ]
     back c k (some true) (holds p) = ap some (k.0 p)
     back true k (some false) (fails n) = absurd (n (k.1 refl))
     back false k (some false) (fails n) = refl
