@@ -1,4 +1,6 @@
 // Bytes and texts: classes of bytes, the screening of a sheet, counting, equality of two texts.
+#![tactic(auto)]
+
 pub mod decimal; // decimal.rt: decimal numbers
 pub mod places; // places.rt: texts named by places, and sorting by them
 
