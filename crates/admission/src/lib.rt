@@ -9,7 +9,7 @@ use refusal::Refusal;
 use text::{Screened, screen};
 
 // A sheet that is admitted, with the words that it needs, or a refusal.
-#[derive(Drop)]
+#[derive(Clone, Copy)]
 pub enum Admitted {
     Sheet { form: Form, needed: usize },
     Refused(Refusal),

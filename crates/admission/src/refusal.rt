@@ -1,5 +1,5 @@
 // The six refusals. Their numbers are `number_for` of the rules.
-#[derive(Drop)]
+#[derive(Clone, Copy)]
 pub enum Refusal {
     TooLong,
     ForeignByte,

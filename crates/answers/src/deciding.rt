@@ -6,7 +6,7 @@ use admission::refusal::Refusal;
 use sheet::claims::Claim;
 
 // The key of a line.
-#[derive(Drop)]
+#[derive(Clone, Copy)]
 pub enum Key {
     Equal,
     Normal,
@@ -16,7 +16,7 @@ pub enum Key {
 }
 
 // The value of a line with a constant text.
-#[derive(Drop)]
+#[derive(Clone, Copy)]
 pub enum Word {
     Yes,
     No,
@@ -24,7 +24,7 @@ pub enum Word {
 }
 
 // The lines of an answer: a key and a word, a key and the term of a cell, or a verdict, `solved` with the bindings from a cell on.
-#[derive(Drop)]
+#[derive(Clone, Copy)]
 pub enum Lines {
     Constant {
         key: Key,
@@ -49,7 +49,7 @@ pub enum Lines {
 }
 
 // A refusal, or an answer.
-#[derive(Drop)]
+#[derive(Clone, Copy)]
 pub enum Decision {
     Refused(Refusal),
     Given(Lines),

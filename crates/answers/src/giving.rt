@@ -13,7 +13,7 @@ use printing::measuring::Measured;
 use verdicts::{measure_head, measure_solved, write_head, write_solved};
 
 // What the call gives: the count of bytes written, or a refusal.
-#[derive(Drop)]
+#[derive(Clone, Copy)]
 pub enum Reply {
     Written(usize),
     Refused(Refusal),

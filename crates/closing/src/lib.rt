@@ -17,14 +17,14 @@ use tree::cells::{
 };
 
 // The first of the new cells, the free end after them and their count of nodes.
-#[derive(Drop)]
+#[derive(Clone, Copy)]
 enum Ordered {
     Upto(usize, usize, usize),
     Over,
 }
 
 // The free end after the closed list's cell, which is the last.
-#[derive(Drop)]
+#[derive(Clone, Copy)]
 pub enum Closed {
     At(usize),
     Refused,

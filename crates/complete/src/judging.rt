@@ -24,7 +24,7 @@ use unifier::unifying::{Outcome, unify};
 
 // What the schemes so far decide: nothing yet, that one has no member, that the instance of one is over 4,096 nodes, or that one is not
 // supported, which ends the judging.
-#[derive(Drop)]
+#[derive(Clone, Copy)]
 pub(crate) enum Judged {
     Pending,
     Missing,

@@ -12,7 +12,7 @@ use unifier::unifying::Outcome;
 use values::members::{Sides, member_pairs};
 
 // A member covers, or it does not and the lines after it begin at a cursor.
-#[derive(Drop)]
+#[derive(Clone, Copy)]
 enum Covering {
     Yes,
     No { next: Cursor },

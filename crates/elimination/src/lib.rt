@@ -15,7 +15,7 @@ use tree::cells::{APPLICATION, VARIABLE_OTHER, kind_of};
 
 // What a step makes of a pair: the next stack, a binding and the next stack, or the end of the run. If `apart` is not 0, one of the first
 // `apart` pairs of the stack has two different trees.
-#[derive(Drop)]
+#[derive(Clone, Copy)]
 pub enum Taken {
     Next {
         stack: usize,

@@ -14,7 +14,7 @@ use tree::cells::{APPLICATION, push_cell, share};
 use variants::members::{Variant, read_member};
 
 // A list of trees and the free end after it, or a member's text that cannot be read.
-#[derive(Drop)]
+#[derive(Clone, Copy)]
 pub enum Members {
     List { index: usize, free: usize },
     Unreadable,

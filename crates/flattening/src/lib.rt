@@ -9,7 +9,7 @@ use runs::{COMMA, OPEN, PLUS, SHUT};
 use syntax::Symbol;
 
 // What became of a text: its words, up to the one that is answered, or no term.
-#[derive(Drop)]
+#[derive(Clone, Copy)]
 pub enum Written {
     Words(usize),
     Unreadable,

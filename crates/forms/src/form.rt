@@ -14,7 +14,7 @@ const MOST_FUEL: usize = 65536;
 const BLOCK: usize = 65536;
 
 // What a sheet asks.
-#[derive(Drop)]
+#[derive(Clone, Copy)]
 pub enum Form {
     Equal { left: Place, right: Place },
     Unify { fuel: usize, pairs: Cursor },
@@ -26,14 +26,14 @@ pub enum Form {
 }
 
 // What a sheet was read as.
-#[derive(Drop)]
+#[derive(Clone, Copy)]
 pub enum ReadForm {
     Sheet(Form),
     LineOutOfPlace,
 }
 
 // The kinds by their names.
-#[derive(Drop)]
+#[derive(Clone, Copy)]
 enum Kind {
     Equal,
     Unify,
@@ -161,7 +161,7 @@ fn read_cover(sheet: &[u8], start: Cursor) -> ReadForm
 }
 
 // A `term` line and the members after it.
-#[derive(Drop)]
+#[derive(Clone, Copy)]
 enum TermMembers {
     Read {
         term: Place,

@@ -25,7 +25,7 @@ fn word_of(place: Place) -> u32
 }
 
 // How many keys one member has, and where its entries end.
-#[derive(Drop)]
+#[derive(Clone, Copy)]
 struct Keys {
     count: usize,
     next: Cursor,

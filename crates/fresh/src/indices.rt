@@ -12,7 +12,7 @@ use text::decimal::{Number, number_up_to};
 use text::places::text_at;
 
 // One above every index, or nothing where a variable has none.
-#[derive(Drop)]
+#[derive(Clone, Copy)]
 pub(crate) enum Base {
     From(usize),
     Nothing,

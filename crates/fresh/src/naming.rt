@@ -12,7 +12,7 @@ use variables::gathering::variables_of;
 use variables::listing::list_variables;
 
 // The variables of a term as a list of cells, one above their indices, and the free end; or one of them has no index.
-#[derive(Drop)]
+#[derive(Clone, Copy)]
 pub enum Named {
     Names {
         index: usize,

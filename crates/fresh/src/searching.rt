@@ -6,7 +6,7 @@ use sheet::part;
 use text::begins;
 
 // Where a text is spelled in the sheet.
-#[derive(Drop)]
+#[derive(Clone, Copy)]
 pub(crate) enum Found {
     At(usize),
     Nowhere,

@@ -22,7 +22,7 @@ use tree::children::child_of;
 use tree::names::same_head;
 
 // What a pair taken gives: the next stack and the bindings, the newest first, or the end of the run.
-#[derive(Drop)]
+#[derive(Clone, Copy)]
 pub enum Moved {
     Onward {
         stack: usize,

@@ -14,14 +14,14 @@ use substitution::bindings::{Pushed, push_pair};
 use tree::cells::{next_of, share};
 
 // A pair before a list of sides and the free end after it, or a side that cannot be read.
-#[derive(Drop)]
+#[derive(Clone, Copy)]
 enum Added {
     List { index: usize, free: usize },
     Unreadable,
 }
 
 // The list of all sides, the free end after it, and where the pairs end; or a side that cannot be read.
-#[derive(Drop)]
+#[derive(Clone, Copy)]
 pub enum Pairs {
     Stack {
         index: usize,

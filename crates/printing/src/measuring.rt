@@ -10,7 +10,7 @@ use tree::cells::{APPLICATION, ATOMS, first_of, kind_of, next_of};
 use tree::names::name_len;
 
 // A length, or that it is over the room.
-#[derive(Drop)]
+#[derive(Clone, Copy)]
 pub enum Measured {
     Fits(usize),
     Over,

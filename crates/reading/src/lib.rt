@@ -11,7 +11,7 @@ use closing::Closed;
 use syntax::{Symbol, next_symbol};
 
 // The cell of the tree and the free end after it.
-#[derive(Drop)]
+#[derive(Clone, Copy)]
 pub enum Parsed {
     Tree { index: usize, free: usize },
     Unreadable,

@@ -10,7 +10,7 @@ use yukhtsami::yukhtsami_answer;
 
 // A record: the words and bytes of output lent, the refusal, where its label, its sheet and its
 // answer start, and where its answer ends.
-#[derive(Drop)]
+#[derive(Clone, Copy)]
 pub(crate) struct Record {
     pub words: usize,
     pub room: usize,
@@ -21,7 +21,7 @@ pub(crate) struct Record {
     pub end: usize,
 }
 
-#[derive(Drop)]
+#[derive(Clone, Copy)]
 pub(crate) enum Outcome {
     Agrees,
     Differs,

@@ -14,7 +14,7 @@ use libc::{STDIN_FILENO, STDOUT_FILENO};
 use text::{begins, is_digit};
 
 // A number, and the place after the byte that ends it.
-#[derive(Drop)]
+#[derive(Clone, Copy)]
 struct Numeral {
     value: usize,
     next: usize,
@@ -127,7 +127,7 @@ fn closed(list: &[u8], at: usize, end: usize) -> bool
 }
 
 // How many records were replayed and agree, differ, or were not replayed.
-#[derive(Drop)]
+#[derive(Clone, Copy)]
 struct Tally {
     agreeing: u64,
     different: u64,

@@ -10,7 +10,7 @@ use tree::cells::{APPLICATION, first_of, kind_of, next_of};
 use tree::names::name_is;
 
 // The rule of a name.
-#[derive(Drop)]
+#[derive(Clone, Copy)]
 pub enum RuleName {
     Fst,
     Snd,

@@ -7,7 +7,7 @@ use text::places;
 use tree::fixed::{fixed_byte, fixed_len};
 
 // How a text stands to another by their bytes.
-#[derive(Drop)]
+#[derive(Clone, Copy)]
 pub enum Order {
     Less,
     Equal,
@@ -15,7 +15,7 @@ pub enum Order {
 }
 
 // A word of a run, and a byte of its text.
-#[derive(Drop)]
+#[derive(Clone, Copy)]
 struct Spot {
     pub word: usize,
     pub byte: usize,

@@ -17,7 +17,7 @@ use tree::cells::{APPLICATION, kind_of, next_of, share};
 use tree::children::child_of;
 
 // Values, equations, the next fresh variable, what is left of the index and of the number of ways, and the free end.
-#[derive(Drop)]
+#[derive(Clone, Copy)]
 pub(crate) struct Chosen {
     pub values: usize,
     pub equations: usize,

@@ -92,7 +92,7 @@ fn count_list(sheet: &[u8], work: &[u32], free: usize, i: usize, count: usize) -
 }
 
 // The count of schemes, or more than 4,096.
-#[derive(Drop)]
+#[derive(Clone, Copy)]
 pub enum Counted {
     Schemes(usize),
     Over,

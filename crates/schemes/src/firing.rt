@@ -18,7 +18,7 @@ use substitution::bindings::push_pair;
 use tree::cells::{APPLICATION, next_of, push_cell, share};
 
 // A tree over two fresh variables, and their cells.
-#[derive(Drop)]
+#[derive(Clone, Copy)]
 struct Pattern {
     pub tree: usize,
     pub left: usize,
@@ -83,7 +83,7 @@ fn boxed(sheet: &[u8], work: &mut [u32], free: usize, x: usize, y: usize) -> Pat
 }
 
 // What a rule makes of a root: the value, the equations and the next fresh variable.
-#[derive(Drop)]
+#[derive(Clone, Copy)]
 pub(crate) struct Fired {
     pub value: usize,
     pub equations: usize,

@@ -12,7 +12,7 @@ use substitution::bindings::push_pair;
 use tree::cells::share;
 
 // The value of a scheme, its system as a list of cells (left, right, left, right, ..), and the free end.
-#[derive(Drop)]
+#[derive(Clone, Copy)]
 pub struct System {
     pub value: usize,
     pub stack: usize,

@@ -1,4 +1,6 @@
 // The lines of a sheet: a cursor that is handed on by value, lines with a key, two lines that belong together.
+#![tactic(auto)]
+
 pub mod claims; // claims.rt: what is claimed of members
 
 ghost use Rattle.std.specs.Prelude.{◌≡◌, ◌≤◌, length};
@@ -9,20 +11,20 @@ ghost use Rattle.sheet.specs.Pairs.{two_lines_at};
 use text::begins;
 
 // A position in the sheet, handed on by value after each line.
-#[derive(Drop)]
+#[derive(Clone, Copy)]
 pub struct Cursor {
     pub at: usize,
 }
 
 // A text of the sheet: the bytes from `from` up to `to`.
-#[derive(Drop)]
+#[derive(Clone, Copy)]
 pub struct Place {
     pub from: usize,
     pub to: usize,
 }
 
 // What the line reader answers: the line's bytes are those from `from` up to `to`.
-#[derive(Drop)]
+#[derive(Clone, Copy)]
 pub enum Line {
     Whole {
         from: usize,
@@ -79,7 +81,7 @@ pub fn part(sheet: &[u8], from: usize, to: usize) -> &[u8]
 }
 
 // Two lines that belong together.
-#[derive(Drop)]
+#[derive(Clone, Copy)]
 pub enum PairLine {
     Sides {
         left: Place,

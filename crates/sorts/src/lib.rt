@@ -48,7 +48,7 @@ fn meets(a: usize, b: usize) -> bool
 }
 
 // What a name stands for.
-#[derive(Drop)]
+#[derive(Clone, Copy)]
 enum Symbol {
     Addition,
     Unit,

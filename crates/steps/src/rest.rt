@@ -20,7 +20,7 @@ use text::places::wide;
 use tree::cells::count_of;
 
 // How many of the cells are not taken out: none, one, which it is, or more.
-#[derive(Drop)]
+#[derive(Clone, Copy)]
 enum Left {
     Nothing,
     One(usize),
@@ -52,7 +52,7 @@ fn left_of(work: &[u32], at: usize, end: usize) -> Left
 }
 
 // What is left of two sums: nothing, one side only, two trees to be paired, or more than the rules settle.
-#[derive(Drop)]
+#[derive(Clone, Copy)]
 pub enum Rest {
     Emptied,
     Mismatch,

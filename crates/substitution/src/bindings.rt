@@ -28,7 +28,7 @@ pub fn rest_of(work: &[u32], free: usize, v: usize) -> usize
 }
 
 // Where the value of a variable is.
-#[derive(Drop)]
+#[derive(Clone, Copy)]
 pub enum Found {
     At(usize),
     Nothing,
@@ -56,7 +56,7 @@ pub fn lookup(sheet: &[u8], work: &[u32], free: usize, b: usize, x: usize) -> Fo
 }
 
 // A list of trees, and the free end after it.
-#[derive(Drop)]
+#[derive(Clone, Copy)]
 pub struct Pushed {
     pub index: usize,
     pub free: usize,

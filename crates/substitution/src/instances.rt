@@ -45,7 +45,7 @@ pub fn keep(sheet: &[u8], work: &mut [u32], free: usize, i: usize, next: usize) 
 }
 
 // A tree or a list: its cell, the free end after it and what is left of the budget of nodes.
-#[derive(Drop)]
+#[derive(Clone, Copy)]
 pub enum Built {
     Done {
         index: usize,

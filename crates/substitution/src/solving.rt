@@ -11,7 +11,7 @@ use crate::instances::{Built, substitute, substitute_list};
 use tree::cells::share;
 
 // The waiting pairs after a binding, or too many nodes in all.
-#[derive(Drop)]
+#[derive(Clone, Copy)]
 pub enum Waiting {
     Stack { index: usize, free: usize },
     Over,
@@ -50,7 +50,7 @@ pub fn bind_into(
 }
 
 // The composed bindings, or a value of too many nodes.
-#[derive(Drop)]
+#[derive(Clone, Copy)]
 pub enum Composition {
     Composed { bindings: usize, free: usize },
     Over,

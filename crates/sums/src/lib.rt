@@ -205,7 +205,7 @@ fn cancel(
 }
 
 // Where the cells of the summands of two sums part, and where they end.
-#[derive(Drop)]
+#[derive(Clone, Copy)]
 pub struct Split {
     pub mid: usize,
     pub end: usize,
@@ -252,7 +252,7 @@ fn add(sheet: &[u8], work: &mut [u32], free: usize, like: usize, a: usize, b: us
 }
 
 // A tree, and the free end after it.
-#[derive(Drop)]
+#[derive(Clone, Copy)]
 pub struct Summed {
     pub index: usize,
     pub free: usize,

@@ -1,11 +1,13 @@
 // Tokens of a text (syntax.rs): where each starts and ends, and the symbol that it is.
+#![tactic(auto)]
+
 ghost use Rattle.std.specs.Prelude.{◌≡◌, ◌+◌, ◌<◌, length, get_or, drop, eqb};
 ghost use Rattle.rules.specs.Tokens.{run_length, sigil, mark, sort_length, variable_rest, plain_rest, rest_length};
 ghost use Rattle.syntax.specs.Next.{is_of, end_of, next_at};
 ghost use Rattle.syntax.specs.Symbols.{symbol_at};
 
 // The classes of bytes that a run is made of.
-#[derive(Drop)]
+#[derive(Clone, Copy)]
 pub enum Class {
     Blank,
     Digit,
@@ -62,7 +64,7 @@ fn byte_at(text: &[u8], at: usize) -> u8
 }
 
 // Where something ends, if it is there.
-#[derive(Drop)]
+#[derive(Clone, Copy)]
 enum Ends {
     At(usize),
     Nothing,
@@ -127,7 +129,7 @@ fn token_end(text: &[u8], at: usize) -> Ends
 }
 
 // The next token of a text.
-#[derive(Drop)]
+#[derive(Clone, Copy)]
 pub enum Next {
     Token { from: usize, to: usize },
     End,
@@ -150,7 +152,7 @@ fn next_token(text: &[u8], at: usize) -> Next
 }
 
 // The next symbol of a text, and where it ends; a name's start too.
-#[derive(Drop)]
+#[derive(Clone, Copy)]
 pub enum Symbol {
     Begin(usize),
     Shut(usize),

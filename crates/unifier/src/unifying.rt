@@ -13,7 +13,7 @@ use substitution::solving::{Composition, compose};
 use tree::cells::next_of;
 
 // A verdict with the number of pairs taken from the stack. The bindings are a list: the key and the value of each in turn.
-#[derive(Drop)]
+#[derive(Clone, Copy)]
 pub enum Outcome {
     Solved {
         bindings: usize,

@@ -12,7 +12,7 @@ use sheet::Cursor;
 use variables::pairing::pair_variables;
 
 // A list of sides, the free end after it and where the member ends, or a value that cannot be read.
-#[derive(Drop)]
+#[derive(Clone, Copy)]
 pub enum Sides {
     Stack {
         index: usize,

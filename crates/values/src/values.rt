@@ -38,7 +38,7 @@ fn find_variable(
 }
 
 // Bindings and the free end after them, or a value that cannot be read.
-#[derive(Drop)]
+#[derive(Clone, Copy)]
 enum Values {
     Bound { bindings: usize, free: usize },
     Unreadable,
@@ -92,7 +92,7 @@ fn read_value(
 }
 
 // The bindings of a member's values, the free end after them and where its entries end, or a value that cannot be read.
-#[derive(Drop)]
+#[derive(Clone, Copy)]
 pub(crate) enum Read {
     Bound {
         bindings: usize,

@@ -14,14 +14,14 @@ use substitution::bindings::Pushed;
 use tree::cells::{APPLICATION, push_cell, share};
 
 // A list of bindings and the free end after it, or a value that cannot be read.
-#[derive(Drop)]
+#[derive(Clone, Copy)]
 enum Bindings {
     Stack { index: usize, free: usize },
     Unreadable,
 }
 
 // The bindings of a member and where its entries end, or a value that cannot be read.
-#[derive(Drop)]
+#[derive(Clone, Copy)]
 enum Entries {
     Stack {
         index: usize,
@@ -32,7 +32,7 @@ enum Entries {
 }
 
 // A member: the cell of its tree, its bindings, the free end after them and where the member ends. Or a text that cannot be read.
-#[derive(Drop)]
+#[derive(Clone, Copy)]
 pub enum Variant {
     Read {
         value: usize,

@@ -55,7 +55,7 @@ pub fn answer(sheet: &[u8], work: &mut [u32], output: &mut [u8]) -> Reply
 
 // What the exported call gives: the refusal's number, 0 for none, and the count of bytes written.
 #[repr(C)]
-#[derive(Drop)]
+#[derive(Clone, Copy)]
 pub struct Called {
     pub refusal: u32,
     pub written: usize,
