@@ -1,4 +1,6 @@
 // Names of leaves and of atoms.
+#![tactic(auto)]
+
 ghost use Rattle.std.specs.Prelude.{◌≡◌, ◌<◌};
 ghost use Rattle.rules.specs.Names.{digit, letter, letter_name, all};
 ghost use Rattle.rules.specs.Sorts.{sort_named};
