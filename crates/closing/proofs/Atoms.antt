@@ -12,7 +12,7 @@ use mathlib.Core.Logic.{⊎_elim}
 use types.Run.{OneOf}
 use Rattle.rules.specs.Bytes.{Text}
 use Rattle.rules.specs.Maybe.{◌>>=◌, guard}
-use Rattle.rules.specs.Names.{digit, all, letter, letter_name}
+use Rattle.rules.specs.Names.{digit, all, letter_name}
 use Rattle.rules.specs.Tree.{Tree, atom, apply, Trees, none, more, size}
 use Rattle.rules.specs.Reading.{single, constant_name, atom_of}
 use Rattle.laws.specs.Unspelled.{unspelled}
