@@ -3,12 +3,9 @@
 use Prim.Native.Nat.{ℕ, ◌+◌, ◌-◌, ◌≤◌, ◌<◌}
 use native.Mathlib.Omega.{arith}
 use mathlib.Core.Path.{◌≡◌, refl, sym, ap, ◌∙◌}
-use mathlib.Core.Logic.{⊎_elim}
 use mathlib.Core.List.{List, [], ◌∷◌}
 use mathlib.Core.Option.{Option, some, none as nothing, some-injective, none-ne-some}
 use mathlib.Core.Bool.{Bool, true, false, cond, not}
-use denote.Enum.Declared.{tag_of}
-use types.Run.{OneOf}
 use lib.Dec.{leb}
 use lib.ListN.{take, drop}
 use Rattle.rules.specs.Bytes.{Text, same}
@@ -24,7 +21,6 @@ use Rattle.laws.proofs.Reading.SameText.{the_only, the_name}
 use Rattle.syntax.specs.Symbols.{symbol_at}
 use Rattle.syntax.specs.declared.Symbol.{Symbol}
 use Rattle.syntax.specs.declared.Symbol.TheVariants.{Begin, Shut, Comma, Name, Stop, Bad}
-use Rattle.syntax.specs.contracts.Symbol.{the_type}
 use Rattle.syntax.proofs.TokenList.{joined}
 use Rattle.syntax.proofs.SymbolLaws.{means_is}
 use Rattle.closing.specs.Machine.{Stack, bottom, level, add, back, State, wants, named, has, machine_after, machine_step, finished_stack, machine_end, machine, machine_reading, total}
@@ -116,48 +112,48 @@ module _ (s : Text) (at : ℕ) {r : Symbol} (e : r ≡ symbol_at s at) where
   unfolding machine
   stop_turn st q = ap (λ (o : Option (List Text)). o >>= λ ts. machine ts st) (means_is s at e Stop q)
 
-  -- where a branch is left to several variants, by their numbers
-  pub not_name : (k : Stack) → OneOf (0 ∷ 1 ∷ 2 ∷ 4 ∷ 5 ∷ []) (tag_of the_type r) → machine_reading s at (wants k) ≡ nothing
+  -- where a branch is left to several variants
+  pub not_name : (k : Stack) → ((f t : ℕ) → r ≡ Name f t → ⊥) → machine_reading s at (wants k) ≡ nothing
   unfolding is_one_of same machine
-  not_name k o = go r refl o
+  not_name k o = go r refl
     where
-      go : (q : Symbol) → r ≡ q → OneOf (0 ∷ 1 ∷ 2 ∷ 4 ∷ 5 ∷ []) (tag_of the_type q) → machine_reading s at (wants k) ≡ nothing
-      go (Begin t) q o = refused s at t (bytes "(") (means_is s at e (Begin t) q).first (wants k) refl
-      go (Shut t) q o = refused s at t (bytes ")") (means_is s at e (Shut t) q).first (wants k) refl
-      go (Comma t) q o = refused s at t (bytes ",") (means_is s at e (Comma t) q).first (wants k) refl
-      go (Name f t) q o = absurd (⊎_elim (λ a. omega arith) (⊎_elim (λ a. omega arith) (⊎_elim (λ a. omega arith) (⊎_elim (λ a. omega arith) (λ a. omega arith)))) o)
-      go Stop q o = stop_turn (wants k) q
-      go Bad q o = ap (λ (o : Option (List Text)). o >>= λ ts. machine ts (wants k)) (means_is s at e Bad q)
+      go : (q : Symbol) → r ≡ q → machine_reading s at (wants k) ≡ nothing
+      go (Begin t) q = refused s at t (bytes "(") (means_is s at e (Begin t) q).first (wants k) refl
+      go (Shut t) q = refused s at t (bytes ")") (means_is s at e (Shut t) q).first (wants k) refl
+      go (Comma t) q = refused s at t (bytes ",") (means_is s at e (Comma t) q).first (wants k) refl
+      go (Name f t) q = absurd (o f t q)
+      go Stop q = stop_turn (wants k) q
+      go Bad q = ap (λ (o : Option (List Text)). o >>= λ ts. machine ts (wants k)) (means_is s at e Bad q)
 
-  pub no_delimiter : (k : Stack) → OneOf (0 ∷ 3 ∷ 5 ∷ []) (tag_of the_type r) → machine_reading s at (has k) ≡ nothing
+  pub no_delimiter : (k : Stack) → (r ≡ Stop → ⊥) → ((t : ℕ) → r ≡ Comma t → ⊥) → ((t : ℕ) → r ≡ Shut t → ⊥) → machine_reading s at (has k) ≡ nothing
   unfolding machine same
-  no_delimiter k o = go r refl o
+  no_delimiter k no_stop no_comma no_shut = go r refl
     where
-      go : (q : Symbol) → r ≡ q → OneOf (0 ∷ 3 ∷ 5 ∷ []) (tag_of the_type q) → machine_reading s at (has k) ≡ nothing
-      go (Begin t) q o = refused s at t (bytes "(") (means_is s at e (Begin t) q).first (has k) (not_given k (bytes "(") refl refl)
-      go (Shut t) q o = absurd (⊎_elim (λ a. omega arith) (⊎_elim (λ a. omega arith) (λ a. omega arith)) o)
-      go (Comma t) q o = absurd (⊎_elim (λ a. omega arith) (⊎_elim (λ a. omega arith) (λ a. omega arith)) o)
-      go (Name f t) q o =
+      go : (q : Symbol) → r ≡ q → machine_reading s at (has k) ≡ nothing
+      go (Begin t) q = refused s at t (bytes "(") (means_is s at e (Begin t) q).first (has k) (not_given k (bytes "(") refl refl)
+      go (Shut t) q = absurd (no_shut t q)
+      go (Comma t) q = absurd (no_comma t q)
+      go (Name f t) q =
           let m = means_is s at e (Name f t) q in
           let h = no_mark (take (t - f) (drop f s)) m.no_mark in
           refused s at t (take (t - f) (drop f s)) m.first (has k) (not_given k (take (t - f) (drop f s)) h.comma h.shut)
-      go Stop q o = absurd (⊎_elim (λ a. omega arith) (⊎_elim (λ a. omega arith) (λ a. omega arith)) o)
-      go Bad q o = ap (λ (o : Option (List Text)). o >>= λ ts. machine ts (has k)) (means_is s at e Bad q)
+      go Stop q = absurd (no_stop q)
+      go Bad q = ap (λ (o : Option (List Text)). o >>= λ ts. machine ts (has k)) (means_is s at e Bad q)
 
   -- a name that no bracket follows is a leaf
-  pub leaf_turn : (n : Text) (k : Stack) → OneOf (1 ∷ 2 ∷ 3 ∷ 4 ∷ 5 ∷ []) (tag_of the_type r) → machine_reading s at (named n k) ≡ machine_reading s at (has (add (leaf n) k))
+  pub leaf_turn : (n : Text) (k : Stack) → ((t : ℕ) → r ≡ Begin t → ⊥) → machine_reading s at (named n k) ≡ machine_reading s at (has (add (leaf n) k))
   unfolding machine same
-  leaf_turn n k o = go r refl o
+  leaf_turn n k o = go r refl
     where
-      go : (q : Symbol) → r ≡ q → OneOf (1 ∷ 2 ∷ 3 ∷ 4 ∷ 5 ∷ []) (tag_of the_type q) → machine_reading s at (named n k) ≡ machine_reading s at (has (add (leaf n) k))
-      go (Begin t) q o = absurd (⊎_elim (λ a. omega arith) (⊎_elim (λ a. omega arith) (⊎_elim (λ a. omega arith) (⊎_elim (λ a. omega arith) (λ a. omega arith)))) o)
-      go (Shut t) q o = alike s at t (bytes ")") (means_is s at e (Shut t) q).first (named n k) (has (add (leaf n) k)) refl
-      go (Comma t) q o = alike s at t (bytes ",") (means_is s at e (Comma t) q).first (named n k) (has (add (leaf n) k)) refl
-      go (Name f t) q o =
+      go : (q : Symbol) → r ≡ q → machine_reading s at (named n k) ≡ machine_reading s at (has (add (leaf n) k))
+      go (Begin t) q = absurd (o t q)
+      go (Shut t) q = alike s at t (bytes ")") (means_is s at e (Shut t) q).first (named n k) (has (add (leaf n) k)) refl
+      go (Comma t) q = alike s at t (bytes ",") (means_is s at e (Comma t) q).first (named n k) (has (add (leaf n) k)) refl
+      go (Name f t) q =
           let m = means_is s at e (Name f t) q in
           alike s at t (take (t - f) (drop f s)) m.first (named n k) (has (add (leaf n) k)) (rw (no_mark (take (t - f) (drop f s)) m.no_mark).begin)
-      go Stop q o = stop_turn (named n k) q ∙ sym (stop_turn (has (add (leaf n) k)) q)
-      go Bad q o =
+      go Stop q = stop_turn (named n k) q ∙ sym (stop_turn (has (add (leaf n) k)) q)
+      go Bad q =
           ap (λ (o : Option (List Text)). o >>= λ ts. machine ts (named n k)) (means_is s at e Bad q)
           ∙ sym (ap (λ (o : Option (List Text)). o >>= λ ts. machine ts (has (add (leaf n) k))) (means_is s at e Bad q))
 

@@ -3,13 +3,11 @@ use Prim.Native.Nat.{ℕ, suc, ◌+◌, ◌-◌, ◌<◌, ◌≤◌}
 use native.Mathlib.Omega.{arith}
 use mathlib.Core.Path.{◌≡◌, sym, ap, ◌∙◌, subst}
 use mathlib.Core.List.{[], ◌∷◌}
-use mathlib.Core.Option.{some}
 use mathlib.Core.Bool.{Bool, true, false, cond, ◌&&◌, ◌||◌, false≢true}
 use lib.Dec.{eqb}
 use lib.ListN.{length, get_or, take, drop}
 use lib.Seq.{take-take, length-take-le}
 use Rattle.rules.specs.Bytes.{Text}
-use Rattle.rules.specs.Text.{bytes}
 use Rattle.rules.specs.Names.{digit, alphabetic, alphanumeric, all, identifier, number, word, variable_token}
 use Rattle.laws.proofs.Reading.TokenKinds.{is_mark, is_token, rest_kind}
 use Rattle.text.proofs.Loops.{drop_next}

@@ -2,10 +2,8 @@
 use Prim.Native.Nat.{ℕ, zero, suc, ◌+◌, ◌*◌, ◌-◌, ◌<◌, ◌≤◌}
 use native.Mathlib.Omega.{arith}
 use mathlib.Core.Path.{◌≡◌, refl, sym, ap, ◌∙◌, subst}
-use mathlib.Core.List.{List, [], ◌∷◌}
+use mathlib.Core.List.{List}
 use mathlib.Core.Option.{some, none as nothing}
-use denote.Enum.Declared.{tag_of}
-use types.Run.{OneOf}
 use lib.ListN.{length, get_or, take, drop, set, length-set}
 use lib.Seq.{get_or-set_same, get_or-set_other}
 use Rattle.rules.specs.Bytes.{Text}
@@ -16,7 +14,6 @@ use Rattle.laws.proofs.Reading.Colons.{leaf_size}
 use Rattle.syntax.specs.Symbols.{symbol_at}
 use Rattle.syntax.specs.declared.Symbol.{Symbol}
 use Rattle.syntax.specs.declared.Symbol.TheVariants.{Begin, Shut, Comma, Name, Stop}
-use Rattle.syntax.specs.contracts.Symbol.{the_type}
 use Rattle.tree.specs.Cells.{part, next_of, tree_at, trees_at}
 use Rattle.tree.specs.Arena.{Links, Arena}
 use Rattle.tree.proofs.Decoding.{trees_none, trees_more}
@@ -127,7 +124,7 @@ module _ {s : Text} {start limit from to : ℕ} (k : Task s start limit from to)
 
   module _ {v w : List ℕ} {free depth at : ℕ} (h : Wants s v start limit from to w free depth at) where
     -- no name
-    pub wants_out : {r : Symbol} → r ≡ symbol_at (take to s) at → OneOf (0 ∷ 1 ∷ 2 ∷ 4 ∷ 5 ∷ []) (tag_of the_type r) → parse (part s from (to - from)) ≡ nothing
+    pub wants_out : {r : Symbol} → r ≡ symbol_at (take to s) at → ((f t : ℕ) → r ≡ Name f t → ⊥) → parse (part s from (to - from)) ≡ nothing
     wants_out f o = sym h.reads ∙ ap limited (not_name (take to s) at f (stack_at s w limit depth) o)
 
     module _ {a e : ℕ} (n : NameAt s to at a e) {r : Symbol} (f : r ≡ symbol_at (take to s) at) (g : r ≡ Name a e) where
@@ -167,7 +164,7 @@ module _ {s : Text} {start limit from to : ℕ} (k : Task s start limit from to)
           }
 
       -- a leaf is there
-      pub has_leaf : {u : List ℕ} {end : ℕ} {q : Symbol} → q ≡ symbol_at (take to s) e → OneOf (1 ∷ 2 ∷ 3 ∷ 4 ∷ 5 ∷ []) (tag_of the_type q) → end ≡ free + 1
+      pub has_leaf : {u : List ℕ} {end : ℕ} {q : Symbol} → q ≡ symbol_at (take to s) e → ((t : ℕ) → q ≡ Begin t → ⊥) → end ≡ free + 1
           → Added s w u free end limit depth (leaf (part s a (e - a))) → Has s u start limit from to e u end depth e
       has_leaf {u} {end} {q} j o z x =
           let st = h.stands in
@@ -196,8 +193,8 @@ module _ {s : Text} {start limit from to : ℕ} (k : Task s start limit from to)
 
   module _ {v w : List ℕ} {v_at free depth at : ℕ} (h : Has s v start limit from to v_at w free depth at) {r : Symbol} (f : r ≡ symbol_at (take to s) at) where
     -- no delimiter
-    pub has_out : OneOf (0 ∷ 3 ∷ 5 ∷ []) (tag_of the_type r) → parse (part s from (to - from)) ≡ nothing
-    has_out o = sym h.reads ∙ ap limited (no_delimiter (take to s) at f (stack_at s w limit depth) o)
+    pub has_out : (r ≡ Stop → ⊥) → ((t : ℕ) → r ≡ Comma t → ⊥) → ((t : ℕ) → r ≡ Shut t → ⊥) → parse (part s from (to - from)) ≡ nothing
+    has_out no_stop no_comma no_shut = sym h.reads ∙ ap limited (no_delimiter (take to s) at f (stack_at s w limit depth) no_stop no_comma no_shut)
 
     bare_bottom : depth ≡ 0 → stack_at s w limit depth ≡ bottom (trees_at s w (get_or w (4 * limit) 0))
     unfolding stack_at

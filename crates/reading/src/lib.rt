@@ -1,4 +1,6 @@
 // The term reader (unifier.rs, `parse`): the term of a text as cells.
+#![tactic(auto)]
+
 pub mod stack;
 
 ghost use Rattle.std.specs.Prelude.{◌≡◌, ◌+◌, ◌*◌, ◌-◌, ◌<◌, ◌≤◌, ◌^◌, length, get_or, take};
