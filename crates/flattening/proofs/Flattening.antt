@@ -14,7 +14,7 @@ use Rattle.rules.specs.Writing.{listed, commas}
 use Rattle.rules.specs.Tree.{Tree, variable, apply, Trees, atom_text, tamtplus}
 use Rattle.rules.specs.Tree as T
 use Rattle.rules.specs.Reading.{leaf}
-use Rattle.rules.specs.Sums.{Canonical, other, shown, parts, flat, gather, canon, canons}
+use Rattle.rules.specs.Sums.{Canonical, shown, parts, flat, gather, canon, canons}
 use Rattle.laws.proofs.Basics.Order.{sort_same, sort_perm}
 use Rattle.runs.specs.Texts.{word_text}
 use Rattle.flattening.specs.Terms.{Term, node, Terms, none, more, canon_text, canon_texts}

@@ -1,4 +1,6 @@
 // The words of a text, written while its form is read; a sum inside a sum loses its name and brackets.
+#![tactic(auto)]
+
 ghost use Rattle.std.specs.Prelude.{◌≡◌, ◌+◌, ◌-◌, ◌<◌, ◌≤◌, length, get_or, take};
 ghost use Rattle.text.specs.Sorting.{Wrote};
 ghost use Rattle.flattening.specs.Items.{place_word, adds, in_sum, opening, bracket, closing, brackets};
