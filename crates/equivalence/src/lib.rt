@@ -1,4 +1,6 @@
 // Equality of trees up to order and grouping of sums (unifier.rs, `equivalent`).
+#![tactic(auto)]
+
 pub mod words; // words.rt: the words of a tree
 
 ghost use Rattle.std.specs.Prelude.{◌≡◌, ◌+◌, ◌*◌, ◌<◌, ◌≤◌, length};
