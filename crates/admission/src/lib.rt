@@ -1,5 +1,6 @@
 // What is refused before any term is read: 1, 2, 3, 11.
 #![tactic(auto)]
+
 pub mod clearing; // clearing.rt: the work area set to zero
 pub mod refusal; // refusal.rt: the refusals
 

@@ -1,4 +1,6 @@
 // A variable against a tree: bound, turned round, or refused.
+#![tactic(auto)]
+
 ghost use Rattle.std.specs.Prelude.{◌+◌, ◌*◌, ◌<◌, ◌≤◌};
 ghost use Rattle.rules.specs.Solving.{bind_into, swap_key, eliminate};
 ghost use Rattle.sorts.specs.Numbers.{numbered};

@@ -1,5 +1,6 @@
 // The answers to `unify` and `match`: measured, and written at a place of the output.
 #![tactic(auto)]
+
 ghost use Rattle.std.specs.Prelude.{◌≡◌, ◌+◌, ◌<◌, ◌≤◌, length};
 ghost use Rattle.rules.specs.Solving.{solved};
 ghost use Rattle.rules.specs.Answer.{verdict_lines};

@@ -11,7 +11,7 @@ returns-in_default c =
     unread s c.args.words c.requires (subst (ReadsAs s (read_sheet s)) c.in_default.is c.read_sheet-read.ensures)
 
 pub words_needed-needed-requires : goal.words_needed-needed-requires
-words_needed-needed-requires c = 
+words_needed-needed-requires c =
     let s = c.args.sheet.now in
     record { sheet_len_bound = c.requires.short; within = (subst (ReadsAs s (read_sheet s)) c.in-Sheet.is c.read_sheet-read.ensures).within }
 

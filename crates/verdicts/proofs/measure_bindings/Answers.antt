@@ -18,7 +18,7 @@ pub value_of-value-requires : goal.value_of-value-requires
 value_of-value-requires c = record { links = c.requires.arena.links; b_nonzero = (omega arith, c.loop-k.invariant.0) }
 
 pub measure_entry-entry-requires : goal.measure_entry-entry-requires
-measure_entry-entry-requires c = 
+measure_entry-entry-requires c =
     let a = c.args in
     let k = c.loop-k.k in
     let i = c.loop-k.invariant in
@@ -41,7 +41,7 @@ overflow_sub-left c =
     omega arith
 
 pub rest_of-k-requires : goal.rest_of-k-requires
-rest_of-k-requires c = 
+rest_of-k-requires c =
     let a = c.args in
     let k = c.loop-k.k in
     let i = c.loop-k.invariant in

@@ -17,7 +17,7 @@ pub value_of-value-requires : goal.value_of-value-requires
 value_of-value-requires c = record { links = c.requires.arena.links; b_nonzero = (omega arith, c.loop-key.invariant.0) }
 
 pub write_entry-end-requires : goal.write_entry-end-requires
-write_entry-end-requires c = 
+write_entry-end-requires c =
     let a = c.args in
     let k = c.loop-key.key in
     let i = c.loop-key.invariant in
@@ -27,7 +27,7 @@ write_entry-end-requires c =
     record { arena = c.requires.arena; key_nonzero = (p, i.0); value_nonzero = (value_some a.sheet.now c.requires.arena.links k c.value_of-value.result p i.0 i.1 c.value_of-value.ensures.0, omega arith); value_in_bounds = omega arith }
 
 pub rest_of-key-requires : goal.rest_of-key-requires
-rest_of-key-requires c = 
+rest_of-key-requires c =
     let a = c.args in
     let k = c.loop-key.key in
     let i = c.loop-key.invariant in

@@ -7,13 +7,13 @@ use borrow.Author.Rules.{rules}
 use Rattle.verdicts.proofs.write_entry.Goals as goal
 
 pub write_key-end-requires : goal.write_key-end-requires
-write_key-end-requires c = 
+write_key-end-requires c =
     let a = c.args in
     let e = length-append (key_line (name_at a.sheet.now a.work.now a.key)) (value_line (tree_at a.sheet.now a.work.now a.value)) in
     record { arena = c.requires.arena; i_nonzero = c.requires.key_nonzero; i_in_bounds = omega arith }
 
 pub write_value-requires : goal.write_value-requires
-write_value-requires c = 
+write_value-requires c =
     let a = c.args in
     let e = length-append (key_line (name_at a.sheet.now a.work.now a.key)) (value_line (tree_at a.sheet.now a.work.now a.value)) in
     record { arena = c.requires.arena; i_nonzero = c.requires.value_nonzero; i_in_bounds = omega arith }

@@ -10,7 +10,7 @@ print_text-start-requires c =
     omega arith
 
 pub print_name-end-requires : goal.print_name-end-requires
-print_name-end-requires c = 
+print_name-end-requires c =
     let e = key_length (name_at c.args.sheet.now c.args.work.now c.args.i) in
     record { arena = c.requires.arena; k_nonzero = c.requires.i_nonzero; k_in_bounds = omega arith }
 

@@ -17,7 +17,7 @@ write_head-start-requires c =
     omega arith
 
 pub write_bindings-requires : goal.write_bindings-requires
-write_bindings-requires c = 
+write_bindings-requires c =
     let a = c.args in
     let e = solved_length (bindings_at a.sheet.now a.work.now a.list) a.spent in
     record { arena = c.requires.arena; list_lt_free = c.requires.list_lt_free; chain = c.requires.chain; list_in_bounds = omega (arith, c.write_head-start.ensures.end) }

@@ -10,7 +10,7 @@ print_text-start-requires c =
     omega arith
 
 pub write_term-end-requires : goal.write_term-end-requires
-write_term-end-requires c = 
+write_term-end-requires c =
     let e = value_length (tree_at c.args.sheet.now c.args.work.now c.args.i) in
     record { arena = c.requires.arena; i_nonzero = c.requires.i_nonzero; i_in_bounds = omega arith }
 
