@@ -1,4 +1,6 @@
 // Sums: the cells of their summands, the canonical words of each, and cancelling. A cell that is taken out is 0.
+#![tactic(auto)]
+
 ghost use Rattle.std.specs.Prelude.{◌≡◌, ◌||◌, ◌&&◌, eqb, ℕ, ◌+◌, ◌-◌, ◌*◌, ◌<◌, ◌≤◌, ◌^◌, length, get_or};
 ghost use Rattle.rules.specs.Bytes.{same};
 ghost use Rattle.std.proofs.Math.Seq.{slice};

@@ -1,0 +1,11 @@
+use borrow.Author.Rules.{rules}
+use native.Mathlib.Omega.{arith}
+use Prim.Native.Nat.{◌-◌}
+use Rattle.sums.proofs.Cancelling.{Cancelling, cancelling_starts, cancel_arena, cancelled, cell_now, runs_now, cancelling_next}
+use Rattle.sums.proofs.cancel.Given as goal
+
+abbrev pub invariant-loop-p : goal.invariant-loop-p
+invariant-loop-p l = Cancelling l.sheet l.initial.work l.at l.mid l.end l.every l.work l.p
+
+abbrev pub decreases-loop-p : goal.decreases-loop-p
+decreases-loop-p l = l.mid - l.p
