@@ -1,4 +1,6 @@
 // One pair of `unify`, taken from the stack.
+#![tactic(auto)]
+
 ghost use Rattle.std.specs.Prelude.{◌≡◌, true, false, ◌&&◌, ◌∷◌, ltb, length, ◌+◌, ◌*◌, ◌<◌, ◌≤◌};
 ghost use Rattle.rules.specs.Tree.{same_tree, tamtplus};
 ghost use Rattle.rules.specs.Sums.{equivalent};
