@@ -1,5 +1,6 @@
 // One pair of `match`, taken from the stack: pattern variables are bound, subject variables are constants.
 #![tactic(auto)]
+
 ghost use Rattle.std.specs.Prelude.{◌≡◌, false, ◌+◌, ◌*◌, ◌<◌};
 ghost use Rattle.rules.specs.Tree.{tamtplus};
 ghost use Rattle.rules.specs.Solving.{cancel_sums};
