@@ -1,4 +1,6 @@
 // The pairs of lines `left`, `right` of a sheet as one list of trees in cells: left, right, left, right, .. Cells start at 1.
+#![tactic(auto)]
+
 ghost use Rattle.std.specs.Prelude.{◌≡◌, ◌+◌, ◌*◌, ◌<◌, ◌≤◌, ◌^◌, length};
 ghost use Rattle.rules.specs.Tree.{none, count};
 ghost use Rattle.forms.specs.Form.{Inside};
