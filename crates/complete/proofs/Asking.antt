@@ -65,6 +65,7 @@ turned_listed v [] us l = l
 turned_listed v (u ∷ vs) us l = turned_listed v vs (u ∷ us) (Memᴰ.tail l)
 
 reverse_listed : (v : Variant) (vs us : List Variant) → Memᴰ v vs → Memᴰ v (reverse_aux vs us)
+reverse_listed v [] us x' = elim x' [ ]
 reverse_listed v (u ∷ vs) us (Memᴰ.head e) = turned_listed v vs (u ∷ us) (Memᴰ.head e)
 reverse_listed v (u ∷ vs) us (Memᴰ.tail l) = reverse_listed v vs (u ∷ us) l
 

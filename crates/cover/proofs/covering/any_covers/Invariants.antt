@@ -1,0 +1,20 @@
+use borrow.Author.Rules.{rules}
+use mathlib.Core.Path.{◌≡◌, sym, ap, subst, ◌∙◌}
+use mathlib.Core.List.{List}
+use mathlib.Core.Option.{some}
+use native.Mathlib.Omega.{arith}
+use Prim.Native.Nat.{◌-◌}
+use lib.ListN.{length}
+use Rattle.rules.specs.Tree.{count}
+use Rattle.rules.specs.Sheet.{Member}
+use Rattle.forms.specs.Members.{members_at}
+use Rattle.tree.proofs.Areas.{arena_frame}
+use Rattle.variables.specs.Pairing.{OfVariables}
+use Rattle.cover.proofs.Deciding.{Deciding, deciding_starts, deciding_ends, names_now, next_after, next_matchable, deciding_yes, deciding_no}
+use Rattle.cover.proofs.covering.any_covers.Given as goal
+
+abbrev pub invariant-loop-next : goal.invariant-loop-next
+invariant-loop-next l = (ms : List Member) → members_at l.sheet l.initial.cursor.at ≡ some ms → Deciding l.sheet l.initial.work l.free l.names l.bindings ms l.work l.initial.cursor.at l.cursor.at
+
+abbrev pub decreases-loop-next : goal.decreases-loop-next
+decreases-loop-next l = length l.sheet - l.cursor.at
