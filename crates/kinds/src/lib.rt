@@ -1,5 +1,7 @@
 // One function for each kind of sheet: it decides, and writes nothing. The work area that they are lent is the words that the sheet
 // needs; a decision tells where in it its term or its bindings stand.
+#![tactic(auto)]
+
 ghost use Rattle.std.specs.Prelude.{◌≡◌, [], ◌∷◌, ◌+◌, ◌*◌, ◌<◌, ◌≤◌, length};
 ghost use Rattle.std.proofs.Math.Option.{some};
 ghost use Rattle.rules.specs.Text.{count_of};
