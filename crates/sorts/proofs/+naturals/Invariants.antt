@@ -1,14 +1,7 @@
-use borrow.Author.Rules.{rules}
-use native.Mathlib.Omega.{arith}
-use mathlib.Core.Path.{◌≡◌, sym, ◌∙◌}
 use Rattle.rules.specs.Tree.{sizes}
-use Rattle.rules.specs.Sorts.{symbol, natural_at, natural as is-natural, naturals as are-natural}
-use Rattle.tree.specs.Cells.{kind_of, name_at, tree_at, trees_at}
-use Rattle.sorts.specs.declared.Symbol.{Symbol}
-use Rattle.sorts.proofs.Coding.{symbol_is, decoded}
-use Rattle.sorts.proofs.Sorting.{natural_apply, naturals_last, naturals_step}
-use Rattle.sorts.proofs.Walking.{Left, left_whole, rest_fewer, children_fewer, left_refused, left_rest, left_children, left_empty}
-use Prim.Native.Nat.{ℕ, ◌<◌}
+use Rattle.rules.specs.Sorts.{naturals as are-natural}
+use Rattle.tree.specs.Cells.{trees_at}
+use Rattle.sorts.proofs.Walking.{Left}
 use Rattle.sorts.proofs.+naturals.Given as goal
 
 abbrev pub invariant-loop-i : goal.invariant-loop-i

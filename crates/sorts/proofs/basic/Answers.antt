@@ -1,6 +1,5 @@
 use Rattle.sorts.specs.Numbers.{numbered}
 use Rattle.sorts.proofs.Sorting.{basic_atom, basic_other}
-use borrow.Author.Rules.{rules}
 use Rattle.sorts.proofs.basic.Goals as goal
 
 pub returns-then-kind-ge-ATOMS : goal.returns-then-kind-ge-ATOMS

@@ -5,7 +5,6 @@ use mathlib.Core.List.{[]}
 use Prim.Native.Nat.{ℕ}
 use lib.ListN.{get_or}
 use Rattle.rules.specs.Sorts.{square}
-use borrow.Author.Rules.{rules}
 use Rattle.sorts.proofs.meets.Goals as goal
 
 pub returns : goal.returns

@@ -3,7 +3,6 @@ use Rattle.rules.specs.Sorts.{symbol, addition, frame}
 use Rattle.tree.specs.Cells.{name_at}
 use Rattle.sorts.proofs.Coding.{symbol_is, decoded, unit_or_free}
 use Rattle.sorts.proofs.Sorting.{message_apply, message_children}
-use borrow.Author.Rules.{rules}
 use Rattle.sorts.proofs.message.Goals as goal
 
 pub returns-in-Addition : goal.returns-in-Addition

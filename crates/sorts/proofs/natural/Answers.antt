@@ -3,7 +3,6 @@ use Rattle.rules.specs.Sorts.{symbol, addition, unit, frame, free}
 use Rattle.tree.specs.Cells.{name_at}
 use Rattle.sorts.proofs.Coding.{symbol_is}
 use Rattle.sorts.proofs.Sorting.{natural_apply}
-use borrow.Author.Rules.{rules}
 use Rattle.sorts.proofs.natural.Goals as goal
 
 pub returns-in-Addition : goal.returns-in-Addition

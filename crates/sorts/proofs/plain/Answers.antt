@@ -3,7 +3,6 @@ use native.Mathlib.Omega.{arith}
 use mathlib.Core.Path.{◌≡◌}
 use mathlib.Core.Bool.{true, false}
 use Rattle.sorts.proofs.Coding.{other_length}
-use borrow.Author.Rules.{rules}
 use Rattle.sorts.proofs.plain.Goals as goal
 
 no_answer : false ≡ true → ⊥

@@ -4,7 +4,6 @@ use native.Mathlib.Omega.{arith}
 use Rattle.rules.specs.Sorts.{sorted}
 use Rattle.tree.specs.Cells.{tree_at}
 use Rattle.sorts.specs.Numbers.{numbered}
-use borrow.Author.Rules.{rules}
 use Rattle.sorts.proofs.sorted.Goals as goal
 
 last : (n : ℕ) → n < 5 → (n ≡ 0 → ⊥) → (n ≡ 1 → ⊥) → (n ≡ 2 → ⊥) → (n ≡ 3 → ⊥) → n ≡ 4

@@ -1,6 +1,5 @@
 use mathlib.Core.Path.{sym, ◌∙◌}
 use Rattle.rules.specs.Sorts.{symbol, is_frame}
-use borrow.Author.Rules.{rules}
 use Rattle.sorts.proofs.symbol_named.Goals as goal
 
 pub returns-then-name_is : goal.returns-then-name_is

@@ -1,6 +1,5 @@
 use mathlib.Core.Path.{sym, ap}
 use Rattle.sorts.specs.Numbers.{coded_symbol}
-use borrow.Author.Rules.{rules}
 use Rattle.sorts.proofs.symbol_of.Goals as goal
 
 pub returns-then-plain : goal.returns-then-plain

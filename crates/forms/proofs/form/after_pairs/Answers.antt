@@ -1,10 +1,6 @@
 use mathlib.Core.Path.{sym, ◌∙◌}
-use borrow.Author.Rules.{rules}
 use native.Mathlib.Omega.{arith}
-use Prim.Native.Nat.{◌-◌}
-use lib.ListN.{length}
 use Rattle.rules.specs.Text.{bytes}
-use Rattle.forms.specs.Members.{Walks}
 use Rattle.forms.proofs.PairLaws.{paired, walk_starts, walk_turn}
 use Rattle.forms.proofs.form.after_pairs.Goals as goal
 

@@ -1,7 +1,6 @@
 use Rattle.forms.proofs.SheetLaws.{kind_here, kind_later, kind_none}
 use mathlib.Core.Path.{sym, ◌∙◌}
 use Rattle.forms.proofs.SheetLaws.{kind_here, kind_later}
-use borrow.Author.Rules.{rules}
 use Rattle.forms.proofs.form.kind_of.Goals as goal
 
 pub returns-then-same : goal.returns-then-same

@@ -10,7 +10,6 @@ use Rattle.forms.specs.Form.{Within, text_of}
 use Rattle.forms.specs.declared.form.Form.TheVariants as form
 use Rattle.forms.specs.contracts.form.Form.{the_type}
 use Rattle.forms.proofs.WordLaws.{part_count_bound, raise_counted, no_raise}
-use borrow.Author.Rules.{rules}
 use borrow.Enum.Refused.{opened}
 use Rattle.forms.proofs.form.raise_of.Goals as goal
 

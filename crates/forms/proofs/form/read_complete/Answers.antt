@@ -1,7 +1,6 @@
 use mathlib.Core.Path.{subst}
 use Rattle.forms.specs.Form.{ReadsTermMembers}
 use Rattle.forms.proofs.SheetLaws.{complete_unread, complete_read}
-use borrow.Author.Rules.{rules}
 use Rattle.forms.proofs.form.read_complete.Goals as goal
 
 pub returns-in_default : goal.returns-in_default

@@ -1,6 +1,5 @@
 use mathlib.Core.Path.{refl, sym, ◌∙◌}
 use Rattle.forms.proofs.SheetLaws.{cover_unread, cover_read}
-use borrow.Author.Rules.{rules}
 use Rattle.forms.proofs.form.read_cover.Goals as goal
 
 pub returns-in_default : goal.returns-in_default

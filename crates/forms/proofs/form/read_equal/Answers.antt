@@ -1,6 +1,5 @@
 use mathlib.Core.Path.{sym, ◌∙◌}
 use Rattle.forms.proofs.SheetLaws.{equal_unread, equal_more, equal_read}
-use borrow.Author.Rules.{rules}
 use Rattle.forms.proofs.form.read_equal.Goals as goal
 
 pub returns-in_default : goal.returns-in_default

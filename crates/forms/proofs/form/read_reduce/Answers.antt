@@ -1,6 +1,5 @@
 use mathlib.Core.Path.{sym, ◌∙◌}
 use Rattle.forms.proofs.SheetLaws.{reduce_unread, reduce_more, reduce_read}
-use borrow.Author.Rules.{rules}
 use Rattle.forms.proofs.form.read_reduce.Goals as goal
 
 pub returns-in_default : goal.returns-in_default

@@ -5,7 +5,6 @@ use Rattle.rules.specs.Sheet.{Equal, Unify, Match, Reduce, Cover, Sound, Complet
 use Rattle.forms.specs.Form.{kind_read}
 use Rattle.sheet.proofs.LineLaws.{keyed}
 use Rattle.forms.proofs.SheetLaws.{no_kind, other_kind, that_kind, kind_bound}
-use borrow.Author.Rules.{rules}
 use Rattle.forms.proofs.form.read_sheet.Goals as goal
 
 pub returns-in_default : goal.returns-in_default

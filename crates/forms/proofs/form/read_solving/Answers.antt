@@ -3,7 +3,6 @@ use native.Mathlib.Omega.{arith}
 use Rattle.rules.specs.Text.{bytes}
 use Rattle.sheet.proofs.LineLaws.{keyed}
 use Rattle.forms.proofs.SheetLaws.{solving_unread, fuel_unread, pairs_unread, match_read, unify_read}
-use borrow.Author.Rules.{rules}
 use Rattle.forms.proofs.form.read_solving.Goals as goal
 
 pub returns-in_default : goal.returns-in_default

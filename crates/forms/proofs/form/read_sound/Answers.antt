@@ -1,7 +1,6 @@
 use mathlib.Core.Path.{subst}
 use Rattle.forms.specs.Form.{ReadsTermMembers}
 use Rattle.forms.proofs.SheetLaws.{sound_unread, sound_many, sound_read}
-use borrow.Author.Rules.{rules}
 use Rattle.forms.proofs.form.read_sound.Goals as goal
 
 pub returns-in_default : goal.returns-in_default

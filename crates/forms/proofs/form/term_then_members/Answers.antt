@@ -1,6 +1,5 @@
 use mathlib.Core.Path.{sym, ◌∙◌}
 use Rattle.forms.proofs.SheetLaws.{no_term, no_members, term_then}
-use borrow.Author.Rules.{rules}
 use Rattle.forms.proofs.form.term_then_members.Goals as goal
 
 pub returns-in_default : goal.returns-in_default

@@ -1,6 +1,5 @@
 use native.Mathlib.Omega.{arith}
 use Rattle.forms.proofs.WordLaws.{count_bound, form_needs}
-use borrow.Author.Rules.{rules}
 use Rattle.forms.proofs.form.words_needed.Goals as goal
 
 pub overflow_add-result : goal.overflow_add-result

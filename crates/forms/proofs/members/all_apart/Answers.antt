@@ -1,10 +1,5 @@
-use mathlib.Core.Path.{◌≡◌, refl, sym, ◌∙◌}
+use mathlib.Core.Path.{refl, sym, ◌∙◌}
 use native.Mathlib.Omega.{arith}
-use Prim.Native.Nat.{◌≤◌, ◌-◌}
-use mathlib.Core.List.{map}
-use lib.ListN.{take, drop}
-use Rattle.forms.specs.Members.{apart}
-use Rattle.text.specs.Places.{text_at}
 use Rattle.forms.proofs.KeyLaws.{apart_same, apart_next, apart_end}
 use Rattle.forms.proofs.members.all_apart.Goals as goal
 

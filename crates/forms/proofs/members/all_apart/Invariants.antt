@@ -1,11 +1,9 @@
-use mathlib.Core.Path.{◌≡◌, refl, sym, ◌∙◌}
-use native.Mathlib.Omega.{arith}
+use mathlib.Core.Path.{◌≡◌}
 use Prim.Native.Nat.{◌≤◌, ◌-◌}
 use mathlib.Core.List.{map}
 use lib.ListN.{take, drop}
 use Rattle.forms.specs.Members.{apart}
 use Rattle.text.specs.Places.{text_at}
-use Rattle.forms.proofs.KeyLaws.{apart_same, apart_next, apart_end}
 use Rattle.forms.proofs.members.all_apart.Given as goal
 
 abbrev pub invariant-loop-i : goal.invariant-loop-i

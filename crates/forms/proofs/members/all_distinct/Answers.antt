@@ -5,7 +5,6 @@ use lib.ListN.{take}
 use Rattle.text.specs.Places.{text_at}
 use Rattle.forms.specs.Members.{apart}
 use Rattle.forms.proofs.KeyLaws.{apart_places}
-use borrow.Author.Rules.{rules}
 use Rattle.forms.proofs.members.all_distinct.Goals as goal
 
 pub returns : goal.returns

@@ -1,10 +1,5 @@
-use mathlib.Core.Path.{◌≡◌, refl, sym, ◌∙◌}
-use borrow.Author.Rules.{rules}
-use borrow.Author.Tests.{not-true, not-false}
+use mathlib.Core.Path.{refl, sym, ◌∙◌}
 use native.Mathlib.Omega.{arith}
-use Prim.Native.Nat.{◌≤◌, ◌-◌}
-use lib.ListN.{length}
-use Rattle.forms.specs.Members.{members_at, counted}
 use Rattle.forms.proofs.KeyLaws.{count_end, count_missing, count_repeats, count_turn, count_later}
 use Rattle.forms.proofs.members.count_members.Goals as goal
 

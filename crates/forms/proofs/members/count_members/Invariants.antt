@@ -1,11 +1,7 @@
-use mathlib.Core.Path.{◌≡◌, refl, sym, ◌∙◌}
-use borrow.Author.Rules.{rules}
-use borrow.Author.Tests.{not-true, not-false}
-use native.Mathlib.Omega.{arith}
+use mathlib.Core.Path.{◌≡◌}
 use Prim.Native.Nat.{◌≤◌, ◌-◌}
 use lib.ListN.{length}
 use Rattle.forms.specs.Members.{members_at, counted}
-use Rattle.forms.proofs.KeyLaws.{count_end, count_missing, count_repeats, count_turn, count_later}
 use Rattle.forms.proofs.members.count_members.Given as goal
 
 abbrev pub invariant-loop-cursor : goal.invariant-loop-cursor

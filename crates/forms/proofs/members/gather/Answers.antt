@@ -1,11 +1,7 @@
-use mathlib.Core.Path.{◌≡◌, refl, sym, ◌∙◌}
-use borrow.Author.Rules.{rules}
+use mathlib.Core.Path.{refl, sym, ◌∙◌}
 use native.Mathlib.Omega.{arith}
-use Prim.Native.Nat.{◌≤◌, ◌-◌}
-use lib.ListN.{length, length-set}
-use Rattle.rules.specs.Text.{bytes}
-use Rattle.forms.specs.Members.{Gathers}
-use Rattle.forms.proofs.PairLaws.{Paired, paired}
+use lib.ListN.{length-set}
+use Rattle.forms.proofs.PairLaws.{paired}
 use Rattle.forms.proofs.KeyLaws.{gathers_none, gathers_room, word_fits, gathers_more}
 use Rattle.forms.proofs.members.gather.Goals as goal
 

@@ -1,12 +1,7 @@
-use mathlib.Core.Path.{◌≡◌, refl, sym, ◌∙◌}
-use borrow.Author.Rules.{rules}
-use native.Mathlib.Omega.{arith}
+use mathlib.Core.Path.{◌≡◌}
 use Prim.Native.Nat.{◌≤◌, ◌-◌}
-use lib.ListN.{length, length-set}
-use Rattle.rules.specs.Text.{bytes}
+use lib.ListN.{length}
 use Rattle.forms.specs.Members.{Gathers}
-use Rattle.forms.proofs.PairLaws.{Paired, paired}
-use Rattle.forms.proofs.KeyLaws.{gathers_none, gathers_room, word_fits, gathers_more}
 use Rattle.forms.proofs.members.gather.Given as goal
 
 abbrev pub invariant-loop-left : goal.invariant-loop-left

@@ -1,6 +1,5 @@
 use mathlib.Core.Path.{ap₂, ◌∙◌}
 use Rattle.rules.specs.Bytes.{same}
-use borrow.Author.Rules.{rules}
 use Rattle.forms.proofs.members.same_key.Goals as goal
 
 pub returns : goal.returns

@@ -2,10 +2,9 @@ use native.Mathlib.Omega.{arith}
 use Prim.Native.Nat.{ℕ}
 use mathlib.Core.Path.{sym, ap, ◌∙◌}
 use Rattle.rules.specs.Tree.{atom_text}
-use Rattle.tree.specs.Cells.{kind_of, name_at}
+use Rattle.tree.specs.Cells.{name_at}
 use Rattle.tree.proofs.Printing.{printed_then}
 use Rattle.printing.proofs.Rendering.{render_atom, atom_length}
-use borrow.Author.Rules.{rules}
 use Rattle.printing.proofs.writing.write_atom.Goals as goal
 
 pub overflow_cast-letter : goal.overflow_cast-letter
