@@ -1,12 +1,12 @@
 -- What the decisions of the kinds stand for.
-use mathlib.Core.Path.{◌≡◌, refl, sym, ap, subst}
+use mathlib.Core.Path.{◌≡◌, refl, sym, subst}
 use mathlib.Core.List.{List}
 use mathlib.Core.Option.{Option, none}
 use Prim.Native.Nat.{ℕ, ◌<◌}
 use Rattle.rules.specs.Bytes.{Text}
 use Rattle.rules.specs.Writing.{render}
 use Rattle.rules.specs.Answer.{line, claim}
-use Rattle.rules.specs.Call.{Reply, passed, given}
+use Rattle.rules.specs.Call.{passed, given}
 use Rattle.tree.specs.Cells.{tree_at}
 use Rattle.tree.specs.Arena.{Arena}
 use Rattle.sheet.specs.Claims as code

@@ -1,4 +1,3 @@
-use borrow.Author.Rules.{rules}
 use Rattle.admission.proofs.Screening.{screened_long, screened_foreign, screened_fine}
 use Rattle.laws.proofs.Sheets.Refusals.{refuses_1, refuses_2}
 use Rattle.admission.proofs.admit.Goals as goal

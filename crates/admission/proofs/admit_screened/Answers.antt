@@ -1,5 +1,4 @@
 use mathlib.Core.Path.{subst}
-use borrow.Author.Rules.{rules}
 use Rattle.rules.specs.Sheet.{read_sheet}
 use Rattle.forms.specs.Form.{ReadsAs}
 use Rattle.admission.proofs.Admitting.{unread, refuses_words, stands}

@@ -2,7 +2,6 @@ use mathlib.Core.Path.{sym}
 use native.Mathlib.Omega.{arith}
 use Rattle.tree.proofs.Areas.{below_grown}
 use Rattle.elimination.proofs.Keys.{binds_put}
-use borrow.Author.Rules.{rules}
 use Rattle.elimination.proofs.bind.Goals as goal
 
 pub bind_into-waiting-requires : goal.bind_into-waiting-requires

@@ -4,7 +4,6 @@ use Rattle.tree.specs.Cells.{tree_at}
 use Rattle.tree.proofs.Areas.{below_same}
 use Rattle.elimination.specs.Stack.{pairs_at}
 use Rattle.elimination.proofs.Keys.{no_sort, checked, sort_checked}
-use borrow.Author.Rules.{rules}
 use Rattle.elimination.proofs.eliminate.Goals as goal
 
 pub returns-then-kind-eq-VARIABLE_OTHER : goal.returns-then-kind-eq-VARIABLE_OTHER

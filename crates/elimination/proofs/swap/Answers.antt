@@ -1,14 +1,9 @@
-use Prim.Native.Nat.{◌-◌, ◌<◌}
-use mathlib.Core.Logic.{inl, inr}
-use mathlib.Core.Path.{◌≡◌, sym, ◌∙◌}
+use mathlib.Core.Path.{sym, ◌∙◌}
 use mathlib.Core.Bool.{true, false}
 use native.Mathlib.Omega.{arith}
-use Rattle.rules.specs.Sorts.{sorted}
-use Rattle.tree.specs.Cells.{tree_at}
 use Rattle.sorts.specs.Numbers.{numbered}
 use Rattle.elimination.specs.Stack.{pairs_at}
 use Rattle.elimination.proofs.Keys.{swap_turns, swap_stays}
-use borrow.Author.Rules.{rules}
 use Rattle.tree.proofs.Areas.{below_same}
 use Rattle.elimination.proofs.swap.Goals as goal
 use Rattle.elimination.proofs.swap.Goals.{then-kind-gt-APPLICATION+then-kind-lt-VARIABLE_OTHER+else-sorted, then-kind-gt-APPLICATION+else-kind-lt-VARIABLE_OTHER, else-kind-gt-APPLICATION}

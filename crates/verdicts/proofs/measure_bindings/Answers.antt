@@ -1,13 +1,11 @@
-use borrow.Author.Rules.{rules}
 use native.Mathlib.Omega.{arith}
-use mathlib.Core.Path.{◌≡◌, refl, ap}
-use Prim.Native.Nat.{◌+◌, ◌<◌}
+use mathlib.Core.Path.{refl, ap}
+use Prim.Native.Nat.{◌<◌}
 use lib.ListN.{length}
-use Rattle.tree.specs.Cells.{name_at, tree_at, trees_at}
+use Rattle.tree.specs.Cells.{name_at, tree_at}
 use Rattle.printing.proofs.Lengths.{fits_is, over_is, told, told_over}
-use Rattle.substitution.specs.Bindings.{Chain}
 use Rattle.substitution.proofs.Chains.{value_some, entry}
-use Rattle.verdicts.specs.Verdicts.{entry_lines, bindings_text}
+use Rattle.verdicts.specs.Verdicts.{entry_lines}
 use Rattle.verdicts.proofs.VerdictLines.{length_more, lines_none}
 use Rattle.verdicts.proofs.measure_bindings.Goals as goal
 

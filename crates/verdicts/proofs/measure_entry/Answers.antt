@@ -2,7 +2,6 @@ use native.Mathlib.Omega.{arith}
 use Rattle.tree.specs.Cells.{name_at, tree_at}
 use Rattle.printing.proofs.Lengths.{fits_is, over_is, told, told_over}
 use Rattle.verdicts.proofs.VerdictLines.{entry_length}
-use borrow.Author.Rules.{rules}
 use Rattle.verdicts.proofs.measure_entry.Goals as goal
 
 pub returns-then-room-n : goal.returns-then-room-n

@@ -1,7 +1,6 @@
 use native.Mathlib.Omega.{arith}
 use Rattle.printing.proofs.Lengths.{fits_is, over_is}
 use Rattle.verdicts.proofs.VerdictLines.{head_length}
-use borrow.Author.Rules.{rules}
 use Rattle.verdicts.proofs.measure_head.Goals as goal
 
 pub returns-then-room-verdict : goal.returns-then-room-verdict

@@ -1,13 +1,10 @@
 use native.Mathlib.Omega.{arith}
-use lib.ListN.{length, length-append}
-use mathlib.Core.Path.{ap}
-use Rattle.rules.specs.Bytes.{Text}
+use lib.ListN.{length}
 use Rattle.rules.specs.Text.{bytes}
 use Rattle.printing.proofs.Lengths.{told, told_over, fits_is, over_is}
 use Rattle.substitution.specs.Bindings.{bindings_at}
-use Rattle.verdicts.specs.Verdicts.{head_lines, bindings_text}
+use Rattle.verdicts.specs.Verdicts.{head_lines}
 use Rattle.verdicts.proofs.VerdictLines.{solved_length}
-use borrow.Author.Rules.{rules}
 use Rattle.verdicts.proofs.measure_solved.Goals as goal
 
 pub returns-in_default : goal.returns-in_default

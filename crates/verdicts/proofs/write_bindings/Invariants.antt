@@ -1,11 +1,8 @@
-use native.Mathlib.Omega.{arith}
-use mathlib.Core.Path.{refl}
 use Prim.Native.Nat.{◌<◌}
-use Rattle.tree.specs.Cells.{name_at, tree_at, trees_at}
+use Rattle.tree.specs.Cells.{trees_at}
 use Rattle.substitution.specs.Bindings.{Chain}
-use Rattle.substitution.proofs.Chains.{value_some, entry}
-use Rattle.verdicts.specs.Verdicts.{entry_lines, bindings_text}
-use Rattle.verdicts.proofs.VerdictLines.{lines_more, length_more, lines_none, printed_length, Begun, begun_none, begun_room, begun_more, begun_all}
+use Rattle.verdicts.specs.Verdicts.{bindings_text}
+use Rattle.verdicts.proofs.VerdictLines.{Begun}
 use Rattle.verdicts.proofs.write_bindings.Given as goal
 
 abbrev pub invariant-loop-key : goal.invariant-loop-key

@@ -3,7 +3,6 @@ use lib.ListN.{length-append}
 use Rattle.tree.specs.Cells.{name_at, tree_at}
 use Rattle.tree.proofs.Printing.{printed_then}
 use Rattle.verdicts.specs.Verdicts.{key_line, value_line}
-use borrow.Author.Rules.{rules}
 use Rattle.verdicts.proofs.write_entry.Goals as goal
 
 pub write_key-end-requires : goal.write_key-end-requires

@@ -1,6 +1,5 @@
 use native.Mathlib.Omega.{arith}
 use Rattle.verdicts.proofs.VerdictLines.{head_length, head_printed}
-use borrow.Author.Rules.{rules}
 use Rattle.verdicts.proofs.write_head.Goals as goal
 
 pub print_text-start-requires : goal.print_text-start-requires

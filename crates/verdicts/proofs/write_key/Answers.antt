@@ -1,7 +1,6 @@
 use native.Mathlib.Omega.{arith}
 use Rattle.tree.specs.Cells.{name_at}
 use Rattle.verdicts.proofs.VerdictLines.{key_length, key_printed}
-use borrow.Author.Rules.{rules}
 use Rattle.verdicts.proofs.write_key.Goals as goal
 
 pub print_text-start-requires : goal.print_text-start-requires

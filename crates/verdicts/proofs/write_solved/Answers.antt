@@ -1,13 +1,6 @@
 use native.Mathlib.Omega.{arith}
-use lib.ListN.{length, length-append}
-use mathlib.Core.Path.{sym, subst}
-use Rattle.rules.specs.Bytes.{Text}
-use Rattle.rules.specs.Text.{bytes}
-use Rattle.text.specs.Printing.{Printed}
 use Rattle.substitution.specs.Bindings.{bindings_at}
-use Rattle.verdicts.specs.Verdicts.{head_lines, bindings_text}
 use Rattle.verdicts.proofs.VerdictLines.{solved_length, solved_printed}
-use borrow.Author.Rules.{rules}
 use Rattle.verdicts.proofs.write_solved.Goals as goal
 
 pub write_head-start-requires : goal.write_head-start-requires

@@ -1,7 +1,6 @@
 use native.Mathlib.Omega.{arith}
 use Rattle.tree.specs.Cells.{tree_at}
 use Rattle.verdicts.proofs.VerdictLines.{value_length, value_printed}
-use borrow.Author.Rules.{rules}
 use Rattle.verdicts.proofs.write_value.Goals as goal
 
 pub print_text-start-requires : goal.print_text-start-requires

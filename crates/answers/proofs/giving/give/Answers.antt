@@ -1,7 +1,6 @@
 use mathlib.Core.Path.{subst}
 use Rattle.answers.specs.Deciding.{Standing}
 use Rattle.answers.proofs.Gives.{refused_settles}
-use borrow.Author.Rules.{rules}
 use Rattle.answers.proofs.giving.give.Goals as goal
 
 pub give_lines-requires : goal.give_lines-requires

@@ -3,7 +3,6 @@ use lib.ListN.{length}
 use Rattle.printing.proofs.Lengths.{told, told_over}
 use Rattle.answers.specs.Deciding.{lines_text}
 use Rattle.answers.proofs.Gives.{short_settles, written_settles}
-use borrow.Author.Rules.{rules}
 use Rattle.answers.proofs.giving.give_lines.Goals as goal
 
 pub returns-in_default : goal.returns-in_default

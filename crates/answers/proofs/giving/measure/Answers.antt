@@ -1,7 +1,6 @@
-use mathlib.Core.Path.{subst, sym}
+use mathlib.Core.Path.{subst}
 use Rattle.answers.specs.Deciding.{LinesHeld}
 use Rattle.verdicts.proofs.VerdictLines.{failed_lines, unsupported_lines}
-use borrow.Author.Rules.{rules}
 use Rattle.answers.proofs.giving.measure.Goals as goal
 
 pub measure_keyed-requires : goal.measure_keyed-requires

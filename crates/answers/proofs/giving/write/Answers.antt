@@ -1,11 +1,10 @@
-use mathlib.Core.Path.{subst, sym, ap}
+use mathlib.Core.Path.{subst, ap}
 use native.Mathlib.Omega.{arith}
 use Prim.Native.Nat.{◌+◌, ◌≤◌}
 use lib.ListN.{length}
 use Rattle.answers.specs.Deciding.{lines_text, LinesHeld}
 use Rattle.answers.specs.declared.deciding.Lines.{Lines}
 use Rattle.verdicts.proofs.VerdictLines.{failed_lines, unsupported_lines}
-use borrow.Author.Rules.{rules}
 use Rattle.answers.proofs.giving.write.Goals as goal
 
 pub write_constant-requires : goal.write_constant-requires

@@ -1,9 +1,7 @@
 use native.Mathlib.Omega.{arith}
-use lib.ListN.{length}
 use Rattle.printing.proofs.Lengths.{fits_is, over_is}
 use Rattle.answers.specs.Deciding.{key_text, claim_word}
 use Rattle.tree.proofs.Printing.{line_length}
-use borrow.Author.Rules.{rules}
 use Rattle.answers.proofs.lines.measure_constant.Goals as goal
 
 pub returns-then-room-n : goal.returns-then-room-n

@@ -1,11 +1,9 @@
 use native.Mathlib.Omega.{arith}
-use lib.ListN.{length}
 use Rattle.rules.specs.Writing.{render}
 use Rattle.tree.specs.Cells.{tree_at}
 use Rattle.printing.proofs.Lengths.{told, told_over, fits_is, over_is}
 use Rattle.answers.specs.Deciding.{key_text}
 use Rattle.tree.proofs.Printing.{line_length}
-use borrow.Author.Rules.{rules}
 use Rattle.answers.proofs.lines.measure_keyed.Goals as goal
 
 pub returns-then-room-n : goal.returns-then-room-n

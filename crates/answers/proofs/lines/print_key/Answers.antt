@@ -3,7 +3,6 @@ use Prim.Native.Nat.{◌+◌, ◌≤◌}
 use lib.ListN.{length}
 use Rattle.answers.specs.Deciding.{key_text}
 use Rattle.answers.specs.declared.deciding.Key.{Key}
-use borrow.Author.Rules.{rules}
 use Rattle.answers.proofs.lines.print_key.Goals as goal
 
 pub print_text-requires : goal.print_text-requires

@@ -3,7 +3,6 @@ use Prim.Native.Nat.{◌+◌, ◌≤◌}
 use lib.ListN.{length}
 use Rattle.answers.specs.Deciding.{claim_word}
 use Rattle.answers.specs.declared.deciding.Word.{Word}
-use borrow.Author.Rules.{rules}
 use Rattle.answers.proofs.lines.print_word.Goals as goal
 
 pub print_text-requires : goal.print_text-requires

@@ -1,7 +1,6 @@
 use native.Mathlib.Omega.{arith}
 use Rattle.answers.specs.Deciding.{key_text, claim_word}
 use Rattle.tree.proofs.Printing.{line_length, line_printed}
-use borrow.Author.Rules.{rules}
 use Rattle.answers.proofs.lines.write_constant.Goals as goal
 
 pub print_key-start-requires : goal.print_key-start-requires

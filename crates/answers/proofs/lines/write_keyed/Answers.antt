@@ -3,7 +3,6 @@ use Rattle.rules.specs.Writing.{render}
 use Rattle.tree.specs.Cells.{tree_at}
 use Rattle.answers.specs.Deciding.{key_text}
 use Rattle.tree.proofs.Printing.{line_length, line_printed}
-use borrow.Author.Rules.{rules}
 use Rattle.answers.proofs.lines.write_keyed.Goals as goal
 
 pub print_key-start-requires : goal.print_key-start-requires
