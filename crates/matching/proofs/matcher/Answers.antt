@@ -1,8 +1,6 @@
 use Prim.Native.Nat.{◌<◌}
 use native.Mathlib.Omega.{arith}
-use Rattle.elimination.specs.Stack.{pairs_at}
-use Rattle.matching.proofs.Advancing.{Holds, holds_start, holds_solved, holds_spent, holds_right, holds_top, move_fits, move_room, holds_clash, holds_beyond, holds_onward}
-use borrow.Author.Rules.{rules}
+use Rattle.matching.proofs.Advancing.{holds_start, holds_solved, holds_spent, holds_right, holds_top, move_fits, move_room, holds_clash, holds_beyond, holds_onward}
 use Rattle.matching.proofs.matcher.Goals as goal
 
 pub loop-left-init : goal.loop-left-init

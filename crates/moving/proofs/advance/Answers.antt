@@ -1,11 +1,9 @@
-use mathlib.Core.Logic.{⊎_elim}
 use native.Mathlib.Omega.{arith}
 use Rattle.laws.specs.Memory.{weight}
 use Rattle.tree.specs.Cells.{tree_at}
 use Rattle.substitution.specs.Bindings.{bindings_at}
 use Rattle.elimination.specs.Stack.{pairs_at}
 use Rattle.moving.proofs.Moving.{key_load, move_key, move_roots}
-use borrow.Author.Rules.{rules}
 use Rattle.moving.proofs.advance.Goals as goal
 use Rattle.moving.proofs.advance.Goals.{then-kind-gt-APPLICATION+else-kind-lt-ATOMS, else-kind-gt-APPLICATION}
 

@@ -4,7 +4,6 @@ use Rattle.tree.proofs.Areas.{below_same}
 use Rattle.steps.proofs.Fitting.{bound_value}
 use Rattle.equivalence.proofs.Scratch.{below_kept}
 use Rattle.moving.proofs.Moving.{onwards_same, onwards_binding, bound_agrees, new_sortless, new_sorted}
-use borrow.Author.Rules.{rules}
 use Rattle.moving.proofs.match_key.Goals as goal
 
 pub equivalent-requires : goal.equivalent-requires

@@ -1,6 +1,5 @@
 use mathlib.Core.Path.{sym, ◌∙◌}
 use native.Mathlib.Omega.{arith}
-use borrow.Author.Tests.{not-true}
 use Rattle.laws.proofs.Basics.Tests.{same_of_eq}
 use Rattle.tree.specs.Cells.{tree_at}
 use Rattle.tree.proofs.Areas.{below_same}
@@ -9,7 +8,6 @@ use Rattle.elimination.specs.Stack.{pairs_at}
 use Rattle.stepping.proofs.Sums.{sum_told, no_sum_told, sum_cell, cell_head}
 use Rattle.stepping.proofs.Steps.{held, children_room}
 use Rattle.moving.proofs.Moving.{roots_differ, roots_sums, onwards_children}
-use borrow.Author.Rules.{rules}
 use Rattle.moving.proofs.match_roots.Goals as goal
 
 pub returns-then-not-same_head : goal.returns-then-not-same_head

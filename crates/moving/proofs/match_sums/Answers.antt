@@ -7,7 +7,6 @@ use Rattle.substitution.specs.Bindings.{bindings_at}
 use Rattle.elimination.specs.Stack.{pairs_at}
 use Rattle.stepping.proofs.Sums.{pair_room}
 use Rattle.moving.proofs.Moving.{onwards_same, onwards_sums}
-use borrow.Author.Rules.{rules}
 use Rattle.moving.proofs.match_sums.Goals as goal
 
 pub match_rest-found-requires : goal.match_rest-found-requires

@@ -1,7 +1,6 @@
 use native.Mathlib.Omega.{arith}
 use mathlib.Core.Path.{◌≡◌}
 use mathlib.Core.Bool.{false}
-use borrow.Author.Tests.{not-true, not-false}
 use Rattle.rules.specs.Bytes.{same}
 use Rattle.rules.specs.Tree.{head, tamtplus}
 use Rattle.laws.proofs.Basics.Tests.{same_of_eq}
@@ -11,7 +10,6 @@ use Rattle.elimination.specs.Stack.{pairs_at}
 use Rattle.steps.proofs.Differing.{differing_pushed, common_both}
 use Rattle.stepping.proofs.Sums.{cell_head, sum_told, no_sum_told, sum_cell}
 use Rattle.stepping.proofs.Steps.{held, heads_differ, decompose_sums, decompose_children, children_room, children_pushed}
-use borrow.Author.Rules.{rules}
 use Rattle.stepping.proofs.decompose.Goals as goal
 
 pub returns-then-not-same_head : goal.returns-then-not-same_head

@@ -1,5 +1,4 @@
 use Rattle.stepping.proofs.Steps.{no_variable, variable_below}
-use borrow.Author.Rules.{rules}
 use Rattle.stepping.proofs.is_variable.Goals as goal
 
 pub returns-then-kind-eq-APPLICATION : goal.returns-then-kind-eq-APPLICATION

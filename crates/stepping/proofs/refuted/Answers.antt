@@ -1,10 +1,8 @@
 use mathlib.Core.Path.{◌≡◌}
 use mathlib.Core.Bool.{false, not, ◌&&◌}
-use mathlib.Core.Logic.{⊎_elim}
 use Rattle.rules.specs.Sorts.{TamNat, natural, refinable}
 use Rattle.tree.specs.Cells.{tree_at}
 use Rattle.stepping.proofs.Steps.{clear_left, clear_right, refuted_left, refuted_right, not_refuted}
-use borrow.Author.Rules.{rules}
 use Rattle.stepping.proofs.refuted.Goals as goal
 use Rattle.stepping.proofs.refuted.Goals.{then-not-refinable+else-natural, else-not-refinable}
 

@@ -1,5 +1,4 @@
 use mathlib.Core.Path.{sym}
-use borrow.Author.Rules.{rules}
 use Rattle.stepping.proofs.same_pair.Goals as goal
 
 pub returns-then-apart-eq1 : goal.returns-then-apart-eq1

@@ -4,7 +4,6 @@ use Rattle.tree.specs.Cells.{tree_at}
 use Rattle.elimination.specs.Stack.{pairs_at}
 use Rattle.steps.proofs.Differing.{differing_none, top_differs, differing_rest}
 use Rattle.stepping.proofs.Steps.{is_key, no_key, step_same, step_left, step_right, step_decompose, step_dropped, steps_as}
-use borrow.Author.Rules.{rules}
 use Rattle.stepping.proofs.step.Goals as goal
 
 pub same_pair-requires : goal.same_pair-requires

@@ -2,7 +2,6 @@ use native.Mathlib.Omega.{arith}
 use mathlib.Core.Bool.{true, false}
 use Rattle.tree.proofs.Areas.{arena_below}
 use Rattle.stepping.proofs.Sums.{took_mismatch, stuck_below, took_stuck, took_emptied, equates, equation_room, took_equation}
-use borrow.Author.Rules.{rules}
 use Rattle.stepping.proofs.sum_step.Goals as goal
 
 pub unify_rest-found-requires : goal.unify_rest-found-requires

@@ -1,8 +1,7 @@
 use native.Mathlib.Omega.{arith}
-use mathlib.Core.Path.{◌≡◌, refl, sym, ap, ap₂, ◌∙◌}
+use mathlib.Core.Path.{ap₂}
 use Prim.Native.Nat.{ℕ, ◌+◌}
 use Rattle.sums.proofs.Rebuilding.{counts, added}
-use borrow.Author.Rules.{rules}
 use Rattle.sums.proofs.add.Goals as goal
 
 pub share-top-requires : goal.share-top-requires

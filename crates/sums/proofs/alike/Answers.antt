@@ -1,8 +1,6 @@
-use native.Mathlib.Omega.{arith}
 use lib.ListN.{get_or}
 use Rattle.tree.specs.Cells.{tree_at}
 use Rattle.sums.proofs.Describing.{run_room, run_tokens, run_text, runs_equal}
-use borrow.Author.Rules.{rules}
 use Rattle.sums.proofs.alike.Goals as goal
 
 pub same_text-requires : goal.same_text-requires

@@ -1,7 +1,5 @@
-use borrow.Author.Rules.{rules}
 use native.Mathlib.Omega.{arith}
-use Prim.Native.Nat.{◌-◌}
-use Rattle.sums.proofs.Cancelling.{Cancelling, cancelling_starts, cancel_arena, cancelled, cell_now, runs_now, cancelling_next}
+use Rattle.sums.proofs.Cancelling.{cancelling_starts, cancel_arena, cancelled, cell_now, runs_now, cancelling_next}
 use Rattle.sums.proofs.cancel.Goals as goal
 
 pub loop-p-init : goal.loop-p-init

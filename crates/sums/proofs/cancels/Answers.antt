@@ -1,8 +1,7 @@
-use mathlib.Core.Path.{◌≡◌, sym, ap, ◌∙◌}
+use mathlib.Core.Path.{sym, ap, ◌∙◌}
 use mathlib.Core.Bool.{Bool, ◌||◌}
 use Rattle.rules.specs.Tree.{ground}
 use Rattle.tree.specs.Cells.{tree_at}
-use borrow.Author.Rules.{rules}
 use Rattle.sums.proofs.cancels.Goals as goal
 
 pub returns : goal.returns

@@ -1,12 +1,5 @@
-use borrow.Author.Rules.{rules}
-use native.Mathlib.Omega.{arith}
-use mathlib.Core.Path.{◌≡◌, sym, subst, ◌∙◌}
-use Prim.Native.Nat.{ℕ, ◌-◌, ◌+◌, ◌*◌, ◌<◌, ◌≤◌}
-use lib.ListN.{length, length-set}
-use Rattle.rules.specs.Tree.{size}
-use Rattle.tree.specs.Cells.{tree_at}
-use Rattle.fingerprints.specs.Fingerprints.{Marked}
-use Rattle.sums.proofs.Describing.{Describing, describing_starts, described, cell_some, cell_below, cells_arena, cell_room, mark_room, next_room, describing_next}
+use Prim.Native.Nat.{◌-◌}
+use Rattle.sums.proofs.Describing.{Describing}
 use Rattle.sums.proofs.describe.Given as goal
 
 abbrev pub invariant-loop-p : goal.invariant-loop-p

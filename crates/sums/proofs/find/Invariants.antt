@@ -1,13 +1,10 @@
-use borrow.Author.Rules.{rules}
-use native.Mathlib.Omega.{arith}
-use mathlib.Core.Path.{◌≡◌, refl, sym, ◌∙◌}
+use mathlib.Core.Path.{◌≡◌}
 use Prim.Native.Nat.{◌-◌, ◌+◌, ◌≤◌}
 use lib.ListN.{get_or}
 use lib.Seq.{slice}
 use Rattle.rules.specs.Sums.{equivalent}
 use Rattle.tree.specs.Cells.{tree_at}
 use Rattle.sums.specs.Sums.{index}
-use Rattle.sums.proofs.Describing.{index_unmarked, index_zero, index_other, index_here, index_end}
 use Rattle.sums.proofs.find.Given as goal
 
 abbrev pub invariant-loop-q : goal.invariant-loop-q

@@ -1,11 +1,9 @@
-use native.Mathlib.Omega.{arith}
-use mathlib.Core.Path.{◌≡◌, sym, ap, ◌∙◌}
+use mathlib.Core.Path.{sym, ap, ◌∙◌}
 use mathlib.Core.Bool.{Bool, ◌&&◌}
 use borrow.Author.Tests.{eq-eqb, ne_eqb}
 use Rattle.rules.specs.Bytes.{same}
 use Rattle.rules.specs.Tree.{tamtplus}
 use Rattle.tree.specs.Cells.{kind_of, name_at}
-use borrow.Author.Rules.{rules}
 use Rattle.sums.proofs.is_sum.Goals as goal
 
 pub returns-then-kind_of-eq-APPLICATION : goal.returns-then-kind_of-eq-APPLICATION

@@ -1,5 +1,5 @@
 use native.Mathlib.Omega.{arith}
-use mathlib.Core.Path.{◌≡◌, refl, sym, ap, ◌∙◌}
+use mathlib.Core.Path.{refl, ◌∙◌}
 use Prim.Native.Nat.{◌+◌, ◌-◌, ◌*◌}
 use lib.ListN.{length-set}
 use Rattle.sums.proofs.Preparing.{first_arena, second_room, mark_room, gathered_arena, all_cells, mark_zero, describe_order, describe_room, described_arena, cells₄, lasting₄, cancel_room, readied}

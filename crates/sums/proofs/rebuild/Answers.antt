@@ -1,12 +1,10 @@
-use borrow.Author.Rules.{rules}
 use native.Mathlib.Omega.{arith}
-use mathlib.Core.Path.{◌≡◌, refl, sym, ap, subst, ◌∙◌}
-use Prim.Native.Nat.{ℕ, ◌+◌, ◌-◌, ◌≤◌}
+use mathlib.Core.Path.{◌≡◌, sym, subst, ◌∙◌}
+use Prim.Native.Nat.{ℕ}
 use lib.Seq.{slice}
-use Rattle.tree.specs.Cells.{kind_of, name_at}
 use Rattle.tree.proofs.Decoding.{same_kind, same_name}
 use Rattle.sums.specs.Sums.{remaining, Rebuilt}
-use Rattle.sums.proofs.Rebuilding.{rebuilt_starts, cell_is, build_room, skipped, inside, first_built, more_built, nodes_small}
+use Rattle.sums.proofs.Rebuilding.{rebuilt_starts, build_room, skipped, inside, first_built, more_built, nodes_small}
 use Rattle.sums.proofs.rebuild.Goals as goal
 
 pub loop-k-init : goal.loop-k-init

@@ -1,12 +1,11 @@
 use native.Mathlib.Omega.{arith}
-use mathlib.Core.Path.{◌≡◌, refl, sym, ap, ◌∙◌}
+use mathlib.Core.Path.{sym, ap, ◌∙◌}
 use mathlib.Core.Bool.{◌||◌}
 use Prim.Native.Nat.{ℕ}
 use lib.ListN.{length-set}
 use Rattle.rules.specs.Tree.{ground}
 use Rattle.tree.specs.Cells.{tree_at}
 use Rattle.sums.proofs.Cancelling.{took_never, took_none, took_both}
-use borrow.Author.Rules.{rules}
 use Rattle.sums.proofs.take_one.Goals as goal
 
 pub find-q-requires : goal.find-q-requires

@@ -1,6 +1,6 @@
 use native.Mathlib.Omega.{arith}
 use mathlib.Core.Logic.{inl, inr}
-use Rattle.steps.proofs.Differing.{Counting, counting_start, counting_next, counting_end, counting_apart}
+use Rattle.steps.proofs.Differing.{counting_start, counting_next, counting_end, counting_apart}
 use Rattle.steps.proofs.pushing.paired.Goals as goal
 
 pub loop-a-init : goal.loop-a-init

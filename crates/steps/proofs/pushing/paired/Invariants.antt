@@ -1,6 +1,4 @@
-use native.Mathlib.Omega.{arith}
-use mathlib.Core.Logic.{inl, inr}
-use Rattle.steps.proofs.Differing.{Counting, counting_start, counting_next, counting_end, counting_apart}
+use Rattle.steps.proofs.Differing.{Counting}
 use Rattle.steps.proofs.pushing.paired.Given as goal
 
 abbrev pub invariant-loop-a : goal.invariant-loop-a

@@ -1,7 +1,5 @@
-use borrow.Author.Rules.{rules}
 use native.Mathlib.Omega.{arith}
-use Prim.Native.Nat.{◌-◌}
-use Rattle.steps.proofs.Leaving.{Seen, seen_starts, seen_zero, seen_first, seen_second, seen_none, seen_one}
+use Rattle.steps.proofs.Leaving.{seen_starts, seen_zero, seen_first, seen_second, seen_none, seen_one}
 use Rattle.steps.proofs.rest.left_of.Goals as goal
 
 pub loop-k-init : goal.loop-k-init

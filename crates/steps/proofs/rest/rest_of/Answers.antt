@@ -1,5 +1,4 @@
 use Rattle.steps.proofs.Resting.{start_is, prepare_room, inside, left_summable, right_summable, sum_kept, one_left, several_left, none_settled, one_settled, several_settled}
-use borrow.Author.Rules.{rules}
 use Rattle.steps.proofs.rest.rest_of.Goals as goal
 
 pub prepare-split-requires : goal.prepare-split-requires

@@ -1,5 +1,4 @@
 use Rattle.steps.proofs.Resting.{none_none, none_one, none_several}
-use borrow.Author.Rules.{rules}
 use Rattle.steps.proofs.rest.rest_of_none.Goals as goal
 
 pub returns-in-Nothing : goal.returns-in-Nothing

@@ -1,6 +1,5 @@
 use Rattle.tree.specs.Cells.{tree_at}
 use Rattle.steps.proofs.Resting.{one_none, one_one, one_several}
-use borrow.Author.Rules.{rules}
 use Rattle.steps.proofs.rest.rest_of_one.Goals as goal
 
 pub rebuild-sum-requires : goal.rebuild-sum-requires

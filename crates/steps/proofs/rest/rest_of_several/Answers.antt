@@ -1,7 +1,6 @@
 use lib.Seq.{slice}
 use Rattle.sums.specs.Sums.{remaining}
 use Rattle.steps.proofs.Resting.{several_none, several_one, several_several, several_paired}
-use borrow.Author.Rules.{rules}
 use Rattle.steps.proofs.rest.rest_of_several.Goals as goal
 
 pub rebuild-sum-requires : goal.rebuild-sum-requires

@@ -1,8 +1,5 @@
-use borrow.Author.Rules.{rules}
-use native.Mathlib.Omega.{arith}
 use Rattle.elimination.specs.Stack.{pairs_at}
-use Rattle.unifier.proofs.Tops.{top_whole, top_fit}
-use Rattle.unifier.proofs.Invariant.{Holds, holds_start, holds_solved, holds_spent, holds_right, holds_top, step_room, step_differs, bind_room, holds_fails, holds_unknown, holds_next, holds_bind}
+use Rattle.unifier.proofs.Invariant.{Holds}
 use Rattle.unifier.proofs.unifying.run.Given as goal
 
 abbrev pub invariant-loop-left : goal.invariant-loop-left

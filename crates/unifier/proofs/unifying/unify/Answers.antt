@@ -1,6 +1,5 @@
 use Rattle.unifier.proofs.Finishing.{finished, finished_solved, finished_over}
 use native.Mathlib.Omega.{arith}
-use borrow.Author.Rules.{rules}
 use Rattle.unifier.proofs.unifying.unify.Goals as goal
 
 pub compose-composed-requires : goal.compose-composed-requires
