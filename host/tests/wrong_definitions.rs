@@ -1,11 +1,9 @@
 // The script `wrong-definitions/run` on small crates, with a stub in place of rt: what it keeps of the
 // laws, and each way in which a wrong definition is not noticed.
-use std::{
-    env, fs,
-    os::unix::fs::PermissionsExt,
-    path::{Path, PathBuf},
-    process::Command,
-};
+#[allow(dead_code)]
+mod shared;
+
+use std::{env, fs, os::unix::fs::PermissionsExt, path::Path, process::Command};
 
 // A law holds where the definitions have `value = 1`, but for those that say nothing of it.
 const RT: &str = r#"#!/bin/sh
@@ -62,10 +60,7 @@ fn patch(refused: &str, from: &str, to: &str) -> String {
 
 // The status, what was said, and the files of laws that were proved, after one patch is tried.
 fn tried(name: &str, patch: &str) -> (Option<i32>, Vec<String>, Vec<String>) {
-    // below the root's `target`, where rt takes no file for a source
-    let tests = Path::new(env!("CARGO_MANIFEST_DIR")).join("../target/host-tests");
-    let folder: PathBuf = tests.join(format!("wrong-{name}"));
-    let _ = fs::remove_dir_all(&folder);
+    let folder = shared::folder(&format!("wrong-{name}"));
     for (file, text) in FILES {
         write(&folder.join(file), text);
     }
