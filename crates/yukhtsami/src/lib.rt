@@ -1,4 +1,5 @@
 // The call: a sheet, a work area and an output, all lent.
+#![tactic(auto)]
 
 ghost use Rattle.std.specs.Prelude.{◌≡◌, ◌≤◌, length};
 ghost use Rattle.forms.specs.Form.{sheet_of, EnoughWords};
@@ -91,9 +92,8 @@ fn numbers_of(reply: Reply) -> Called
     }
 }
 
-// `answer`, for C: each slice is a pointer and a length.
-#[unsafe(no_mangle)]
-pub extern "C" fn yukhtsami_answer(sheet: &[u8], work: &mut [u32], output: &mut [u8]) -> Called
+// `answer`, with a result that C can hold; the crate yukhtsami_c exports it.
+pub fn yukhtsami_answer(sheet: &[u8], work: &mut [u32], output: &mut [u8]) -> Called
     ensures { Calls sheet.now work.old work.new output.old output.new result.refusal result.written }
 {
     let reply = answer(sheet, work, output);
