@@ -3,14 +3,16 @@
 //
 // The list: lines that start with `#`, then records `sheet WORDS ROOM REFUSAL SHEETBYTES ANSWERBYTES LABEL`, byte 10, the sheet, the
 // answer, byte 10.
+#![tactic(auto)]
 mod call; // call.rt: one record through the call
 
-ghost use Rattle.std.specs.Prelude.{◌≡◌, ◌<◌, ◌≤◌, length, ◌==◌};
+ghost use Rattle.std.specs.Prelude.{◌≡◌, ◌<◌, ◌≤◌, length, ◌==◌, IfOk};
 ghost use Rattle.replay.specs.Inside.{RecordInside};
 ghost use Rattle.replay.specs.Replaying.{closed_at};
 
 use call::{Outcome, Record, replay};
-use libc::{STDIN_FILENO, STDOUT_FILENO};
+use std::io;
+use std::io::{Read, Write};
 use text::{begins, is_digit};
 
 // A number, and the place after the byte that ends it.
@@ -173,29 +175,56 @@ fn room() -> [u8; 600000]
     [0u8; 600000]
 }
 
+// Room for the output of a call.
+fn output_room() -> [u8; 65536]
+    ensures { 65536 ≡ length result }
+{
+    [0u8; 65536]
+}
+
+// Reads until the room is full or the input ends, and gives how many bytes it put at the start.
+fn read_full<R: Read>(input: &mut R, room: &mut [u8]) -> io::Result<usize>
+    ensures { IfOk result (λ n. n ≤ length room.new) }
+{
+    let mut done: usize = 0;
+    while done < room.len() {
+        let count = input.read(&mut room[done..])?;
+        if count == 0 {
+            break;
+        }
+        done += count;
+    }
+    Ok(done)
+}
+
 // Writes the label of a record that differs.
-fn report(list: &[u8], stored: Record, outcome: Outcome)
+fn report<W: Write>(out: &mut W, list: &[u8], stored: Record, outcome: Outcome) -> io::Result<()>
     requires { RecordInside list.now stored }
 {
     let from = stored.label;
     let to = stored.sheet;
     match outcome {
         Outcome::Differs => {
-            io::write_all(STDOUT_FILENO, b"different: ");
-            io::write_all(STDOUT_FILENO, &list[from..to]);
+            out.write_all(b"different: ")?;
+            out.write_all(&list[from..to])
         }
-        _ => {}
+        _ => Ok(()),
     }
 }
 
 // Says that a record of the list is not in form.
-fn left_off(tally: Tally) -> Tally {
-    io::write_all(STDOUT_FILENO, b"not a record: the rest is not replayed\n");
-    tally
+fn left_off<W: Write>(out: &mut W, tally: Tally) -> io::Result<Tally> {
+    out.write_all(b"not a record: the rest is not replayed\n")?;
+    Ok(tally)
 }
 
 // Replays every record.
-fn replay_all(list: &[u8], work: &mut [u32], output: &mut [u8]) -> Tally {
+fn replay_all<W: Write>(
+    out: &mut W,
+    list: &[u8],
+    work: &mut [u32],
+    output: &mut [u8],
+) -> io::Result<Tally> {
     let mut tally = Tally {
         agreeing: 0,
         different: 0,
@@ -206,42 +235,36 @@ fn replay_all(list: &[u8], work: &mut [u32], output: &mut [u8]) -> Tally {
         let stored = record_at(list, at);
         let end = stored.end;
         if end >= list.len() {
-            return left_off(tally);
+            return left_off(out, tally);
         }
         if !closed(list, at, end) {
-            return left_off(tally);
+            return left_off(out, tally);
         }
         let outcome = replay(list, work, output, stored);
-        report(list, stored, outcome);
+        report(out, list, stored, outcome)?;
         tally = tally.with(outcome);
         at = end + 1;
     }
-    tally
+    Ok(tally)
 }
 
-fn print_count(text: &[u8], count: u64) {
-    io::write_all(STDOUT_FILENO, text);
-    io::print_decimal(STDOUT_FILENO, count);
+fn print_tally(rt: &HostRuntime, tally: Tally) -> io::Result<()> {
+    let replayed = std::num::wrapping_add_u64(tally.agreeing, tally.different);
+    let skipped = tally.skipped;
+    let different = tally.different;
+    println!(rt; "replayed {replayed}, skipped {skipped}, different {different}")
 }
 
-fn print_tally(tally: Tally) {
-    print_count(
-        b"replayed ",
-        std::num::wrapping_add_u64(tally.agreeing, tally.different),
-    );
-    print_count(b", skipped ", tally.skipped);
-    print_count(b", different ", tally.different);
-    io::write_all(STDOUT_FILENO, b"\n");
-}
-
-fn main() {
+fn main(rt: HostRuntime) -> io::Result<()> {
     let mut list = room();
     let mut work = words();
-    let mut output = io::large_buffer();
-    let n = io::read_full(STDIN_FILENO, &mut list);
+    let mut output = output_room();
+    let mut input = rt.stdin();
+    let n = read_full(&mut input, &mut list)?;
     if n == list.len() {
-        io::write_all(STDOUT_FILENO, b"the list is too long\n");
-        return;
+        return println!(rt; "the list is too long");
     }
-    print_tally(replay_all(&list[..n], &mut work, &mut output));
+    let mut out = rt.stdout();
+    let tally = replay_all(&mut out, &list[..n], &mut work, &mut output)?;
+    print_tally(&rt, tally)
 }
