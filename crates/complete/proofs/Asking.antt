@@ -8,7 +8,7 @@ use mathlib.Core.Option.{some, some-injective}
 use lib.ListN.{length}
 use native.Mathlib.Omega.{arith}
 use Rattle.rules.specs.Bytes.{Text}
-use Rattle.rules.specs.Text.{bytes, count_of}
+use Rattle.rules.specs.Text.{count_of}
 use Rattle.rules.specs.Maybe.{every}
 use Rattle.rules.specs.Tree.{Tree, Trees, size, variable_names}
 use Rattle.rules.specs.Substitution.{Binding, Pair, instantiate, size_pairs}

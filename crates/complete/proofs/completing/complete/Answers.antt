@@ -4,7 +4,6 @@ use Rattle.rules.specs.Tree.{size}
 use Rattle.rules.specs.Variants.{scheme_count}
 use Rattle.complete.proofs.Asking.{asked_small}
 use Rattle.complete.proofs.Completeness.{asked_there, term_spelled, term_fits, term_room, claims_unindexed, term_inside, over_claims, count_now, members_room, unread_claims, chosen_judge, chosen_kept, chosen_variables, chosen_inside, chosen_claims}
-use borrow.Author.Rules.{rules}
 use Rattle.complete.proofs.completing.complete.Goals as goal
 
 pub name_variables-found-requires : goal.name_variables-found-requires

@@ -1,5 +1,4 @@
 use Rattle.complete.proofs.Deciding.{ends_pending, ends_missing, ends_over, ends_unsupported}
-use borrow.Author.Rules.{rules}
 use Rattle.complete.proofs.judging.claim_of.Goals as goal
 
 pub returns-in-Pending : goal.returns-in-Pending

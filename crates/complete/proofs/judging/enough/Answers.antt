@@ -1,6 +1,5 @@
 use native.Mathlib.Omega.{arith}
 use Rattle.complete.proofs.Rooms.{fuel_below, fuel_above}
-use borrow.Author.Rules.{rules}
 use Rattle.complete.proofs.judging.enough.Goals as goal
 
 pub returns-then-fuel-le65535 : goal.returns-then-fuel-le65535

@@ -1,10 +1,8 @@
-use mathlib.Core.Path.{refl, sym, ap, ◌∙◌}
+use mathlib.Core.Path.{refl, sym}
 use native.Mathlib.Omega.{arith}
 use lib.Seq.{length-take-le}
-use Rattle.substitution.specs.Bindings.{bindings_at}
 use Rattle.complete.proofs.Judgements.{nodes_few, limit_few, fuel_most, limit_inside, run_arena, run_whole, run_fit, run_roomy, run_failed, run_unsupported, solved_kept, solved_arena, solved_room, is_solved, value_inside, top_grew, solved_variables, solved_matched, solved_judged}
 use Rattle.complete.proofs.Deciding.{judged_unsupported, judged_failed, judged_settled, judged_solved}
-use borrow.Author.Rules.{rules}
 use borrow.Enum.Refused.{opened}
 use Rattle.complete.proofs.judging.judge_scheme.Goals as goal
 

@@ -2,7 +2,6 @@ use mathlib.Core.Path.{sym, ap, ◌∙◌}
 use mathlib.Core.Option.{some}
 use mathlib.Core.Bool.{true, false}
 use native.Mathlib.Omega.{arith}
-use borrow.Author.Tests.{not-true, not-false}
 use Rattle.tree.specs.Cells.{tree_at}
 use Rattle.tree.proofs.Areas.{below_grown}
 use Rattle.substitution.specs.Bindings.{bindings_at}
@@ -10,7 +9,6 @@ use Rattle.variants.proofs.Claiming.{built_small}
 use Rattle.variables.specs.Pairing.{names_at}
 use Rattle.families.specs.Generalizing.{variants_at}
 use Rattle.complete.proofs.Judgements.{judge_over, solved_sizes, not_normal, end_arena, variables_now, matched_now, searched}
-use borrow.Author.Rules.{rules}
 use Rattle.complete.proofs.judging.judge_solved.Goals as goal
 
 pub returns-in_default : goal.returns-in_default

@@ -4,7 +4,6 @@ use native.Mathlib.Omega.{arith}
 use lib.Seq.{length-take-le}
 use Rattle.cover.proofs.Rooms.{asked_nodes, asked_spelled, asked_few, asked_colons}
 use Rattle.cover.proofs.Solutions.{stack_below, end_few, nodes_few, limit_inside, unify_arena, unify_whole, unify_fit, unify_roomy, unsolved, all_arena, names_inside, all_room, all_matchable, claimed}
-use borrow.Author.Rules.{rules}
 use borrow.Enum.Refused.{opened}
 use Rattle.cover.proofs.covered.covered.Goals as goal
 

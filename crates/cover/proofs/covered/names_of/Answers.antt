@@ -1,7 +1,6 @@
 use native.Mathlib.Omega.{arith}
 use Rattle.variables.proofs.Naming.{arena_kept}
 use Rattle.cover.proofs.CoveredLaws.{names_made}
-use borrow.Author.Rules.{rules}
 use Rattle.cover.proofs.covered.names_of.Goals as goal
 
 pub variables_of-end-requires : goal.variables_of-end-requires

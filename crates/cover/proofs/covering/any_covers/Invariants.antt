@@ -1,16 +1,11 @@
-use borrow.Author.Rules.{rules}
-use mathlib.Core.Path.{◌≡◌, sym, ap, subst, ◌∙◌}
+use mathlib.Core.Path.{◌≡◌}
 use mathlib.Core.List.{List}
 use mathlib.Core.Option.{some}
-use native.Mathlib.Omega.{arith}
 use Prim.Native.Nat.{◌-◌}
 use lib.ListN.{length}
-use Rattle.rules.specs.Tree.{count}
 use Rattle.rules.specs.Sheet.{Member}
 use Rattle.forms.specs.Members.{members_at}
-use Rattle.tree.proofs.Areas.{arena_frame}
-use Rattle.variables.specs.Pairing.{OfVariables}
-use Rattle.cover.proofs.Deciding.{Deciding, deciding_starts, deciding_ends, names_now, next_after, next_matchable, deciding_yes, deciding_no}
+use Rattle.cover.proofs.Deciding.{Deciding}
 use Rattle.cover.proofs.covering.any_covers.Given as goal
 
 abbrev pub invariant-loop-next : goal.invariant-loop-next

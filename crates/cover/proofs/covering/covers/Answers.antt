@@ -1,5 +1,4 @@
 use Rattle.cover.proofs.Deciding.{entries_there, unread_covers, pairs_whole, pairs_fit, pairs_room, failed_uncovered, other_covers}
-use borrow.Author.Rules.{rules}
 use borrow.Enum.Refused.{opened}
 use Rattle.cover.proofs.covering.covers.Goals as goal
 
