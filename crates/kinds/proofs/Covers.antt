@@ -10,7 +10,7 @@ use Rattle.rules.specs.Bytes.{Text}
 use Rattle.rules.specs.Text.{bytes, count_of}
 use Rattle.rules.specs.Maybe.{◌>>=◌}
 use Rattle.rules.specs.Substitution.{Pair}
-use Rattle.rules.specs.Sheet.{Member, asks_cover, pairs, read_sheet}
+use Rattle.rules.specs.Sheet.{Member, asks_cover, read_sheet}
 use Rattle.rules.specs.Cover.{covered}
 use Rattle.rules.specs.Answer.{read_pairs, line, claim, answer_of}
 use Rattle.forms.specs.Members.{members_at}

@@ -5,7 +5,6 @@ use Rattle.rules.specs.Text.{count_of}
 use Rattle.forms.proofs.WordLaws.{part_count_bound}
 use Rattle.reading.specs.Parsing.{Parses}
 use Rattle.kinds.proofs.Completes.{complete_unread, complete_asks, complete_decided}
-use borrow.Author.Rules.{rules}
 use Rattle.kinds.proofs.complete_of.Goals as goal
 
 pub returns-in_default : goal.returns-in_default

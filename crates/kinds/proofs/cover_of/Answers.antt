@@ -1,6 +1,5 @@
 use native.Mathlib.Omega.{arith}
 use Rattle.kinds.proofs.Covers.{cover_unread, cover_asks, cover_decided}
-use borrow.Author.Rules.{rules}
 use Rattle.kinds.proofs.cover_of.Goals as goal
 
 pub read_pairs-read-requires : goal.read_pairs-read-requires

@@ -5,7 +5,6 @@ use Rattle.kinds.proofs.Solves.{unify_asked, match_asked}
 use Rattle.kinds.proofs.Covers.{cover_asked}
 use Rattle.kinds.proofs.Completes.{complete_asked}
 use Rattle.kinds.proofs.KindLaws.{form_decided, least_words, colon_words, complete_words, equal_decided, reduce_decided, sound_decided, sound_asked}
-use borrow.Author.Rules.{rules}
 use Rattle.kinds.proofs.decide.Goals as goal
 
 pub equal-requires : goal.equal-requires

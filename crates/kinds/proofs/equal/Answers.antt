@@ -2,7 +2,6 @@ use Rattle.kinds.proofs.Equals.{equal_yes, equal_no, equal_unreadable}
 use Rattle.answers.specs.declared.deciding.Key.TheVariants as key
 use Rattle.answers.specs.declared.deciding.Word.TheVariants as word
 use Rattle.answers.proofs.Decides.{decides_as, constant_decides, unreadable_decides}
-use borrow.Author.Rules.{rules}
 use Rattle.kinds.proofs.equal.Goals as goal
 
 pub returns-in-Yes : goal.returns-in-Yes

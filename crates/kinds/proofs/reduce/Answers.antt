@@ -1,6 +1,6 @@
 use mathlib.Core.Path.{subst}
 use native.Mathlib.Omega.{arith}
-use lib.ListN.{length, take, drop}
+use lib.ListN.{take, drop}
 use Prim.Native.Nat.{◌-◌, ◌≤◌}
 use Rattle.reading.specs.Parsing.{Parses, limit_of}
 use Rattle.laws.proofs.Reading.Builds.{reads_within}
@@ -8,7 +8,6 @@ use Rattle.tree.proofs.Pushing.{arena_none}
 use Rattle.kinds.proofs.Reduces.{reduce_unreadable, reduce_line}
 use Rattle.answers.specs.declared.deciding.Key.TheVariants as key
 use Rattle.answers.proofs.Decides.{decides_as, term_decides, unreadable_decides}
-use borrow.Author.Rules.{rules}
 use Rattle.kinds.proofs.reduce.Goals as goal
 
 pub parse-parsed-requires : goal.parse-parsed-requires

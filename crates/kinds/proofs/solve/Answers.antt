@@ -1,5 +1,4 @@
 use Rattle.kinds.proofs.Solves.{match_room}
-use borrow.Author.Rules.{rules}
 use Rattle.kinds.proofs.solve.Goals as goal
 
 pub matcher-requires : goal.matcher-requires

@@ -1,7 +1,6 @@
 use mathlib.Core.List.{[]}
 use native.Mathlib.Omega.{arith}
 use Rattle.kinds.proofs.Solves.{unread_decided, read_whole, read_fit, read_roomy, solved_decided}
-use borrow.Author.Rules.{rules}
 use Rattle.kinds.proofs.solving.Goals as goal
 
 pub read_pairs-read-requires : goal.read_pairs-read-requires

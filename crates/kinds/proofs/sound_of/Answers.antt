@@ -1,12 +1,11 @@
 use mathlib.Core.Path.{subst}
 use native.Mathlib.Omega.{arith}
-use lib.ListN.{length, take, drop}
+use lib.ListN.{take, drop}
 use Prim.Native.Nat.{◌-◌, ◌≤◌}
 use Rattle.reading.specs.Parsing.{Parses, limit_of}
 use Rattle.kinds.proofs.Sounds.{sound_unreadable, sound_line}
 use Rattle.answers.specs.declared.deciding.Key.TheVariants as key
 use Rattle.answers.proofs.Decides.{decides_as, claim_decides, unreadable_decides}
-use borrow.Author.Rules.{rules}
 use Rattle.kinds.proofs.sound_of.Goals as goal
 
 pub returns-in_default : goal.returns-in_default

@@ -1,4 +1,3 @@
-use borrow.Author.Rules.{rules}
 use Rattle.kinds.proofs.verdict.Goals as goal
 
 pub returns-in-Solved : goal.returns-in-Solved

@@ -1,8 +1,4 @@
-use mathlib.Core.Path.{sym, ◌∙◌}
-use Prim.Native.Nat.{◌<◌}
-use native.Mathlib.Omega.{arith}
-use Rattle.families.proofs.Generals.{Searching, searching_starts, searching_ends, here_member, here_variables, here_matched, searching_found, searching_turn}
-use Rattle.tree.proofs.Areas.{below_then, arena_below}
+use Rattle.families.proofs.Generals.{Searching}
 use Rattle.families.proofs.generalizing.generalized.Given as goal
 
 abbrev pub invariant-loop-k : goal.invariant-loop-k

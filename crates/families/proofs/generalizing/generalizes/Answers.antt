@@ -3,7 +3,6 @@ use mathlib.Core.Path.{ap, subst}
 use Rattle.rules.specs.Tree.{count}
 use Rattle.variables.specs.Pairing.{OfVariables}
 use Rattle.families.proofs.Generals.{own_some, own_inside, entries_inside, list_before, its_whole, its_fit, its_room, failed_not, other_does}
-use borrow.Author.Rules.{rules}
 use borrow.Enum.Refused.{opened}
 use Rattle.families.proofs.generalizing.generalizes.Goals as goal
 

@@ -1,6 +1,5 @@
 use native.Mathlib.Omega.{arith}
 use Rattle.families.proofs.Gathering.{shared_arena, shared_sizes, member_made}
-use borrow.Author.Rules.{rules}
 use Rattle.families.proofs.members.push_member.Goals as goal
 
 pub nodes_in-count-requires : goal.nodes_in-count-requires

@@ -1,9 +1,6 @@
-use mathlib.Core.Path.{sym, ◌∙◌}
-use borrow.Author.Rules.{rules}
-use native.Mathlib.Omega.{arith}
 use Prim.Native.Nat.{◌-◌}
 use lib.ListN.{length}
-use Rattle.families.proofs.Gathering.{Gathering, gathering_starts, gathering_ends, gathering_next, gathering_unread, gathering_turn}
+use Rattle.families.proofs.Gathering.{Gathering}
 use Rattle.families.proofs.members.read_members.Given as goal
 
 abbrev pub invariant-loop-work : goal.invariant-loop-work
