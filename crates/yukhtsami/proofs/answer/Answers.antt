@@ -1,9 +1,7 @@
 use mathlib.Core.Path.{subst}
-use native.Mathlib.Omega.{arith}
 use lib.ListN.{length}
 use Rattle.admission.specs.Admission.{Admits}
 use Rattle.yukhtsami.proofs.Calling.{refused_answers, enough_words, settled_answers}
-use borrow.Author.Rules.{rules}
 use Rattle.yukhtsami.proofs.answer.Goals as goal
 
 pub settle_and_clear-requires : goal.settle_and_clear-requires

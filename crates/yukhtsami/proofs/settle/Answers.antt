@@ -1,5 +1,4 @@
 use Rattle.yukhtsami.proofs.Calling.{decided_held, decided_settles}
-use borrow.Author.Rules.{rules}
 use Rattle.yukhtsami.proofs.settle.Goals as goal
 
 pub give-requires : goal.give-requires

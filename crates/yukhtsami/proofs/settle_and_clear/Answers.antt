@@ -1,10 +1,9 @@
 use mathlib.Core.Path.{◌≡◌, sym, ◌∙◌}
 use native.Mathlib.Omega.{arith}
-use lib.ListN.{length, take}
+use lib.ListN.{length}
 use lib.Seq.{length-take-le}
 use Rattle.admission.proofs.Zeroing.{zeroed_over}
 use Rattle.yukhtsami.proofs.Calling.{more_words}
-use borrow.Author.Rules.{rules}
 use Rattle.yukhtsami.proofs.settle_and_clear.Goals as goal
 
 pub slice_bounds-settle-end-2 : goal.slice_bounds-settle-end-2
