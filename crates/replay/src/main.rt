@@ -4,6 +4,7 @@
 // The list: lines that start with `#`, then records `sheet WORDS ROOM REFUSAL SHEETBYTES ANSWERBYTES LABEL`, byte 10, the sheet, the
 // answer, byte 10.
 #![tactic(auto)]
+
 mod call; // call.rt: one record through the call
 
 ghost use Rattle.std.specs.Prelude.{◌≡◌, ◌<◌, ◌≤◌, length, ◌==◌, IfOk};

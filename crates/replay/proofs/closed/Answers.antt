@@ -1,4 +1,4 @@
-use Rattle.std.proofs.Common.{sym, ap, ◌∙◌, rules}
+use Rattle.std.proofs.Common.{sym, ap, ◌∙◌}
 use Rattle.rules.specs.Text.{bytes}
 use Rattle.text.specs.Prefix.{begins_with}
 use Rattle.replay.proofs.Laws.{rest_of_list, and_no, and_next}

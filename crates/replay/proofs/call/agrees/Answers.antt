@@ -1,4 +1,4 @@
-use Rattle.std.proofs.Common.{ℕ, eqb, sym, ap, ◌∙◌, rules}
+use Rattle.std.proofs.Common.{ℕ, eqb, sym, ap, ◌∙◌}
 use Rattle.replay.proofs.Laws.{compares, and_no, and_next}
 use Rattle.replay.proofs.call.agrees.Goals as goal
 

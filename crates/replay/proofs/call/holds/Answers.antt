@@ -1,4 +1,4 @@
-use Rattle.std.proofs.Common.{length, arith, length-take, rules, le-leb}
+use Rattle.std.proofs.Common.{length, arith, length-take, le-leb}
 use borrow.Author.Tests.{lt-leb}
 use Rattle.replay.proofs.call.holds.Goals as goal
 

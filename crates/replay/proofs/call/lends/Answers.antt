@@ -1,4 +1,4 @@
-use Rattle.std.proofs.Common.{sym, ◌∙◌, rules}
+use Rattle.std.proofs.Common.{sym, ◌∙◌}
 use Rattle.replay.specs.Replaying.{lends}
 use Rattle.replay.proofs.Laws.{and_no, and_next}
 use Rattle.replay.proofs.call.lends.Goals as goal

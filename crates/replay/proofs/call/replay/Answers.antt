@@ -1,5 +1,4 @@
-use Rattle.std.proofs.Common.{true, false, sym, ◌∙◌, length-take-le, rules}
-use borrow.Author.Tests.{not-true, not-false}
+use Rattle.std.proofs.Common.{true, false, sym, ◌∙◌, length-take-le}
 use Rattle.replay.proofs.Laws.{skipped, lends_words, lends_room, replayed}
 use Rattle.replay.proofs.call.replay.Goals as goal
 
