@@ -249,11 +249,16 @@ fn replay_all<W: Write>(
     Ok(tally)
 }
 
+fn print_count(rt: &HostRuntime, text: &str, count: u64) -> io::Result<()> {
+    print!(rt; "{text}{count}")
+}
+
 fn print_tally(rt: &HostRuntime, tally: Tally) -> io::Result<()> {
     let replayed = std::num::wrapping_add_u64(tally.agreeing, tally.different);
-    let skipped = tally.skipped;
-    let different = tally.different;
-    println!(rt; "replayed {replayed}, skipped {skipped}, different {different}")
+    print_count(rt, "replayed ", replayed)?;
+    print_count(rt, ", skipped ", tally.skipped)?;
+    print_count(rt, ", different ", tally.different)?;
+    println!(rt; "")
 }
 
 fn main(rt: HostRuntime) -> io::Result<()> {
