@@ -1,7 +1,7 @@
 /*
  * Yukhtsami for C and C++: one call that answers a sheet of terms. What sheets, answers and
  * refusals are is told in docs/SHEET.md. Link with target/staticlib/libyukhtsami.a, which
- * `rt staticlib yukhtsami` writes; examples/c/answer.c is a whole program.
+ * `host/link` writes; examples/c/answer.c is a whole program.
  */
 #ifndef YUKHTSAMI_H
 #define YUKHTSAMI_H

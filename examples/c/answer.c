@@ -1,7 +1,7 @@
 /*
  * Answers the sheet on standard input. From the root of the repository:
  *
- *   rt staticlib yukhtsami
+ *   host/link
  *   gcc -std=c11 -Iinclude examples/c/answer.c target/staticlib/libyukhtsami.a -o answer
  *   ./answer < FILE
  *

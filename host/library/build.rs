@@ -39,7 +39,7 @@ fn main() {
         if env::var_os("CARGO_FEATURE_ABSENT").is_none() {
             let file = file.display();
             println!(
-                "cargo::error=no {file}: write it by `rt staticlib yukhtsami`, or set {VARIABLE} to its path"
+                "cargo::error=no {file}: write it by `host/link`, or set {VARIABLE} to its path"
             );
         }
         return;

@@ -15,13 +15,13 @@ const LONGEST: usize = 400;
 
 const HEAD: &str = "\
 -- Generated sheets with the replies of the Rust, by computation.
-use mathlib.Core.List.{List, [], _∷_}
-use mathlib.Core.Path.{_≡_, refl}
+use mathlib.Core.List.{List, [], ◌∷◌}
+use mathlib.Core.Path.{◌≡◌, refl}
 use mathlib.Core.Bool.{true}
 use lib.ListN.{replicate}
-use Rattle·rules.specs.Text.{bytes}
-use Rattle·rules.specs.Call.{refused, passed}
-use Rattle·rules.specs.Table.{Row, right}
+use Rattle.rules.specs.Text.{bytes}
+use Rattle.rules.specs.Call.{refused, passed}
+use Rattle.rules.specs.Table.{Row, right}
 ";
 
 // An example with exactly the words needed, where it does not say what is lent.
@@ -92,7 +92,7 @@ fn theorem(out: &mut String, name: &str, rows: &[String]) {
     let written = write!(
         out,
         "\nabbrev {name} : List Row\n{name} ={list} []\n\
-         \npub {name}-right : right {name} ≡ true\nunfolding right\n{name}-right = refl\n"
+         \npub {name}_right : right {name} ≡ true\nunfolding right\n{name}_right = refl\n"
     );
     written.expect("a text takes what is written");
 }
@@ -115,7 +115,7 @@ pub fn module(cases: &[Case], chunk: usize) -> String {
             &Reply::Refused(refusal),
         )
     };
-    theorem(&mut out, "long-rows", &[long(65_537, 1), long(65_536, 3)]);
+    theorem(&mut out, "long_rows", &[long(65_537, 1), long(65_536, 3)]);
     out
 }
 

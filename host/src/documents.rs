@@ -36,6 +36,14 @@ pub fn file(name: &str) -> PathBuf {
         .join(name)
 }
 
+/// The names of the crates, in the order of crates.txt: what stands first in each line.
+pub fn crates() -> Vec<String> {
+    let list = fs::read_to_string(file("crates.txt")).expect("crates.txt");
+    let lines = list.lines().filter_map(|line| line.split_once(':'));
+    let names = lines.filter_map(|(name, _)| name.split(' ').next());
+    names.map(str::to_owned).collect()
+}
+
 /// The worked sheets of a document of the repository.
 pub fn read(name: &str) -> Result<Vec<Worked>, String> {
     let text = fs::read_to_string(file(name)).map_err(|error| format!("{name}: {error}"))?;

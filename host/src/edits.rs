@@ -56,34 +56,61 @@ pub fn of(crate_name: &str) -> Vec<Edit> {
     edits
 }
 
-// Whether a line of a prover's log refuses a need in the proof of a function. A function that only calls a wrong one loses its last
-// line, `..-spec`, alone. In a file of functions that call each other a need begins with its function's name.
-fn refuses_need(line: &str, module: &str, name: &str) -> bool {
-    let Some((path, _)) = line
-        .split_once("/proofs/")
-        .and_then(|(_, rest)| rest.split_once("/Proof.antt:"))
-    else {
-        return false;
-    };
-    let (above, last) = path.rsplit_once('/').unwrap_or(("", path));
-    let need = line
-        .split_once(": error: `")
-        .and_then(|(_, rest)| rest.split_once('`'))
-        .map_or("", |(need, _)| need);
-    let named = last == name
-        || last.split('+').any(|part| part == name)
-            && need.starts_with(&format!("{}-", name.replace('_', "-")));
-    above == module && named && !need.is_empty() && !need.ends_with("-spec")
+// What the prover says where a proof file names what the code no longer has, and of what depends on that: it shows nothing of the contract.
+const MISFITS: [&str; 4] = [
+    "that can be named",
+    "has no field",
+    "is not in scope",
+    "which was not admitted",
+];
+
+// Of a line of a prover's log that stands at a place in the proof files of a function: whether a goal is refused there. In the files of
+// functions that call each other a goal begins with its function's name.
+fn goal_refused(line: &str, module: &str, name: &str) -> Option<bool> {
+    let (path, rest) = line.strip_prefix("./proofs/")?.split_once(".antt:")?;
+    let (folder, _) = path.rsplit_once('/')?;
+    let (above, last) = folder.rsplit_once('/').unwrap_or(("", folder));
+    let (_, said) = rest.split_once(": error: ")?;
+    let goal = said
+        .strip_prefix('`')
+        .and_then(|rest| rest.split_once("`: "));
+    let goal = goal.map_or("", |(goal, _)| goal);
+    let own = last == name
+        || last
+            .strip_prefix('+')
+            .is_some_and(|cycle| cycle == name || goal.starts_with(&format!("{name}-")));
+    let refused = !goal.is_empty() && !MISFITS.iter().any(|misfit| said.contains(misfit));
+    (above == module && own).then_some(refused)
 }
 
-// Whether a prover's log tells that a function's own proof does not hold: a need of it is refused, or it is not proved and calls
-// nothing that is not.
+// Whether the lines before the last line on a function say that a goal of it is not proved, and that line that it has no proof or none that
+// holds. Of a function that only calls a wrong one nothing is said but that.
+fn goal_not_proved(log: &str, told: &str) -> bool {
+    let mut notes = 0;
+    for line in log.lines() {
+        if line.starts_with(told) {
+            return notes > 0;
+        } else if line.starts_with("fn ") {
+            notes = 0;
+        } else if line.starts_with("note: src/") && line.contains(": it is not proved that ") {
+            notes += 1;
+        }
+    }
+    false
+}
+
+// Whether a prover's log tells that a function's own proof does not hold: a goal of it is refused, or is not proved although its proof
+// files still fit the code.
 pub fn refused_by_itself(log: &str, crate_name: &str, function: &str) -> bool {
     let (module, name) = function.rsplit_once("::").unwrap_or(("", function));
     let module = module.replace("::", "/");
-    let told = format!("fn {crate_name}::{function}: no");
-    log.lines().any(|line| {
-        refuses_need(line, &module, name)
-            || line.starts_with(&told) && !line.contains("; it calls ")
-    })
+    let own = log
+        .lines()
+        .filter_map(|line| goal_refused(line, &module, name));
+    let own: Vec<bool> = own.collect();
+    if own.is_empty() {
+        goal_not_proved(log, &format!("fn {crate_name}::{function}: no"))
+    } else {
+        own.contains(&true)
+    }
 }

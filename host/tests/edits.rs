@@ -1,5 +1,5 @@
 // The must-fail edits: each names what it does wrong and the function that is refused for it, and the
-// prover's logs of the last `rt ci` or `rt must-fail` tell that this function's own proof failed.
+// prover's logs of the last `host/try-edits` tell that this function's own proof failed.
 use std::{collections::BTreeSet, fs};
 
 use host::{
@@ -8,9 +8,8 @@ use host::{
 };
 
 fn all() -> Vec<Edit> {
-    let list = fs::read_to_string(documents::file("crates.txt")).unwrap();
-    let names = list.lines().filter_map(|line| line.split_once(':'));
-    names.flat_map(|(name, _)| edits::of(name)).collect()
+    let names = documents::crates();
+    names.iter().flat_map(|name| edits::of(name)).collect()
 }
 
 #[test]
@@ -39,37 +38,63 @@ fn the_wrong_programs_of_a_crate_have_names_of_their_own() {
 #[test]
 fn each_wrong_program_is_refused_by_its_own_proof() {
     let logs = documents::file("target/must-fail");
+    let mut others = Vec::new();
     for edit in all() {
-        let log = logs.join(&edit.crate_name).join(&edit.label).join(".log");
+        let log = logs
+            .join(&edit.crate_name)
+            .join(format!("{}.log", edit.label));
         let Ok(log) = fs::read_to_string(&log) else {
             println!("no log of {}/{}: not tried", edit.crate_name, edit.label);
             continue;
         };
         for wrong in &edit.wrongs {
-            assert!(
-                edits::refused_by_itself(&log, &edit.crate_name, &wrong.refused),
-                "{}/{}: {} is not refused by itself",
-                edit.crate_name,
-                wrong.name,
-                wrong.refused
-            );
+            if !edits::refused_by_itself(&log, &edit.crate_name, &wrong.refused) {
+                let place = format!("{}/{}", edit.crate_name, edit.label);
+                others.push(format!("{place}: {}: {}", wrong.name, wrong.refused));
+            }
         }
     }
+    assert!(others.is_empty(), "not refused by itself: {others:#?}");
 }
 
 #[test]
 fn a_caller_of_a_wrong_function_is_not_refused_by_itself() {
-    let log = "/x/proofs/m/+f+g/Proof.antt:41:15: error: `f-returns-2`: no\n\
-        /x/proofs/m/+f+g/Proof.antt:56:5: error: `+f+g-spec`: no\n\
-        /x/proofs/h/Proof.antt:58:5: error: `h-spec`: no\n\
+    let log = "./proofs/m/+f+g/Answers.antt:41:15: error: `f-returns-2`: no\n\
+        ./proofs/m/+own/Invariants.antt:4:1: error: `shape_of-work`: no\n\
+        ./proofs/m/i/Answers.antt:9:3: note: no\n\
         fn c::m::f: not proved\n\
-        fn c::h: not proved; it calls `c::m::f`, which is not proved\n\
-        fn c::k: no proof: expected `k-spec` in /x/proofs/k/Proof.antt\n\
-        fn c::l: no proof: expected `l-spec` in /x/proofs/l/Proof.antt; it calls `c::k`, which is not proved\n";
-    for function in ["m::f", "k"] {
+        fn c::m::g: not proved\n\
+        fn c::m::own: not proved; it calls `c::m::f`, which is not proved\n\
+        fn c::h: no proof: it calls `c::m::f`, which is not proved\n\
+        note: src/lib.rt:30:1: it is not proved that what the function ensures holds (`returns`)\n\
+        note: to see how far a `search` got, write `search rules`\n\
+        fn c::k: no proof: expected answers in ./proofs/k/Answers.antt; `search` did not prove `returns`\n\
+        fn c::l: no proof: it calls `c::k`, which is not proved\n\
+        note: src/lib.rt:50:1: it is not proved that an index is in range (`index-x`)\n\
+        fn c::n: not proved; it calls `c::k`, which is not proved\n";
+    for function in ["m::f", "m::own", "k", "n"] {
         assert!(edits::refused_by_itself(log, "c", function), "{function}");
     }
-    for function in ["h", "l", "f", "m::g", "m::h"] {
+    for function in ["l", "f", "m::g", "m::h", "m::i", "i", "own"] {
         assert!(!edits::refused_by_itself(log, "c", function), "{function}");
+    }
+}
+
+#[test]
+fn a_proof_that_no_longer_fits_the_code_shows_no_refusal() {
+    let misfits = [
+        "`returns-then-x-eq1`: `goal.returns-then-x-eq1`: module `c.proofs.f.Goals` has no `returns-then-x-eq1` that can be named from here",
+        "`returns`: `c.if-x.true`: a record `c.Known` has no field `if-x`",
+        "`returns`: `lost` is not in scope",
+        "1 declaration that depends on `lost`, which was not admitted, was not checked: returns",
+    ];
+    let note = "note: src/lib.rt:3:1: it is not proved that what the function ensures holds (`returns`)\n\
+        fn c::f: not proved\n";
+    let at = "./proofs/f/Answers.antt:5:2: error: ";
+    for misfit in misfits {
+        let log = format!("{at}{misfit}\n{note}");
+        assert!(!edits::refused_by_itself(&log, "c", "f"), "{misfit}");
+        let log = format!("{at}{misfit}\n{at}`index-x`: no\n{note}");
+        assert!(edits::refused_by_itself(&log, "c", "f"), "{misfit}");
     }
 }

@@ -1,4 +1,4 @@
-// The test command `.ci/run` with stubs in place of rt, cargo and the wrong definitions: how it ends
+// The test command `.ci/run` with stubs in place of rt, cargo and the scripts that it calls: how it ends
 // where a part fails, and that it leaves nothing running.
 use std::{
     env, fs,
@@ -9,14 +9,12 @@ use std::{
     time::{Duration, Instant},
 };
 
-// What each stub runs where a test says nothing else. A stub of rt or cargo is named by its first word.
+// What each stub runs where a test says nothing else. A stub of rt or cargo is named by its first word, one of
+// a script by the script's last.
 const STUBS: [(&str, &str); 7] = [
-    ("rt-fmt", "true"),
-    (
-        "rt-ci",
-        "echo 'rt: one proved (1 s)'; echo '3 passed, 0 failed'",
-    ),
-    ("rt-staticlib", "true"),
+    ("rt-ci", CI),
+    ("link", "true"),
+    ("try-edits", "echo 'the logs of 2 must-fail edits'"),
     ("cargo-fmt", "true"),
     ("cargo-clippy", "true"),
     ("cargo-test", "echo 'test result: ok'"),
@@ -25,6 +23,11 @@ const STUBS: [(&str, &str); 7] = [
         "echo '2 wrong definitions, each refused'",
     ),
 ];
+
+const CI: &str = "echo 'rt: one proved'; echo 'rt: ok; handles allowed: none; must-fail edits: 2 refused; all'; \
+    echo '3 passed, 0 failed'";
+const BAD: &str = "echo 'rt: ok; handles allowed: none; must-fail edits: 1 refused, 1 bad; all'; \
+    echo '3 passed, 0 failed'";
 
 fn program(file: &Path, text: &str) {
     fs::create_dir_all(file.parent().unwrap()).unwrap();
@@ -45,8 +48,14 @@ fn folder(name: &str, changed: &[(&str, &str)]) -> PathBuf {
         let text = format!("#!/bin/sh\necho \"{tool} $*\" >>calls\n. ./stubs/{tool}-$1\n");
         program(&folder.join("bin").join(tool), &text);
     }
-    let wrong = "#!/bin/sh\necho wrong-definitions >>calls\n. ./stubs/wrong-definitions\n";
-    program(&folder.join("wrong-definitions/run"), wrong);
+    for (script, stub) in [
+        ("host/link", "link"),
+        ("host/try-edits", "try-edits"),
+        ("wrong-definitions/run", "wrong-definitions"),
+    ] {
+        let text = format!("#!/bin/sh\necho {stub} >>calls\n. ./stubs/{stub}\n");
+        program(&folder.join(script), &text);
+    }
     folder
 }
 
@@ -75,30 +84,47 @@ fn a_run_in_which_everything_passes_ends_with_the_line_of_rt_ci() {
     assert_eq!(lines.last().unwrap(), "3 passed, 0 failed");
     let twice = lines.iter().filter(|line| *line == "3 passed, 0 failed");
     assert_eq!(twice.count(), 2, "{lines:?}");
-    for part in ["proving", "edits", "library", "wrong definitions", "host"] {
+    let parts = [
+        "proving",
+        "edits",
+        "library",
+        "logs of the edits",
+        "wrong definitions",
+        "host",
+    ];
+    for part in parts {
         let told = |line: &String| line.starts_with(&format!(".ci/run: {part}: "));
         assert!(lines.iter().any(told), "{part}: {lines:?}");
     }
-    let ci = calls.iter().position(|call| call == "rt ci").unwrap();
-    let library = "rt staticlib yukhtsami";
-    assert_eq!((ci, calls[ci + 1].as_str()), (2, library), "{calls:?}");
+    let at = |name: &str| calls.iter().position(|call| call.starts_with(name));
+    assert_eq!((at("rt ci"), at("link")), (Some(1), Some(2)), "{calls:?}");
+    assert!(
+        calls.contains(&"rt ci".to_owned()),
+        "with no names: {calls:?}"
+    );
     let again = calls.iter().filter(|call| call.starts_with("rt "));
-    assert_eq!(again.count(), 3, "{calls:?}");
-    assert_eq!(calls.len(), 7, "{calls:?}");
+    assert_eq!(again.count(), 1, "{calls:?}");
+    assert_eq!((calls.len(), at("cargo test")), (7, Some(6)), "{calls:?}");
+}
+
+fn good_then(more: &str) -> String {
+    format!("{CI}; {more}")
 }
 
 #[test]
 fn a_run_in_which_a_part_fails_ends_with_its_name() {
     let cases = [
-        ("rt-fmt", "false", "rt fmt --check"),
         ("cargo-fmt", "false", "cargo fmt --check"),
         ("rt-ci", "echo '3 passed, 1 failed'; exit 1", "rt ci"),
-        ("rt-ci", "echo '3 passed, 1 failed'", "rt ci"),
-        ("rt-ci", "echo '3 passed, 0 failed'; exit 1", "rt ci"),
-        ("rt-ci", "echo '0 passed, 0 failed'", "rt ci"),
-        ("rt-ci", "echo '3 passed, 0 failed'; echo more", "rt ci"),
+        ("rt-ci", &good_then("echo '3 passed, 1 failed'"), "rt ci"),
+        ("rt-ci", &good_then("echo '0 passed, 0 failed'"), "rt ci"),
+        ("rt-ci", &good_then("exit 1"), "rt ci"),
+        ("rt-ci", &good_then("echo more"), "rt ci"),
+        ("rt-ci", "echo '3 passed, 0 failed'", "rt ci"),
+        ("rt-ci", BAD, "rt ci"),
         ("rt-ci", "true", "rt ci"),
-        ("rt-staticlib", "exit 2", "library"),
+        ("link", "exit 2", "library"),
+        ("try-edits", "exit 1", "logs of the edits"),
         ("cargo-clippy", "exit 101", "clippy"),
         ("cargo-test", "exit 101", "the host's tests"),
         (
@@ -159,6 +185,11 @@ fn a_run_that_is_ended_leaves_nothing_running() {
     let stay = "sleep 300 & echo $$ $! >>waiting; wait";
     for (name, stubs, count) in [
         ("proof", &["rt-ci"][..], 1),
+        (
+            "edits",
+            &["cargo-clippy", "try-edits", "wrong-definitions"],
+            3,
+        ),
         ("beside", &["cargo-test", "wrong-definitions"], 2),
     ] {
         let changed: Vec<_> = stubs.iter().map(|stub| (*stub, stay)).collect();

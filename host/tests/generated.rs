@@ -107,5 +107,5 @@ fn the_rows_for_the_definitions_are_distinct_and_of_every_class() {
     missing.retain(|name| name != "refusal  1");
     assert_eq!(missing, Vec::<String>::new());
     let text = definitions::module(&cases, 25);
-    assert!(text.contains("refused 1 ") && text.contains("rows16-right"));
+    assert!(text.contains("refused 1 ") && text.contains("rows16_right"));
 }

@@ -82,7 +82,7 @@ fn a_missing_library_is_a_build_error_that_says_what_to_run() {
         .unwrap();
     let said = String::from_utf8(output.stderr).unwrap();
     assert!(!output.status.success(), "{said}");
-    for part in ["no/such.a", "`rt staticlib yukhtsami`", "YUKHTSAMI_LIBRARY"] {
+    for part in ["no/such.a", "`host/link`", "YUKHTSAMI_LIBRARY"] {
         assert!(said.contains(part), "{said}");
     }
 }

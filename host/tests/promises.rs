@@ -6,7 +6,10 @@ use std::{
     path::{Path, PathBuf},
 };
 
-use host::{documents, edits};
+use host::{
+    documents::{self, crates},
+    edits,
+};
 
 type Names = BTreeSet<String>;
 
@@ -27,12 +30,6 @@ fn files(folder: &Path, ending: &str) -> Vec<PathBuf> {
 
 fn text(file: &Path) -> String {
     fs::read_to_string(file).unwrap_or_else(|error| panic!("{}: {error}", file.display()))
-}
-
-fn crates() -> Vec<String> {
-    let list = text(&documents::file("crates.txt"));
-    let lines = list.lines().filter_map(|line| line.split_once(':'));
-    lines.map(|(name, _)| name.to_owned()).collect()
 }
 
 fn folder(name: &str, part: &str) -> PathBuf {

@@ -7,15 +7,17 @@ use std::{
     fs,
     io::{BufRead, BufReader, Read},
     os::unix::process::ExitStatusExt,
-    path::{Path, PathBuf},
+    path::Path,
     process::{Child, Command, Stdio},
 };
 
 use host::notice;
-use shared::{Ran, folder, ran};
+use shared::{Folder, Ran, folder, ran};
 
 // Where there is a pipe `early` or `late` it holds the pipe open and goes on for ever, with a process below it that does so too.
 const RT: &str = r#"#!/bin/sh
+folder=$PWD
+cd "${0%/bin/rt}" || exit
 hold() {
     [ -p "$1" ] || return 0
     exec 7>"$1"
@@ -23,15 +25,15 @@ hold() {
     sleep 600
     echo "not ended" >&7
 }
-echo "rt $*" >>asked
-echo "rt: below proved (7 s)"
+echo "rt $*" | sed 's/ --jobs [1-9][0-9]*$//' >>asked
+echo "== below"
 [ ! -e waiting ] || until [ -e go ]; do sleep 0.01; done
-[ ! -e failing ] || { echo "rt: below NOT PROVED"; exit 1; }
+[ ! -e failing ] || { echo "rt: the library below did not build"; exit 1; }
 hold early
-[ "$1" = staticlib ] || exit 0
+[ "$folder/$1" = "$PWD/crates/yukhtsami_c/lib" ] || exit 0
 [ ! -e changing ] || { rm changing; echo more >>crates/below/src/lib.rt; }
-mkdir -p target/staticlib
-cat crates/*/src/lib.rt >target/staticlib/libyukhtsami.a
+mkdir -p crates/yukhtsami_c/out
+cat crates/*/src/lib.rt >crates/yukhtsami_c/out/libyukhtsami_c.a
 hold late
 "#;
 
@@ -42,10 +44,11 @@ printf '#!/bin/sh\necho answered "$@"\n' >host/target/command/release/yukhtsami
 chmod +x host/target/command/release/yukhtsami
 "#;
 
-const CRATES: &str = "below:\nmiddle: below\nyukhtsami: middle below\nprogram: yukhtsami io\n";
+const CRATES: &str = "below:\nmiddle: below\nyukhtsami: middle below\n\
+    yukhtsami_c staticlib: yukhtsami\nprogram: yukhtsami io\n";
 
 struct Tree {
-    root: PathBuf,
+    root: Folder,
 }
 
 impl Tree {
@@ -53,14 +56,18 @@ impl Tree {
         let tree = Self {
             root: folder(&format!("script-{test}")),
         };
-        let own = Path::new(env!("CARGO_MANIFEST_DIR")).join("../yukhtsami");
-        fs::copy(own, tree.root.join("yukhtsami")).unwrap();
-        tree.write("crates.txt", CRATES);
-        for name in ["below", "middle", "yukhtsami", "program"] {
-            tree.write(&format!("crates/{name}/src/lib.rt"), name);
-            tree.write(&format!("crates/{name}/proofs/f/Proof.antt"), name);
-        }
         tree.write("host/Cargo.toml", "version = \"1.2.3\"\n");
+        for script in ["yukhtsami", "host/link"] {
+            let own = Path::new(env!("CARGO_MANIFEST_DIR"))
+                .join("..")
+                .join(script);
+            fs::copy(own, tree.root.join(script)).unwrap();
+        }
+        tree.write("crates.txt", CRATES);
+        for name in ["below", "middle", "yukhtsami", "yukhtsami_c", "program"] {
+            tree.write(&format!("crates/{name}/src/lib.rt"), name);
+            tree.write(&format!("crates/{name}/proofs/f/Answers.antt"), name);
+        }
         tree.write("host/src/cli/help.txt", "Usage\n");
         tree.write("host/src/cli.rs", "");
         for (name, text) in [("rt", RT), ("cargo", CARGO)] {
@@ -165,11 +172,7 @@ impl Started {
     }
 }
 
-const FIRST: [&str; 3] = [
-    "rt check below middle",
-    "rt staticlib yukhtsami",
-    "cargo build",
-];
+const FIRST: [&str; 3] = ["rt all check", "rt lib", "cargo build"];
 
 #[test]
 fn the_first_run_builds_and_a_later_one_asks_for_nothing() {
@@ -189,10 +192,11 @@ fn what_is_no_change_of_a_source_starts_no_proof() {
     for line in [
         "touch crates.txt crates/below/src/lib.rt",
         "echo swap >crates/below/src/.lib.rt.swp; echo old >crates/below/src/lib.rt~",
-        "echo x >crates/middle/proofs/f/#Proof.antt#; ln -s nowhere crates/below/src/.#lib.rt",
+        "echo x >crates/middle/proofs/f/#Answers.antt#; ln -s nowhere crates/below/src/.#lib.rt",
         "echo '# a note' >>crates.txt; echo other: >>crates.txt",
         "echo more >>crates/program/src/lib.rt",
         "mkdir crates/below/must-fail; echo edit >crates/below/must-fail/a.edit",
+        "mkdir -p crates/below/out/rlib; echo kept >crates/below/out/rlib/lib.rt",
         "touch host/src/cli.rs host/Cargo.toml; mkdir host/tests; echo test >host/tests/a.rs",
     ] {
         tree.shell(line);
@@ -209,25 +213,27 @@ fn a_change_of_a_source_is_proved_and_built() {
     // An older file that is put back, and the proof of a function that is taken away.
     tree.shell("mv kept crates/below/src/lib.rt");
     tree.asks(&FIRST);
-    tree.shell("rm crates/middle/proofs/f/Proof.antt");
+    tree.shell("rm crates/middle/proofs/f/Answers.antt");
     tree.asks(&FIRST[..2]);
     tree.shell("sed -i 's/^yukhtsami:.*/yukhtsami: below/' crates.txt");
-    tree.asks(&["rt check below", "rt staticlib yukhtsami"]);
+    tree.asks(&FIRST[..2]);
     tree.shell("echo more >>host/src/cli.rs");
     tree.asks(&["cargo build"]);
     tree.shell("rm target/staticlib/libyukhtsami.a");
-    tree.asks(&["rt check below", "rt staticlib yukhtsami"]);
+    tree.asks(&FIRST[..2]);
 }
 
 #[test]
-fn a_library_that_rt_wrote_alone_is_taken() {
+fn a_library_that_was_linked_alone_is_taken() {
     let tree = Tree::new("alone");
-    tree.shell("rt staticlib yukhtsami; touch -d '1 hour ago' crates.txt; find crates -exec touch -d '1 hour ago' {} +");
+    tree.shell(
+        "host/link; touch -d '1 hour ago' crates.txt; find crates -exec touch -d '1 hour ago' {} +",
+    );
     tree.asked();
     tree.asks(&["cargo build"]);
     tree.shell("touch crates.txt");
     tree.asks(&[]);
-    tree.shell("echo more >>crates/below/src/lib.rt; touch -d '1 minute ago' crates/below/src/lib.rt; rt staticlib yukhtsami");
+    tree.shell("echo more >>crates/below/src/lib.rt; touch -d '1 minute ago' crates/below/src/lib.rt; host/link");
     tree.asked();
     tree.asks(&["cargo build"]);
 }
@@ -260,7 +266,10 @@ fn a_proof_that_fails_is_told_and_tried_again() {
     tree.write("failing", "");
     let (status, out, err) = tree.run(&["a"]);
     assert_eq!((status, &*out), (69, ""));
-    assert!(err.contains("\nrt: below NOT PROVED\n"), "{err}");
+    assert!(
+        err.contains("\nrt: the library below did not build\n"),
+        "{err}"
+    );
     assert!(err.ends_with("/target/proof-log)\n"), "{err}");
     tree.asked();
     tree.shell("rm failing");
@@ -277,7 +286,7 @@ fn the_first_run_tells_how_far_it_is() {
     let tree = Tree::new("progress");
     tree.write("waiting", "");
     let mut run = tree.start();
-    run.says("yukhtsami: proving crate 2 of 3, ");
+    run.says("yukhtsami: proving crate 2 of 4, ");
     tree.write("go", "");
     run.says("yukhtsami: the library is proved and built, in ");
     assert_eq!(run.end(), (Ok(0), "answered a\n".to_owned()));
@@ -296,7 +305,7 @@ fn on_a_terminal_one_line_tells_how_far_it_is() {
     };
     let mut seen = BufReader::new(child.stdout.take().unwrap());
     let mut part = Vec::new();
-    while !part.starts_with(b"yukhtsami: proving crate 2 of 3, ") {
+    while !part.starts_with(b"yukhtsami: proving crate 2 of 4, ") {
         part.clear();
         assert!(seen.read_until(b'\r', &mut part).unwrap() > 0);
     }
@@ -327,7 +336,7 @@ fn a_run_that_waits_for_another_says_so() {
     let tree = Tree::new("waiting");
     tree.write("waiting", "");
     let mut first = tree.start();
-    first.says("proving crate 2 of 3");
+    first.says("proving crate 2 of 4");
     let mut second = tree.start();
     second.says("another run is proving or building; waiting for it");
     tree.write("go", "");

@@ -32,7 +32,8 @@ fn standard_output_that_takes_nothing_is_74() {
         run_to(&["--version"], full()),
     ];
     if !absent("no answer was written by it") {
-        let file = folder("closed").join("a");
+        let folder = folder("closed");
+        let file = folder.join("a");
         fs::write(&file, EQUAL).unwrap();
         let file = file.to_str().unwrap();
         tries.push(run_to(&[file], closed()));
@@ -70,7 +71,7 @@ fn on_a_terminal(test: &str, line: &str) -> Option<String> {
     let line = line.replace("yukhtsami", env!("CARGO_BIN_EXE_yukhtsami"));
     let mut command = Command::new("script");
     command.args(["-qec", &line, "/dev/null"]);
-    let command = command.current_dir(folder).stdin(Stdio::null());
+    let command = command.current_dir(&folder).stdin(Stdio::null());
     match command.output() {
         Ok(output) => Some(String::from_utf8(output.stdout).unwrap()),
         Err(_) => {

@@ -1,24 +1,35 @@
 // The script `wrong-definitions/run` on small crates, with a stub in place of rt: what it keeps of the
 // laws, and each way in which a wrong definition is not noticed.
-use std::{
-    env, fs,
-    os::unix::fs::PermissionsExt,
-    path::{Path, PathBuf},
-    process::Command,
-};
+#[allow(dead_code)]
+mod shared;
 
-// A law holds where the definitions have `value = 1`, but for those that say nothing of it.
+use std::{env, fs, os::unix::fs::PermissionsExt, path::Path, process::Command};
+
+// A law holds where the definitions have `value = 1`, but for those that say nothing of it. `rests` is not checked where the
+// definitions have `rests` or `counted`: it is named, or only counted, and then named at a file that cites it.
 const RT: &str = r#"#!/bin/sh
+crate=${PWD##*/}
+cd ../.. || exit 2
 definitions=crates/rules/specs/Lib.antt
-case $2 in
-rules) ! grep -q broken $definitions ;;
-laws)
+case $1-$crate in
+lib-rules) ! grep -q broken $definitions ;;
+check-laws)
     find crates/laws/proofs -type f | sort >>"$SEEN"
-    for used in $(grep -rhoE '^use Rattle·laws·proofs\.proofs\.[A-Za-z.]*' crates/laws/proofs | sed 's/.*proofs\.//; s/\.$//; s|\.|/|g'); do
+    for used in $(grep -rhoE '^use Rattle\.laws\.proofs\.[A-Za-z.]*' crates/laws/proofs | sed 's/.*proofs\.//; s/\.$//; s|\.|/|g'); do
         [ -e "crates/laws/proofs/$used.antt" ] || { echo "error: no module $used"; exit 1; }
     done
     grep -q 'value = 1' $definitions && exit
-    grep -rhoE '[a-z-]+ : value' crates/laws/proofs | sed 's/\(.*\) : value/error: `\1` is not proved/'
+    grep -rhoE '[a-z_]+ : value' crates/laws/proofs | sed 's/\(.*\) : value/error: `\1`: no proof/'
+    of='error: 4 declarations that depend on `means`, which was rejected, were not checked:'
+    if grep -q 'rests' $definitions; then echo "$of first, rests (via first), third (via rests) and 1 more"; fi
+    if grep -q 'counted' $definitions; then
+        echo "$of first, second (via first), third and 1 more"
+        for law in silent rests; do
+            at=./proofs/Cites_$law.antt
+            [ ! -e crates/laws/$at ] || [ $law = rests ] || echo "$at:2:1: error: it is private"
+            [ ! -e crates/laws/$at ] || printf '%s:4:1: error: 1 declaration that depends on `%s`, which was not admitted, was not checked: cited\n' $at $law
+        done
+    fi
     exit 1
     ;;
 esac
@@ -41,11 +52,11 @@ const FILES: [(&str, &str); 10] = [
     ("crates/laws/proofs/Solving.antt", "pub mod Means\n"),
     (
         "crates/laws/proofs/Solving/Means.antt",
-        "use Rattle·laws·proofs.proofs.Basics.Tests.{helper}\n\n  pub means : value\n  silent : nothing\n",
+        "use Rattle.laws.proofs.Basics.Tests.{helper}\n\n  pub means : value\n  silent : nothing\n  pub rests : means\n",
     ),
     (
         "crates/laws/proofs/Other.antt",
-        "use Rattle·laws·proofs.proofs.Basics.Gone.{gone}\nlost : value\n",
+        "use Rattle.laws.proofs.Basics.Gone.{gone}\nlost : value\n",
     ),
 ];
 
@@ -62,10 +73,7 @@ fn patch(refused: &str, from: &str, to: &str) -> String {
 
 // The status, what was said, and the files of laws that were proved, after one patch is tried.
 fn tried(name: &str, patch: &str) -> (Option<i32>, Vec<String>, Vec<String>) {
-    // below the root's `target`, where rt takes no file for a source
-    let tests = Path::new(env!("CARGO_MANIFEST_DIR")).join("../target/host-tests");
-    let folder: PathBuf = tests.join(format!("wrong-{name}"));
-    let _ = fs::remove_dir_all(&folder);
+    let folder = shared::folder(&format!("wrong-{name}"));
     for (file, text) in FILES {
         write(&folder.join(file), text);
     }
@@ -105,6 +113,16 @@ fn a_wrong_definition_is_tried_on_what_its_law_needs() {
 }
 
 #[test]
+fn a_law_that_rests_on_a_refused_one_is_refused_too() {
+    for wrong in ["rests", "counted"] {
+        let patch = patch("means rests", "value = 1", &format!("value = 2 {wrong}"));
+        let (status, said, _) = tried(wrong, &patch);
+        assert_eq!(status, Some(0), "{wrong}: {said:?}");
+        assert_eq!(said[0], "one.patch: refused by means rests");
+    }
+}
+
+#[test]
 fn what_is_not_noticed_fails() {
     let wrong = |refused| patch(refused, "value = 1", "value = 2");
     for (name, patch, end) in [
@@ -126,6 +144,11 @@ fn what_is_not_noticed_fails() {
         (
             "silent",
             wrong("means silent"),
+            "one.patch: FAILED: `silent` is not refused",
+        ),
+        (
+            "uncounted",
+            patch("means rests silent", "value = 1", "value = 2 counted"),
             "one.patch: FAILED: `silent` is not refused",
         ),
         (

@@ -1,17 +1,17 @@
 // What is refused before any term is read: 1, 2, 3, 11.
+#![tactic(auto)]
+
 pub mod clearing; // clearing.rt: the work area set to zero
 pub mod refusal; // refusal.rt: the refusals
 
-use forms::form::Form;
-use forms::form::ReadForm;
-use forms::form::read_sheet;
-use forms::form::words_needed;
+ghost use Rattle.admission.specs.Admission.{Fine, Admits};
+
+use forms::form::{Form, ReadForm, read_sheet, words_needed};
 use refusal::Refusal;
-use text::Screened;
-use text::screen;
-ghost use Rattle·admission·specs.specs.Admission.{Fine, Admits};
+use text::{Screened, screen};
 
 // A sheet that is admitted, with the words that it needs, or a refusal.
+#[derive(Clone, Copy)]
 pub enum Admitted {
     Sheet { form: Form, needed: usize },
     Refused(Refusal),
@@ -19,8 +19,8 @@ pub enum Admitted {
 
 // A sheet without a foreign byte, against the number of words lent.
 fn admit_screened(sheet: &[u8], words: usize) -> Admitted
-    requires { ⌜ Fine (now sheet) ⌝ }
-    ensures { λ r. ⌜ Admits (now (sheet .entry)) words r ⌝ }
+    requires { Fine sheet.now }
+    ensures { Admits sheet.now words result }
 {
     let read = read_sheet(sheet);
     let ReadForm::Sheet(form) = read else {
@@ -35,7 +35,7 @@ fn admit_screened(sheet: &[u8], words: usize) -> Admitted
 
 // A sheet against the number of words lent.
 pub fn admit(sheet: &[u8], words: usize) -> Admitted
-    ensures { λ r. ⌜ Admits (now (sheet .entry)) words r ⌝ }
+    ensures { Admits sheet.now words result }
 {
     let screened = screen(sheet);
     match screened {

@@ -1,4 +1,5 @@
-// The six refusals. Their numbers are `number-for` of the rules.
+// The six refusals. Their numbers are `number_for` of the rules.
+#[derive(Clone, Copy)]
 pub enum Refusal {
     TooLong,
     ForeignByte,

@@ -1,29 +1,28 @@
 -- What a reply gives with an output, as the code answers it. Definitions only.
-use Prim.Native.Nat.{ℕ}
-use mathlib.Core.Path.{_≡_}
-use Rattle·rules.specs.Bytes.{Text}
-use Rattle·rules.specs.Call.{Reply, _>>=_, fitting, refusal-number, written, overwritten}
-use Rattle·admission.specs.Admission.{refusal-code}
-use Rattle·answers·specs.specs.declared.giving.Reply as code
-use Rattle·answers·specs.specs.declared.giving.Reply.the-variants as reply
+use Rattle.std.specs.Prelude.{ℕ, ◌≡◌}
+use Rattle.rules.specs.Bytes.{Text}
+use Rattle.rules.specs.Call.{Reply, ◌>>=◌, fitting, refusal_number, written, overwritten}
+use Rattle.admission.specs.Admission.{refusal_code}
+use Rattle.answers.specs.declared.giving.Reply as code
+use Rattle.answers.specs.declared.giving.Reply.TheVariants as reply
 
 -- a reply with an output of so many bytes: 12 where the answer is longer
-unfoldable pub within-room : Reply Text → ℕ → Reply Text
-within-room o room = do
+unfoldable pub within_room : Reply Text → ℕ → Reply Text
+within_room o room = do
   answer ← o
   fitting answer room
 
 -- 01's number, 0 for none, and the count of bytes written
-abbrev pub reply-number : code.Reply → ℕ
-reply-number (reply.Written n) = 0
-reply-number (reply.Refused x) = refusal-code x
+abbrev pub reply_number : code.Reply → ℕ
+reply_number (reply.Written n) = 0
+reply_number (reply.Refused x) = refusal_code x
 
-abbrev pub reply-count : code.Reply → ℕ
-reply-count (reply.Written n) = n
-reply-count (reply.Refused x) = 0
+abbrev pub reply_count : code.Reply → ℕ
+reply_count (reply.Written n) = n
+reply_count (reply.Refused x) = 0
 
 -- r and the output v afterwards are what a reply gives with the output out
 pub record Settles (o : Reply Text) (out v : Text) (r : code.Reply) : Type 0 where
-  pub number : reply-number r ≡ refusal-number o
-  pub count : reply-count r ≡ written o
+  pub number : reply_number r ≡ refusal_number o
+  pub count : reply_count r ≡ written o
   pub output : v ≡ overwritten o out

@@ -1,10 +1,12 @@
 // What is decided of a sheet that is admitted: a refusal, or the lines of its answer. Trees and bindings stand in the work area.
+ghost use Rattle.std.specs.Prelude.{◌≡◌};
+ghost use Rattle.answers.specs.Deciding.{claim_decision};
+
 use admission::refusal::Refusal;
 use sheet::claims::Claim;
-ghost use mathlib.Core.Path.{_≡_};
-ghost use Rattle·answers·specs.specs.Deciding.{claim-decision};
 
 // The key of a line.
+#[derive(Clone, Copy)]
 pub enum Key {
     Equal,
     Normal,
@@ -14,6 +16,7 @@ pub enum Key {
 }
 
 // The value of a line with a constant text.
+#[derive(Clone, Copy)]
 pub enum Word {
     Yes,
     No,
@@ -21,6 +24,7 @@ pub enum Word {
 }
 
 // The lines of an answer: a key and a word, a key and the term of a cell, or a verdict, `solved` with the bindings from a cell on.
+#[derive(Clone, Copy)]
 pub enum Lines {
     Constant {
         key: Key,
@@ -45,6 +49,7 @@ pub enum Lines {
 }
 
 // A refusal, or an answer.
+#[derive(Clone, Copy)]
 pub enum Decision {
     Refused(Refusal),
     Given(Lines),
@@ -52,7 +57,7 @@ pub enum Decision {
 
 // The line that tells what is claimed.
 pub fn claimed(key: Key, claim: Claim) -> Decision
-    ensures { λ r. ⌜ r ≡ claim-decision key claim ⌝ }
+    ensures { result ≡ claim_decision key claim }
 {
     match claim {
         Claim::Yes => Decision::Given(Lines::Constant {

@@ -1,26 +1,19 @@
 // A decision in the output: measured, then written where it fits.
-use crate::deciding::Decision;
-use crate::deciding::Lines;
-use crate::lines::measure_constant;
-use crate::lines::measure_keyed;
-use crate::lines::write_constant;
-use crate::lines::write_keyed;
+ghost use Rattle.std.specs.Prelude.{◌≡◌, ◌+◌, ◌≤◌, length};
+ghost use Rattle.rules.specs.Call.{passed};
+ghost use Rattle.text.specs.Printing.{Printed};
+ghost use Rattle.printing.specs.Measure.{measured};
+ghost use Rattle.answers.specs.Deciding.{lines_text, LinesHeld, reply_of, Standing};
+ghost use Rattle.answers.specs.Settling.{within_room, Settles};
+
+use crate::deciding::{Decision, Lines};
+use crate::lines::{measure_constant, measure_keyed, write_constant, write_keyed};
 use admission::refusal::Refusal;
 use printing::measuring::Measured;
-use verdicts::measure_head;
-use verdicts::measure_solved;
-use verdicts::write_head;
-use verdicts::write_solved;
-ghost use mathlib.Core.Path.{_≡_};
-ghost use Prim.Native.Nat.{_+_, _≤_};
-ghost use lib.ListN.{length};
-ghost use Rattle·rules.specs.Call.{passed};
-ghost use Rattle·text.specs.Printing.{Printed};
-ghost use Rattle·printing.specs.Measure.{measured};
-ghost use Rattle·answers·specs.specs.Deciding.{lines-text, LinesHeld, reply-of, Standing};
-ghost use Rattle·answers·specs.specs.Settling.{within-room, Settles};
+use verdicts::{measure_head, measure_solved, write_head, write_solved};
 
 // What the call gives: the count of bytes written, or a refusal.
+#[derive(Clone, Copy)]
 pub enum Reply {
     Written(usize),
     Refused(Refusal),
@@ -28,8 +21,8 @@ pub enum Reply {
 
 // The length of the lines of an answer.
 fn measure(sheet: &[u8], work: &[u32], lines: Lines, room: usize) -> Measured
-    requires { ⌜ LinesHeld (now sheet) (now work) lines ⌝ }
-    ensures { λ r. ⌜ r ≡ measured (length (lines-text (now (sheet .entry)) (now (work .entry)) lines)) room ⌝ }
+    requires { LinesHeld sheet.now work.now lines }
+    ensures { result ≡ measured (length (lines_text sheet.now work.now lines)) room }
 {
     match lines {
         Lines::Constant { key, word } => measure_constant(key, word, room),
@@ -46,9 +39,9 @@ fn measure(sheet: &[u8], work: &[u32], lines: Lines, room: usize) -> Measured
 
 // Writes the lines of an answer, and returns where they end.
 fn write(sheet: &[u8], work: &[u32], lines: Lines, output: &mut [u8], at: usize) -> usize
-    requires { ⌜ LinesHeld (now sheet) (now work) lines ⌝ }
-    requires { ⌜ at + length (lines-text (now sheet) (now work) lines) ≤ length (now output) ⌝ }
-    ensures { λ r. ⌜ Printed (now (output .entry)) (now (output .exit)) at (lines-text (now (sheet .entry)) (now (work .entry)) lines) r ⌝ }
+    requires lines_held { LinesHeld sheet.now work.now lines }
+    requires lines_in_bounds { at + length (lines_text sheet.now work.now lines) ≤ length output.old }
+    ensures { Printed output.old output.new at (lines_text sheet.now work.now lines) result }
 {
     match lines {
         Lines::Constant { key, word } => write_constant(output, at, key, word),
@@ -65,8 +58,8 @@ fn write(sheet: &[u8], work: &[u32], lines: Lines, output: &mut [u8], at: usize)
 
 // Writes an answer from byte 0 on, if it fits. It is measured before a byte is written.
 fn give_lines(sheet: &[u8], work: &[u32], lines: Lines, output: &mut [u8]) -> Reply
-    requires { ⌜ LinesHeld (now sheet) (now work) lines ⌝ }
-    ensures { λ r. ⌜ Settles (within-room (passed (lines-text (now (sheet .entry)) (now (work .entry)) lines)) (length (now (output .entry)))) (now (output .entry)) (now (output .exit)) r ⌝ }
+    requires { LinesHeld sheet.now work.now lines }
+    ensures { Settles (within_room (passed (lines_text sheet.now work.now lines)) (length output.old)) output.old output.new result }
 {
     let measured = measure(sheet, work, lines, output.len());
     let Measured::Fits(_) = measured else {
@@ -78,8 +71,8 @@ fn give_lines(sheet: &[u8], work: &[u32], lines: Lines, output: &mut [u8]) -> Re
 
 // The refusal that was decided, 12 where the answer does not fit, or the answer, written from byte 0 on.
 pub fn give(sheet: &[u8], work: &[u32], decision: Decision, output: &mut [u8]) -> Reply
-    requires { ⌜ Standing (now sheet) (now work) decision ⌝ }
-    ensures { λ r. ⌜ Settles (within-room (reply-of (now (sheet .entry)) (now (work .entry)) decision) (length (now (output .entry)))) (now (output .entry)) (now (output .exit)) r ⌝ }
+    requires { Standing sheet.now work.now decision }
+    ensures { Settles (within_room (reply_of sheet.now work.now decision) (length output.old)) output.old output.new result }
 {
     match decision {
         Decision::Refused(refusal) => Reply::Refused(refusal),

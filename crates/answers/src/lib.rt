@@ -1,4 +1,6 @@
 // What is decided of a sheet, measured, and written where it fits.
+#![tactic(auto)]
+
 pub mod deciding; // deciding.rt: what is decided of a sheet
 pub mod giving; // giving.rt: a decision measured, and written where it fits
 mod lines; // lines.rt: lines of a key

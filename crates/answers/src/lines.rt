@@ -1,25 +1,21 @@
 // A line of a key and a word, or of a key and a term: measured, and written at a place of the output.
-use crate::deciding::Key;
-use crate::deciding::Word;
-use printing::measuring::Measured;
-use printing::measuring::measure_term;
+ghost use Rattle.std.specs.Prelude.{◌≡◌, ◌+◌, ◌<◌, ◌≤◌, length};
+ghost use Rattle.rules.specs.Writing.{render};
+ghost use Rattle.rules.specs.Answer.{line};
+ghost use Rattle.tree.specs.Cells.{tree_at};
+ghost use Rattle.tree.specs.Arena.{Arena};
+ghost use Rattle.text.specs.Printing.{Printed};
+ghost use Rattle.printing.specs.Measure.{measured};
+ghost use Rattle.answers.specs.Deciding.{key_text, claim_word};
+
+use crate::deciding::{Key, Word};
+use printing::measuring::{Measured, measure_term};
 use printing::writing::write_term;
-use tree::names::print_byte;
-use tree::names::print_text;
-ghost use mathlib.Core.Path.{_≡_};
-ghost use Prim.Native.Nat.{_+_, _<_, _≤_};
-ghost use lib.ListN.{length};
-ghost use Rattle·rules.specs.Writing.{render};
-ghost use Rattle·rules.specs.Answer.{line};
-ghost use Rattle·tree.specs.Cells.{tree-at};
-ghost use Rattle·tree.specs.Arena.{Arena};
-ghost use Rattle·text.specs.Printing.{Printed};
-ghost use Rattle·printing.specs.Measure.{measured};
-ghost use Rattle·answers·specs.specs.Deciding.{key-text, claim-word};
+use tree::names::{print_byte, print_text};
 
 // The length of a key.
 fn key_len(key: Key) -> usize
-    ensures { λ r. ⌜ (r ≡ length (key-text key)) × (r < 16) ⌝ }
+    ensures { (result ≡ length (key_text key)) × (result < 16) }
 {
     match key {
         Key::Equal => 6,
@@ -32,7 +28,7 @@ fn key_len(key: Key) -> usize
 
 // The length of a word.
 fn word_len(word: Word) -> usize
-    ensures { λ r. ⌜ (r ≡ length (claim-word word)) × (r < 16) ⌝ }
+    ensures { (result ≡ length (claim_word word)) × (result < 16) }
 {
     match word {
         Word::Yes => 3,
@@ -43,8 +39,8 @@ fn word_len(word: Word) -> usize
 
 // Writes a key, and returns where it ends.
 fn print_key(output: &mut [u8], at: usize, key: Key) -> usize
-    requires { ⌜ at + length (key-text key) ≤ length (now output) ⌝ }
-    ensures { λ r. ⌜ Printed (now (output .entry)) (now (output .exit)) at (key-text key) r ⌝ }
+    requires { at + length (key_text key) ≤ length output.old }
+    ensures { Printed output.old output.new at (key_text key) result }
 {
     match key {
         Key::Equal => print_text(output, at, b"equal="),
@@ -57,8 +53,8 @@ fn print_key(output: &mut [u8], at: usize, key: Key) -> usize
 
 // Writes a word, and returns where it ends.
 fn print_word(output: &mut [u8], at: usize, word: Word) -> usize
-    requires { ⌜ at + length (claim-word word) ≤ length (now output) ⌝ }
-    ensures { λ r. ⌜ Printed (now (output .entry)) (now (output .exit)) at (claim-word word) r ⌝ }
+    requires { at + length (claim_word word) ≤ length output.old }
+    ensures { Printed output.old output.new at (claim_word word) result }
 {
     match word {
         Word::Yes => print_text(output, at, b"yes"),
@@ -69,7 +65,7 @@ fn print_word(output: &mut [u8], at: usize, word: Word) -> usize
 
 // The length of the line of a key and a word.
 pub(crate) fn measure_constant(key: Key, word: Word, room: usize) -> Measured
-    ensures { λ r. ⌜ r ≡ measured (length (line (key-text key) (claim-word word))) room ⌝ }
+    ensures { result ≡ measured (length (line (key_text key) (claim_word word))) room }
 {
     let n = key_len(key) + word_len(word) + 1;
     if room < n {
@@ -80,8 +76,8 @@ pub(crate) fn measure_constant(key: Key, word: Word, room: usize) -> Measured
 
 // Writes the line of a key and a word, and returns where it ends.
 pub(crate) fn write_constant(output: &mut [u8], at: usize, key: Key, word: Word) -> usize
-    requires { ⌜ at + length (line (key-text key) (claim-word word)) ≤ length (now output) ⌝ }
-    ensures { λ r. ⌜ Printed (now (output .entry)) (now (output .exit)) at (line (key-text key) (claim-word word)) r ⌝ }
+    requires { at + length (line (key_text key) (claim_word word)) ≤ length output.old }
+    ensures { Printed output.old output.new at (line (key_text key) (claim_word word)) result }
 {
     let start = print_key(output, at, key);
     let end = print_word(output, start, word);
@@ -97,9 +93,9 @@ pub(crate) fn measure_keyed(
     key: Key,
     room: usize,
 ) -> Measured
-    requires { ⌜ Arena (now sheet) (now work) free ⌝ }
-    requires { ⌜ (0 < i) × (i < free) ⌝ }
-    ensures { λ r. ⌜ r ≡ measured (length (line (key-text key) (render (tree-at (now (sheet .entry)) (now (work .entry)) i)))) room ⌝ }
+    requires arena { Arena sheet.now work.now free }
+    requires i_nonzero { (0 < i) × (i < free) }
+    ensures { result ≡ measured (length (line (key_text key) (render (tree_at sheet.now work.now i)))) room }
 {
     let n = key_len(key) + 1;
     if room < n {
@@ -122,10 +118,10 @@ pub(crate) fn write_keyed(
     output: &mut [u8],
     at: usize,
 ) -> usize
-    requires { ⌜ Arena (now sheet) (now work) free ⌝ }
-    requires { ⌜ (0 < i) × (i < free) ⌝ }
-    requires { ⌜ at + length (line (key-text key) (render (tree-at (now sheet) (now work) i))) ≤ length (now output) ⌝ }
-    ensures { λ r. ⌜ Printed (now (output .entry)) (now (output .exit)) at (line (key-text key) (render (tree-at (now (sheet .entry)) (now (work .entry)) i))) r ⌝ }
+    requires arena { Arena sheet.now work.now free }
+    requires i_nonzero { (0 < i) × (i < free) }
+    requires i_in_bounds { at + length (line (key_text key) (render (tree_at sheet.now work.now i))) ≤ length output.old }
+    ensures { Printed output.old output.new at (line (key_text key) (render (tree_at sheet.now work.now i))) result }
 {
     let start = print_key(output, at, key);
     let end = write_term(sheet, work, free, i, output, start);

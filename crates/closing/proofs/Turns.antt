@@ -1,46 +1,42 @@
 -- The turns of the term reader: what a symbol makes of the machine's state, the trees of a state that stay, and what refuses. Assumes
 -- nothing.
-use Prim.Native.Nat.{ℕ, _+_, _-_, _≤_, _<_}
+use Prim.Native.Nat.{ℕ, ◌+◌, ◌-◌, ◌≤◌, ◌<◌}
 use native.Mathlib.Omega.{arith}
-use mathlib.Core.Path.{_≡_, refl, sym, ap, _∙_}
-use mathlib.Core.Logic.{⊎-elim}
-use mathlib.Core.List.{List, [], _∷_}
-use mathlib.Core.Option.{Option, some, none as nothing, Option·some-injective, Option·none-ne-some}
+use mathlib.Core.Path.{◌≡◌, refl, sym, ap, ◌∙◌}
+use mathlib.Core.List.{List, [], ◌∷◌}
+use mathlib.Core.Option.{Option, some, none as nothing, some-injective, none-ne-some}
 use mathlib.Core.Bool.{Bool, true, false, cond, not}
-use denote.Enum.Declared.{tagOf}
-use types.Run.{OneOf}
 use lib.Dec.{leb}
 use lib.ListN.{take, drop}
-use Rattle·rules.specs.Bytes.{Text, same}
-use Rattle·rules.specs.Text.{bytes, is-one-of}
-use Rattle·rules.specs.Maybe.{_>>=_, guard}
-use Rattle·rules.specs.Names.{letter-name}
-use Rattle·rules.specs.Tree.{Tree, variable, atom, apply, Trees, none, more, size, sizes, tamtplus}
-use Rattle·rules.specs.Tokens.{tokens}
-use Rattle·rules.specs.Reading.{leaf, close, single, constant-name, atom-of, nested, sum-of, read-text, parse}
-use Rattle·laws.proofs.Basics.Tests.{true-leb, false-leb, neither-left, neither-right, differ-of-ne, ne-of-differ}
-use Rattle·laws.proofs.Basics.Options.{bound}
-use Rattle·laws.proofs.Reading.SameText.{the-only, the-name}
-use Rattle·syntax.specs.Symbols.{symbol-at}
-use Rattle·syntax.specs.declared.Symbol.{Symbol}
-use Rattle·syntax.specs.declared.Symbol.the-variants.{Begin, Shut, Comma, Name, Stop, Bad}
-use Rattle·syntax.proofs.Symbol.{the-type}
-use Rattle·syntax.proofs.TokenList.{joined}
-use Rattle·syntax.proofs.SymbolLaws.{means-is}
-use Rattle·closing·specs.specs.Machine.{Stack, bottom, level, add, back, State, wants, named, has, machine-after, machine-step, finished-stack, machine-end, machine, machine-reading, total}
+use Rattle.rules.specs.Bytes.{Text, same}
+use Rattle.rules.specs.Text.{bytes, is_one_of}
+use Rattle.rules.specs.Maybe.{◌>>=◌, guard}
+use Rattle.rules.specs.Names.{letter_name}
+use Rattle.rules.specs.Tree.{Tree, variable, atom, apply, Trees, none, more, size, sizes, tamtplus}
+use Rattle.rules.specs.Tokens.{tokens}
+use Rattle.rules.specs.Reading.{leaf, close, single, constant_name, atom_of, nested, sum_of, read_text, parse}
+use Rattle.laws.proofs.Basics.Tests.{true_leb, false_leb, neither_left, neither_right, differ_of_ne, ne_of_differ}
+use Rattle.laws.proofs.Basics.Options.{bound}
+use Rattle.laws.proofs.Reading.SameText.{the_only, the_name}
+use Rattle.syntax.specs.Symbols.{symbol_at}
+use Rattle.syntax.specs.declared.Symbol.{Symbol}
+use Rattle.syntax.specs.declared.Symbol.TheVariants.{Begin, Shut, Comma, Name, Stop, Bad}
+use Rattle.syntax.proofs.TokenList.{joined}
+use Rattle.syntax.proofs.SymbolLaws.{means_is}
+use Rattle.closing.specs.Machine.{Stack, bottom, level, add, back, State, wants, named, has, machine_after, machine_step, finished_stack, machine_end, machine, machine_reading, total}
 
 -- One token
 
 module _ (s : Text) (at to : ℕ) (m : Text) (first : tokens (drop at s) ≡ joined m (tokens (drop to s))) where
-  pub turn : (st st′ : State) → machine-step st m ≡ some st′ → machine-reading s at st ≡ machine-reading s to st′
+  pub turn : (st st' : State) → machine_step st m ≡ some st' → machine_reading s at st ≡ machine_reading s to st'
   unfolding machine
-  turn st st′ e = ap (λ (o : Option (List Text)). o >>= λ ts. machine ts st) first ∙ go (tokens (drop to s))
+  turn st st' e = ap (λ (o : Option (List Text)). o >>= λ ts. machine ts st) first ∙ go (tokens (drop to s))
     where
-      go : (o : Option (List Text)) → (joined m o >>= λ ts. machine ts st) ≡ (o >>= λ ts. machine ts st′)
+      go : (o : Option (List Text)) → (joined m o >>= λ ts. machine ts st) ≡ (o >>= λ ts. machine ts st')
       go nothing = refl
       go (some ts) = ap (λ (x : Option State). x >>= machine ts) e
 
-  pub refused : (st : State) → machine-step st m ≡ nothing → machine-reading s at st ≡ nothing
+  pub refused : (st : State) → machine_step st m ≡ nothing → machine_reading s at st ≡ nothing
   unfolding machine
   refused st e = ap (λ (o : Option (List Text)). o >>= λ ts. machine ts st) first ∙ go (tokens (drop to s))
     where
@@ -49,11 +45,11 @@ module _ (s : Text) (at to : ℕ) (m : Text) (first : tokens (drop at s) ≡ joi
       go (some ts) = ap (λ (x : Option State). x >>= machine ts) e
 
   -- two states that the token makes one
-  pub alike : (st st′ : State) → machine-step st m ≡ machine-step st′ m → machine-reading s at st ≡ machine-reading s at st′
+  pub alike : (st st' : State) → machine_step st m ≡ machine_step st' m → machine_reading s at st ≡ machine_reading s at st'
   unfolding machine
-  alike st st′ e = ap (λ (o : Option (List Text)). o >>= λ ts. machine ts st) first ∙ go (tokens (drop to s)) ∙ sym (ap (λ (o : Option (List Text)). o >>= λ ts. machine ts st′) first)
+  alike st st' e = ap (λ (o : Option (List Text)). o >>= λ ts. machine ts st) first ∙ go (tokens (drop to s)) ∙ sym (ap (λ (o : Option (List Text)). o >>= λ ts. machine ts st') first)
     where
-      go : (o : Option (List Text)) → (joined m o >>= λ ts. machine ts st) ≡ (joined m o >>= λ ts. machine ts st′)
+      go : (o : Option (List Text)) → (joined m o >>= λ ts. machine ts st) ≡ (joined m o >>= λ ts. machine ts st')
       go nothing = refl
       go (some ts) = ap (λ (x : Option State). x >>= machine ts) e
 
@@ -63,195 +59,195 @@ record NoMark (n : Text) : Type 0 where
   shut : same (bytes ")") n ≡ false
   comma : same (bytes ",") n ≡ false
 
-no-mark : (n : Text) → is-one-of (bytes "(" ∷ bytes ")" ∷ bytes "," ∷ []) n ≡ false → NoMark n
-unfolding is-one-of
-no-mark n e =
-    let f = neither-right (same n (bytes "(")) _ e in
-    let g = neither-right (same n (bytes ")")) _ f in
+no_mark : (n : Text) → is_one_of (bytes "(" ∷ bytes ")" ∷ bytes "," ∷ []) n ≡ false → NoMark n
+unfolding is_one_of
+no_mark n e =
+    let f = neither_right (same n (bytes "(")) _ e in
+    let g = neither_right (same n (bytes ")")) _ f in
     record {
-      begin = swap (bytes "(") (neither-left (same n (bytes "(")) _ e);
-      shut = swap (bytes ")") (neither-left (same n (bytes ")")) _ f);
-      comma = swap (bytes ",") (neither-left (same n (bytes ",")) _ g);
+      begin = swap (bytes "(") (neither_left (same n (bytes "(")) _ e);
+      shut = swap (bytes ")") (neither_left (same n (bytes ")")) _ f);
+      comma = swap (bytes ",") (neither_left (same n (bytes ",")) _ g);
     }
   where
     swap : (m : Text) → same n m ≡ false → same m n ≡ false
-    swap m h = differ-of-ne {x = m} {y = n} (λ p. ne-of-differ {x = n} {y = m} h (sym p))
+    swap m h = differ_of_ne {x = m} {y = n} (λ p. ne_of_differ {x = n} {y = m} h (sym p))
 
-not-given : (k : Stack) (n : Text) → same (bytes ",") n ≡ false → same (bytes ")") n ≡ false → machine-after k n ≡ nothing
-not-given (bottom ts) n a b = refl
-not-given (level m ts k) n a b = rw (a, b)
+not_given : (k : Stack) (n : Text) → same (bytes ",") n ≡ false → same (bytes ")") n ≡ false → machine_after k n ≡ nothing
+not_given (bottom ts) n a b = refl
+not_given (level m ts k) n a b = rw (a, b)
 
 -- The next symbol
 
-module _ (s : Text) (at : ℕ) {r : Symbol} (e : r ≡ symbol-at s at) where
-  pub name-turn : (f t : ℕ) (k : Stack) → r ≡ Name f t → machine-reading s at (wants k) ≡ machine-reading s t (named (take (t - f) (drop f s)) k)
-  name-turn f t k q =
-      let m = means-is s at e (Name f t) q in
-      turn s at t (take (t - f) (drop f s)) (m .first) (wants k) (named (take (t - f) (drop f s)) k) (rw (m .no-mark))
+module _ (s : Text) (at : ℕ) {r : Symbol} (e : r ≡ symbol_at s at) where
+  pub name_turn : (f t : ℕ) (k : Stack) → r ≡ Name f t → machine_reading s at (wants k) ≡ machine_reading s t (named (take (t - f) (drop f s)) k)
+  name_turn f t k q =
+      let m = means_is s at e (Name f t) q in
+      turn s at t (take (t - f) (drop f s)) m.first (wants k) (named (take (t - f) (drop f s)) k) (rw m.no_mark)
 
-  pub open-turn : (t : ℕ) (n : Text) (k : Stack) → r ≡ Begin t → machine-reading s at (named n k) ≡ machine-reading s t (wants (level n none k))
+  pub open_turn : (t : ℕ) (n : Text) (k : Stack) → r ≡ Begin t → machine_reading s at (named n k) ≡ machine_reading s t (wants (level n none k))
   unfolding same
-  open-turn t n k q = turn s at t (bytes "(") (means-is s at e (Begin t) q .first) (named n k) (wants (level n none k)) refl
+  open_turn t n k q = turn s at t (bytes "(") (means_is s at e (Begin t) q).first (named n k) (wants (level n none k)) refl
 
-  pub comma-turn : (t : ℕ) (n : Text) (ts : Trees) (k : Stack) → r ≡ Comma t → machine-reading s at (has (level n ts k)) ≡ machine-reading s t (wants (level n ts k))
+  pub comma_turn : (t : ℕ) (n : Text) (ts : Trees) (k : Stack) → r ≡ Comma t → machine_reading s at (has (level n ts k)) ≡ machine_reading s t (wants (level n ts k))
   unfolding same
-  comma-turn t n ts k q = turn s at t (bytes ",") (means-is s at e (Comma t) q .first) (has (level n ts k)) (wants (level n ts k)) refl
+  comma_turn t n ts k q = turn s at t (bytes ",") (means_is s at e (Comma t) q).first (has (level n ts k)) (wants (level n ts k)) refl
 
-  pub shut-turn : (t : ℕ) (n : Text) (ts : Trees) (k : Stack) (u : Tree) → r ≡ Shut t → close n (back ts none) ≡ some u → machine-reading s at (has (level n ts k)) ≡ machine-reading s t (has (add u k))
+  pub shut_turn : (t : ℕ) (n : Text) (ts : Trees) (k : Stack) (u : Tree) → r ≡ Shut t → close n (back ts none) ≡ some u → machine_reading s at (has (level n ts k)) ≡ machine_reading s t (has (add u k))
   unfolding same
-  shut-turn t n ts k u q c =
-      turn s at t (bytes ")") (means-is s at e (Shut t) q .first) (has (level n ts k)) (has (add u k)) (ap (λ (o : Option Tree). o >>= λ t. some (has (add t k))) c)
+  shut_turn t n ts k u q c =
+      turn s at t (bytes ")") (means_is s at e (Shut t) q).first (has (level n ts k)) (has (add u k)) (ap (λ (o : Option Tree). o >>= λ t. some (has (add t k))) c)
 
-  pub shut-none : (t : ℕ) (n : Text) (ts : Trees) (k : Stack) → r ≡ Shut t → close n (back ts none) ≡ nothing → machine-reading s at (has (level n ts k)) ≡ nothing
+  pub shut_none : (t : ℕ) (n : Text) (ts : Trees) (k : Stack) → r ≡ Shut t → close n (back ts none) ≡ nothing → machine_reading s at (has (level n ts k)) ≡ nothing
   unfolding same
-  shut-none t n ts k q c = refused s at t (bytes ")") (means-is s at e (Shut t) q .first) (has (level n ts k)) (ap (λ (o : Option Tree). o >>= λ t. some (has (add t k))) c)
+  shut_none t n ts k q c = refused s at t (bytes ")") (means_is s at e (Shut t) q).first (has (level n ts k)) (ap (λ (o : Option Tree). o >>= λ t. some (has (add t k))) c)
 
-  pub comma-bare : (t : ℕ) (ts : Trees) → r ≡ Comma t → machine-reading s at (has (bottom ts)) ≡ nothing
-  comma-bare t ts q = refused s at t (bytes ",") (means-is s at e (Comma t) q .first) (has (bottom ts)) refl
+  pub comma_bare : (t : ℕ) (ts : Trees) → r ≡ Comma t → machine_reading s at (has (bottom ts)) ≡ nothing
+  comma_bare t ts q = refused s at t (bytes ",") (means_is s at e (Comma t) q).first (has (bottom ts)) refl
 
-  pub shut-bare : (t : ℕ) (ts : Trees) → r ≡ Shut t → machine-reading s at (has (bottom ts)) ≡ nothing
-  shut-bare t ts q = refused s at t (bytes ")") (means-is s at e (Shut t) q .first) (has (bottom ts)) refl
+  pub shut_bare : (t : ℕ) (ts : Trees) → r ≡ Shut t → machine_reading s at (has (bottom ts)) ≡ nothing
+  shut_bare t ts q = refused s at t (bytes ")") (means_is s at e (Shut t) q).first (has (bottom ts)) refl
 
-  pub stop-turn : (st : State) → r ≡ Stop → machine-reading s at st ≡ machine-end st
+  pub stop_turn : (st : State) → r ≡ Stop → machine_reading s at st ≡ machine_end st
   unfolding machine
-  stop-turn st q = ap (λ (o : Option (List Text)). o >>= λ ts. machine ts st) (means-is s at e Stop q)
+  stop_turn st q = ap (λ (o : Option (List Text)). o >>= λ ts. machine ts st) (means_is s at e Stop q)
 
-  -- where a branch is left to several variants, by their numbers
-  pub not-name : (k : Stack) → OneOf (0 ∷ 1 ∷ 2 ∷ 4 ∷ 5 ∷ []) (tagOf the-type r) → machine-reading s at (wants k) ≡ nothing
-  unfolding is-one-of same machine
-  not-name k o = go r refl o
+  -- where a branch is left to several variants
+  pub not_name : (k : Stack) → ((f t : ℕ) → r ≡ Name f t → ⊥) → machine_reading s at (wants k) ≡ nothing
+  unfolding is_one_of same machine
+  not_name k o = go r refl
     where
-      go : (q : Symbol) → r ≡ q → OneOf (0 ∷ 1 ∷ 2 ∷ 4 ∷ 5 ∷ []) (tagOf the-type q) → machine-reading s at (wants k) ≡ nothing
-      go (Begin t) q o = refused s at t (bytes "(") (means-is s at e (Begin t) q .first) (wants k) refl
-      go (Shut t) q o = refused s at t (bytes ")") (means-is s at e (Shut t) q .first) (wants k) refl
-      go (Comma t) q o = refused s at t (bytes ",") (means-is s at e (Comma t) q .first) (wants k) refl
-      go (Name f t) q o = absurd (⊎-elim (λ a. omega arith) (⊎-elim (λ a. omega arith) (⊎-elim (λ a. omega arith) (⊎-elim (λ a. omega arith) (λ a. omega arith)))) o)
-      go Stop q o = stop-turn (wants k) q
-      go Bad q o = ap (λ (o : Option (List Text)). o >>= λ ts. machine ts (wants k)) (means-is s at e Bad q)
+      go : (q : Symbol) → r ≡ q → machine_reading s at (wants k) ≡ nothing
+      go (Begin t) q = refused s at t (bytes "(") (means_is s at e (Begin t) q).first (wants k) refl
+      go (Shut t) q = refused s at t (bytes ")") (means_is s at e (Shut t) q).first (wants k) refl
+      go (Comma t) q = refused s at t (bytes ",") (means_is s at e (Comma t) q).first (wants k) refl
+      go (Name f t) q = absurd (o f t q)
+      go Stop q = stop_turn (wants k) q
+      go Bad q = ap (λ (o : Option (List Text)). o >>= λ ts. machine ts (wants k)) (means_is s at e Bad q)
 
-  pub no-delimiter : (k : Stack) → OneOf (0 ∷ 3 ∷ 5 ∷ []) (tagOf the-type r) → machine-reading s at (has k) ≡ nothing
+  pub no_delimiter : (k : Stack) → (r ≡ Stop → ⊥) → ((t : ℕ) → r ≡ Comma t → ⊥) → ((t : ℕ) → r ≡ Shut t → ⊥) → machine_reading s at (has k) ≡ nothing
   unfolding machine same
-  no-delimiter k o = go r refl o
+  no_delimiter k no_stop no_comma no_shut = go r refl
     where
-      go : (q : Symbol) → r ≡ q → OneOf (0 ∷ 3 ∷ 5 ∷ []) (tagOf the-type q) → machine-reading s at (has k) ≡ nothing
-      go (Begin t) q o = refused s at t (bytes "(") (means-is s at e (Begin t) q .first) (has k) (not-given k (bytes "(") refl refl)
-      go (Shut t) q o = absurd (⊎-elim (λ a. omega arith) (⊎-elim (λ a. omega arith) (λ a. omega arith)) o)
-      go (Comma t) q o = absurd (⊎-elim (λ a. omega arith) (⊎-elim (λ a. omega arith) (λ a. omega arith)) o)
-      go (Name f t) q o =
-          let m = means-is s at e (Name f t) q in
-          let h = no-mark (take (t - f) (drop f s)) (m .no-mark) in
-          refused s at t (take (t - f) (drop f s)) (m .first) (has k) (not-given k (take (t - f) (drop f s)) (h .comma) (h .shut))
-      go Stop q o = absurd (⊎-elim (λ a. omega arith) (⊎-elim (λ a. omega arith) (λ a. omega arith)) o)
-      go Bad q o = ap (λ (o : Option (List Text)). o >>= λ ts. machine ts (has k)) (means-is s at e Bad q)
+      go : (q : Symbol) → r ≡ q → machine_reading s at (has k) ≡ nothing
+      go (Begin t) q = refused s at t (bytes "(") (means_is s at e (Begin t) q).first (has k) (not_given k (bytes "(") refl refl)
+      go (Shut t) q = absurd (no_shut t q)
+      go (Comma t) q = absurd (no_comma t q)
+      go (Name f t) q =
+          let m = means_is s at e (Name f t) q in
+          let h = no_mark (take (t - f) (drop f s)) m.no_mark in
+          refused s at t (take (t - f) (drop f s)) m.first (has k) (not_given k (take (t - f) (drop f s)) h.comma h.shut)
+      go Stop q = absurd (no_stop q)
+      go Bad q = ap (λ (o : Option (List Text)). o >>= λ ts. machine ts (has k)) (means_is s at e Bad q)
 
   -- a name that no bracket follows is a leaf
-  pub leaf-turn : (n : Text) (k : Stack) → OneOf (1 ∷ 2 ∷ 3 ∷ 4 ∷ 5 ∷ []) (tagOf the-type r) → machine-reading s at (named n k) ≡ machine-reading s at (has (add (leaf n) k))
+  pub leaf_turn : (n : Text) (k : Stack) → ((t : ℕ) → r ≡ Begin t → ⊥) → machine_reading s at (named n k) ≡ machine_reading s at (has (add (leaf n) k))
   unfolding machine same
-  leaf-turn n k o = go r refl o
+  leaf_turn n k o = go r refl
     where
-      go : (q : Symbol) → r ≡ q → OneOf (1 ∷ 2 ∷ 3 ∷ 4 ∷ 5 ∷ []) (tagOf the-type q) → machine-reading s at (named n k) ≡ machine-reading s at (has (add (leaf n) k))
-      go (Begin t) q o = absurd (⊎-elim (λ a. omega arith) (⊎-elim (λ a. omega arith) (⊎-elim (λ a. omega arith) (⊎-elim (λ a. omega arith) (λ a. omega arith)))) o)
-      go (Shut t) q o = alike s at t (bytes ")") (means-is s at e (Shut t) q .first) (named n k) (has (add (leaf n) k)) refl
-      go (Comma t) q o = alike s at t (bytes ",") (means-is s at e (Comma t) q .first) (named n k) (has (add (leaf n) k)) refl
-      go (Name f t) q o =
-          let m = means-is s at e (Name f t) q in
-          alike s at t (take (t - f) (drop f s)) (m .first) (named n k) (has (add (leaf n) k)) (rw (no-mark (take (t - f) (drop f s)) (m .no-mark) .begin))
-      go Stop q o = stop-turn (named n k) q ∙ sym (stop-turn (has (add (leaf n) k)) q)
-      go Bad q o =
-          ap (λ (o : Option (List Text)). o >>= λ ts. machine ts (named n k)) (means-is s at e Bad q)
-          ∙ sym (ap (λ (o : Option (List Text)). o >>= λ ts. machine ts (has (add (leaf n) k))) (means-is s at e Bad q))
+      go : (q : Symbol) → r ≡ q → machine_reading s at (named n k) ≡ machine_reading s at (has (add (leaf n) k))
+      go (Begin t) q = absurd (o t q)
+      go (Shut t) q = alike s at t (bytes ")") (means_is s at e (Shut t) q).first (named n k) (has (add (leaf n) k)) refl
+      go (Comma t) q = alike s at t (bytes ",") (means_is s at e (Comma t) q).first (named n k) (has (add (leaf n) k)) refl
+      go (Name f t) q =
+          let m = means_is s at e (Name f t) q in
+          alike s at t (take (t - f) (drop f s)) m.first (named n k) (has (add (leaf n) k)) (rw (no_mark (take (t - f) (drop f s)) m.no_mark).begin)
+      go Stop q = stop_turn (named n k) q ∙ sym (stop_turn (has (add (leaf n) k)) q)
+      go Bad q =
+          ap (λ (o : Option (List Text)). o >>= λ ts. machine ts (named n k)) (means_is s at e Bad q)
+          ∙ sym (ap (λ (o : Option (List Text)). o >>= λ ts. machine ts (has (add (leaf n) k))) (means_is s at e Bad q))
 
 -- The nodes of a stack are in the term that is read
 
-nested-size : (t : Tree) (us : Trees) → size t + sizes us ≤ size (nested t us)
+nested_size : (t : Tree) (us : Trees) → size t + sizes us ≤ size (nested t us)
 unfolding nested size
-nested-size t none = omega arith
-nested-size t (more u us) = let h = nested-size u us in omega arith
+nested_size t none = omega arith
+nested_size t (more u us) = let h = nested_size u us in omega arith
 
-pub close-size : (n : Text) (ts : Trees) (t : Tree) → close n ts ≡ some t → sizes ts ≤ size t
-unfolding close atom-of sum-of size
-close-size n ts t h = go (letter-name n) (same n tamtplus) h
+pub close_size : (n : Text) (ts : Trees) (t : Tree) → close n ts ≡ some t → sizes ts ≤ size t
+unfolding close atom_of sum_of size
+close_size n ts t h = go (letter_name n) (same n tamtplus) h
   where
-    atoms : atom-of n ts ≡ some t → sizes ts ≤ size t
+    atoms : atom_of n ts ≡ some t → sizes ts ≤ size t
     atoms k =
         let (u, e, k₁) = bound (single ts) _ t k in
-        let (d, f, k₂) = bound (constant-name u) _ t k₁ in
-        let p : sizes ts ≡ size u + 0 = ap sizes (the-only ts u e) in
-        let q : size u ≡ 1 = ap size (the-name u d f) in
-        omega (arith, size-some t)
+        let (d, f, k₂) = bound (constant_name u) _ t k₁ in
+        let p : sizes ts ≡ size u + 0 = ap sizes (the_only ts u e) in
+        let q : size u ≡ 1 = ap size (the_name u d f) in
+        omega (arith, size_some t)
       where
-        size-some : (t : Tree) → 0 < size t
-        size-some (variable x) = omega arith
-        size-some (atom c d) = omega arith
-        size-some (apply f ts) = omega arith
+        size_some : (t : Tree) → 0 < size t
+        size_some (variable x) = omega arith
+        size_some (atom c d) = omega arith
+        size_some (apply f ts) = omega arith
 
-    sums : (ts : Trees) → sum-of ts ≡ some t → sizes ts ≤ size t
-    sums none k = absurd (Option·none-ne-some t k)
-    sums (more a none) k = absurd (Option·none-ne-some t k)
+    sums : (ts : Trees) → sum_of ts ≡ some t → sizes ts ≤ size t
+    sums none k = absurd (none-ne-some t k)
+    sums (more a none) k = absurd (none-ne-some t k)
     sums (more a (more b us)) k =
-        let e : size (nested a (more b us)) ≡ size t = ap size (Option·some-injective (nested a (more b us)) t k) in
-        omega (arith, nested-size a (more b us))
+        let e : size (nested a (more b us)) ≡ size t = ap size (some-injective (nested a (more b us)) t k) in
+        omega (arith, nested_size a (more b us))
 
-    go : (b c : Bool) → elim b [ true ↦ atom-of n ts | false ↦ elim c [ true ↦ sum-of ts | false ↦ some (apply n ts) ] ] ≡ some t → sizes ts ≤ size t
+    go : (b c : Bool) → elim b [ true ↦ atom_of n ts | false ↦ elim c [ true ↦ sum_of ts | false ↦ some (apply n ts) ] ] ≡ some t → sizes ts ≤ size t
     go true c k = atoms k
     go false true k = sums ts k
-    go false false k = let e : 1 + sizes ts ≡ size t = ap size (Option·some-injective (apply n ts) t k) in omega arith
+    go false false k = let e : 1 + sizes ts ≡ size t = ap size (some-injective (apply n ts) t k) in omega arith
 
-pub back-sizes : (ts us : Trees) → sizes (back ts us) ≡ sizes ts + sizes us
+pub back_sizes : (ts us : Trees) → sizes (back ts us) ≡ sizes ts + sizes us
 unfolding back size
-back-sizes none us = omega arith
-back-sizes (more t ts) us = let h = back-sizes ts (more t us) in omega arith
+back_sizes none us = omega arith
+back_sizes (more t ts) us = let h = back_sizes ts (more t us) in omega arith
 
-add-total : (t : Tree) (k : Stack) → total (add t k) ≡ size t + total k
+add_total : (t : Tree) (k : Stack) → total (add t k) ≡ size t + total k
 unfolding size
-add-total t (bottom ts) = refl
-add-total t (level n ts k) = omega arith
+add_total t (bottom ts) = refl
+add_total t (level n ts k) = omega arith
 
 abbrev held : State → ℕ
 held (wants k) = total k
 held (named n k) = total k
 held (has k) = total k
 
-given-grows : (k : Stack) (x : Text) (st : State) → machine-after k x ≡ some st → total k ≤ held st
+given_grows : (k : Stack) (x : Text) (st : State) → machine_after k x ≡ some st → total k ≤ held st
 unfolding size
-given-grows (bottom ts) x st h = absurd (Option·none-ne-some st h)
-given-grows (level n ts k) x st h = go (same (bytes ",") x) (same (bytes ")") x) h
+given_grows (bottom ts) x st h = absurd (none-ne-some st h)
+given_grows (level n ts k) x st h = go (same (bytes ",") x) (same (bytes ")") x) h
   where
     go : (b c : Bool) → cond b (some (wants (level n ts k))) (cond c (close n (back ts none) >>= λ t. some (has (add t k))) nothing) ≡ some st → sizes ts + total k ≤ held st
-    go true c g = let e = ap held (Option·some-injective _ st g) in omega arith
+    go true c g = let e = ap held (some-injective _ st g) in omega arith
     go false true g =
         let (t, e, f) = bound (close n (back ts none)) _ st g in
-        let p = ap held (Option·some-injective _ st f) in
-        omega (arith, close-size n (back ts none) t e, back-sizes ts none, add-total t k)
-    go false false g = absurd (Option·none-ne-some st g)
+        let p = ap held (some-injective _ st f) in
+        omega (arith, close_size n (back ts none) t e, back_sizes ts none, add_total t k)
+    go false false g = absurd (none-ne-some st g)
 
-step-grows : (st st′ : State) (x : Text) → machine-step st x ≡ some st′ → held st ≤ held st′
+step_grows : (st st' : State) (x : Text) → machine_step st x ≡ some st' → held st ≤ held st'
 unfolding size
-step-grows (wants k) st x h =
-    let (u, e, f) = bound (guard (not (is-one-of (bytes "(" ∷ bytes ")" ∷ bytes "," ∷ []) x))) _ st h in
-    let p = ap held (Option·some-injective _ st f) in
+step_grows (wants k) st x h =
+    let (u, e, f) = bound (guard (not (is_one_of (bytes "(" ∷ bytes ")" ∷ bytes "," ∷ []) x))) _ st h in
+    let p = ap held (some-injective _ st f) in
     omega arith
-step-grows (named n k) st x h = go (same (bytes "(") x) h
+step_grows (named n k) st x h = go (same (bytes "(") x) h
   where
-    go : (b : Bool) → cond b (some (wants (level n none k))) (machine-after (add (leaf n) k) x) ≡ some st → total k ≤ held st
-    go true g = let p = ap held (Option·some-injective _ st g) in omega arith
-    go false g = omega (arith, given-grows (add (leaf n) k) x st g, add-total (leaf n) k)
-step-grows (has k) st x h = given-grows k x st h
+    go : (b : Bool) → cond b (some (wants (level n none k))) (machine_after (add (leaf n) k) x) ≡ some st → total k ≤ held st
+    go true g = let p = ap held (some-injective _ st g) in omega arith
+    go false g = omega (arith, given_grows (add (leaf n) k) x st g, add_total (leaf n) k)
+step_grows (has k) st x h = given_grows k x st h
 
-ended-size : (k : Stack) (t : Tree) → finished-stack k ≡ some t → total k ≤ size t
+ended_size : (k : Stack) (t : Tree) → finished_stack k ≡ some t → total k ≤ size t
 unfolding size
-ended-size (bottom ts) t h = let e : sizes ts ≡ size t + 0 = ap sizes (the-only ts t h) in omega arith
-ended-size (level n ts k) t h = absurd (Option·none-ne-some t h)
+ended_size (bottom ts) t h = let e : sizes ts ≡ size t + 0 = ap sizes (the_only ts t h) in omega arith
+ended_size (level n ts k) t h = absurd (none-ne-some t h)
 
-machine-size : (ts : List Text) (st : State) (t : Tree) → machine ts st ≡ some t → held st ≤ size t
+machine_size : (ts : List Text) (st : State) (t : Tree) → machine ts st ≡ some t → held st ≤ size t
 unfolding machine
-machine-size [] (wants k) t h = absurd (Option·none-ne-some t h)
-machine-size [] (named n k) t h = omega (arith, ended-size (add (leaf n) k) t h, add-total (leaf n) k)
-machine-size [] (has k) t h = ended-size k t h
-machine-size (x ∷ ts) st t h =
-    let (st′, e, f) = bound (machine-step st x) (machine ts) t h in
-    let p = step-grows st st′ x e in
-    let q = machine-size ts st′ t f in
+machine_size [] (wants k) t h = absurd (none-ne-some t h)
+machine_size [] (named n k) t h = omega (arith, ended_size (add (leaf n) k) t h, add_total (leaf n) k)
+machine_size [] (has k) t h = ended_size k t h
+machine_size (x ∷ ts) st t h =
+    let (st', e, f) = bound (machine_step st x) (machine ts) t h in
+    let p = step_grows st st' x e in
+    let q = machine_size ts st' t f in
     omega arith
 
 -- Within the limit of nodes
@@ -261,27 +257,27 @@ limited o = o >>= λ t. guard (leb (size t) 4096) >>= λ _. some t
 
 over : (o : Option Tree) → ((t : Tree) → o ≡ some t → 4096 < size t) → limited o ≡ nothing
 over nothing h = refl
-over (some t) h = ap (λ (b : Bool). guard b >>= λ _. some t) (false-leb (size t) 4096 (h t refl))
+over (some t) h = ap (λ (b : Bool). guard b >>= λ _. some t) (false_leb (size t) 4096 (h t refl))
 
-pub too-big : (s : Text) (at : ℕ) (k : Stack) → 4096 < total k → limited (machine-reading s at (has k)) ≡ nothing
-too-big s at k h = go (tokens (drop at s))
+pub too_big : (s : Text) (at : ℕ) (k : Stack) → 4096 < total k → limited (machine_reading s at (has k)) ≡ nothing
+too_big s at k h = go (tokens (drop at s))
   where
     go : (o : Option (List Text)) → limited (o >>= λ ts. machine ts (has k)) ≡ nothing
     go nothing = refl
-    go (some ts) = over (machine ts (has k)) (λ t e. (let p = machine-size ts (has k) t e in omega arith))
+    go (some ts) = over (machine ts (has k)) (λ t e. (let p = machine_size ts (has k) t e in omega arith))
 
-pub small-enough : (t : Tree) → size t ≤ 4096 → limited (some t) ≡ some t
-small-enough t h = ap (λ (b : Bool). guard b >>= λ _. some t) (true-leb (size t) 4096 h)
+pub small_enough : (t : Tree) → size t ≤ 4096 → limited (some t) ≡ some t
+small_enough t h = ap (λ (b : Bool). guard b >>= λ _. some t) (true_leb (size t) 4096 h)
 
 -- a list that closes as nothing, or as too large a tree
-pub shut-out : (s : Text) (at : ℕ) {r : Symbol} → r ≡ symbol-at s at → (t : ℕ) (n : Text) (ts : Trees) (k : Stack) → r ≡ Shut t
-    → ((u : Tree) → close n (back ts none) ≡ some u → 4096 < size u) → limited (machine-reading s at (has (level n ts k))) ≡ nothing
-shut-out s at e t n ts k q h = go (close n (back ts none)) refl
+pub shut_out : (s : Text) (at : ℕ) {r : Symbol} → r ≡ symbol_at s at → (t : ℕ) (n : Text) (ts : Trees) (k : Stack) → r ≡ Shut t
+    → ((u : Tree) → close n (back ts none) ≡ some u → 4096 < size u) → limited (machine_reading s at (has (level n ts k))) ≡ nothing
+shut_out s at e t n ts k q h = go (close n (back ts none)) refl
   where
-    go : (o : Option Tree) → close n (back ts none) ≡ o → limited (machine-reading s at (has (level n ts k))) ≡ nothing
-    go nothing f = ap limited (shut-none s at e t n ts k q f)
-    go (some u) f = ap limited (shut-turn s at e t n ts k u q f) ∙ too-big s t (add u k) (omega (arith, h u f, add-total u k))
+    go : (o : Option Tree) → close n (back ts none) ≡ o → limited (machine_reading s at (has (level n ts k))) ≡ nothing
+    go nothing f = ap limited (shut_none s at e t n ts k q f)
+    go (some u) f = ap limited (shut_turn s at e t n ts k u q f) ∙ too_big s t (add u k) (omega (arith, h u f, add_total u k))
 
-pub parse-limited : (s : Text) → parse s ≡ limited (read-text close s)
+pub parse_limited : (s : Text) → parse s ≡ limited (read_text close s)
 unfolding parse
-parse-limited s = refl
+parse_limited s = refl

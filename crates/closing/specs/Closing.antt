@@ -1,42 +1,38 @@
 -- What closing a list makes of its trees, which stand as cells, the last first. Definitions only.
-use Prim.Native.Nat.{ℕ, _+_, _*_, _≤_, _<_}
-use mathlib.Core.Path.{_≡_}
-use mathlib.Core.List.{List}
-use mathlib.Core.Option.{Option, some, none as nothing}
-use mathlib.Core.Bool.{Bool, true, false}
-use lib.ListN.{getD}
-use Rattle·rules.specs.Bytes.{Text}
-use Rattle·rules.specs.Names.{digit, all}
-use Rattle·rules.specs.Tree.{Tree, Trees, apply, none, more, size, sizes, plus, count}
-use Rattle·rules.specs.Reading.{close, atom-of}
-use Rattle·tree.specs.Cells.{name-at, part, trees-at}
-use Rattle·tree.specs.Arena.{Arena, Grown}
-use Rattle·closing·specs.specs.declared.Ordered.{Ordered}
-use Rattle·closing·specs.specs.declared.Ordered.the-variants.{Upto, Over}
-use Rattle·closing·specs.specs.declared.Closed.{Closed}
-use Rattle·closing·specs.specs.declared.Closed.the-variants.{At, Refused}
-use Rattle·closing·specs.specs.Machine.{back}
-use Rattle·text.specs.Frames.{Outside}
-use Rattle·closing·specs.specs.Words.{LastCell, Added}
+use Rattle.std.specs.Prelude.{ℕ, ◌+◌, ◌*◌, ◌≤◌, ◌<◌, ◌≡◌, List, Bool, true, false, get_or}
+use Rattle.std.proofs.Math.Option.{Option, some, none as nothing}
+use Rattle.rules.specs.Bytes.{Text}
+use Rattle.rules.specs.Names.{digit, all}
+use Rattle.rules.specs.Tree.{Tree, Trees, apply, none, more, size, sizes, plus, count}
+use Rattle.rules.specs.Reading.{close, atom_of}
+use Rattle.tree.specs.Cells.{name_at, part, trees_at}
+use Rattle.tree.specs.Arena.{Arena, Grown}
+use Rattle.closing.specs.declared.Ordered.{Ordered}
+use Rattle.closing.specs.declared.Ordered.TheVariants.{Upto, Over}
+use Rattle.closing.specs.declared.Closed.{Closed}
+use Rattle.closing.specs.declared.Closed.TheVariants.{At, Refused}
+use Rattle.closing.specs.Machine.{back}
+use Rattle.text.specs.Frames.{Outside}
+use Rattle.closing.specs.Words.{LastCell, Added}
 
 -- the cells that closing a list may take, with those below n
 abbrev pub most : Text → List ℕ → ℕ → ℕ → ℕ
-most s w n chain = n + 2 * count (trees-at s w chain) + 2
+most s w n chain = n + 2 * count (trees_at s w chain) + 2
 
 -- the trees in their order: cells n to m - 1 are new
 pub record InOrder (s : Text) (w v : List ℕ) (n m chain first nodes : ℕ) : Type 0 where
   pub arena : Arena s v m
   pub grown : Grown w v n m
   pub placed : first < m
-  pub trees : trees-at s v first ≡ back (trees-at s w chain) none
-  pub counted : nodes ≡ sizes (trees-at s w chain)
+  pub trees : trees_at s v first ≡ back (trees_at s w chain) none
+  pub counted : nodes ≡ sizes (trees_at s w chain)
   pub small : nodes ≤ 4095
   pub from : n ≤ m
-  pub room : m ≤ n + count (trees-at s w chain)
+  pub room : m ≤ n + count (trees_at s w chain)
 
 abbrev pub Orders : Text → List ℕ → List ℕ → ℕ → ℕ → ℕ → Ordered → Type 0
 Orders s w v n limit chain (Upto first m nodes) = InOrder s w v n m chain first nodes
-Orders s w v n limit chain Over = (4095 < sizes (trees-at s w chain)) × Grown w v n limit
+Orders s w v n limit chain Over = (4095 < sizes (trees_at s w chain)) × Grown w v n limit
 
 -- the tree that a closed list is
 pub record Done (s : Text) (w v : List ℕ) (n m limit next : ℕ) (o : Option Tree) : Type 0 where
@@ -61,22 +57,22 @@ summed t (more u us) = summed (plus u t) us
 
 -- whether a list is one application of digits without children
 abbrev pub Alone : Text → List ℕ → ℕ → Bool → Type 0
-Alone s w k true = (0 < k) × (trees-at s w k ≡ more (apply (name-at s w k) none) none) × (all digit (name-at s w k) ≡ true)
-Alone s w k false = (n : Text) → atom-of n (trees-at s w k) ≡ nothing
+Alone s w k true = (0 < k) × (trees_at s w k ≡ more (apply (name_at s w k) none) none) × (all digit (name_at s w k) ≡ true)
+Alone s w k false = (n : Text) → atom_of n (trees_at s w k) ≡ nothing
 
 -- the name and the trees of the level d + 1, closed
-abbrev pub closed-level : Text → List ℕ → ℕ → ℕ → Option Tree
-closed-level s w limit d = close (part s (getD w (4 * limit + 3 * d + 1) 0) (getD w (4 * limit + 3 * d + 2) 0)) (back (trees-at s w (getD w (4 * limit + 3 * d + 3) 0)) none)
+abbrev pub closed_level : Text → List ℕ → ℕ → ℕ → Option Tree
+closed_level s w limit d = close (part s (get_or w (4 * limit + 3 * d + 1) 0) (get_or w (4 * limit + 3 * d + 2) 0)) (back (trees_at s w (get_or w (4 * limit + 3 * d + 3) 0)) none)
 
 -- that tree put on the level d
 pub record Popped (s : Text) (w v : List ℕ) (n m limit d : ℕ) : Type 0 where
   pub tree : Tree
-  pub is : closed-level s w limit d ≡ some tree
+  pub is : closed_level s w limit d ≡ some tree
   pub small : size tree ≤ 4096
   pub grows : n < m
-  pub room : m ≤ most s w n (getD w (4 * limit + 3 * d + 3) 0)
+  pub room : m ≤ most s w n (get_or w (4 * limit + 3 * d + 3) 0)
   pub added : Added s w v n m limit d tree
 
 abbrev pub Pops : Text → List ℕ → List ℕ → ℕ → ℕ → ℕ → Closed → Type 0
 Pops s w v n limit d (At m) = Popped s w v n m limit d
-Pops s w v n limit d Refused = NoTree (closed-level s w limit d) × Outside w v (4 * n) (4 * limit)
+Pops s w v n limit d Refused = NoTree (closed_level s w limit d) × Outside w v (4 * n) (4 * limit)

@@ -1,17 +1,13 @@
 -- The machine that reads a term one token at a time. The stack has a level for each list that is open, and one below for the whole
 -- term; a level holds the trees read so far, the last first. Definitions only.
-use Prim.Native.Nat.{ℕ, _+_, _*_, _≤_}
-use mathlib.Core.Path.{_≡_}
-use mathlib.Core.List.{List, [], _∷_}
-use mathlib.Core.Option.{Option, some, none as nothing}
-use mathlib.Core.Bool.{cond, not}
-use lib.ListN.{drop}
-use Rattle·rules.specs.Bytes.{Text, same}
-use Rattle·rules.specs.Text.{bytes, is-one-of}
-use Rattle·rules.specs.Maybe.{_>>=_, guard}
-use Rattle·rules.specs.Tree.{Tree, Trees, none, more, size, sizes, count}
-use Rattle·rules.specs.Tokens.{tokens}
-use Rattle·rules.specs.Reading.{leaf, close, single}
+use Rattle.std.specs.Prelude.{ℕ, ◌+◌, ◌*◌, ◌≤◌, ◌≡◌, List, [], ◌∷◌, cond, not, drop}
+use Rattle.std.proofs.Math.Option.{Option, some, none as nothing}
+use Rattle.rules.specs.Bytes.{Text, same}
+use Rattle.rules.specs.Text.{bytes, is_one_of}
+use Rattle.rules.specs.Maybe.{◌>>=◌, guard}
+use Rattle.rules.specs.Tree.{Tree, Trees, none, more, size, sizes, count}
+use Rattle.rules.specs.Tokens.{tokens}
+use Rattle.rules.specs.Reading.{leaf, close, single}
 
 pub data Stack : Type 0 where
   bottom : Trees → Stack
@@ -34,32 +30,32 @@ pub data State : Type 0 where
   has : Stack → State
 
 -- a token where a term is there
-abbrev pub machine-after : Stack → Text → Option State
-machine-after (bottom ts) x = nothing
-machine-after (level n ts k) x = cond (same (bytes ",") x) (some (wants (level n ts k))) (cond (same (bytes ")") x) (close n (back ts none) >>= λ t. some (has (add t k))) nothing)
+abbrev pub machine_after : Stack → Text → Option State
+machine_after (bottom ts) x = nothing
+machine_after (level n ts k) x = cond (same (bytes ",") x) (some (wants (level n ts k))) (cond (same (bytes ")") x) (close n (back ts none) >>= λ t. some (has (add t k))) nothing)
 
-abbrev pub machine-step : State → Text → Option State
-machine-step (wants k) x = guard (not (is-one-of (bytes "(" ∷ bytes ")" ∷ bytes "," ∷ []) x)) >>= λ _. some (named x k)
-machine-step (named n k) x = cond (same (bytes "(") x) (some (wants (level n none k))) (machine-after (add (leaf n) k) x)
-machine-step (has k) x = machine-after k x
+abbrev pub machine_step : State → Text → Option State
+machine_step (wants k) x = guard (not (is_one_of (bytes "(" ∷ bytes ")" ∷ bytes "," ∷ []) x)) >>= λ _. some (named x k)
+machine_step (named n k) x = cond (same (bytes "(") x) (some (wants (level n none k))) (machine_after (add (leaf n) k) x)
+machine_step (has k) x = machine_after k x
 
 -- at the end the only tree of the bottom is the term
-abbrev pub finished-stack : Stack → Option Tree
-finished-stack (bottom ts) = single ts
-finished-stack (level n ts k) = nothing
+abbrev pub finished_stack : Stack → Option Tree
+finished_stack (bottom ts) = single ts
+finished_stack (level n ts k) = nothing
 
-abbrev pub machine-end : State → Option Tree
-machine-end (wants k) = nothing
-machine-end (named n k) = finished-stack (add (leaf n) k)
-machine-end (has k) = finished-stack k
+abbrev pub machine_end : State → Option Tree
+machine_end (wants k) = nothing
+machine_end (named n k) = finished_stack (add (leaf n) k)
+machine_end (has k) = finished_stack k
 
 unfoldable pub machine : List Text → State → Option Tree
-machine [] st = machine-end st
-machine (x ∷ ts) st = machine-step st x >>= machine ts
+machine [] st = machine_end st
+machine (x ∷ ts) st = machine_step st x >>= machine ts
 
 -- what the text from a position on reads as, in a state
-abbrev pub machine-reading : Text → ℕ → State → Option Tree
-machine-reading s at st = tokens (drop at s) >>= λ ts. machine ts st
+abbrev pub machine_reading : Text → ℕ → State → Option Tree
+machine_reading s at st = tokens (drop at s) >>= λ ts. machine ts st
 
 -- the nodes of all trees of a stack
 abbrev pub total : Stack → ℕ
@@ -77,6 +73,6 @@ HasOne (bottom ts) = (t : Tree) × (ts ≡ more t none) × (size t ≤ 4096)
 HasOne (level n ts k) = Bare k
 
 -- the cells that closing the open lists may take
-abbrev pub closing-room : Stack → ℕ
-closing-room (bottom ts) = 0
-closing-room (level n ts k) = 2 * count ts + 2 + closing-room k
+abbrev pub closing_room : Stack → ℕ
+closing_room (bottom ts) = 0
+closing_room (level n ts k) = 2 * count ts + 2 + closing_room k

@@ -1,37 +1,32 @@
 // Closing a list: its trees in their order, and the application, the sum or the atom that they make.
-use leaves::all_digits;
-use leaves::is_letter_name;
+#![tactic(auto)]
+
+ghost use Rattle.std.specs.Prelude.{◌≡◌, [], ◌∷◌, ◌+◌, ◌*◌, ◌<◌, ◌≤◌, ◌^◌, length};
+ghost use Rattle.std.proofs.Math.Option.{some};
+ghost use Rattle.rules.specs.Names.{digit, all, letter_name};
+ghost use Rattle.rules.specs.Tree.{apply, none, more, count, tamtplus};
+ghost use Rattle.rules.specs.Reading.{close, atom_of, sum_of};
+ghost use Rattle.tree.specs.Cells.{part, name_at, next_of, tree_at, trees_at};
+ghost use Rattle.tree.specs.Arena.{Arena};
+ghost use Rattle.closing.specs.Machine.{back};
+ghost use Rattle.closing.specs.Words.{NamePlaced};
+ghost use Rattle.closing.specs.Closing.{most, Orders, Closes, Alone, summed};
+
+use leaves::{all_digits, is_letter_name};
 use text::same;
-use tree::cells::APPLICATION;
-use tree::cells::count_of;
-use tree::cells::first_of;
-use tree::cells::kind_of;
-use tree::cells::length_of;
-use tree::cells::next_of;
-use tree::cells::push_cell;
-use tree::cells::share;
-use tree::cells::start_of;
-ghost use mathlib.Core.Path.{_≡_};
-ghost use mathlib.Core.Option.{some};
-ghost use mathlib.Core.List.{[], _∷_};
-ghost use Prim.Native.Nat.{_+_, _*_, _<_, _≤_, _^_};
-ghost use lib.ListN.{length};
-ghost use Rattle·rules.specs.Names.{digit, all, letter-name};
-ghost use Rattle·rules.specs.Tree.{apply, none, more, count, tamtplus};
-ghost use Rattle·rules.specs.Reading.{close, atom-of, sum-of};
-ghost use Rattle·tree.specs.Cells.{part, name-at, next-of, tree-at, trees-at};
-ghost use Rattle·tree.specs.Arena.{Arena};
-ghost use Rattle·closing·specs.specs.Machine.{back};
-ghost use Rattle·closing·specs.specs.Words.{NamePlaced};
-ghost use Rattle·closing·specs.specs.Closing.{most, Orders, Closes, Alone, summed};
+use tree::cells::{
+    APPLICATION, count_of, first_of, kind_of, length_of, next_of, push_cell, share, start_of,
+};
 
 // The first of the new cells, the free end after them and their count of nodes.
+#[derive(Clone, Copy)]
 enum Ordered {
     Upto(usize, usize, usize),
     Over,
 }
 
 // The free end after the closed list's cell, which is the last.
+#[derive(Clone, Copy)]
 pub enum Closed {
     At(usize),
     Refused,
@@ -39,10 +34,10 @@ pub enum Closed {
 
 // The trees of a chain once more, in their order, unless they have more than 4,095 nodes.
 fn in_order(sheet: &[u8], work: &mut [u32], start: usize, chain: usize) -> Ordered
-    requires { ⌜ Arena (now sheet) (now work) start ⌝ }
-    requires { ⌜ chain < start ⌝ }
-    requires { ⌜ (4 * most (now sheet) (now work) start chain ≤ length (now work)) × (most (now sheet) (now work) start chain < 2 ^ 32) ⌝ }
-    ensures { λ r. ⌜ Orders (now (sheet .entry)) (now (work .entry)) (now (work .exit)) start (most (now (sheet .entry)) (now (work .entry)) start chain) chain r ⌝ }
+    requires arena { Arena sheet.now work.old start }
+    requires chain_lt_start { chain < start }
+    requires chain_in_bounds { (4 * most sheet.now work.old start chain ≤ length work.old) × (most sheet.now work.old start chain < 2 ^ 32) }
+    ensures { Orders sheet.now work.old work.new start (most sheet.now work.old start chain) chain result }
 {
     let mut free = start;
     let mut k = chain;
@@ -72,11 +67,11 @@ fn list(
     chain: usize,
     next: usize,
 ) -> Closed
-    requires { ⌜ Arena (now sheet) (now work) free ⌝ }
-    requires { ⌜ (chain < free) × (next < free) ⌝ }
-    requires { ⌜ (4 * most (now sheet) (now work) free chain ≤ length (now work)) × (most (now sheet) (now work) free chain < 2 ^ 32) ⌝ }
-    requires { ⌜ NamePlaced (now sheet) start len × (length (now sheet) ≤ 65536) ⌝ }
-    ensures { λ r. ⌜ Closes (now (sheet .entry)) (now (work .entry)) (now (work .exit)) free (most (now (sheet .entry)) (now (work .entry)) free chain) next (some (apply (part (now (sheet .entry)) start len) (back (trees-at (now (sheet .entry)) (now (work .entry)) chain) none))) r ⌝ }
+    requires arena { Arena sheet.now work.old free }
+    requires chain_lt_free { (chain < free) × (next < free) }
+    requires chain_in_bounds { (4 * most sheet.now work.old free chain ≤ length work.old) × (most sheet.now work.old free chain < 2 ^ 32) }
+    requires name_placed { NamePlaced sheet.now start len × (length sheet.now ≤ 65536) }
+    ensures { Closes sheet.now work.old work.new free (most sheet.now work.old free chain) next (some (apply (part sheet.now start len) (back (trees_at sheet.now work.old chain) none))) result }
 {
     let children = in_order(sheet, work, free, chain);
     let Ordered::Upto(first, end, nodes) = children else {
@@ -87,11 +82,11 @@ fn list(
 
 // Summands put in front of the tree of the last cell, which has no link, one after another.
 fn nest(sheet: &[u8], work: &mut [u32], tail: usize, at: usize, len: usize, chain: usize) -> Closed
-    requires { ⌜ Arena (now sheet) (now work) (tail + 1) ⌝ }
-    requires { ⌜ (0 < tail) × (next-of (now work) tail ≡ 0) × (0 < chain) × (chain < tail + 1) ⌝ }
-    requires { ⌜ (4 * (tail + 1 + 2 * count (trees-at (now sheet) (now work) chain)) ≤ length (now work)) × (tail + 1 + 2 * count (trees-at (now sheet) (now work) chain) < 2 ^ 32) ⌝ }
-    requires { ⌜ NamePlaced (now sheet) at len × (length (now sheet) ≤ 65536) × (part (now sheet) at len ≡ tamtplus) ⌝ }
-    ensures { λ r. ⌜ Closes (now (sheet .entry)) (now (work .entry)) (now (work .exit)) (tail + 1) (tail + 1 + 2 * count (trees-at (now (sheet .entry)) (now (work .entry)) chain)) 0 (some (summed (tree-at (now (sheet .entry)) (now (work .entry)) tail) (trees-at (now (sheet .entry)) (now (work .entry)) chain))) r ⌝ }
+    requires arena { Arena sheet.now work.old (tail + 1) }
+    requires tail_nonzero { (0 < tail) × (next_of work.old tail ≡ 0) × (0 < chain) × (chain < tail + 1) }
+    requires chain_in_bounds { (4 * (tail + 1 + 2 * count (trees_at sheet.now work.old chain)) ≤ length work.old) × (tail + 1 + 2 * count (trees_at sheet.now work.old chain) < 2 ^ 32) }
+    requires name_placed { NamePlaced sheet.now at len × (length sheet.now ≤ 65536) × (part sheet.now at len ≡ tamtplus) }
+    ensures { Closes sheet.now work.old work.new (tail + 1) (tail + 1 + 2 * count (trees_at sheet.now work.old chain)) 0 (some (summed (tree_at sheet.now work.old tail) (trees_at sheet.now work.old chain))) result }
 {
     let mut last = tail;
     let mut k = chain;
@@ -119,11 +114,11 @@ fn sum(
     chain: usize,
     next: usize,
 ) -> Closed
-    requires { ⌜ Arena (now sheet) (now work) start ⌝ }
-    requires { ⌜ (chain < start) × (next < start) ⌝ }
-    requires { ⌜ (4 * most (now sheet) (now work) start chain ≤ length (now work)) × (most (now sheet) (now work) start chain < 2 ^ 32) ⌝ }
-    requires { ⌜ NamePlaced (now sheet) at len × (length (now sheet) ≤ 65536) × (part (now sheet) at len ≡ tamtplus) ⌝ }
-    ensures { λ r. ⌜ Closes (now (sheet .entry)) (now (work .entry)) (now (work .exit)) start (most (now (sheet .entry)) (now (work .entry)) start chain) next (sum-of (back (trees-at (now (sheet .entry)) (now (work .entry)) chain) none)) r ⌝ }
+    requires arena { Arena sheet.now work.old start }
+    requires chain_lt_start { (chain < start) × (next < start) }
+    requires chain_in_bounds { (4 * most sheet.now work.old start chain ≤ length work.old) × (most sheet.now work.old start chain < 2 ^ 32) }
+    requires name_placed { NamePlaced sheet.now at len × (length sheet.now ≤ 65536) × (part sheet.now at len ≡ tamtplus) }
+    ensures { Closes sheet.now work.old work.new start (most sheet.now work.old start chain) next (sum_of (back (trees_at sheet.now work.old chain) none)) result }
 {
     if chain == 0 {
         return Closed::Refused;
@@ -143,9 +138,9 @@ fn sum(
 
 // Whether the list at cell k is one application of digits, without children.
 fn is_number(sheet: &[u8], work: &[u32], free: usize, k: usize) -> bool
-    requires { ⌜ Arena (now sheet) (now work) free ⌝ }
-    requires { ⌜ k < free ⌝ }
-    ensures { λ r. ⌜ Alone (now (sheet .entry)) (now (work .entry)) k r ⌝ }
+    requires arena { Arena sheet.now work.now free }
+    requires k_lt_free { k < free }
+    ensures { Alone sheet.now work.now k result }
 {
     if k == 0 {
         return false;
@@ -177,11 +172,11 @@ fn atom(
     chain: usize,
     next: usize,
 ) -> Closed
-    requires { ⌜ Arena (now sheet) (now work) free ⌝ }
-    requires { ⌜ (chain < free) × (next < free) ⌝ }
-    requires { ⌜ (4 * most (now sheet) (now work) free chain ≤ length (now work)) × (most (now sheet) (now work) free chain < 2 ^ 32) ⌝ }
-    requires { ⌜ (7 ≤ letter) × (letter < 256) ⌝ }
-    ensures { λ r. ⌜ Closes (now (sheet .entry)) (now (work .entry)) (now (work .exit)) free (most (now (sheet .entry)) (now (work .entry)) free chain) next (atom-of (letter ∷ []) (back (trees-at (now (sheet .entry)) (now (work .entry)) chain) none)) r ⌝ }
+    requires arena { Arena sheet.now work.old free }
+    requires chain_lt_free { (chain < free) × (next < free) }
+    requires chain_in_bounds { (4 * most sheet.now work.old free chain ≤ length work.old) × (most sheet.now work.old free chain < 2 ^ 32) }
+    requires le_letter { (7 ≤ letter) × (letter < 256) }
+    ensures { Closes sheet.now work.old work.new free (most sheet.now work.old free chain) next (atom_of (letter ∷ []) (back (trees_at sheet.now work.old chain) none)) result }
 {
     if !is_number(sheet, work, free, chain) {
         return Closed::Refused;
@@ -193,7 +188,7 @@ fn atom(
 
 // The kind of an atom: its letter.
 fn letter_kind(b: u8) -> usize
-    ensures { λ r. ⌜ (r ≡ b) × (r < 256) ⌝ }
+    ensures { (result ≡ b) × (result < 256) }
 {
     b as usize
 }
@@ -208,11 +203,11 @@ pub fn shut(
     chain: usize,
     next: usize,
 ) -> Closed
-    requires { ⌜ Arena (now sheet) (now work) free ⌝ }
-    requires { ⌜ (chain < free) × (next < free) ⌝ }
-    requires { ⌜ (4 * most (now sheet) (now work) free chain ≤ length (now work)) × (most (now sheet) (now work) free chain < 2 ^ 32) ⌝ }
-    requires { ⌜ NamePlaced (now sheet) at len × (length (now sheet) ≤ 65536) ⌝ }
-    ensures { λ r. ⌜ Closes (now (sheet .entry)) (now (work .entry)) (now (work .exit)) free (most (now (sheet .entry)) (now (work .entry)) free chain) next (close (part (now (sheet .entry)) at len) (back (trees-at (now (sheet .entry)) (now (work .entry)) chain) none)) r ⌝ }
+    requires arena { Arena sheet.now work.old free }
+    requires chain_lt_free { (chain < free) × (next < free) }
+    requires chain_in_bounds { (4 * most sheet.now work.old free chain ≤ length work.old) × (most sheet.now work.old free chain < 2 ^ 32) }
+    requires name_placed { NamePlaced sheet.now at len × (length sheet.now ≤ 65536) }
+    ensures { Closes sheet.now work.old work.new free (most sheet.now work.old free chain) next (close (part sheet.now at len) (back (trees_at sheet.now work.old chain) none)) result }
 {
     let end = at + len;
     if is_letter_name(&sheet[at..end]) {

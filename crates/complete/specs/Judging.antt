@@ -1,29 +1,24 @@
 -- What the schemes so far decide, and what judging a scheme needs. Definitions only.
-use Prim.Native.Nat.{ℕ, _+_, _*_, _<_, _≤_}
-use mathlib.Core.Path.{_≡_}
-use mathlib.Core.Bool.{false, cond}
-use mathlib.Core.List.{List}
-use mathlib.Core.Option.{Option, some, none as nothing}
-use lib.Dec.{leb}
-use lib.ListN.{length}
-use Rattle·rules.specs.Bytes.{Text}
-use Rattle·rules.specs.Tree.{Tree, Trees, size}
-use Rattle·rules.specs.Substitution.{Binding, Pair, instantiate, size-pairs}
-use Rattle·rules.specs.Solving.{solved, unify}
-use Rattle·rules.specs.Variants.{Variant, system}
-use Rattle·laws.specs.Schemes.{scheme-at, Judgement, pending, settled, answered, judge-verdict, judged-from}
-use Rattle·laws.specs.Memory.{OverPairs}
-use Rattle·tree.specs.Cells.{tree-at, trees-at}
-use Rattle·tree.specs.Arena.{Below}
-use Rattle·elimination.specs.Stack.{FitPairs}
-use Rattle·elimination.specs.Area.{Room}
-use Rattle·sheet.specs.Claims.{truth}
-use Rattle·sheet.specs.declared.claims.Claim.{Claim}
-use Rattle·schemes.specs.Building.{Fresh}
-use Rattle·variables.specs.Pairing.{names-at}
-use Rattle·families.specs.Generalizing.{variants-at, AllMatched}
-use Rattle·complete·specs.specs.declared.judging.Judged.{Judged}
-use Rattle·complete·specs.specs.declared.judging.Judged.the-variants.{Pending, Missing, Over, Unsupported}
+use Rattle.std.specs.Prelude.{ℕ, ◌+◌, ◌*◌, ◌<◌, ◌≤◌, ◌≡◌, false, cond, List, leb, length}
+use Rattle.std.proofs.Math.Option.{Option, some, none as nothing}
+use Rattle.rules.specs.Bytes.{Text}
+use Rattle.rules.specs.Tree.{Tree, Trees, size}
+use Rattle.rules.specs.Substitution.{Binding, Pair, instantiate, size_pairs}
+use Rattle.rules.specs.Solving.{solved, unify}
+use Rattle.rules.specs.Variants.{Variant, system}
+use Rattle.laws.specs.Schemes.{scheme_at, Judgement, pending, settled, answered, judge_verdict, judged_from}
+use Rattle.laws.specs.Memory.{OverPairs}
+use Rattle.tree.specs.Cells.{tree_at, trees_at}
+use Rattle.tree.specs.Arena.{Below}
+use Rattle.elimination.specs.Stack.{FitPairs}
+use Rattle.elimination.specs.Area.{Room}
+use Rattle.sheet.specs.Claims.{truth}
+use Rattle.sheet.specs.declared.claims.Claim.{Claim}
+use Rattle.schemes.specs.Building.{Fresh}
+use Rattle.variables.specs.Pairing.{names_at}
+use Rattle.families.specs.Generalizing.{variants_at, AllMatched}
+use Rattle.complete.specs.declared.judging.Judged.{Judged}
+use Rattle.complete.specs.declared.judging.Judged.TheVariants.{Pending, Missing, Over, Unsupported}
 
 abbrev pub judgement : Judged → Option Judgement
 judgement Pending = some pending
@@ -32,55 +27,55 @@ judgement Over = some (settled nothing)
 judgement Unsupported = nothing
 
 -- fuel that no run over so many nodes and names uses up, at most 65,536
-unfoldable pub fuel-for : ℕ → ℕ → ℕ
-fuel-for nodes named = cond (leb (nodes + 4096 * named + 1) 65535) (nodes + 4096 * named + 1) 65536
+unfoldable pub fuel_for : ℕ → ℕ → ℕ
+fuel_for nodes named = cond (leb (nodes + 4096 * named + 1) 65535) (nodes + 4096 * named + 1) 65536
 
 -- the cells of a run from the free end n on end at most here
-abbrev pub run-end : ℕ → ℕ → ℕ → ℕ
-run-end n nodes named = n + nodes + 2 * fuel-for nodes named + 12293 * named
+abbrev pub run_end : ℕ → ℕ → ℕ → ℕ
+run_end n nodes named = n + nodes + 2 * fuel_for nodes named + 12293 * named
 
 -- by the names of the fresh variables
 module _ (name : ℕ → Text) where
   -- the system of the i-th scheme of a term
-  abbrev pub system-of : Tree → ℕ → List Pair
-  system-of term i = system term (scheme-at name term 0 i)
+  abbrev pub system_of : Tree → ℕ → List Pair
+  system_of term i = system term (scheme_at name term 0 i)
 
   -- the cells of its run end at most here
-  abbrev pub solved-end : ℕ → Tree → ℕ → ℕ → ℕ
-  solved-end n term named i = run-end (n + 2 * size term + 1024) (size-pairs (system-of term i)) named
+  abbrev pub solved_end : ℕ → Tree → ℕ → ℕ → ℕ
+  solved_end n term named i = run_end (n + 2 * size term + 1024) (size_pairs (system_of term i)) named
 
   -- the i-th scheme can be judged after n cells: its pairs are fit and over so many names, there is room for its run, and for the
   -- matches of the members ts at the variables xs, with 4,096 cells for the instance of its value and two for each pair
   pub record Judgeable (s : Text) (w : List ℕ) (n named : ℕ) (xs : List Text) (ts : Trees) (term : Tree) (i : ℕ) : Type 0 where
     pub names : List Text
-    pub over : OverPairs names (system-of term i)
+    pub over : OverPairs names (system_of term i)
     pub few : length names ≤ named
-    pub fit : FitPairs (system-of term i)
-    pub room : Room w (solved-end n term named i)
-    pub matched : (bs : List Binding) → unify 65536 (system-of term i) .0 ≡ solved bs
-        → AllMatched s w (solved-end n term named i + 4098 + 2 * length xs) xs bs (instantiate bs (scheme-at name term 0 i .value)) ts
+    pub fit : FitPairs (system_of term i)
+    pub room : Room w (solved_end n term named i)
+    pub matched : (bs : List Binding) → (unify 65536 (system_of term i)).0 ≡ solved bs
+        → AllMatched s w (solved_end n term named i + 4098 + 2 * length xs) xs bs (instantiate bs (scheme_at name term 0 i).value) ts
 
 -- the fresh variables from cell `fresh` on have names by which the i-th scheme can be judged
 pub record CanJudge (s : Text) (w : List ℕ) (n fresh named names members term i : ℕ) : Type 0 where
   pub name : ℕ → Text
   pub cells : Fresh s w n fresh name
-  pub scheme : Judgeable name s w n named (names-at s w names) (trees-at s w members) (tree-at s w term) i
+  pub scheme : Judgeable name s w n named (names_at s w names) (trees_at s w members) (tree_at s w term) i
 
 -- each of the schemes can
 pub record CanJudgeAll (s : Text) (w : List ℕ) (n fresh named names members term count : ℕ) : Type 0 where
   pub name : ℕ → Text
   pub cells : Fresh s w n fresh name
-  pub schemes : (i : ℕ) → i < count → Judgeable name s w n named (names-at s w names) (trees-at s w members) (tree-at s w term) i
+  pub schemes : (i : ℕ) → i < count → Judgeable name s w n named (names_at s w names) (trees_at s w members) (tree_at s w term) i
 
 -- what the i-th scheme makes of what was decided before it
 abbrev pub DecidesScheme : (ℕ → Text) → List Text → List Variant → Tree → ℕ → Judged → Judged → Type 0
 DecidesScheme name xs ms term i before r =
-    (j : Judgement) → judgement before ≡ some j → judgement r ≡ judge-verdict xs ms (scheme-at name term 0 i .value) (unify 65536 (system-of name term i) .0) j
+    (j : Judgement) → judgement before ≡ some j → judgement r ≡ judge_verdict xs ms (scheme_at name term 0 i).value (unify 65536 (system_of name term i)).0 j
 
 -- by any names that the fresh variables from cell `fresh` on have
 abbrev pub Judges : Text → List ℕ → List ℕ → ℕ → ℕ → ℕ → ℕ → ℕ → ℕ → Judged → Judged → Type 0
 Judges s w v n fresh names members term i before r =
-    ((name : ℕ → Text) → Fresh s w n fresh name → DecidesScheme name (names-at s w names) (variants-at s w members) (tree-at s w term) i before r) × Below w v n
+    ((name : ℕ → Text) → Fresh s w n fresh name → DecidesScheme name (names_at s w names) (variants_at s w members) (tree_at s w term) i before r) × Below w v n
 
 -- the answer after the last scheme
 abbrev pub Ends : Judged → Claim → Type 0
@@ -89,4 +84,4 @@ Ends state r = (j : Judgement) → judgement state ≡ some j → truth r ≡ an
 -- the answer of all schemes, by any such names
 abbrev pub JudgesAll : Text → List ℕ → List ℕ → ℕ → ℕ → ℕ → ℕ → ℕ → Claim → Type 0
 JudgesAll s w v n fresh names members term r =
-    ((name : ℕ → Text) → Fresh s w n fresh name → truth r ≡ judged-from name (tree-at s w term) (names-at s w names) (variants-at s w members) 0 pending) × Below w v n
+    ((name : ℕ → Text) → Fresh s w n fresh name → truth r ≡ judged_from name (tree_at s w term) (names_at s w names) (variants_at s w members) 0 pending) × Below w v n

@@ -1,17 +1,15 @@
 // Kind `complete`: whether every scheme that is solved and normal is generalized by a member (variants.rs, `complete`).
+ghost use Rattle.std.specs.Prelude.{◌<◌};
+ghost use Rattle.tree.specs.Arena.{Arena};
+ghost use Rattle.complete.specs.Completing.{CompleteInput, ClaimsComplete};
+
 use crate::judging::judge;
-use families::members::Members;
-use families::members::read_members;
+use families::members::{Members, read_members};
 use fresh::cells::fresh_cells;
-use fresh::naming::Named;
-use fresh::naming::name_variables;
-use schemes::counting::Counted;
-use schemes::counting::count_schemes;
+use fresh::naming::{Named, name_variables};
+use schemes::counting::{Counted, count_schemes};
 use sheet::Cursor;
 use sheet::claims::Claim;
-ghost use Prim.Native.Nat.{_<_};
-ghost use Rattle·tree.specs.Arena.{Arena};
-ghost use Rattle·complete·specs.specs.Completing.{CompleteInput, ClaimsComplete};
 
 // Whether the members from a cursor on are complete for the tree of cell term; no claim where a text is unreadable, a variable has no
 // index, there are over 4,096 schemes or one of them is not supported. `named` is how many names a scheme has at most.
@@ -23,9 +21,9 @@ pub fn complete(
     named: usize,
     members: Cursor,
 ) -> Claim
-    requires { ⌜ Arena (now sheet) (now work) free ⌝ }
-    requires { ⌜ (0 < term) × (term < free) × CompleteInput (now sheet) (now work) free term named (members .at) ⌝ }
-    ensures { λ r. ⌜ ClaimsComplete (now (sheet .entry)) (now (work .entry)) (now (work .exit)) free term (members .at) r ⌝ }
+    requires arena { Arena sheet.now work.old free }
+    requires term_nonzero { (0 < term) × (term < free) × CompleteInput sheet.now work.old free term named members.at }
+    ensures { ClaimsComplete sheet.now work.old work.new free term members.at result }
 {
     let found = name_variables(sheet, work, free, term);
     let Named::Names {

@@ -1,33 +1,30 @@
 // What the schemes decide: the system of each is unified, and a member is looked for that generalizes its solution and value.
+ghost use Rattle.std.specs.Prelude.{◌≡◌, ◌+◌, ◌*◌, ◌<◌, ◌≤◌, length};
+ghost use Rattle.std.proofs.Math.Option.{some};
+ghost use Rattle.rules.specs.Tree.{size};
+ghost use Rattle.rules.specs.Substitution.{instantiate};
+ghost use Rattle.rules.specs.Variants.{scheme_count};
+ghost use Rattle.laws.specs.Schemes.{pending, judge};
+ghost use Rattle.tree.specs.Cells.{tree_at, trees_at};
+ghost use Rattle.tree.specs.Arena.{Arena, Below};
+ghost use Rattle.substitution.specs.Bindings.{bindings_at};
+ghost use Rattle.variables.specs.Pairing.{OfVariables, names_at};
+ghost use Rattle.families.specs.Generalizing.{variants_at, AllMatched};
+ghost use Rattle.complete.specs.Judging.{judgement, fuel_for, CanJudge, CanJudgeAll, Judges, Ends, JudgesAll};
+
 use equivalence::equivalent;
 use families::generalizing::generalized;
 use reduction::building::nodes_in;
 use reduction::normalizing::normalize;
 use schemes::systems::system_at;
 use sheet::claims::Claim;
-use substitution::instances::Built;
-use substitution::instances::substitute;
-use unifier::room::NAME_CELLS;
-use unifier::room::STEP_WORDS;
-use unifier::unifying::Outcome;
-use unifier::unifying::unify;
-ghost use mathlib.Core.Path.{_≡_};
-ghost use mathlib.Core.Option.{some};
-ghost use Prim.Native.Nat.{_+_, _*_, _<_, _≤_};
-ghost use lib.ListN.{length};
-ghost use Rattle·rules.specs.Tree.{size};
-ghost use Rattle·rules.specs.Substitution.{instantiate};
-ghost use Rattle·rules.specs.Variants.{scheme-count};
-ghost use Rattle·laws.specs.Schemes.{pending, judge};
-ghost use Rattle·tree.specs.Cells.{tree-at, trees-at};
-ghost use Rattle·tree.specs.Arena.{Arena, Below};
-ghost use Rattle·substitution.specs.Bindings.{bindings-at};
-ghost use Rattle·variables.specs.Pairing.{OfVariables, names-at};
-ghost use Rattle·families.specs.Generalizing.{variants-at, AllMatched};
-ghost use Rattle·complete·specs.specs.Judging.{judgement, fuel-for, CanJudge, CanJudgeAll, Judges, Ends, JudgesAll};
+use substitution::instances::{Built, substitute};
+use unifier::room::{NAME_CELLS, STEP_WORDS};
+use unifier::unifying::{Outcome, unify};
 
 // What the schemes so far decide: nothing yet, that one has no member, that the instance of one is over 4,096 nodes, or that one is not
 // supported, which ends the judging.
+#[derive(Clone, Copy)]
 pub(crate) enum Judged {
     Pending,
     Missing,
@@ -45,11 +42,11 @@ fn judge_solved(
     names: usize,
     members: usize,
 ) -> Judged
-    requires { ⌜ Arena (now sheet) (now work) free × (length (now sheet) ≤ 65536) ⌝ }
-    requires { ⌜ (0 < value) × (value < free) × (bindings < free) × (names < free) × (members < free) × OfVariables (trees-at (now sheet) (now work) names) ⌝ }
-    requires { ⌜ (4 * free + 155648 ≤ length (now work)) × (free < 4294959104) ⌝ }
-    requires { ⌜ AllMatched (now sheet) (now work) (free + 4098 + 2 * length (names-at (now sheet) (now work) names)) (names-at (now sheet) (now work) names) (bindings-at (now sheet) (now work) bindings) (instantiate (bindings-at (now sheet) (now work) bindings) (tree-at (now sheet) (now work) value)) (trees-at (now sheet) (now work) members) ⌝ }
-    ensures { λ r. ⌜ (judgement r ≡ some (judge (names-at (now (sheet .entry)) (now (work .entry)) names) (variants-at (now (sheet .entry)) (now (work .entry)) members) (bindings-at (now (sheet .entry)) (now (work .entry)) bindings) (tree-at (now (sheet .entry)) (now (work .entry)) value) pending)) × Below (now (work .entry)) (now (work .exit)) free ⌝ }
+    requires arena { Arena sheet.now work.old free × (length sheet.now ≤ 65536) }
+    requires value_nonzero { (0 < value) × (value < free) × (bindings < free) × (names < free) × (members < free) × OfVariables (trees_at sheet.now work.old names) }
+    requires free_in_bounds { (4 * free + 155648 ≤ length work.old) × (free < 4294959104) }
+    requires all_matched { AllMatched sheet.now work.old (free + 4098 + 2 * length (names_at sheet.now work.old names)) (names_at sheet.now work.old names) (bindings_at sheet.now work.old bindings) (instantiate (bindings_at sheet.now work.old bindings) (tree_at sheet.now work.old value)) (trees_at sheet.now work.old members) }
+    ensures { (judgement result ≡ some (judge (names_at sheet.now work.old names) (variants_at sheet.now work.old members) (bindings_at sheet.now work.old bindings) (tree_at sheet.now work.old value) pending)) × Below work.old work.new free }
 {
     let built = substitute(sheet, work, free, value, bindings, 0, 4096);
     let Built::Done {
@@ -73,8 +70,8 @@ fn judge_solved(
 
 // Fuel that no run over so many nodes and names uses up, at most 65,536.
 fn enough(nodes: usize, named: usize) -> usize
-    requires { ⌜ nodes + 4096 * named < 4294967296 ⌝ }
-    ensures { λ r. ⌜ r ≡ fuel-for nodes named ⌝ }
+    requires { nodes + 4096 * named < 4294967296 }
+    ensures { result ≡ fuel_for nodes named }
 {
     let fuel = nodes + 4096 * named + 1;
     if fuel <= 65535 {
@@ -98,11 +95,11 @@ fn judge_scheme(
     members: usize,
     before: Judged,
 ) -> Judged
-    requires { ⌜ Arena (now sheet) (now work) free × (length (now sheet) ≤ 65536) ⌝ }
-    requires { ⌜ (0 < term) × (term < free) × (names < free) × (members < free) × OfVariables (trees-at (now sheet) (now work) names) ⌝ }
-    requires { ⌜ (size (tree-at (now sheet) (now work) term) ≤ 4096) × (count ≡ scheme-count (tree-at (now sheet) (now work) term)) × (count ≤ 4096) × (index < count) ⌝ }
-    requires { ⌜ CanJudge (now sheet) (now work) free fresh named names members term index ⌝ }
-    ensures { λ r. ⌜ Judges (now (sheet .entry)) (now (work .entry)) (now (work .exit)) free fresh names members term index before r ⌝ }
+    requires arena { Arena sheet.now work.old free × (length sheet.now ≤ 65536) }
+    requires term_nonzero { (0 < term) × (term < free) × (names < free) × (members < free) × OfVariables (trees_at sheet.now work.old names) }
+    requires term_bound { (size (tree_at sheet.now work.old term) ≤ 4096) × (count ≡ scheme_count (tree_at sheet.now work.old term)) × (count ≤ 4096) × (index < count) }
+    requires can_judge { CanJudge sheet.now work.old free fresh named names members term index }
+    ensures { Judges sheet.now work.old work.new free fresh names members term index before result }
 {
     let system = system_at(sheet, work, free, term, fresh, count, index);
     let value = system.value;
@@ -128,7 +125,7 @@ fn judge_scheme(
 
 // The answer after the last scheme.
 fn claim_of(state: Judged) -> Claim
-    ensures { λ r. ⌜ Ends state r ⌝ }
+    ensures { Ends state result }
 {
     match state {
         Judged::Pending => Claim::Yes,
@@ -150,27 +147,17 @@ pub(crate) fn judge(
     names: usize,
     members: usize,
 ) -> Claim
-    requires { ⌜ Arena (now sheet) (now work) free × (length (now sheet) ≤ 65536) ⌝ }
-    requires { ⌜ (0 < term) × (term < free) × (names < free) × (members < free) × OfVariables (trees-at (now sheet) (now work) names) ⌝ }
-    requires { ⌜ (size (tree-at (now sheet) (now work) term) ≤ 4096) × (count ≡ scheme-count (tree-at (now sheet) (now work) term)) × (count ≤ 4096) ⌝ }
-    requires { ⌜ CanJudgeAll (now sheet) (now work) free fresh named names members term count ⌝ }
-    ensures { λ r. ⌜ JudgesAll (now (sheet .entry)) (now (work .entry)) (now (work .exit)) free fresh names members term r ⌝ }
+    requires arena { Arena sheet.now work.old free × (length sheet.now ≤ 65536) }
+    requires term_nonzero { (0 < term) × (term < free) × (names < free) × (members < free) × OfVariables (trees_at sheet.now work.old names) }
+    requires term_bound { (size (tree_at sheet.now work.old term) ≤ 4096) × (count ≡ scheme_count (tree_at sheet.now work.old term)) × (count ≤ 4096) }
+    requires can_judge_all { CanJudgeAll sheet.now work.old free fresh named names members term count }
+    ensures { JudgesAll sheet.now work.old work.new free fresh names members term result }
 {
     let mut state = Judged::Pending;
     let mut i: usize = 0;
     while i < count {
         state = judge_scheme(
-            sheet,
-            work,
-            free,
-            term,
-            fresh,
-            count,
-            i,
-            named,
-            names,
-            members,
-            state,
+            sheet, work, free, term, fresh, count, i, named, names, members, state,
         );
         if let Judged::Unsupported = state {
             return Claim::Nothing;

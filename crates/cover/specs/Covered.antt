@@ -1,45 +1,42 @@
 -- What kind `cover` is asked: the pairs and the members of a sheet, and the words lent for them. Definitions only.
-use Prim.Native.Nat.{ℕ, _+_, _*_, _<_, _≤_}
-use mathlib.Core.Path.{_≡_}
-use mathlib.Core.List.{List}
-use mathlib.Core.Option.{some}
-use lib.ListN.{length}
-use Rattle·rules.specs.Bytes.{Text}
-use Rattle·rules.specs.Text.{count-of}
-use Rattle·rules.specs.Tree.{count}
-use Rattle·rules.specs.Sheet.{Entry, Member, asks-cover, read-sheet}
-use Rattle·rules.specs.Answer.{read-pairs}
-use Rattle·rules.specs.Cover.{variables-of, covered}
-use Rattle·tree.specs.Cells.{trees-at}
-use Rattle·tree.specs.Arena.{Arena, Below}
-use Rattle·forms.specs.Members.{members-at}
-use Rattle·elimination.specs.Stack.{Whole, pairs-at}
-use Rattle·sheet.specs.Claims.{truth}
-use Rattle·sheet.specs.declared.claims.Claim.{Claim}
-use Rattle·variables.specs.Pairing.{names-at, OfVariables}
+use Rattle.std.specs.Prelude.{ℕ, ◌+◌, ◌*◌, ◌<◌, ◌≤◌, ◌≡◌, List, length}
+use Rattle.std.proofs.Math.Option.{some}
+use Rattle.rules.specs.Bytes.{Text}
+use Rattle.rules.specs.Text.{count_of}
+use Rattle.rules.specs.Tree.{count}
+use Rattle.rules.specs.Sheet.{Entry, Member, asks_cover, read_sheet}
+use Rattle.rules.specs.Answer.{read_pairs}
+use Rattle.rules.specs.Cover.{variables_of, covered}
+use Rattle.tree.specs.Cells.{trees_at}
+use Rattle.tree.specs.Arena.{Arena, Below}
+use Rattle.forms.specs.Members.{members_at}
+use Rattle.elimination.specs.Stack.{Whole, pairs_at}
+use Rattle.sheet.specs.Claims.{truth}
+use Rattle.sheet.specs.declared.claims.Claim.{Claim}
+use Rattle.variables.specs.Pairing.{names_at, OfVariables}
 
 -- from w, with the free end n, to v, with the free end m: the list from cell i on is that of the variables of the pairs, the last first
 pub record Names (s : Text) (w v : List ℕ) (n stack i m : ℕ) : Type 0 where
   pub arena : Arena s v m
   pub below : Below w v n
   pub inside : i < m
-  pub variables : OfVariables (trees-at s v i)
-  pub are : names-at s v i ≡ variables-of (pairs-at s w stack)
-  pub used : m ≡ n + count (trees-at s v i)
+  pub variables : OfVariables (trees_at s v i)
+  pub are : names_at s v i ≡ variables_of (pairs_at s w stack)
+  pub used : m ≡ n + count (trees_at s v i)
 
 -- the sheet is one of kind `cover`: its pairs are those from cell stack on, read from the lines before `at`; its members stand from `at` on
 pub record CoverInput (s : Text) (w : List ℕ) (free stack at : ℕ) : Type 0 where
   pub entries : List Entry
   pub members : List Member
-  pub reads : read-sheet s ≡ some (asks-cover entries members)
+  pub reads : read_sheet s ≡ some (asks_cover entries members)
   pub short : length s ≤ 65536
-  pub pairs : read-pairs entries ≡ some (pairs-at s w stack)
-  pub whole : Whole (trees-at s w stack)
-  pub later : members-at s at ≡ some members
+  pub pairs : read_pairs entries ≡ some (pairs_at s w stack)
+  pub whole : Whole (trees_at s w stack)
+  pub later : members_at s at ≡ some members
   pub inside : at ≤ length s
   pub used : free ≤ 1 + 2 * at
-  pub words : 65536 * (count-of 58 s + 16) + 16 * length s ≤ length w
+  pub words : 65536 * (count_of 58 s + 16) + 16 * length s ≤ length w
 
 -- whether one of the members from `at` on covers the solution of the pairs
 abbrev pub ClaimsCovered : Text → List ℕ → List ℕ → ℕ → ℕ → ℕ → Claim → Type 0
-ClaimsCovered s w v n stack at r = ((ms : List Member) → members-at s at ≡ some ms → truth r ≡ covered (pairs-at s w stack) ms) × Below w v n
+ClaimsCovered s w v n stack at r = ((ms : List Member) → members_at s at ≡ some ms → truth r ≡ covered (pairs_at s w stack) ms) × Below w v n

@@ -1,27 +1,24 @@
 -- Whether members cover: the pairs of each can be matched with the fuel and the room there are. Definitions only.
-use Prim.Native.Nat.{ℕ, _≤_}
-use mathlib.Core.Path.{_≡_}
-use mathlib.Core.Bool.{Bool, true, false}
-use mathlib.Core.List.{List, map, List·Memᴰ}
-use mathlib.Core.Option.{some}
-use lib.ListN.{length}
-use Rattle·rules.specs.Bytes.{Text}
-use Rattle·rules.specs.Maybe.{every}
-use Rattle·rules.specs.Substitution.{Pair}
-use Rattle·rules.specs.Sheet.{Entry, Member}
-use Rattle·rules.specs.Cover.{pair-at, covers, any-covers}
-use Rattle·substitution.specs.Bindings.{bindings-at}
-use Rattle·sheet.specs.Lines.{lines-at}
-use Rattle·forms.specs.Members.{members-at}
-use Rattle·tree.specs.Arena.{Below}
-use Rattle·unifier.specs.Matched.{Matched}
-use Rattle·variables.specs.Pairing.{names-at}
-use Rattle·values.specs.Values.{EntriesThen, EntriesFrom}
-use Rattle·cover·specs.specs.declared.covering.Covering.{Covering}
-use Rattle·cover·specs.specs.declared.covering.Covering.the-variants.{Yes, No}
+use Rattle.std.specs.Prelude.{ℕ, ◌≤◌, ◌≡◌, Bool, true, false, length}
+use mathlib.Core.List.{List, map, Memᴰ}
+use Rattle.std.proofs.Math.Option.{some}
+use Rattle.rules.specs.Bytes.{Text}
+use Rattle.rules.specs.Maybe.{every}
+use Rattle.rules.specs.Substitution.{Pair}
+use Rattle.rules.specs.Sheet.{Entry, Member}
+use Rattle.rules.specs.Cover.{pair_at, covers, any_covers}
+use Rattle.substitution.specs.Bindings.{bindings_at}
+use Rattle.sheet.specs.Lines.{lines_at}
+use Rattle.forms.specs.Members.{members_at}
+use Rattle.tree.specs.Arena.{Below}
+use Rattle.unifier.specs.Matched.{Matched}
+use Rattle.variables.specs.Pairing.{names_at}
+use Rattle.values.specs.Values.{EntriesThen, EntriesFrom}
+use Rattle.cover.specs.declared.covering.Covering.{Covering}
+use Rattle.cover.specs.declared.covering.Covering.TheVariants.{Yes, No}
 
 abbrev pub PairsOf : Text → List ℕ → ℕ → ℕ → Member → List Pair → Type 0
-PairsOf s w names bindings m qs = every (map (pair-at (bindings-at s w bindings) m) (names-at s w names)) ≡ some qs
+PairsOf s w names bindings m qs = every (map (pair_at (bindings_at s w bindings) m) (names_at s w names)) ≡ some qs
 
 -- those of the member with the entries from a position on
 pub record Matchable (s : Text) (w : List ℕ) (n names bindings at : ℕ) : Type 0 where
@@ -33,21 +30,21 @@ pub record Matchable (s : Text) (w : List ℕ) (n names bindings at : ℕ) : Typ
 -- those of all members from a position on
 pub record AllMatchable (s : Text) (w : List ℕ) (n names bindings at : ℕ) : Type 0 where
   pub members : List Member
-  pub reads : members-at s at ≡ some members
-  pub matched : (m : Member) → List·Memᴰ m members → (qs : List Pair) → PairsOf s w names bindings m qs → Matched s w n qs
+  pub reads : members_at s at ≡ some members
+  pub matched : (m : Member) → Memᴰ m members → (qs : List Pair) → PairsOf s w names bindings m qs → Matched s w n qs
 
 -- the member with the entries from `at` on covers; or it does not, and its entries end at c
 pub record Uncovered (s : Text) (w : List ℕ) (names bindings at c : ℕ) : Type 0 where
   pub low : at ≤ c
   pub high : c ≤ length s
-  pub ends : (es : List Entry) (rest : List Text) → EntriesThen s at es rest → lines-at s c ≡ some rest
-  pub is : (x : Text) (es : List Entry) → EntriesFrom s at es → covers (names-at s w names) (bindings-at s w bindings) (x, es) ≡ false
+  pub ends : (es : List Entry) (rest : List Text) → EntriesThen s at es rest → lines_at s c ≡ some rest
+  pub is : (x : Text) (es : List Entry) → EntriesFrom s at es → covers (names_at s w names) (bindings_at s w bindings) (x, es) ≡ false
 
 abbrev pub CoversMember : Text → List ℕ → List ℕ → ℕ → ℕ → ℕ → ℕ → Covering → Type 0
 CoversMember s w v n names bindings at Yes =
-    ((x : Text) (es : List Entry) → EntriesFrom s at es → covers (names-at s w names) (bindings-at s w bindings) (x, es) ≡ true) × Below w v n
-CoversMember s w v n names bindings at (No c) = Uncovered s w names bindings at (c .at) × Below w v n
+    ((x : Text) (es : List Entry) → EntriesFrom s at es → covers (names_at s w names) (bindings_at s w bindings) (x, es) ≡ true) × Below w v n
+CoversMember s w v n names bindings at (No c) = Uncovered s w names bindings at c.at × Below w v n
 
 -- whether one of the members from `at` on covers
 abbrev pub CoversAny : Text → List ℕ → List ℕ → ℕ → ℕ → ℕ → ℕ → Bool → Type 0
-CoversAny s w v n names bindings at r = ((ms : List Member) → members-at s at ≡ some ms → r ≡ any-covers (names-at s w names) (bindings-at s w bindings) ms) × Below w v n
+CoversAny s w v n names bindings at r = ((ms : List Member) → members_at s at ≡ some ms → r ≡ any_covers (names_at s w names) (bindings_at s w bindings) ms) × Below w v n

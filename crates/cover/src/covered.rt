@@ -1,31 +1,29 @@
 // Kind `cover`: the pairs are unified, and a member is looked for that covers the solution (unifier.rs, `Principal::covered`).
+ghost use Rattle.std.specs.Prelude.{◌+◌, ◌*◌, ◌<◌, ◌≤◌, ◌^◌, length};
+ghost use Rattle.rules.specs.Tree.{sizes};
+ghost use Rattle.tree.specs.Cells.{trees_at};
+ghost use Rattle.tree.specs.Arena.{Arena};
+ghost use Rattle.elimination.specs.Stack.{Whole};
+ghost use Rattle.variables.specs.Variables.{ReadableAll};
+ghost use Rattle.cover.specs.Covered.{Names, CoverInput, ClaimsCovered};
+
 use crate::covering::any_covers;
 use reduction::building::nodes_in;
 use sheet::Cursor;
 use sheet::claims::Claim;
 use substitution::bindings::Pushed;
 use text::count_of;
-use unifier::room::NAME_CELLS;
-use unifier::room::STEP_WORDS;
-use unifier::unifying::Outcome;
-use unifier::unifying::unify;
+use unifier::room::{NAME_CELLS, STEP_WORDS};
+use unifier::unifying::{Outcome, unify};
 use variables::gathering::variables_of;
 use variables::listing::list_variables;
-ghost use Prim.Native.Nat.{_+_, _*_, _<_, _≤_, _^_};
-ghost use lib.ListN.{length};
-ghost use Rattle·rules.specs.Tree.{sizes};
-ghost use Rattle·tree.specs.Cells.{trees-at};
-ghost use Rattle·tree.specs.Arena.{Arena};
-ghost use Rattle·elimination.specs.Stack.{Whole};
-ghost use Rattle·variables.specs.Variables.{ReadableAll};
-ghost use Rattle·cover·specs.specs.Covered.{Names, CoverInput, ClaimsCovered};
 
 // The variables of the pairs from cell stack on as a list of cells. Their places are written above as many cells as the sheet has bytes.
 fn names_of(sheet: &[u8], work: &mut [u32], free: usize, stack: usize) -> Pushed
-    requires { ⌜ Arena (now sheet) (now work) free × (length (now sheet) ≤ 65536) ⌝ }
-    requires { ⌜ (stack < free) × Whole (trees-at (now sheet) (now work) stack) × ReadableAll (trees-at (now sheet) (now work) stack) × (sizes (trees-at (now sheet) (now work) stack) ≤ length (now sheet)) ⌝ }
-    requires { ⌜ (4 * (free + length (now sheet)) + 2 * length (now sheet) ≤ length (now work)) × (free + length (now sheet) < 2 ^ 32) ⌝ }
-    ensures { λ r. ⌜ Names (now (sheet .entry)) (now (work .entry)) (now (work .exit)) free stack (r .index) (r .free) ⌝ }
+    requires arena { Arena sheet.now work.old free × (length sheet.now ≤ 65536) }
+    requires stack_lt_free { (stack < free) × Whole (trees_at sheet.now work.old stack) × ReadableAll (trees_at sheet.now work.old stack) × (sizes (trees_at sheet.now work.old stack) ≤ length sheet.now) }
+    requires sheet_in_bounds { (4 * (free + length sheet.now) + 2 * length sheet.now ≤ length work.old) × (free + length sheet.now < 2 ^ 32) }
+    ensures { Names sheet.now work.old work.new free stack result.index result.free }
 {
     let at = 4 * (free + sheet.len());
     let end = variables_of(sheet, work, free, stack, at);
@@ -35,9 +33,9 @@ fn names_of(sheet: &[u8], work: &mut [u32], free: usize, stack: usize) -> Pushed
 // Whether one of the members from a cursor on covers the solution of the pairs from cell stack on; no claim where they are not solved. The
 // words above those that the unification needs are left for the matches.
 pub fn covered(sheet: &[u8], work: &mut [u32], free: usize, stack: usize, members: Cursor) -> Claim
-    requires { ⌜ Arena (now sheet) (now work) free ⌝ }
-    requires { ⌜ (stack < free) × CoverInput (now sheet) (now work) free stack (members .at) ⌝ }
-    ensures { λ r. ⌜ ClaimsCovered (now (sheet .entry)) (now (work .entry)) (now (work .exit)) free stack (members .at) r ⌝ }
+    requires arena { Arena sheet.now work.old free }
+    requires stack_lt_free { (stack < free) × CoverInput sheet.now work.old free stack members.at }
+    ensures { ClaimsCovered sheet.now work.old work.new free stack members.at result }
 {
     let listed = names_of(sheet, work, free, stack);
     let names = listed.index;

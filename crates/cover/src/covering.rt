@@ -1,21 +1,18 @@
 // Whether one member covers, and whether one of the members does (unifier.rs, `Principal::covered`).
+ghost use Rattle.std.specs.Prelude.{◌≡◌, ◌+◌, ◌*◌, ◌-◌, ◌<◌, ◌≤◌, ◌^◌, length};
+ghost use Rattle.rules.specs.Tree.{count};
+ghost use Rattle.tree.specs.Cells.{trees_at};
+ghost use Rattle.tree.specs.Arena.{Arena};
+ghost use Rattle.variables.specs.Pairing.{OfVariables};
+ghost use Rattle.cover.specs.Covering.{Matchable, AllMatchable, CoversMember, CoversAny};
+
 use matching::matcher;
-use sheet::Cursor;
-use sheet::Line;
-use sheet::next_member;
+use sheet::{Cursor, Line, next_member};
 use unifier::unifying::Outcome;
-use values::members::Sides;
-use values::members::member_pairs;
-ghost use mathlib.Core.Path.{_≡_};
-ghost use Prim.Native.Nat.{_+_, _*_, _-_, _<_, _≤_, _^_};
-ghost use lib.ListN.{length};
-ghost use Rattle·rules.specs.Tree.{count};
-ghost use Rattle·tree.specs.Cells.{trees-at};
-ghost use Rattle·tree.specs.Arena.{Arena};
-ghost use Rattle·variables.specs.Pairing.{OfVariables};
-ghost use Rattle·cover·specs.specs.Covering.{Matchable, AllMatchable, CoversMember, CoversAny};
+use values::members::{Sides, member_pairs};
 
 // A member covers, or it does not and the lines after it begin at a cursor.
+#[derive(Clone, Copy)]
 enum Covering {
     Yes,
     No { next: Cursor },
@@ -31,12 +28,12 @@ fn covers(
     bindings: usize,
     start: Cursor,
 ) -> Covering
-    requires { ⌜ Arena (now sheet) (now work) free ⌝ }
-    requires { ⌜ (names < free) × (bindings < free) × OfVariables (trees-at (now sheet) (now work) names) ⌝ }
-    requires { ⌜ (start .at ≤ length (now sheet)) × (length (now sheet) ≤ 65536) ⌝ }
-    requires { ⌜ (4 * free + 11 * length (now sheet) + 9 + 8 * count (trees-at (now sheet) (now work) names) ≤ length (now work)) × (free + 2 * length (now sheet) + 2 + 2 * count (trees-at (now sheet) (now work) names) < 2 ^ 32) ⌝ }
-    requires { ⌜ Matchable (now sheet) (now work) (free + 2 * (length (now sheet) - start .at) + 2 * count (trees-at (now sheet) (now work) names)) names bindings (start .at) ⌝ }
-    ensures { λ r. ⌜ CoversMember (now (sheet .entry)) (now (work .entry)) (now (work .exit)) free names bindings (start .at) r ⌝ }
+    requires arena { Arena sheet.now work.old free }
+    requires names_lt_free { (names < free) × (bindings < free) × OfVariables (trees_at sheet.now work.old names) }
+    requires at_in_bounds { (start.at ≤ length sheet.now) × (length sheet.now ≤ 65536) }
+    requires names_in_bounds { (4 * free + 11 * length sheet.now + 9 + 8 * count (trees_at sheet.now work.old names) ≤ length work.old) × (free + 2 * length sheet.now + 2 + 2 * count (trees_at sheet.now work.old names) < 2 ^ 32) }
+    requires cases { Matchable sheet.now work.old (free + 2 * (length sheet.now - start.at) + 2 * count (trees_at sheet.now work.old names)) names bindings start.at }
+    ensures { CoversMember sheet.now work.old work.new free names bindings start.at result }
 {
     let sides = member_pairs(sheet, work, free, names, bindings, start);
     let Sides::Stack {
@@ -63,12 +60,12 @@ pub(crate) fn any_covers(
     bindings: usize,
     start: Cursor,
 ) -> bool
-    requires { ⌜ Arena (now sheet) (now work) free ⌝ }
-    requires { ⌜ (names < free) × (bindings < free) × OfVariables (trees-at (now sheet) (now work) names) ⌝ }
-    requires { ⌜ (start .at ≤ length (now sheet)) × (length (now sheet) ≤ 65536) ⌝ }
-    requires { ⌜ (4 * free + 11 * length (now sheet) + 9 + 8 * count (trees-at (now sheet) (now work) names) ≤ length (now work)) × (free + 2 * length (now sheet) + 2 + 2 * count (trees-at (now sheet) (now work) names) < 2 ^ 32) ⌝ }
-    requires { ⌜ AllMatchable (now sheet) (now work) (free + 2 * (length (now sheet) - start .at) + 2 * count (trees-at (now sheet) (now work) names)) names bindings (start .at) ⌝ }
-    ensures { λ r. ⌜ CoversAny (now (sheet .entry)) (now (work .entry)) (now (work .exit)) free names bindings (start .at) r ⌝ }
+    requires arena { Arena sheet.now work.old free }
+    requires names_lt_free { (names < free) × (bindings < free) × OfVariables (trees_at sheet.now work.old names) }
+    requires at_in_bounds { (start.at ≤ length sheet.now) × (length sheet.now ≤ 65536) }
+    requires names_in_bounds { (4 * free + 11 * length sheet.now + 9 + 8 * count (trees_at sheet.now work.old names) ≤ length work.old) × (free + 2 * length sheet.now + 2 + 2 * count (trees_at sheet.now work.old names) < 2 ^ 32) }
+    requires all_matchable { AllMatchable sheet.now work.old (free + 2 * (length sheet.now - start.at) + 2 * count (trees_at sheet.now work.old names)) names bindings start.at }
+    ensures { CoversAny sheet.now work.old work.new free names bindings start.at result }
 {
     let mut cursor = start;
     loop {

@@ -1,13 +1,11 @@
 -- The waiting pairs as one list of trees in the work area: left, right, left, right. Definitions only.
-use Prim.Native.Nat.{ℕ, _≤_}
-use mathlib.Core.Path.{_≡_}
-use mathlib.Core.List.{List, [], _∷_}
-use mathlib.Core.Option.{Option, some, none as nothing}
-use Rattle·rules.specs.Bytes.{Text}
-use Rattle·rules.specs.Tree.{Tree, Trees, none, more, size}
-use Rattle·rules.specs.Substitution.{Binding, Pair, flatten}
-use Rattle·rules.specs.Tidy.{Built}
-use Rattle·tree.specs.Cells.{trees-at}
+use Rattle.std.specs.Prelude.{ℕ, ◌≤◌, ◌≡◌, List, [], ◌∷◌}
+use Rattle.std.proofs.Math.Option.{Option, some, none as nothing}
+use Rattle.rules.specs.Bytes.{Text}
+use Rattle.rules.specs.Tree.{Tree, Trees, none, more, size}
+use Rattle.rules.specs.Substitution.{Binding, Pair, flatten}
+use Rattle.rules.specs.Tidy.{Built}
+use Rattle.tree.specs.Cells.{trees_at}
 
 -- the pairs of a list, after a left side that waits for its right
 unfoldable pub pairing : Trees → Option Tree → List Pair
@@ -15,17 +13,17 @@ pairing none o = []
 pairing (more t ts) nothing = pairing ts (some t)
 pairing (more t ts) (some l) = (l, t) ∷ pairing ts nothing
 
-unfoldable pub pairs-of : Trees → List Pair
+unfoldable pub pairs_of : Trees → List Pair
 unfolding pairing
-pairs-of ts = pairing ts nothing
+pairs_of ts = pairing ts nothing
 
 -- a list of pairs and nothing else
 abbrev pub Whole : Trees → Type 0
-Whole ts = flatten (pairs-of ts) ≡ ts
+Whole ts = flatten (pairs_of ts) ≡ ts
 
 -- the pairs from cell k on
-abbrev pub pairs-at : Text → List ℕ → ℕ → List Pair
-pairs-at s w k = pairs-of (trees-at s w k)
+abbrev pub pairs_at : Text → List ℕ → ℕ → List Pair
+pairs_at s w k = pairs_of (trees_at s w k)
 
 -- two lists pairwise, as far as both go, before a list
 unfoldable pub pushes : Trees → Trees → Trees → Trees
@@ -40,9 +38,9 @@ pub record Fit (t : Tree) : Type 0 where
 
 abbrev pub FitPairs : List Pair → Type 0
 FitPairs [] = Unit {0}
-FitPairs (p ∷ ps) = Fit (p .0) × Fit (p .1) × FitPairs ps
+FitPairs (p ∷ ps) = Fit p.0 × Fit p.1 × FitPairs ps
 
 -- of the values
 abbrev pub FitBindings : List Binding → Type 0
 FitBindings [] = Unit {0}
-FitBindings (b ∷ bs) = Fit (b .1) × FitBindings bs
+FitBindings (b ∷ bs) = Fit b.1 × FitBindings bs

@@ -1,23 +1,23 @@
 // A variable against a tree: bound, turned round, or refused.
-use sorts::refinable;
-use sorts::sorted;
+#![tactic(auto)]
+
+ghost use Rattle.std.specs.Prelude.{◌+◌, ◌*◌, ◌<◌, ◌≤◌};
+ghost use Rattle.rules.specs.Solving.{bind_into, swap_key, eliminate};
+ghost use Rattle.sorts.specs.Numbers.{numbered};
+ghost use Rattle.tree.specs.Cells.{kind_of, name_at, tree_at, trees_at};
+ghost use Rattle.tree.specs.Arena.{Arena};
+ghost use Rattle.elimination.specs.Stack.{Whole, pairs_at};
+ghost use Rattle.elimination.specs.Area.{Room};
+ghost use Rattle.elimination.specs.Stepping.{TakenIs};
+
+use sorts::{refinable, sorted};
 use substitution::occurrence::occurs;
-use substitution::solving::Waiting;
-use substitution::solving::bind_into;
-use tree::cells::APPLICATION;
-use tree::cells::VARIABLE_OTHER;
-use tree::cells::kind_of;
-ghost use Prim.Native.Nat.{_+_, _*_, _<_, _≤_};
-ghost use Rattle·rules.specs.Solving.{bind-into, swap-key, eliminate};
-ghost use Rattle·sorts.specs.Numbers.{numbered};
-ghost use Rattle·tree.specs.Cells.{kind-of, name-at, tree-at, trees-at};
-ghost use Rattle·tree.specs.Arena.{Arena};
-ghost use Rattle·elimination·specs.specs.Stack.{Whole, pairs-at};
-ghost use Rattle·elimination·specs.specs.Area.{Room};
-ghost use Rattle·elimination·specs.specs.Stepping.{TakenIs};
+use substitution::solving::{Waiting, bind_into};
+use tree::cells::{APPLICATION, VARIABLE_OTHER, kind_of};
 
 // What a step makes of a pair: the next stack, a binding and the next stack, or the end of the run. If `apart` is not 0, one of the first
 // `apart` pairs of the stack has two different trees.
+#[derive(Clone, Copy)]
 pub enum Taken {
     Next {
         stack: usize,
@@ -36,11 +36,11 @@ pub enum Taken {
 
 // Binds the variable of cell key to the tree of cell value.
 fn bind(sheet: &[u8], work: &mut [u32], free: usize, key: usize, value: usize, rest: usize) -> Taken
-    requires { ⌜ Arena (now sheet) (now work) free ⌝ }
-    requires { ⌜ (0 < key) × (key < free) × (0 < value) × (value < free) × (rest < free) ⌝ }
-    requires { ⌜ (0 < kind-of (now work) key) × (kind-of (now work) key < 7) × Whole (trees-at (now sheet) (now work) rest) ⌝ }
-    requires { ⌜ Room (now work) free ⌝ }
-    ensures { λ r. ⌜ TakenIs (now (sheet .entry)) (now (work .entry)) (now (work .exit)) free 0 (bind-into (name-at (now (sheet .entry)) (now (work .entry)) key) (tree-at (now (sheet .entry)) (now (work .entry)) value) (pairs-at (now (sheet .entry)) (now (work .entry)) rest)) r ⌝ }
+    requires arena { Arena sheet.now work.old free }
+    requires key_nonzero { (0 < key) × (key < free) × (0 < value) × (value < free) × (rest < free) }
+    requires key_nonzero_2 { (0 < kind_of work.old key) × (kind_of work.old key < 7) × Whole (trees_at sheet.now work.old rest) }
+    requires room { Room work.old free }
+    ensures { TakenIs sheet.now work.old work.new free 0 (bind_into (name_at sheet.now work.old key) (tree_at sheet.now work.old value) (pairs_at sheet.now work.old rest)) result }
 {
     let waiting = bind_into(sheet, work, free, key, value, rest);
     let Waiting::Stack { index, free: end } = waiting else {
@@ -64,11 +64,11 @@ fn swap(
     rest: usize,
     sort: usize,
 ) -> Taken
-    requires { ⌜ Arena (now sheet) (now work) free ⌝ }
-    requires { ⌜ (0 < key) × (key < free) × (0 < value) × (value < free) × (rest < free) ⌝ }
-    requires { ⌜ (0 < kind-of (now work) key) × (kind-of (now work) key < 7) × Whole (trees-at (now sheet) (now work) rest) × (sort < 5) ⌝ }
-    requires { ⌜ Room (now work) free ⌝ }
-    ensures { λ r. ⌜ TakenIs (now (sheet .entry)) (now (work .entry)) (now (work .exit)) free 0 (swap-key (numbered sort) (name-at (now (sheet .entry)) (now (work .entry)) key) (tree-at (now (sheet .entry)) (now (work .entry)) value) (pairs-at (now (sheet .entry)) (now (work .entry)) rest)) r ⌝ }
+    requires arena { Arena sheet.now work.old free }
+    requires key_nonzero { (0 < key) × (key < free) × (0 < value) × (value < free) × (rest < free) }
+    requires key_nonzero_2 { (0 < kind_of work.old key) × (kind_of work.old key < 7) × Whole (trees_at sheet.now work.old rest) × (sort < 5) }
+    requires room { Room work.old free }
+    ensures { TakenIs sheet.now work.old work.new free 0 (swap_key (numbered sort) (name_at sheet.now work.old key) (tree_at sheet.now work.old value) (pairs_at sheet.now work.old rest)) result }
 {
     let kind = kind_of(work, value);
     if APPLICATION < kind {
@@ -93,11 +93,11 @@ pub fn eliminate(
     value: usize,
     rest: usize,
 ) -> Taken
-    requires { ⌜ Arena (now sheet) (now work) free ⌝ }
-    requires { ⌜ (0 < key) × (key < free) × (0 < value) × (value < free) × (rest < free) ⌝ }
-    requires { ⌜ (0 < kind-of (now work) key) × (kind-of (now work) key < 7) × Whole (trees-at (now sheet) (now work) rest) ⌝ }
-    requires { ⌜ Room (now work) free ⌝ }
-    ensures { λ r. ⌜ TakenIs (now (sheet .entry)) (now (work .entry)) (now (work .exit)) free 0 (eliminate (name-at (now (sheet .entry)) (now (work .entry)) key) (tree-at (now (sheet .entry)) (now (work .entry)) value) (pairs-at (now (sheet .entry)) (now (work .entry)) rest)) r ⌝ }
+    requires arena { Arena sheet.now work.old free }
+    requires key_nonzero { (0 < key) × (key < free) × (0 < value) × (value < free) × (rest < free) }
+    requires key_nonzero_2 { (0 < kind_of work.old key) × (kind_of work.old key < 7) × Whole (trees_at sheet.now work.old rest) }
+    requires room { Room work.old free }
+    ensures { TakenIs sheet.now work.old work.new free 0 (eliminate (name_at sheet.now work.old key) (tree_at sheet.now work.old value) (pairs_at sheet.now work.old rest)) result }
 {
     let kind = kind_of(work, key);
     if kind == VARIABLE_OTHER {

@@ -1,17 +1,17 @@
 // Equality of trees up to order and grouping of sums (unifier.rs, `equivalent`).
+#![tactic(auto)]
+
 pub mod words; // words.rt: the words of a tree
 
-ghost use mathlib.Core.Path.{_≡_};
-ghost use Prim.Native.Nat.{_+_, _*_, _<_, _≤_};
-ghost use lib.ListN.{length};
-ghost use Rattle·rules.specs.Tree.{size};
-ghost use Rattle·rules.specs.Sums.{equivalent};
-ghost use Rattle·tree.specs.Cells.{tree-at};
-ghost use Rattle·tree.specs.Arena.{Arena};
-ghost use Rattle·text.specs.Frames.{Outside};
+ghost use Rattle.std.specs.Prelude.{◌≡◌, ◌+◌, ◌*◌, ◌<◌, ◌≤◌, length};
+ghost use Rattle.rules.specs.Tree.{size};
+ghost use Rattle.rules.specs.Sums.{equivalent};
+ghost use Rattle.tree.specs.Cells.{tree_at};
+ghost use Rattle.tree.specs.Arena.{Arena};
+ghost use Rattle.text.specs.Frames.{Outside};
+
 use tree::equality::same_tree;
-use words::same_text;
-use words::tree_words;
+use words::{same_text, tree_words};
 
 // Whether the trees of cells i and j are equal up to order and grouping of sums. The words from `at` on, fifteen for each node of the
 // two, are scratch.
@@ -23,12 +23,12 @@ pub fn equivalent(
     j: usize,
     at: usize,
 ) -> bool
-    requires { ⌜ Arena (now sheet) (now work) free ⌝ }
-    requires { ⌜ (0 < i) × (i < free) × (0 < j) × (j < free) × (4 * free ≤ at) ⌝ }
-    requires { ⌜ (5 * size (tree-at (now sheet) (now work) i) < 65536) × (5 * size (tree-at (now sheet) (now work) j) < 65536) ⌝ }
-    requires { ⌜ at + 15 * (size (tree-at (now sheet) (now work) i) + size (tree-at (now sheet) (now work) j)) ≤ length (now work) ⌝ }
-    ensures { λ r. ⌜ r ≡ equivalent (tree-at (now (sheet .entry)) (now (work .entry)) i) (tree-at (now (sheet .entry)) (now (work .entry)) j) ⌝ }
-    ensures { λ _. ⌜ Outside (now (work .entry)) (now (work .exit)) at (at + 15 * (size (tree-at (now (sheet .entry)) (now (work .entry)) i) + size (tree-at (now (sheet .entry)) (now (work .entry)) j))) ⌝ }
+    requires arena { Arena sheet.now work.old free }
+    requires i_nonzero { (0 < i) × (i < free) × (0 < j) × (j < free) × (4 * free ≤ at) }
+    requires i_bound { (5 * size (tree_at sheet.now work.old i) < 65536) × (5 * size (tree_at sheet.now work.old j) < 65536) }
+    requires j_in_bounds { at + 15 * (size (tree_at sheet.now work.old i) + size (tree_at sheet.now work.old j)) ≤ length work.old }
+    ensures value { result ≡ equivalent (tree_at sheet.now work.old i) (tree_at sheet.now work.old j) }
+    ensures outside { Outside work.old work.new at (at + 15 * (size (tree_at sheet.now work.old i) + size (tree_at sheet.now work.old j))) }
 {
     if i == j {
         return true;

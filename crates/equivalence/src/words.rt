@@ -1,38 +1,27 @@
 // The words of a tree: the tokens of its text, in which a sum inside a sum loses its name and brackets, and its canonical words.
-use flattening::bracket_of;
-use flattening::put_closing;
-use flattening::put_opening;
-use runs::COMMA;
-use runs::OPEN;
-use runs::PLUS;
-use runs::SHUT;
-use runs::order::BYTES;
-use runs::order::Order;
-use runs::order::compare;
+ghost use Rattle.std.specs.Prelude.{◌≡◌, Bool, ◌+◌, ◌*◌, ◌<◌, ◌≤◌, length};
+ghost use Rattle.std.proofs.Math.Seq.{slice};
+ghost use Rattle.rules.specs.Bytes.{same};
+ghost use Rattle.rules.specs.Tree.{size, sizes};
+ghost use Rattle.tree.specs.Cells.{kind_of, first_of, name_at, tree_at, trees_at};
+ghost use Rattle.tree.specs.Arena.{Arena};
+ghost use Rattle.runs.specs.Texts.{word_text, texts, Tokens};
+ghost use Rattle.flattening.specs.Spelling.{Word};
+ghost use Rattle.equivalence.specs.Words.{TermWritten, TermsWritten, Canon};
+
+use flattening::{bracket_of, put_closing, put_opening};
+use runs::order::{BYTES, Order, compare};
+use runs::{COMMA, OPEN, PLUS, SHUT};
 use settling::settle;
-use tree::cells::ATOMS;
-use tree::cells::kind_of;
-use tree::cells::next_of;
+use tree::cells::{ATOMS, kind_of, next_of};
 use tree::children::child_of;
 use tree::names::name_is;
-ghost use mathlib.Core.Path.{_≡_};
-ghost use mathlib.Core.Bool.{Bool};
-ghost use Prim.Native.Nat.{_+_, _*_, _<_, _≤_};
-ghost use lib.ListN.{length};
-ghost use lib.Seq.{slice};
-ghost use Rattle·rules.specs.Bytes.{same};
-ghost use Rattle·rules.specs.Tree.{size, sizes};
-ghost use Rattle·tree.specs.Cells.{kind-of, first-of, name-at, tree-at, trees-at};
-ghost use Rattle·tree.specs.Arena.{Arena};
-ghost use Rattle·runs.specs.Texts.{word-text, texts, Tokens};
-ghost use Rattle·flattening.specs.Spelling.{Word};
-ghost use Rattle·equivalence·specs.specs.Words.{TermWritten, TermsWritten, Canon};
 
 // The word of the name of cell k: its place, or the code of a fixed name.
 fn word_of(sheet: &[u8], work: &[u32], free: usize, k: usize) -> u32
-    requires { ⌜ Arena (now sheet) (now work) free ⌝ }
-    requires { ⌜ (0 < k) × (k < free) ⌝ }
-    ensures { λ r. ⌜ Word (now (sheet .entry)) r × (word-text (now (sheet .entry)) r ≡ name-at (now (sheet .entry)) (now (work .entry)) k) ⌝ }
+    requires arena { Arena sheet.now work.now free }
+    requires k_nonzero { (0 < k) × (k < free) }
+    ensures { Word sheet.now result × (word_text sheet.now result ≡ name_at sheet.now work.now k) }
 {
     let place = work[4 * k];
     if place % 65536 == 0 {
@@ -43,10 +32,10 @@ fn word_of(sheet: &[u8], work: &[u32], free: usize, k: usize) -> u32
 
 // Writes the words of the tree of cell i, which is a leaf.
 fn put_leaf(sheet: &[u8], work: &mut [u32], free: usize, i: usize, out: usize) -> usize
-    requires { ⌜ Arena (now sheet) (now work) free ⌝ }
-    requires { ⌜ (0 < i) × (i < free) × (out + 4 ≤ length (now work)) ⌝ }
-    requires { ⌜ (kind-of (now work) i ≡ 0 → first-of (now work) i ≡ 0) ⌝ }
-    ensures { λ r. ⌜ ((b : Bool) → TermWritten (now (sheet .entry)) (now (work .entry)) (now (work .exit)) b (tree-at (now (sheet .entry)) (now (work .entry)) i) out r) ⌝ }
+    requires arena { Arena sheet.now work.old free }
+    requires i_nonzero { (0 < i) × (i < free) × (out + 4 ≤ length work.old) }
+    requires i_value { kind_of work.old i ≡ 0 → first_of work.old i ≡ 0 }
+    ensures { (b : Bool) → TermWritten sheet.now work.old work.new b (tree_at sheet.now work.old i) out result }
 {
     let kind = kind_of(work, i);
     let word = word_of(sheet, work, free, i);
@@ -62,6 +51,7 @@ fn put_leaf(sheet: &[u8], work: &mut [u32], free: usize, i: usize, out: usize) -
 }
 
 // Writes the words of the tree of cell i, in a sum or not, and answers where they end.
+#[cycle(put_list_put_term)]
 fn put_term(
     sheet: &[u8],
     work: &mut [u32],
@@ -70,10 +60,10 @@ fn put_term(
     inside: bool,
     out: usize,
 ) -> usize
-    requires { ⌜ Arena (now sheet) (now work) free ⌝ }
-    requires { ⌜ (0 < i) × (i < free) ⌝ }
-    requires { ⌜ (4 * free ≤ out) × (out + 5 * size (tree-at (now sheet) (now work) i) ≤ length (now work)) ⌝ }
-    ensures { λ r. ⌜ TermWritten (now (sheet .entry)) (now (work .entry)) (now (work .exit)) inside (tree-at (now (sheet .entry)) (now (work .entry)) i) out r ⌝ }
+    requires arena { Arena sheet.now work.old free }
+    requires i_nonzero { (0 < i) × (i < free) }
+    requires free_bound { (4 * free ≤ out) × (out + 5 * size (tree_at sheet.now work.old i) ≤ length work.old) }
+    ensures { TermWritten sheet.now work.old work.new inside (tree_at sheet.now work.old i) out result }
 {
     let first = child_of(work, free, i);
     if first == 0 {
@@ -87,6 +77,7 @@ fn put_term(
 }
 
 // Writes the words of the trees of the list from cell i on, with commas between them.
+#[cycle(put_list_put_term)]
 fn put_list(
     sheet: &[u8],
     work: &mut [u32],
@@ -95,10 +86,10 @@ fn put_list(
     inside: bool,
     out: usize,
 ) -> usize
-    requires { ⌜ Arena (now sheet) (now work) free ⌝ }
-    requires { ⌜ (0 < i) × (i < free) ⌝ }
-    requires { ⌜ (4 * free ≤ out) × (out + 5 * sizes (trees-at (now sheet) (now work) i) ≤ length (now work)) ⌝ }
-    ensures { λ r. ⌜ TermsWritten (now (sheet .entry)) (now (work .entry)) (now (work .exit)) inside (trees-at (now (sheet .entry)) (now (work .entry)) i) out r ⌝ }
+    requires arena { Arena sheet.now work.old free }
+    requires i_nonzero { (0 < i) × (i < free) }
+    requires free_bound { (4 * free ≤ out) × (out + 5 * sizes (trees_at sheet.now work.old i) ≤ length work.old) }
+    ensures { TermsWritten sheet.now work.old work.new inside (trees_at sheet.now work.old i) out result }
 {
     let end = put_term(sheet, work, free, i, inside, out);
     let next = next_of(work, free, i);
@@ -112,10 +103,10 @@ fn put_list(
 // Writes the canonical words of the tree of cell i from `base` on, and answers where they end. Fifteen words for each node, from `base`
 // on, may change.
 pub fn tree_words(sheet: &[u8], work: &mut [u32], free: usize, i: usize, base: usize) -> usize
-    requires { ⌜ Arena (now sheet) (now work) free ⌝ }
-    requires { ⌜ (0 < i) × (i < free) × (4 * free ≤ base) ⌝ }
-    requires { ⌜ (5 * size (tree-at (now sheet) (now work) i) < 65536) × (base + 15 * size (tree-at (now sheet) (now work) i) ≤ length (now work)) ⌝ }
-    ensures { λ r. ⌜ Canon (now (sheet .entry)) (now (work .entry)) (now (work .exit)) (tree-at (now (sheet .entry)) (now (work .entry)) i) base r ⌝ }
+    requires arena { Arena sheet.now work.old free }
+    requires i_nonzero { (0 < i) × (i < free) × (4 * free ≤ base) }
+    requires i_bound { (5 * size (tree_at sheet.now work.old i) < 65536) × (base + 15 * size (tree_at sheet.now work.old i) ≤ length work.old) }
+    ensures { Canon sheet.now work.old work.new (tree_at sheet.now work.old i) base result }
 {
     let end = put_term(sheet, work, free, i, false, base);
     settle(sheet, work, PLUS, base, end, end);
@@ -131,11 +122,11 @@ pub fn same_text(
     start: usize,
     end: usize,
 ) -> bool
-    requires { ⌜ (from ≤ to) × (to ≤ length (now work)) ⌝ }
-    requires { ⌜ (start ≤ end) × (end ≤ length (now work)) ⌝ }
-    requires { ⌜ Tokens (now sheet) (now work) from to ⌝ }
-    requires { ⌜ Tokens (now sheet) (now work) start end ⌝ }
-    ensures { λ r. ⌜ r ≡ same (texts (now (sheet .entry)) (slice from to (now (work .entry)))) (texts (now (sheet .entry)) (slice start end (now (work .entry)))) ⌝ }
+    requires from_le_to { (from ≤ to) × (to ≤ length work.now) }
+    requires start_le_end { (start ≤ end) × (end ≤ length work.now) }
+    requires tokens { Tokens sheet.now work.now from to }
+    requires tokens_2 { Tokens sheet.now work.now start end }
+    ensures { result ≡ same (texts sheet.now (slice from to work.now)) (texts sheet.now (slice start end work.now)) }
 {
     let order = compare(sheet, work, from, to, start, end);
     match order {

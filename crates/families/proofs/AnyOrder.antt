@@ -1,20 +1,20 @@
 -- Whether some member generalizes does not depend on the order of the members.
-use mathlib.Core.Path.{_≡_, refl, sym, ap, _∙_}
-use mathlib.Core.Bool.{Bool, true, false, _||_}
-use mathlib.Core.List.{List, [], _∷_, _++_, map, reverse, reverseAux}
-use Rattle·rules.specs.Bytes.{Text}
-use Rattle·rules.specs.Tree.{Tree}
-use Rattle·rules.specs.Substitution.{Binding, lookup}
-use Rattle·rules.specs.Cover.{covering}
-use Rattle·rules.specs.Variants.{Variant, generalized}
+use mathlib.Core.Path.{◌≡◌, refl, sym, ap, ◌∙◌}
+use mathlib.Core.Bool.{Bool, true, false, ◌||◌}
+use mathlib.Core.List.{List, [], ◌∷◌, ◌++◌, map, reverse, reverse_aux}
+use Rattle.rules.specs.Bytes.{Text}
+use Rattle.rules.specs.Tree.{Tree}
+use Rattle.rules.specs.Substitution.{Binding, lookup}
+use Rattle.rules.specs.Cover.{covering}
+use Rattle.rules.specs.Variants.{Variant, generalized}
 
 module _ (xs : List Text) (bs : List Binding) (value : Tree) where
   generalizes : Variant → Bool
-  generalizes m = covering (map (λ x. (lookup (m .1) x, lookup bs x)) xs ++ ((m .0, value) ∷ []))
+  generalizes m = covering (map (λ x. (lookup m.1 x, lookup bs x)) xs ++ ((m.0, value) ∷ []))
 
-  by-first : (m : Variant) (ms : List Variant) → generalized xs (m ∷ ms) bs value ≡ generalizes m || generalized xs ms bs value
+  by_first : (m : Variant) (ms : List Variant) → generalized xs (m ∷ ms) bs value ≡ generalizes m || generalized xs ms bs value
   unfolding generalized generalizes
-  by-first m ms = go (covering (map (λ x. (lookup (m .1) x, lookup bs x)) xs ++ ((m .0, value) ∷ []))) (generalized xs ms bs value)
+  by_first m ms = go (covering (map (λ x. (lookup m.1 x, lookup bs x)) xs ++ ((m.0, value) ∷ []))) (generalized xs ms bs value)
     where
       go : (b c : Bool) → elim b [ true ↦ true | false ↦ c ] ≡ b || c
       go true c = refl
@@ -26,18 +26,18 @@ module _ (xs : List Text) (bs : List Binding) (value : Tree) where
   moved false true c = refl
   moved false false c = refl
 
-  either-part : (ms ns : List Variant) → generalized xs (reverseAux ms ns) bs value ≡ generalized xs ms bs value || generalized xs ns bs value
+  either_part : (ms ns : List Variant) → generalized xs (reverse_aux ms ns) bs value ≡ generalized xs ms bs value || generalized xs ns bs value
   unfolding generalized
-  either-part [] ns = refl
-  either-part (m ∷ ms) ns =
-      either-part ms (m ∷ ns) ∙ ap (λ (b : Bool). generalized xs ms bs value || b) (by-first m ns)
+  either_part [] ns = refl
+  either_part (m ∷ ms) ns =
+      either_part ms (m ∷ ns) ∙ ap (λ (b : Bool). generalized xs ms bs value || b) (by_first m ns)
       ∙ moved (generalized xs ms bs value) (generalizes m) (generalized xs ns bs value)
-      ∙ sym (ap (λ (b : Bool). b || generalized xs ns bs value) (by-first m ms))
+      ∙ sym (ap (λ (b : Bool). b || generalized xs ns bs value) (by_first m ms))
 
-  or-none : (b : Bool) → b || false ≡ b
-  or-none true = refl
-  or-none false = refl
+  or_none : (b : Bool) → b || false ≡ b
+  or_none true = refl
+  or_none false = refl
 
-  pub generalized-reverse : (ms : List Variant) → generalized xs (reverse ms) bs value ≡ generalized xs ms bs value
+  pub generalized_reverse : (ms : List Variant) → generalized xs (reverse ms) bs value ≡ generalized xs ms bs value
   unfolding generalized
-  generalized-reverse ms = either-part ms [] ∙ or-none (generalized xs ms bs value)
+  generalized_reverse ms = either_part ms [] ∙ or_none (generalized xs ms bs value)

@@ -1,178 +1,178 @@
 -- Members read into cells, one before the other: one member as a tree, and the walk over all of them.
-use Prim.Native.Nat.{ℕ, _+_, _*_, _-_, _<_, _≤_}
+use Prim.Native.Nat.{ℕ, ◌+◌, ◌*◌, ◌-◌, ◌<◌, ◌≤◌}
 use native.Mathlib.Omega.{arith}
-use mathlib.Core.Path.{_≡_, refl, sym, ap, ap₂, _∙_}
-use mathlib.Core.List.{List, [], _∷_, map, reverseAux}
+use mathlib.Core.Path.{◌≡◌, refl, sym, ap, ap₂, ◌∙◌}
+use mathlib.Core.List.{List, [], ◌∷◌, map, reverse_aux}
 use mathlib.Core.Option.{Option, some, none as nothing}
 use lib.ListN.{length}
-use Rattle·rules.specs.Bytes.{Text}
-use Rattle·rules.specs.Text.{bytes}
-use Rattle·rules.specs.Maybe.{_>>=_, every}
-use Rattle·rules.specs.Tree.{apply, Trees, more, size, sizes}
-use Rattle·rules.specs.Sheet.{Member}
-use Rattle·rules.specs.Variants.{Variant, read-member}
-use Rattle·tree.specs.Cells.{fixed-name, tree-at, trees-at}
-use Rattle·tree.specs.Arena.{Arena, WroteCell, Linked, Below}
-use Rattle·tree.proofs.Decoding.{frame-trees, trees-none}
-use Rattle·tree.proofs.Areas.{below-same, below-grown, below-then, grown-then}
-use Rattle·substitution.specs.Building.{Made}
-use Rattle·reduction.proofs.Placing.{linked-fixed-over}
-use Rattle·sheet.specs.Lines.{value-at}
-use Rattle·forms.specs.Members.{members-at}
-use Rattle·sheet.specs.declared.Cursor.{Cursor}
-use Rattle·sheet.specs.declared.Line.the-variants.{Whole, Missing}
-use Rattle·forms.proofs.WalkLaws.{member-end, member-next}
-use Rattle·variants.specs.Members.{texts-end, MemberThere, ReadMember, ReadsMember}
-use Rattle·variants.specs.declared.members.Variant.the-variants as variant
-use Rattle·families·specs.specs.Families.{member-tree, Family, nil, next, ReadAll, MembersThere, ReadMembers, ReadsMembers}
-use Rattle·families·specs.specs.declared.members.Members.the-variants as members
+use Rattle.rules.specs.Bytes.{Text}
+use Rattle.rules.specs.Text.{bytes}
+use Rattle.rules.specs.Maybe.{◌>>=◌, every}
+use Rattle.rules.specs.Tree.{apply, Trees, more, size, sizes}
+use Rattle.rules.specs.Sheet.{Member}
+use Rattle.rules.specs.Variants.{Variant, read_member}
+use Rattle.tree.specs.Cells.{fixed_name, tree_at, trees_at}
+use Rattle.tree.specs.Arena.{Arena, WroteCell, Linked, Below}
+use Rattle.tree.proofs.Decoding.{frame_trees, trees_none}
+use Rattle.tree.proofs.Areas.{below_same, below_grown, below_then, grown_then}
+use Rattle.substitution.specs.Building.{Made}
+use Rattle.reduction.proofs.Placing.{linked_fixed_over}
+use Rattle.sheet.specs.Lines.{value_at}
+use Rattle.forms.specs.Members.{members_at}
+use Rattle.sheet.specs.declared.Cursor.{Cursor}
+use Rattle.sheet.specs.declared.Line.TheVariants.{Whole, Missing}
+use Rattle.forms.proofs.WalkLaws.{member_end, member_next}
+use Rattle.variants.specs.Members.{texts_end, MemberThere, ReadMember, ReadsMember}
+use Rattle.variants.specs.declared.members.Variant.TheVariants as variant
+use Rattle.families.specs.Families.{member_tree, Family, nil, next, ReadAll, MembersThere, ReadMembers, ReadsMembers}
+use Rattle.families.specs.declared.members.Members.TheVariants as members
 
 -- ---- one member as a tree
 
-module _ {s : Text} {w w₁ : List ℕ} {n bindings : ℕ} (value : ℕ) (a : Arena s w n) (middle : ℕ) (one : Linked s w w₁ n bindings (tree-at s w value)) (f : middle ≡ n + 1) where
-  pub shared-arena : Arena s w₁ middle
-  shared-arena = rw f (one .arena)
+module _ {s : Text} {w w₁ : List ℕ} {n bindings : ℕ} (value : ℕ) (a : Arena s w n) (middle : ℕ) (one : Linked s w w₁ n bindings (tree_at s w value)) (f : middle ≡ n + 1) where
+  pub shared_arena : Arena s w₁ middle
+  shared_arena = rw f one.arena
 
-  pub shared-sizes : sizes (trees-at s w₁ n) ≡ size (tree-at s w value) + sizes (trees-at s w bindings)
+  pub shared_sizes : sizes (trees_at s w₁ n) ≡ size (tree_at s w value) + sizes (trees_at s w bindings)
   unfolding size
-  shared-sizes = ap sizes (one .trees)
+  shared_sizes = ap sizes one.trees
 
-  pub member-made : {v : List ℕ} {list count : ℕ} (end : ℕ) → list < n → 4 * (n + 2) ≤ length w → count ≡ sizes (trees-at s w₁ n) → WroteCell w₁ v middle 3 0 0 n list (1 + count) → end ≡ middle + 1
-      → Made s w v n end middle (more (member-tree (tree-at s w value) (trees-at s w bindings)) (trees-at s w list)) × (end ≡ n + 2)
-  member-made {v} {list} end p room c x g =
-      let two : Linked s w₁ v middle list (apply (fixed-name 3) (trees-at s w₁ n)) =
-      linked-fixed-over s shared-arena (omega arith) (omega arith) (omega arith) (omega arith) (omega (arith, one .grown .len)) c x
+  pub member_made : {v : List ℕ} {list count : ℕ} (end : ℕ) → list < n → 4 * (n + 2) ≤ length w → count ≡ sizes (trees_at s w₁ n) → WroteCell w₁ v middle 3 0 0 n list (1 + count) → end ≡ middle + 1
+      → Made s w v n end middle (more (member_tree (tree_at s w value) (trees_at s w bindings)) (trees_at s w list)) × (end ≡ n + 2)
+  member_made {v} {list} end p room c x g =
+      let two : Linked s w₁ v middle list (apply (fixed_name 3) (trees_at s w₁ n)) =
+      linked_fixed_over s shared_arena (omega arith) (omega arith) (omega arith) (omega arith) (omega (arith, one.grown.len)) c x
       in (
         record {
-          arena = rw g (two .arena);
-          grown = grown-then (one .grown) (two .grown) (omega arith) (omega arith) (omega arith);
+          arena = rw g two.arena;
+          grown = grown_then one.grown two.grown (omega arith) (omega arith) (omega arith);
           grew = omega arith;
           inside = omega arith;
-          trees = two .trees ∙ ap₂ (λ (ts us : Trees). more (apply (fixed-name 3) ts) us) (one .trees) (sym (frame-trees s w₁ (a .links) (one .grown .below) list p));
+          trees = two.trees ∙ ap₂ (λ (ts us : Trees). more (apply (fixed_name 3) ts) us) one.trees (sym (frame_trees s w₁ a.links one.grown.below list p));
         },
         omega arith,
       )
 
 -- ---- the members before a position, the last first, and those from there on
 
-abbrev read-all : List Member → Option (List Variant)
-read-all ms = every (map read-member ms)
+abbrev read_all : List Member → Option (List Variant)
+read_all ms = every (map read_member ms)
 
 abbrev after : List Variant → Option (List Variant) → Option (List Variant)
-after vs o = o >>= λ us. some (reverseAux vs us)
+after vs o = o >>= λ us. some (reverse_aux vs us)
 
-after-more : (v : Variant) (vs : List Variant) (o : Option (List Variant)) → after vs (o >>= λ us. some (v ∷ us)) ≡ after (v ∷ vs) o
-after-more v vs nothing = refl
-after-more v vs (some us) = refl
+after_more : (v : Variant) (vs : List Variant) (o : Option (List Variant)) → after vs (o >>= λ us. some (v ∷ us)) ≡ after (v ∷ vs) o
+after_more v vs nothing = refl
+after_more v vs (some us) = refl
 
-read-first : (m : Member) (ms : List Member) (o : Option Variant) → read-member m ≡ o → read-all (m ∷ ms) ≡ (o >>= λ v. read-all ms >>= λ us. some (v ∷ us))
+read_first : (m : Member) (ms : List Member) (o : Option Variant) → read_member m ≡ o → read_all (m ∷ ms) ≡ (o >>= λ v. read_all ms >>= λ us. some (v ∷ us))
 unfolding every
-read-first m ms o e = ap (λ (o : Option Variant). o >>= λ v. read-all ms >>= λ us. some (v ∷ us)) e
+read_first m ms o e = ap (λ (o : Option Variant). o >>= λ v. read_all ms >>= λ us. some (v ∷ us)) e
 
 pub record Seen (s : Text) (v : List ℕ) (c list : ℕ) (ms : List Member) : Type 0 where
   pub rest : List Member
   pub vs : List Variant
-  pub later : members-at s c ≡ some rest
-  pub read : read-all ms ≡ after vs (read-all rest)
-  pub family : Family (trees-at s v list) vs
+  pub later : members_at s c ≡ some rest
+  pub read : read_all ms ≡ after vs (read_all rest)
+  pub family : Family (trees_at s v list) vs
 
 pub record Gathering (s : Text) (w : List ℕ) (n at : ℕ) (v : List ℕ) (c list m : ℕ) : Type 0 where
-  pub seen : (ms : List Member) → members-at s at ≡ some ms → Seen s v c list ms
+  pub seen : (ms : List Member) → members_at s at ≡ some ms → Seen s v c list ms
   pub arena : Arena s v m
   pub kept : Below w v n
   pub grew : n ≤ m
-  pub used : texts-end s m c ≤ texts-end s n at
-  pub light : sizes (trees-at s v list) + (length s - c) ≤ length s - at
+  pub used : texts_end s m c ≤ texts_end s n at
+  pub light : sizes (trees_at s v list) + (length s - c) ≤ length s - at
   pub inside : list < m
 
 self : (o : Option (List Variant)) → o ≡ after [] o
 self nothing = refl
 self (some us) = refl
 
-no-sizes : (s : Text) (w : List ℕ) → sizes (trees-at s w 0) ≡ 0
+no_sizes : (s : Text) (w : List ℕ) → sizes (trees_at s w 0) ≡ 0
 unfolding size
-no-sizes s w = ap sizes (trees-none s w 0 refl)
+no_sizes s w = ap sizes (trees_none s w 0 refl)
 
-pub gathering-starts : (s : Text) (w : List ℕ) (n at : ℕ) → Arena s w n → Gathering s w n at w at 0 n
-gathering-starts s w n at a = record {
-  seen = λ ms h. record { rest = ms; vs = []; later = h; read = self (read-all ms); family = rw (trees-none s w 0 refl) nil };
+pub gathering_starts : (s : Text) (w : List ℕ) (n at : ℕ) → Arena s w n → Gathering s w n at w at 0 n
+gathering_starts s w n at a = record {
+  seen = λ ms h. record { rest = ms; vs = []; later = h; read = self (read_all ms); family = rw (trees_none s w 0 refl) nil };
   arena = a;
-  kept = below-same w n;
+  kept = below_same w n;
   grew = omega arith;
   used = omega arith;
-  light = omega (arith, no-sizes s w);
-  inside = a .links .some;
+  light = omega (arith, no_sizes s w);
+  inside = a.links.some;
 }
 
 module _ {s : Text} {w : List ℕ} {n at : ℕ} {v : List ℕ} {c list m : ℕ} (h : Gathering s w n at v c list m) where
-  pub gathering-ends : Missing ≡ value-at s (bytes "member=") c → ReadMembers s w v n at list m
+  pub gathering_ends : Missing ≡ value_at s (bytes "member=") c → ReadMembers s w v n at list m
   unfolding every
-  gathering-ends e = record {
+  gathering_ends e = record {
     reads = all;
-    arena = h .arena;
-    kept = h .kept;
-    grew = h .grew;
-    used = omega (arith, h .used);
-    light = omega (arith, h .light);
-    inside = h .inside;
+    arena = h.arena;
+    kept = h.kept;
+    grew = h.grew;
+    used = omega (arith, h.used);
+    light = omega (arith, h.light);
+    inside = h.inside;
   }
     where
-      all : (ms : List Member) → members-at s at ≡ some ms → ReadAll s v list ms
+      all : (ms : List Member) → members_at s at ≡ some ms → ReadAll s v list ms
       all ms k =
-          let x = h .seen ms k in
-          let z = member-end s c (x .rest) (x .later) e in
-          record { vs = x .vs; read = x .read ∙ ap (λ (l : List Member). after (x .vs) (read-all l)) z; family = x .family }
+          let x = h.seen ms k in
+          let z = member_end s c x.rest x.later e in
+          record { vs = x.vs; read = x.read ∙ ap (λ (l : List Member). after x.vs (read_all l)) z; family = x.family }
 
-  module _ (f t : ℕ) (d : Cursor) (e : Whole f t d ≡ value-at s (bytes "member=") c) where
+  module _ (f t : ℕ) (d : Cursor) (e : Whole f t d ≡ value_at s (bytes "member=") c) where
     -- the next of the members
-    pub gathering-next : MembersThere s at → MemberThere s c
-    gathering-next o =
-        let y = h .seen (o .ms) (o .are) in
-        let z = member-next s c (y .rest) (y .later) f t d e in
-        record { member = _; later = z .others; are = y .later ∙ ap some (z .members) }
+    pub gathering_next : MembersThere s at → MemberThere s c
+    gathering_next o =
+        let y = h.seen o.ms o.are in
+        let z = member_next s c y.rest y.later f t d e in
+        record { member = _; later = z.others; are = y.later ∙ ap some z.members }
 
-    pub gathering-unread : {u : List ℕ} → ReadsMember s v u m c variant.Unreadable → ReadsMembers s w u n at members.Unreadable
-    gathering-unread {u} x = (all, below-then (h .kept) (x .1) (h .grew))
+    pub gathering_unread : {u : List ℕ} → ReadsMember s v u m c variant.Unreadable → ReadsMembers s w u n at members.Unreadable
+    gathering_unread {u} x = (all, below_then h.kept x.1 h.grew)
       where
-        all : (ms : List Member) → members-at s at ≡ some ms → read-all ms ≡ nothing
+        all : (ms : List Member) → members_at s at ≡ some ms → read_all ms ≡ nothing
         all ms k =
-            let y = h .seen ms k in
-            let z = member-next s c (y .rest) (y .later) f t d e in
-            y .read ∙ ap (λ (l : List Member). after (y .vs) (read-all l)) (z .members)
-            ∙ ap (after (y .vs)) (read-first _ (z .others) nothing (x .0 _ (z .others) (y .later ∙ ap some (z .members))))
+            let y = h.seen ms k in
+            let z = member_next s c y.rest y.later f t d e in
+            y.read ∙ ap (λ (l : List Member). after y.vs (read_all l)) z.members
+            ∙ ap (after y.vs) (read_first _ z.others nothing (x.0 _ z.others (y.later ∙ ap some z.members)))
 
     module _ {u₁ u : List ℕ} {value bindings middle k index end : ℕ} (x : ReadMember s v u₁ m c value bindings middle k)
-        (y : Made s u₁ u middle end index (more (member-tree (tree-at s u₁ value) (trees-at s u₁ bindings)) (trees-at s u₁ list))) (g : end ≡ middle + 2) where
-      now-trees : trees-at s u index ≡ more (member-tree (tree-at s u₁ value) (trees-at s u₁ bindings)) (trees-at s v list)
-      now-trees = y .trees ∙ ap (more (member-tree (tree-at s u₁ value) (trees-at s u₁ bindings))) (sym (frame-trees s u₁ (h .arena .links) (x .kept .words) list (h .inside)))
+        (y : Made s u₁ u middle end index (more (member_tree (tree_at s u₁ value) (trees_at s u₁ bindings)) (trees_at s u₁ list))) (g : end ≡ middle + 2) where
+      now_trees : trees_at s u index ≡ more (member_tree (tree_at s u₁ value) (trees_at s u₁ bindings)) (trees_at s v list)
+      now_trees = y.trees ∙ ap (more (member_tree (tree_at s u₁ value) (trees_at s u₁ bindings))) (sym (frame_trees s u₁ h.arena.links x.kept.words list h.inside))
 
-      more-sizes : sizes (trees-at s u index) ≡ 1 + (size (tree-at s u₁ value) + sizes (trees-at s u₁ bindings)) + sizes (trees-at s v list)
+      more_sizes : sizes (trees_at s u index) ≡ 1 + (size (tree_at s u₁ value) + sizes (trees_at s u₁ bindings)) + sizes (trees_at s v list)
       unfolding size
-      more-sizes = ap sizes now-trees
+      more_sizes = ap sizes now_trees
 
-      more-seen : (ms : List Member) → members-at s at ≡ some ms → Seen s u k index ms
-      more-seen ms q =
-          let o = h .seen ms q in
-          let z = member-next s c (o .rest) (o .later) f t d e in
-          let r = x .reads _ (z .others) (o .later ∙ ap some (z .members)) in
+      more_seen : (ms : List Member) → members_at s at ≡ some ms → Seen s u k index ms
+      more_seen ms q =
+          let o = h.seen ms q in
+          let z = member_next s c o.rest o.later f t d e in
+          let r = x.reads _ z.others (o.later ∙ ap some z.members) in
           record {
-            rest = z .others;
-            vs = (tree-at s u₁ value, r .bs) ∷ o .vs;
-            later = r .later;
+            rest = z.others;
+            vs = (tree_at s u₁ value, r.bs) ∷ o.vs;
+            later = r.later;
             read =
-                o .read ∙ ap (λ (l : List Member). after (o .vs) (read-all l)) (z .members)
-                ∙ ap (after (o .vs)) (read-first _ (z .others) (some (tree-at s u₁ value, r .bs)) (r .read))
-                ∙ after-more (tree-at s u₁ value, r .bs) (o .vs) (read-all (z .others));
-            family = rw now-trees (next (record { bindings = trees-at s u₁ bindings; is = refl; chain = x .chain; alike = r .alike }) (o .family));
+                o.read ∙ ap (λ (l : List Member). after o.vs (read_all l)) z.members
+                ∙ ap (after o.vs) (read_first _ z.others (some (tree_at s u₁ value, r.bs)) r.read)
+                ∙ after_more (tree_at s u₁ value, r.bs) o.vs (read_all z.others);
+            family = rw now_trees (next (record { bindings = trees_at s u₁ bindings; is = refl; chain = x.chain; alike = r.alike }) o.family);
           }
 
-      pub gathering-turn : Gathering s w n at u k index end
-      gathering-turn = record {
-        seen = more-seen;
-        arena = y .arena;
-        kept = below-then (below-then (h .kept) (x .kept) (h .grew)) (below-grown (y .grown)) (omega (arith, h .grew, x .grew));
-        grew = omega (arith, h .grew, x .grew);
-        used = omega (arith, h .used, x .used, x .onward, x .within);
-        light = omega (arith, more-sizes, h .light, x .light, x .onward, x .within);
-        inside = y .inside;
+      pub gathering_turn : Gathering s w n at u k index end
+      gathering_turn = record {
+        seen = more_seen;
+        arena = y.arena;
+        kept = below_then (below_then h.kept x.kept h.grew) (below_grown y.grown) (omega (arith, h.grew, x.grew));
+        grew = omega (arith, h.grew, x.grew);
+        used = omega (arith, h.used, x.used, x.onward, x.within);
+        light = omega (arith, more_sizes, h.light, x.light, x.onward, x.within);
+        inside = y.inside;
       }

@@ -1,32 +1,29 @@
 -- The members of a sheet as one list of trees, the last first. Definitions only.
-use Prim.Native.Nat.{ℕ, _-_, _<_, _≤_}
-use mathlib.Core.Path.{_≡_}
-use mathlib.Core.List.{List, [], _∷_, map, reverse}
-use mathlib.Core.Option.{some, none as nothing}
-use lib.ListN.{length}
-use Rattle·rules.specs.Bytes.{Text}
-use Rattle·rules.specs.Maybe.{every}
-use Rattle·rules.specs.Tree.{Tree, apply, Trees, none, more, sizes}
-use Rattle·rules.specs.Sheet.{Member}
-use Rattle·rules.specs.Variants.{Variant, read-member}
-use Rattle·tree.specs.Cells.{fixed-name, trees-at}
-use Rattle·tree.specs.Arena.{Arena, Below}
-use Rattle·substitution.specs.Bindings.{bindings-of, Chain}
-use Rattle·forms.specs.Members.{members-at}
-use Rattle·variants.specs.Members.{Alike, texts-end}
-use Rattle·families·specs.specs.declared.members.Members.{Members}
-use Rattle·families·specs.specs.declared.members.Members.the-variants as members
+use Rattle.std.specs.Prelude.{ℕ, ◌-◌, ◌<◌, ◌≤◌, ◌≡◌, List, [], ◌∷◌, map, reverse, length}
+use Rattle.std.proofs.Math.Option.{some, none as nothing}
+use Rattle.rules.specs.Bytes.{Text}
+use Rattle.rules.specs.Maybe.{every}
+use Rattle.rules.specs.Tree.{Tree, apply, Trees, none, more, sizes}
+use Rattle.rules.specs.Sheet.{Member}
+use Rattle.rules.specs.Variants.{Variant, read_member}
+use Rattle.tree.specs.Cells.{fixed_name, trees_at}
+use Rattle.tree.specs.Arena.{Arena, Below}
+use Rattle.substitution.specs.Bindings.{bindings_of, Chain}
+use Rattle.forms.specs.Members.{members_at}
+use Rattle.variants.specs.Members.{Alike, texts_end}
+use Rattle.families.specs.declared.members.Members.{Members}
+use Rattle.families.specs.declared.members.Members.TheVariants as members
 
 -- a member as one tree: a fixed name over the member's own tree and then its keys and values in turn
-abbrev pub member-tree : Tree → Trees → Tree
-member-tree t bindings = apply (fixed-name 3) (more t bindings)
+abbrev pub member_tree : Tree → Trees → Tree
+member_tree t bindings = apply (fixed_name 3) (more t bindings)
 
 -- t stands for the member that reads as v: the same tree, and bindings that give every variable the same value
 pub record StandsFor (t : Tree) (v : Variant) : Type 0 where
   pub bindings : Trees
-  pub is : t ≡ member-tree (v .0) bindings
+  pub is : t ≡ member_tree v.0 bindings
   pub chain : Chain bindings
-  pub alike : Alike (bindings-of bindings) (v .1)
+  pub alike : Alike (bindings_of bindings) v.1
 
 -- the trees stand for the members, one for one
 pub data Family : Trees → List Variant → Type 0 where
@@ -36,24 +33,24 @@ pub data Family : Trees → List Variant → Type 0 where
 -- all of the members ms read; the list from cell i on stands for them, the last first
 pub record ReadAll (s : Text) (v : List ℕ) (i : ℕ) (ms : List Member) : Type 0 where
   pub vs : List Variant
-  pub read : every (map read-member ms) ≡ some (reverse vs)
-  pub family : Family (trees-at s v i) vs
+  pub read : every (map read_member ms) ≡ some (reverse vs)
+  pub family : Family (trees_at s v i) vs
 
 -- members stand from a position on, to the end of the sheet
 pub record MembersThere (s : Text) (at : ℕ) : Type 0 where
   pub ms : List Member
-  pub are : members-at s at ≡ some ms
+  pub are : members_at s at ≡ some ms
 
 -- the members at a position
 pub record ReadMembers (s : Text) (w v : List ℕ) (n at i m : ℕ) : Type 0 where
-  pub reads : (ms : List Member) → members-at s at ≡ some ms → ReadAll s v i ms
+  pub reads : (ms : List Member) → members_at s at ≡ some ms → ReadAll s v i ms
   pub arena : Arena s v m
   pub kept : Below w v n
   pub grew : n ≤ m
-  pub used : m ≤ texts-end s n at
-  pub light : sizes (trees-at s v i) ≤ length s - at
+  pub used : m ≤ texts_end s n at
+  pub light : sizes (trees_at s v i) ≤ length s - at
   pub inside : i < m
 
 abbrev pub ReadsMembers : Text → List ℕ → List ℕ → ℕ → ℕ → Members → Type 0
 ReadsMembers s w v n at (members.List i m) = ReadMembers s w v n at i m
-ReadsMembers s w v n at members.Unreadable = ((ms : List Member) → members-at s at ≡ some ms → every (map read-member ms) ≡ nothing) × Below w v n
+ReadsMembers s w v n at members.Unreadable = ((ms : List Member) → members_at s at ≡ some ms → every (map read_member ms) ≡ nothing) × Below w v n

@@ -1,22 +1,20 @@
 // Whether a member generalizes the solution of a scheme and its value (variants.rs, `complete`).
+ghost use Rattle.std.specs.Prelude.{◌≡◌, ◌+◌, ◌*◌, ◌<◌, ◌≤◌, length};
+ghost use Rattle.rules.specs.Tree.{count};
+ghost use Rattle.rules.specs.Cover.{covering};
+ghost use Rattle.rules.specs.Variants.{generalized};
+ghost use Rattle.tree.specs.Cells.{tree_at, trees_at};
+ghost use Rattle.tree.specs.Arena.{Arena, Below};
+ghost use Rattle.substitution.specs.Bindings.{bindings_at};
+ghost use Rattle.variables.specs.Pairing.{OfVariables, names_at};
+ghost use Rattle.unifier.specs.Matched.{Matched};
+ghost use Rattle.families.specs.Generalizing.{member_of, variants_at, member_pairs, IsMember, AllMatched};
+
 use matching::matcher;
 use substitution::bindings::push_pair;
-use tree::cells::first_of;
-use tree::cells::next_of;
+use tree::cells::{first_of, next_of};
 use unifier::unifying::Outcome;
 use variables::pairing::pair_variables;
-ghost use mathlib.Core.Path.{_≡_};
-ghost use Prim.Native.Nat.{_+_, _*_, _<_, _≤_};
-ghost use lib.ListN.{length};
-ghost use Rattle·rules.specs.Tree.{count};
-ghost use Rattle·rules.specs.Cover.{covering};
-ghost use Rattle·rules.specs.Variants.{generalized};
-ghost use Rattle·tree.specs.Cells.{tree-at, trees-at};
-ghost use Rattle·tree.specs.Arena.{Arena, Below};
-ghost use Rattle·substitution.specs.Bindings.{bindings-at};
-ghost use Rattle·variables.specs.Pairing.{OfVariables, names-at};
-ghost use Rattle·unifier.specs.Matched.{Matched};
-ghost use Rattle·families·specs.specs.Generalizing.{member-of, variants-at, member-pairs, IsMember, AllMatched};
 
 // Whether the trees that the member of cell `member` gives the variables of the list from cell `names` on, and its own, are not found to
 // differ from those of the bindings and the tree of cell value. A match takes at most one pair for each node of the member's trees.
@@ -29,11 +27,11 @@ fn generalizes(
     bindings: usize,
     value: usize,
 ) -> bool
-    requires { ⌜ Arena (now sheet) (now work) free × (length (now sheet) ≤ 65536) ⌝ }
-    requires { ⌜ (0 < member) × (member < free) × (names < free) × (bindings < free) × (0 < value) × (value < free) ⌝ }
-    requires { ⌜ IsMember (tree-at (now sheet) (now work) member) × OfVariables (trees-at (now sheet) (now work) names) ⌝ }
-    requires { ⌜ Matched (now sheet) (now work) (free + 2 + 2 * count (trees-at (now sheet) (now work) names)) (member-pairs (names-at (now sheet) (now work) names) (member-of (tree-at (now sheet) (now work) member)) (bindings-at (now sheet) (now work) bindings) (tree-at (now sheet) (now work) value)) ⌝ }
-    ensures { λ r. ⌜ (r ≡ covering (member-pairs (names-at (now (sheet .entry)) (now (work .entry)) names) (member-of (tree-at (now (sheet .entry)) (now (work .entry)) member)) (bindings-at (now (sheet .entry)) (now (work .entry)) bindings) (tree-at (now (sheet .entry)) (now (work .entry)) value))) × Below (now (work .entry)) (now (work .exit)) free ⌝ }
+    requires arena { Arena sheet.now work.old free × (length sheet.now ≤ 65536) }
+    requires member_nonzero { (0 < member) × (member < free) × (names < free) × (bindings < free) × (0 < value) × (value < free) }
+    requires member { IsMember (tree_at sheet.now work.old member) × OfVariables (trees_at sheet.now work.old names) }
+    requires cases { Matched sheet.now work.old (free + 2 + 2 * count (trees_at sheet.now work.old names)) (member_pairs (names_at sheet.now work.old names) (member_of (tree_at sheet.now work.old member)) (bindings_at sheet.now work.old bindings) (tree_at sheet.now work.old value)) }
+    ensures { (result ≡ covering (member_pairs (names_at sheet.now work.old names) (member_of (tree_at sheet.now work.old member)) (bindings_at sheet.now work.old bindings) (tree_at sheet.now work.old value))) × Below work.old work.new free }
 {
     let own = first_of(work, free, member);
     let entries = next_of(work, free, own);
@@ -56,11 +54,11 @@ pub fn generalized(
     bindings: usize,
     value: usize,
 ) -> bool
-    requires { ⌜ Arena (now sheet) (now work) free × (length (now sheet) ≤ 65536) ⌝ }
-    requires { ⌜ (members < free) × (names < free) × (bindings < free) × (0 < value) × (value < free) ⌝ }
-    requires { ⌜ OfVariables (trees-at (now sheet) (now work) names) ⌝ }
-    requires { ⌜ AllMatched (now sheet) (now work) (free + 2 + 2 * count (trees-at (now sheet) (now work) names)) (names-at (now sheet) (now work) names) (bindings-at (now sheet) (now work) bindings) (tree-at (now sheet) (now work) value) (trees-at (now sheet) (now work) members) ⌝ }
-    ensures { λ r. ⌜ (r ≡ generalized (names-at (now (sheet .entry)) (now (work .entry)) names) (variants-at (now (sheet .entry)) (now (work .entry)) members) (bindings-at (now (sheet .entry)) (now (work .entry)) bindings) (tree-at (now (sheet .entry)) (now (work .entry)) value)) × Below (now (work .entry)) (now (work .exit)) free ⌝ }
+    requires arena { Arena sheet.now work.old free × (length sheet.now ≤ 65536) }
+    requires members_lt_free { (members < free) × (names < free) × (bindings < free) × (0 < value) × (value < free) }
+    requires of_variables { OfVariables (trees_at sheet.now work.old names) }
+    requires all_matched { AllMatched sheet.now work.old (free + 2 + 2 * count (trees_at sheet.now work.old names)) (names_at sheet.now work.old names) (bindings_at sheet.now work.old bindings) (tree_at sheet.now work.old value) (trees_at sheet.now work.old members) }
+    ensures { (result ≡ generalized (names_at sheet.now work.old names) (variants_at sheet.now work.old members) (bindings_at sheet.now work.old bindings) (tree_at sheet.now work.old value)) × Below work.old work.new free }
 {
     let mut k = members;
     while k != 0 {

@@ -1,25 +1,20 @@
 // The members of a sheet as one list of trees in cells, the last first.
+ghost use Rattle.std.specs.Prelude.{◌≡◌, ◌+◌, ◌*◌, ◌<◌, ◌≤◌, ◌^◌, length};
+ghost use Rattle.rules.specs.Tree.{more, size, sizes};
+ghost use Rattle.tree.specs.Cells.{tree_at, trees_at};
+ghost use Rattle.tree.specs.Arena.{Arena};
+ghost use Rattle.substitution.specs.Building.{Made};
+ghost use Rattle.variants.specs.Members.{TextsRoom};
+ghost use Rattle.families.specs.Families.{member_tree, MembersThere, ReadsMembers};
+
 use reduction::building::nodes_in;
-use sheet::Cursor;
-use sheet::Line;
-use sheet::next_member;
+use sheet::{Cursor, Line, next_member};
 use substitution::bindings::Pushed;
-use tree::cells::APPLICATION;
-use tree::cells::push_cell;
-use tree::cells::share;
-use variants::members::Variant;
-use variants::members::read_member;
-ghost use mathlib.Core.Path.{_≡_};
-ghost use Prim.Native.Nat.{_+_, _*_, _<_, _≤_, _^_};
-ghost use lib.ListN.{length};
-ghost use Rattle·rules.specs.Tree.{more, size, sizes};
-ghost use Rattle·tree.specs.Cells.{tree-at, trees-at};
-ghost use Rattle·tree.specs.Arena.{Arena};
-ghost use Rattle·substitution.specs.Building.{Made};
-ghost use Rattle·variants.specs.Members.{TextsRoom};
-ghost use Rattle·families·specs.specs.Families.{member-tree, MembersThere, ReadsMembers};
+use tree::cells::{APPLICATION, push_cell, share};
+use variants::members::{Variant, read_member};
 
 // A list of trees and the free end after it, or a member's text that cannot be read.
+#[derive(Clone, Copy)]
 pub enum Members {
     List { index: usize, free: usize },
     Unreadable,
@@ -34,11 +29,11 @@ fn push_member(
     bindings: usize,
     list: usize,
 ) -> Pushed
-    requires { ⌜ Arena (now sheet) (now work) free ⌝ }
-    requires { ⌜ (0 < value) × (value < free) × (bindings < free) × (list < free) ⌝ }
-    requires { ⌜ size (tree-at (now sheet) (now work) value) + sizes (trees-at (now sheet) (now work) bindings) < 65535 ⌝ }
-    requires { ⌜ (4 * (free + 2) ≤ length (now work)) × (free + 2 < 2 ^ 32) ⌝ }
-    ensures { λ r. ⌜ Made (now (sheet .entry)) (now (work .entry)) (now (work .exit)) free (r .free) (r .index) (more (member-tree (tree-at (now (sheet .entry)) (now (work .entry)) value) (trees-at (now (sheet .entry)) (now (work .entry)) bindings)) (trees-at (now (sheet .entry)) (now (work .entry)) list)) × (r .free ≡ free + 2) ⌝ }
+    requires arena { Arena sheet.now work.old free }
+    requires value_nonzero { (0 < value) × (value < free) × (bindings < free) × (list < free) }
+    requires bindings_bound { size (tree_at sheet.now work.old value) + sizes (trees_at sheet.now work.old bindings) < 65535 }
+    requires free_in_bounds { (4 * (free + 2) ≤ length work.old) × (free + 2 < 2 ^ 32) }
+    ensures { Made sheet.now work.old work.new free result.free result.index (more (member_tree (tree_at sheet.now work.old value) (trees_at sheet.now work.old bindings)) (trees_at sheet.now work.old list)) × (result.free ≡ free + 2) }
 {
     let middle = share(sheet, work, free, value, bindings);
     let count = nodes_in(sheet, work, middle, free);
@@ -51,10 +46,10 @@ fn push_member(
 
 // Every member from a cursor on.
 pub fn read_members(sheet: &[u8], work: &mut [u32], free: usize, start: Cursor) -> Members
-    requires { ⌜ Arena (now sheet) (now work) free ⌝ }
-    requires { ⌜ TextsRoom (now sheet) (now work) free (start .at) ⌝ }
-    requires { ⌜ MembersThere (now sheet) (start .at) ⌝ }
-    ensures { λ r. ⌜ ReadsMembers (now (sheet .entry)) (now (work .entry)) (now (work .exit)) free (start .at) r ⌝ }
+    requires arena { Arena sheet.now work.old free }
+    requires texts_room { TextsRoom sheet.now work.old free start.at }
+    requires members_there { MembersThere sheet.now start.at }
+    ensures { ReadsMembers sheet.now work.old work.new free start.at result }
 {
     let mut cursor = start;
     let mut list: usize = 0;

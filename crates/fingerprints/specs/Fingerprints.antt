@@ -1,23 +1,18 @@
 -- Fingerprints of texts, those of Fowler, Noll and Vo with a sum in place of the exclusive or, and with a sum alone for each zero, so
 -- that a run of zeros is one step. Definitions only.
-use Prim.Native.Nat.{ℕ, _+_, _*_, _%_}
-use mathlib.Core.Path.{_≡_}
-use mathlib.Core.Bool.{cond}
-use mathlib.Core.List.{List, [], _∷_}
-use lib.Dec.{eqb}
-use lib.ListN.{set}
-use Rattle·rules.specs.Tree.{Tree}
-use Rattle·rules.specs.Sums.{canonical}
-use Rattle·equivalence.specs.Words.{Canon}
+use Rattle.std.specs.Prelude.{ℕ, ◌+◌, ◌*◌, ◌%◌, ◌≡◌, cond, List, [], ◌∷◌, eqb, set}
+use Rattle.rules.specs.Tree.{Tree}
+use Rattle.rules.specs.Sums.{canonical}
+use Rattle.equivalence.specs.Words.{Canon}
 
 -- a fingerprint, carried on through a byte
-unfoldable pub mixed-byte : ℕ → ℕ → ℕ
-mixed-byte h b = cond (eqb b 48) ((h + 2654435769) % 4294967296) ((h * 16777619 + b) % 4294967296)
+unfoldable pub mixed_byte : ℕ → ℕ → ℕ
+mixed_byte h b = cond (eqb b 48) ((h + 2654435769) % 4294967296) ((h * 16777619 + b) % 4294967296)
 
 -- through a text
 unfoldable pub mixed : ℕ → List ℕ → ℕ
 mixed h [] = h
-mixed h (b ∷ bs) = mixed (mixed-byte h b) bs
+mixed h (b ∷ bs) = mixed (mixed_byte h b) bs
 
 abbrev pub fingerprint : List ℕ → ℕ
 fingerprint text = mixed 2166136261 text

@@ -1,19 +1,18 @@
 // Fingerprints of texts: texts that are one have one fingerprint.
+#![tactic(auto)]
+
+ghost use Rattle.std.specs.Prelude.{◌≡◌, ◌+◌, ◌*◌, ◌<◌, ◌≤◌, length};
+ghost use Rattle.std.proofs.Math.Seq.{slice};
+ghost use Rattle.rules.specs.Tree.{size};
+ghost use Rattle.laws.specs.Unspelled.{zeros_name};
+ghost use Rattle.tree.specs.Cells.{tree_at};
+ghost use Rattle.tree.specs.Arena.{Arena};
+ghost use Rattle.runs.specs.Texts.{word_text, texts, Token, Tokens};
+ghost use Rattle.fingerprints.specs.Fingerprints.{mixed_byte, mixed, fingerprint, Marked};
+
 use equivalence::words::tree_words;
-use runs::order::byte_of;
-use runs::order::width_of;
-use runs::order::zeros_of;
+use runs::order::{byte_of, width_of, zeros_of};
 use text::places::wide;
-ghost use mathlib.Core.Path.{_≡_};
-ghost use Prim.Native.Nat.{_+_, _*_, _<_, _≤_};
-ghost use lib.ListN.{length};
-ghost use lib.Seq.{slice};
-ghost use Rattle·rules.specs.Tree.{size};
-ghost use Rattle·laws.specs.Unspelled.{zeros-name};
-ghost use Rattle·tree.specs.Cells.{tree-at};
-ghost use Rattle·tree.specs.Arena.{Arena};
-ghost use Rattle·runs.specs.Texts.{word-text, texts, Token, Tokens};
-ghost use Rattle·fingerprints·specs.specs.Fingerprints.{mixed-byte, mixed, fingerprint, Marked};
 
 // The fingerprint of no bytes, what it is multiplied by at each byte, and what a zero adds to it.
 const BASIS: usize = 2166136261;
@@ -24,8 +23,8 @@ const ZERO: usize = 2654435769;
 
 // The fingerprint h, carried on through the byte b.
 fn mix_byte(h: usize, b: u8) -> usize
-    requires { ⌜ h < 4294967296 ⌝ }
-    ensures { λ r. ⌜ (r < 4294967296) × (r ≡ mixed-byte h b) ⌝ }
+    requires { h < 4294967296 }
+    ensures { (result < 4294967296) × (result ≡ mixed_byte h b) }
 {
     if b == 48 {
         return (h + ZERO) % 4294967296;
@@ -36,8 +35,8 @@ fn mix_byte(h: usize, b: u8) -> usize
 
 // The same through an x, n zeros, a colon and Msg.
 fn mix_zeros(n: usize, h: usize) -> usize
-    requires { ⌜ (n < 131072) × (h < 4294967296) ⌝ }
-    ensures { λ r. ⌜ (r < 4294967296) × (r ≡ mixed h (zeros-name n)) ⌝ }
+    requires { (n < 131072) × (h < 4294967296) }
+    ensures { (result < 4294967296) × (result ≡ mixed h (zeros_name n)) }
 {
     let first = mix_byte(h, 120);
     let zeros = (first + n * ZERO) % 4294967296;
@@ -49,9 +48,9 @@ fn mix_zeros(n: usize, h: usize) -> usize
 
 // The same through the text of the word x.
 fn mix(sheet: &[u8], x: usize, h: usize) -> usize
-    requires { ⌜ Token (now sheet) x ⌝ }
-    requires { ⌜ h < 4294967296 ⌝ }
-    ensures { λ r. ⌜ (r < 4294967296) × (r ≡ mixed h (word-text (now (sheet .entry)) x)) ⌝ }
+    requires token { Token sheet.now x }
+    requires h_bound { h < 4294967296 }
+    ensures { (result < 4294967296) × (result ≡ mixed h (word_text sheet.now x)) }
 {
     let zeros = zeros_of(x);
     if 0 < zeros {
@@ -70,9 +69,9 @@ fn mix(sheet: &[u8], x: usize, h: usize) -> usize
 
 // The fingerprint of the text of the words from `from` to `to`.
 fn fingerprint(sheet: &[u8], work: &[u32], from: usize, to: usize) -> u32
-    requires { ⌜ (from ≤ to) × (to ≤ length (now work)) ⌝ }
-    requires { ⌜ Tokens (now sheet) (now work) from to ⌝ }
-    ensures { λ r. ⌜ r ≡ fingerprint (texts (now (sheet .entry)) (slice from to (now (work .entry)))) ⌝ }
+    requires from_le_to { (from ≤ to) × (to ≤ length work.now) }
+    requires tokens { Tokens sheet.now work.now from to }
+    ensures { result ≡ fingerprint (texts sheet.now (slice from to work.now)) }
 {
     let mut p = from;
     let mut r: usize = BASIS;
@@ -92,10 +91,10 @@ pub fn marked_words(
     base: usize,
     k: usize,
 ) -> usize
-    requires { ⌜ Arena (now sheet) (now work) free ⌝ }
-    requires { ⌜ (0 < i) × (i < free) × (4 * free ≤ base) × (k < base) ⌝ }
-    requires { ⌜ (5 * size (tree-at (now sheet) (now work) i) < 65536) × (base + 15 * size (tree-at (now sheet) (now work) i) ≤ length (now work)) ⌝ }
-    ensures { λ r. ⌜ Marked (now (sheet .entry)) (now (work .entry)) (now (work .exit)) (tree-at (now (sheet .entry)) (now (work .entry)) i) base r k ⌝ }
+    requires arena { Arena sheet.now work.old free }
+    requires i_nonzero { (0 < i) × (i < free) × (4 * free ≤ base) × (k < base) }
+    requires i_bound { (5 * size (tree_at sheet.now work.old i) < 65536) × (base + 15 * size (tree_at sheet.now work.old i) ≤ length work.old) }
+    ensures { Marked sheet.now work.old work.new (tree_at sheet.now work.old i) base result k }
 {
     let end = tree_words(sheet, work, free, i, base);
     work[k] = fingerprint(sheet, work, base, end);

@@ -1,79 +1,79 @@
 -- The items of a text are its tokens.
-use Prim.Native.Nat.{ℕ, zero, suc, _+_, _-_, _<_, _≤_, _/_, _%_}
-use mathlib.Core.Path.{_≡_, refl, sym, ap, ap₂, subst, _∙_}
+use Prim.Native.Nat.{ℕ, zero, suc, ◌+◌, ◌-◌, ◌<◌, ◌≤◌, ◌/◌, ◌%◌}
+use mathlib.Core.Path.{◌≡◌, refl, sym, ap, ap₂, subst, ◌∙◌}
 use mathlib.Core.Bool.{false}
-use mathlib.Core.List.{List, [], _∷_, map}
+use mathlib.Core.List.{List, [], ◌∷◌, map}
 use mathlib.Core.Option.{Option, some, none}
 use lib.ListN.{length, take, drop, length-drop}
-use lib.Seq.{getD-take, getD-drop, ext-getD, length-take-le}
+use lib.Seq.{get_or-take, get_or-drop, ext_get_or, length-take-le}
 use native.Mathlib.Omega.{arith}
-use Rattle·rules.specs.Bytes.{Text}
-use Rattle·rules.specs.Text.{bytes, is-one-of}
-use Rattle·rules.specs.Maybe.{_>>=_}
-use Rattle·rules.specs.Tokens.{tokens}
-use Rattle·syntax.specs.Symbols.{symbol-at}
-use Rattle·syntax.specs.declared.Symbol.{Symbol}
-use Rattle·syntax.specs.declared.Symbol.the-variants.{Begin, Shut, Comma, Name, Stop, Bad}
-use Rattle·syntax.proofs.TokenList.{joined as joined-token}
-use Rattle·syntax.proofs.SymbolLaws.{Names, Means, means}
-use Rattle·runs.specs.Texts.{word-text}
-use Rattle·flattening·specs.specs.Items.{Item, begin, shut, comma, name, place-word, item-before, items-by, items, items-at}
-use Rattle·runs.proofs.WordTexts.{text-place}
+use Rattle.rules.specs.Bytes.{Text}
+use Rattle.rules.specs.Text.{bytes, is_one_of}
+use Rattle.rules.specs.Maybe.{◌>>=◌}
+use Rattle.rules.specs.Tokens.{tokens}
+use Rattle.syntax.specs.Symbols.{symbol_at}
+use Rattle.syntax.specs.declared.Symbol.{Symbol}
+use Rattle.syntax.specs.declared.Symbol.TheVariants.{Begin, Shut, Comma, Name, Stop, Bad}
+use Rattle.syntax.proofs.TokenList.{joined as joined_token}
+use Rattle.syntax.proofs.SymbolLaws.{Names, Means, means}
+use Rattle.runs.specs.Texts.{word_text}
+use Rattle.flattening.specs.Items.{Item, begin, shut, comma, name, place_word, item_before, items_by, items, items_at}
+use Rattle.runs.proofs.WordTexts.{text_place}
 
 -- ---- more room for items changes nothing
 
-items-enough-by : (s : Text) (at k m : ℕ) → ((to : ℕ) → at < to → to ≤ length s → items k s to ≡ items m s to) → (q : Symbol) → Means s at q → items-by q (items k s) ≡ items-by q (items m s)
-items-enough-by s at k m h (Begin to) e = ap (item-before begin) (h to (e .past) (e .within))
-items-enough-by s at k m h (Shut to) e = ap (item-before shut) (h to (e .past) (e .within))
-items-enough-by s at k m h (Comma to) e = ap (item-before comma) (h to (e .past) (e .within))
-items-enough-by s at k m h (Name from to) e =
-    let p = e .past in
-    let q = e .some-bytes in
-    ap (item-before (name (place-word from to))) (h to (omega arith) (e .within))
-items-enough-by s at k m h Stop e = refl
-items-enough-by s at k m h Bad e = refl
+items_enough_by : (s : Text) (at k m : ℕ) → ((to : ℕ) → at < to → to ≤ length s → items k s to ≡ items m s to) → (q : Symbol) → Means s at q → items_by q (items k s) ≡ items_by q (items m s)
+items_enough_by s at k m h (Begin to) e = ap (item_before begin) (h to e.past e.within)
+items_enough_by s at k m h (Shut to) e = ap (item_before shut) (h to e.past e.within)
+items_enough_by s at k m h (Comma to) e = ap (item_before comma) (h to e.past e.within)
+items_enough_by s at k m h (Name from to) e =
+    let p = e.past in
+    let q = e.some_bytes in
+    ap (item_before (name (place_word from to))) (h to (omega arith) e.within)
+items_enough_by s at k m h Stop e = refl
+items_enough_by s at k m h Bad e = refl
 
-items-enough : (s : Text) (k m at : ℕ) → length s - at < k → length s - at < m → items k s at ≡ items m s at
+items_enough : (s : Text) (k m at : ℕ) → length s - at < k → length s - at < m → items k s at ≡ items m s at
 unfolding items
-items-enough s zero m at p q = absurd (omega arith)
-items-enough s (suc k) zero at p q = absurd (omega arith)
-items-enough s (suc k) (suc m) at p q = items-enough-by s at k m (λ to u v. items-enough s k m to (omega arith) (omega arith)) (symbol-at s at) (means s at)
+items_enough s zero m at p q = absurd (omega arith)
+items_enough s (suc k) zero at p q = absurd (omega arith)
+items_enough s (suc k) (suc m) at p q = items_enough_by s at k m (λ to u v. items_enough s k m to (omega arith) (omega arith)) (symbol_at s at) (means s at)
 
 -- the items from a position on, by the next symbol
-pub items-next : (s : Text) (at : ℕ) → items-at s at ≡ items-by (symbol-at s at) (items-at s)
-unfolding items-at items
-items-next s at = go (symbol-at s at) (means s at)
+pub items_next : (s : Text) (at : ℕ) → items_at s at ≡ items_by (symbol_at s at) (items_at s)
+unfolding items_at items
+items_next s at = go (symbol_at s at) (means s at)
   where
-    from : (to : ℕ) → at < to → to ≤ length s → items (length s - at) s to ≡ items-at s to
-    from to u v = items-enough s (length s - at) (suc (length s - to)) to (omega arith) (omega arith)
+    from : (to : ℕ) → at < to → to ≤ length s → items (length s - at) s to ≡ items_at s to
+    from to u v = items_enough s (length s - at) (suc (length s - to)) to (omega arith) (omega arith)
 
-    go : (q : Symbol) → Means s at q → items-by q (items (length s - at) s) ≡ items-by q (items-at s)
-    go (Begin to) e = ap (item-before begin) (from to (e .past) (e .within))
-    go (Shut to) e = ap (item-before shut) (from to (e .past) (e .within))
-    go (Comma to) e = ap (item-before comma) (from to (e .past) (e .within))
+    go : (q : Symbol) → Means s at q → items_by q (items (length s - at) s) ≡ items_by q (items_at s)
+    go (Begin to) e = ap (item_before begin) (from to e.past e.within)
+    go (Shut to) e = ap (item_before shut) (from to e.past e.within)
+    go (Comma to) e = ap (item_before comma) (from to e.past e.within)
     go (Name f to) e =
-        let p = e .past in
-        let q = e .some-bytes in
-        ap (item-before (name (place-word f to))) (from to (omega arith) (e .within))
+        let p = e.past in
+        let q = e.some_bytes in
+        ap (item_before (name (place_word f to))) (from to (omega arith) e.within)
     go Stop e = refl
     go Bad e = refl
 
-pub items-is : (s : Text) (at : ℕ) {r : Symbol} → r ≡ symbol-at s at → (q : Symbol) → r ≡ q → items-at s at ≡ items-by q (items-at s)
-items-is s at e q f = items-next s at ∙ ap (λ (x : Symbol). items-by x (items-at s)) (sym e ∙ f)
+pub items_is : (s : Text) (at : ℕ) {r : Symbol} → r ≡ symbol_at s at → (q : Symbol) → r ≡ q → items_at s at ≡ items_by q (items_at s)
+items_is s at e q f = items_next s at ∙ ap (λ (x : Symbol). items_by x (items_at s)) (sym e ∙ f)
 
 -- ---- the texts of items
 
-abbrev pub item-text : Text → Item → Text
-item-text s begin = bytes "("
-item-text s shut = bytes ")"
-item-text s comma = bytes ","
-item-text s (name x) = word-text s x
+abbrev pub item_text : Text → Item → Text
+item_text s begin = bytes "("
+item_text s shut = bytes ")"
+item_text s comma = bytes ","
+item_text s (name x) = word_text s x
 
 -- a name's word: a place of s that is no mark
 pub record Named (s : Text) (x : ℕ) : Type 0 where
   pub long : 0 < x % 65536
   pub placed : x / 65536 + x % 65536 ≤ length s
-  pub no-mark : is-one-of (bytes "(" ∷ bytes ")" ∷ bytes "," ∷ []) (word-text s x) ≡ false
+  pub no_mark : is_one_of (bytes "(" ∷ bytes ")" ∷ bytes "," ∷ []) (word_text s x) ≡ false
 
 pub data Proper (s : Text) : List Item → Type 0 where
   nothing : Proper s []
@@ -83,77 +83,77 @@ pub data Proper (s : Text) : List Item → Type 0 where
   names : {x : ℕ} {is : List Item} → Named s x → Proper s is → Proper s (name x ∷ is)
 
 -- the text of a place
-pub place-text : (s : Text) (f t : ℕ) → f < t → t < 65536 → word-text s (place-word f t) ≡ take (t - f) (drop f s)
-place-text s f t a b =
-    let m : place-word f t % 65536 ≡ t - f = omega arith in
-    let d : place-word f t / 65536 ≡ f = omega arith in
-    text-place s (place-word f t) (λ e. omega arith) ∙ rw (m, d)
+pub place_text : (s : Text) (f t : ℕ) → f < t → t < 65536 → word_text s (place_word f t) ≡ take (t - f) (drop f s)
+place_text s f t a b =
+    let m : place_word f t % 65536 ≡ t - f = omega arith in
+    let d : place_word f t / 65536 ≡ f = omega arith in
+    text_place s (place_word f t) (λ e. omega arith) ∙ rw (m, d)
 
 -- a place of the front of a text is one of the text
-part-of-front : (to f n : ℕ) (s : Text) → f + n ≤ to → to ≤ length s → take n (drop f (take to s)) ≡ take n (drop f s)
-part-of-front to f n s p q =
+part_of_front : (to f n : ℕ) (s : Text) → f + n ≤ to → to ≤ length s → take n (drop f (take to s)) ≡ take n (drop f s)
+part_of_front to f n s p q =
     let lt = length-take-le to s q in
     let d₁ = length-drop f (take to s) in
     let d₂ = length-drop f s in
     let e₁ : length (take n (drop f (take to s))) ≡ n = length-take-le n (drop f (take to s)) (omega arith) in
     let e₂ : length (take n (drop f s)) ≡ n = length-take-le n (drop f s) (omega arith) in
-    ext-getD 0 (take n (drop f (take to s))) (take n (drop f s)) (omega arith)
+    ext_get_or 0 (take n (drop f (take to s))) (take n (drop f s)) (omega arith)
     (λ i m. (
     let y : i < n = omega arith in
-    getD-take n (drop f (take to s)) i 0 y ∙ getD-drop f (take to s) i 0 ∙ getD-take to s (f + i) 0 (omega arith)
-    ∙ sym (getD-take n (drop f s) i 0 y ∙ getD-drop f s i 0)))
+    get_or-take n (drop f (take to s)) i 0 y ∙ get_or-drop f (take to s) i 0 ∙ get_or-take to s (f + i) 0 (omega arith)
+    ∙ sym (get_or-take n (drop f s) i 0 y ∙ get_or-drop f s i 0)))
 
 module _ (s : Text) (to : ℕ) (fits : to ≤ length s) (small : to < 65536) where
-  name-text : (f t : ℕ) → f < t → t ≤ to → word-text s (place-word f t) ≡ take (t - f) (drop f (take to s))
-  name-text f t a b = place-text s f t a (omega arith) ∙ sym (part-of-front to f (t - f) s (omega arith) fits)
+  name_text : (f t : ℕ) → f < t → t ≤ to → word_text s (place_word f t) ≡ take (t - f) (drop f (take to s))
+  name_text f t a b = place_text s f t a (omega arith) ∙ sym (part_of_front to f (t - f) s (omega arith) fits)
 
-  pub name-named : (at f t : ℕ) → Names (take to s) at f t → Named s (place-word f t)
-  name-named at f t e =
+  pub name_named : (at f t : ℕ) → Names (take to s) at f t → Named s (place_word f t)
+  name_named at f t e =
       let lt = length-take-le to s fits in
-      let a = e .some-bytes in
-      let b = e .within in
-      record { long = omega arith; placed = omega arith; no-mark = rw (name-text f t a (omega arith)) (e .no-mark) }
+      let a = e.some_bytes in
+      let b = e.within in
+      record { long = omega arith; placed = omega arith; no_mark = rw (name_text f t a (omega arith)) e.no_mark }
 
   -- the tokens from a position on are the texts of the items
   record Lexed (o : Option (List Item)) (ts : Option (List Text)) : Type 0 where
-    same : ts ≡ (o >>= λ is. some (map (item-text s) is))
+    same : ts ≡ (o >>= λ is. some (map (item_text s) is))
     proper : (is : List Item) → o ≡ some is → Proper s is
 
-  lexed-before : (i : Item) (m : Text) {o : Option (List Item)} {ts : Option (List Text)} → item-text s i ≡ m → ((is : List Item) → Proper s is → Proper s (i ∷ is)) → Lexed o ts
-      → Lexed (item-before i o) (joined-token m ts)
-  lexed-before i m {o} {ts} e h l = record { same = ap₂ joined-token (sym e) (l .same) ∙ go o; proper = λ is f. which o (l .proper) is f }
+  lexed_before : (i : Item) (m : Text) {o : Option (List Item)} {ts : Option (List Text)} → item_text s i ≡ m → ((is : List Item) → Proper s is → Proper s (i ∷ is)) → Lexed o ts
+      → Lexed (item_before i o) (joined_token m ts)
+  lexed_before i m {o} {ts} e h l = record { same = ap₂ joined_token (sym e) l.same ∙ go o; proper = λ is f. which o l.proper is f }
     where
-      go : (o : Option (List Item)) → joined-token (item-text s i) (o >>= λ is. some (map (item-text s) is)) ≡ (item-before i o >>= λ is. some (map (item-text s) is))
+      go : (o : Option (List Item)) → joined_token (item_text s i) (o >>= λ is. some (map (item_text s) is)) ≡ (item_before i o >>= λ is. some (map (item_text s) is))
       go none = refl
       go (some is) = refl
 
-      which : (o : Option (List Item)) → ((is : List Item) → o ≡ some is → Proper s is) → (is : List Item) → item-before i o ≡ some is → Proper s is
-      which none g is f = let z : _≡_ {A = ℕ} 0 1 = cc in absurd (omega arith)
+      which : (o : Option (List Item)) → ((is : List Item) → o ≡ some is → Proper s is) → (is : List Item) → item_before i o ≡ some is → Proper s is
+      which none g is f = let z : ◌≡◌ {A = ℕ} 0 1 = cc in absurd (omega arith)
       which (some js) g is f = let z : i ∷ js ≡ is = cc in subst (Proper s) z (h js (g js refl))
 
-  lexed-by : (at k : ℕ) → ((t : ℕ) → at < t → t ≤ length (take to s) → Lexed (items k (take to s) t) (tokens (drop t (take to s)))) → (q : Symbol) → Means (take to s) at q
-      → Lexed (items-by q (items k (take to s))) (tokens (drop at (take to s)))
-  lexed-by at k h (Begin t) e = rw (e .first) (lexed-before begin (bytes "(") refl (λ is p. begins p) (h t (e .past) (e .within)))
-  lexed-by at k h (Shut t) e = rw (e .first) (lexed-before shut (bytes ")") refl (λ is p. shuts p) (h t (e .past) (e .within)))
-  lexed-by at k h (Comma t) e = rw (e .first) (lexed-before comma (bytes ",") refl (λ is p. commas p) (h t (e .past) (e .within)))
-  lexed-by at k h (Name f t) e =
+  lexed_by : (at k : ℕ) → ((t : ℕ) → at < t → t ≤ length (take to s) → Lexed (items k (take to s) t) (tokens (drop t (take to s)))) → (q : Symbol) → Means (take to s) at q
+      → Lexed (items_by q (items k (take to s))) (tokens (drop at (take to s)))
+  lexed_by at k h (Begin t) e = rw e.first (lexed_before begin (bytes "(") refl (λ is p. begins p) (h t e.past e.within))
+  lexed_by at k h (Shut t) e = rw e.first (lexed_before shut (bytes ")") refl (λ is p. shuts p) (h t e.past e.within))
+  lexed_by at k h (Comma t) e = rw e.first (lexed_before comma (bytes ",") refl (λ is p. commas p) (h t e.past e.within))
+  lexed_by at k h (Name f t) e =
       let lt = length-take-le to s fits in
-      let a = e .past in
-      let b = e .some-bytes in
-      let c = e .within in
-      rw (e .first) (lexed-before (name (place-word f t)) (take (t - f) (drop f (take to s))) (name-text f t b (omega arith)) (λ is p. names (name-named at f t e) p) (h t (omega arith) c))
-  lexed-by at k h Stop e = rw e (record { same = refl; proper = λ is f. (let z : [] ≡ is = cc in subst (Proper s) z nothing) })
-  lexed-by at k h Bad e = rw e (record { same = refl; proper = λ is f. (let z : _≡_ {A = ℕ} 0 1 = cc in absurd (omega arith)) })
+      let a = e.past in
+      let b = e.some_bytes in
+      let c = e.within in
+      rw e.first (lexed_before (name (place_word f t)) (take (t - f) (drop f (take to s))) (name_text f t b (omega arith)) (λ is p. names (name_named at f t e) p) (h t (omega arith) c))
+  lexed_by at k h Stop e = rw e (record { same = refl; proper = λ is f. (let z : [] ≡ is = cc in subst (Proper s) z nothing) })
+  lexed_by at k h Bad e = rw e (record { same = refl; proper = λ is f. (let z : ◌≡◌ {A = ℕ} 0 1 = cc in absurd (omega arith)) })
 
-  lexed-from : (k at : ℕ) → length (take to s) - at < k → Lexed (items k (take to s) at) (tokens (drop at (take to s)))
+  lexed_from : (k at : ℕ) → length (take to s) - at < k → Lexed (items k (take to s) at) (tokens (drop at (take to s)))
   unfolding items
-  lexed-from zero at p = absurd (omega arith)
-  lexed-from (suc k) at p = lexed-by at k (λ t u v. lexed-from k t (omega arith)) (symbol-at (take to s) at) (means (take to s) at)
+  lexed_from zero at p = absurd (omega arith)
+  lexed_from (suc k) at p = lexed_by at k (λ t u v. lexed_from k t (omega arith)) (symbol_at (take to s) at) (means (take to s) at)
 
-  pub tokens-items : (at : ℕ) → tokens (drop at (take to s)) ≡ (items-at (take to s) at >>= λ is. some (map (item-text s) is))
-  unfolding items-at
-  tokens-items at = lexed-from (suc (length (take to s) - at)) at (omega arith) .same
+  pub tokens_items : (at : ℕ) → tokens (drop at (take to s)) ≡ (items_at (take to s) at >>= λ is. some (map (item_text s) is))
+  unfolding items_at
+  tokens_items at = (lexed_from (suc (length (take to s) - at)) at (omega arith)).same
 
-  pub items-proper : (at : ℕ) (is : List Item) → items-at (take to s) at ≡ some is → Proper s is
-  unfolding items-at
-  items-proper at is e = lexed-from (suc (length (take to s) - at)) at (omega arith) .proper is e
+  pub items_proper : (at : ℕ) (is : List Item) → items_at (take to s) at ≡ some is → Proper s is
+  unfolding items_at
+  items_proper at is e = (lexed_from (suc (length (take to s) - at)) at (omega arith)).proper is e

@@ -1,25 +1,25 @@
 -- The words that are written for items are those of the flattened term that they are read as.
-use Prim.Native.Nat.{ℕ, zero, suc, _+_, _<_, _≤_}
-use mathlib.Core.Path.{_≡_, refl, sym, ap, _∙_}
+use Prim.Native.Nat.{ℕ, zero, suc, ◌+◌, ◌<◌, ◌≤◌}
+use mathlib.Core.Path.{◌≡◌, refl, sym, ap, ◌∙◌}
 use mathlib.Core.Bool.{Bool, true, false, not}
-use mathlib.Core.List.{List, [], _∷_, _++_, append-assoc, append-nil}
+use mathlib.Core.List.{List, [], ◌∷◌, ◌++◌, append_assoc, append-nil}
 use mathlib.Core.Option.{Option, some, none as nothing}
 use lib.Dec.{eqb}
 use lib.ListN.{length}
 use native.Mathlib.Omega.{arith}
-use Rattle·rules.specs.Bytes.{Text}
-use Rattle·rules.specs.Maybe.{_>>=_}
-use Rattle·flattening·specs.specs.Terms.{Term, node, Terms, none, more, inner, headed, words, words-each}
-use Rattle·flattening·specs.specs.Items.{Item, begin, shut, comma, name, wanting, naming, having, emits, adds, in-sum, opening, bracket, closing, all-closed, write}
-use Rattle·flattening·proofs.proofs.ItemTokens.{Proper, begins, commas, names}
-use Rattle·flattening·proofs.proofs.ItemTerms.{Read, opened, delimited, item-term, item-list, GoodTerm, good-term}
-use Rattle·flattening·specs.specs.Spelling.{flat-by, splice-by, flatten, flattens, splice, splices, term-words, list-words}
+use Rattle.rules.specs.Bytes.{Text}
+use Rattle.rules.specs.Maybe.{◌>>=◌}
+use Rattle.flattening.specs.Terms.{Term, node, Terms, none, more, inner, headed, words, words_each}
+use Rattle.flattening.specs.Items.{Item, begin, shut, comma, name, wanting, naming, having, emits, adds, in_sum, opening, bracket, closing, all_closed, write}
+use Rattle.flattening.proofs.ItemTokens.{Proper, begins, commas, names}
+use Rattle.flattening.proofs.ItemTerms.{Read, opened, delimited, item_term, item_list, GoodTerm, good_term}
+use Rattle.flattening.specs.Spelling.{flat_by, splice_by, flatten, flattens, splice, splices, term_words, list_words}
 
 -- ---- words in front
 
-pub emits-emits : (l m : List ℕ) (o : Option (List ℕ)) → emits l (emits m o) ≡ emits (l ++ m) o
-emits-emits l m nothing = refl
-emits-emits l m (some n) = ap some (sym (append-assoc l m n))
+pub emits_emits : (l m : List ℕ) (o : Option (List ℕ)) → emits l (emits m o) ≡ emits (l ++ m) o
+emits_emits l m nothing = refl
+emits_emits l m (some n) = ap some (sym (append_assoc l m n))
 
 -- ---- lists of words with commas
 
@@ -27,161 +27,161 @@ abbrev Some : List (List ℕ) → Type 0
 Some [] = ⊥
 Some (l ∷ ls) = Unit
 
-inner-append : (l m : List (List ℕ)) → Some l → Some m → inner (l ++ m) ≡ inner l ++ (2883584 ∷ inner m)
+inner_append : (l m : List (List ℕ)) → Some l → Some m → inner (l ++ m) ≡ inner l ++ (2883584 ∷ inner m)
 unfolding inner
-inner-append [] m p q = absurd p
-inner-append (a ∷ l) [] p q = absurd q
-inner-append (a ∷ []) (b ∷ m) p q = refl
-inner-append (a ∷ (c ∷ l)) (b ∷ m) p q = ap (λ (r : List ℕ). a ++ (2883584 ∷ r)) (inner-append (c ∷ l) (b ∷ m) tt tt) ∙ sym (append-assoc a (2883584 ∷ inner (c ∷ l)) (2883584 ∷ inner (b ∷ m)))
+inner_append [] m p q = absurd p
+inner_append (a ∷ l) [] p q = absurd q
+inner_append (a ∷ []) (b ∷ m) p q = refl
+inner_append (a ∷ (c ∷ l)) (b ∷ m) p q = ap (λ (r : List ℕ). a ++ (2883584 ∷ r)) (inner_append (c ∷ l) (b ∷ m) tt tt) ∙ sym (append_assoc a (2883584 ∷ inner (c ∷ l)) (2883584 ∷ inner (b ∷ m)))
 
-headed-some : (x : ℕ) (l : List (List ℕ)) → Some l → headed x l ≡ x ∷ (2621440 ∷ (inner l ++ (2686976 ∷ [])))
+headed_some : (x : ℕ) (l : List (List ℕ)) → Some l → headed x l ≡ x ∷ (2621440 ∷ (inner l ++ (2686976 ∷ [])))
 unfolding headed
-headed-some x [] p = absurd p
-headed-some x (l ∷ ls) p = refl
+headed_some x [] p = absurd p
+headed_some x (l ∷ ls) p = refl
 
 module _ (s : Text) where
   -- ---- summands before others
 
   abbrev pub each : Terms → List (List ℕ)
-  each = words-each
+  each = words_each
 
-  splice-by-rest : (b : Bool) (x : ℕ) (ts us vs rest : Terms) → each us ≡ each vs ++ each rest → each (splice-by b x ts us rest) ≡ each (splice-by b x ts vs none) ++ each rest
+  splice_by_rest : (b : Bool) (x : ℕ) (ts us vs rest : Terms) → each us ≡ each vs ++ each rest → each (splice_by b x ts us rest) ≡ each (splice_by b x ts vs none) ++ each rest
   unfolding words
-  splice-by-rest b x none us vs rest e = refl
-  splice-by-rest true x (more t ts) us vs rest e = e
-  splice-by-rest false x (more t ts) us vs rest e = refl
+  splice_by_rest b x none us vs rest e = refl
+  splice_by_rest true x (more t ts) us vs rest e = e
+  splice_by_rest false x (more t ts) us vs rest e = refl
 
   mutual
     unfolding flatten words
 
-    splice-rest : (t : Term) (rest : Terms) → each (splice s t rest) ≡ each (splice s t none) ++ each rest
-    splice-rest (node x ts) rest = splice-by-rest (adds s x) x (flattens s ts) (splices s ts rest) (splices s ts none) rest (splices-rest ts rest)
+    splice_rest : (t : Term) (rest : Terms) → each (splice s t rest) ≡ each (splice s t none) ++ each rest
+    splice_rest (node x ts) rest = splice_by_rest (adds s x) x (flattens s ts) (splices s ts rest) (splices s ts none) rest (splices_rest ts rest)
 
-    splices-rest : (ts : Terms) (rest : Terms) → each (splices s ts rest) ≡ each (splices s ts none) ++ each rest
-    splices-rest none rest = refl
-    splices-rest (more t ts) rest =
-        splice-rest t (splices s ts rest) ∙ ap (λ (l : List (List ℕ)). each (splice s t none) ++ l) (splices-rest ts rest)
-        ∙ sym (append-assoc (each (splice s t none)) (each (splices s ts none)) (each rest))
-        ∙ ap (λ (l : List (List ℕ)). l ++ each rest) (sym (splice-rest t (splices s ts none)))
+    splices_rest : (ts : Terms) (rest : Terms) → each (splices s ts rest) ≡ each (splices s ts none) ++ each rest
+    splices_rest none rest = refl
+    splices_rest (more t ts) rest =
+        splice_rest t (splices s ts rest) ∙ ap (λ (l : List (List ℕ)). each (splice s t none) ++ l) (splices_rest ts rest)
+        ∙ sym (append_assoc (each (splice s t none)) (each (splices s ts none)) (each rest))
+        ∙ ap (λ (l : List (List ℕ)). l ++ each rest) (sym (splice_rest t (splices s ts none)))
 
-  some-by : (b : Bool) (x : ℕ) (ts us rest : Terms) → (Some (each ts) → Some (each us)) → Some (each (splice-by b x ts us rest))
+  some_by : (b : Bool) (x : ℕ) (ts us rest : Terms) → (Some (each ts) → Some (each us)) → Some (each (splice_by b x ts us rest))
   unfolding words
-  some-by b x none us rest h = tt
-  some-by true x (more t ts) us rest h = h tt
-  some-by false x (more t ts) us rest h = tt
+  some_by b x none us rest h = tt
+  some_by true x (more t ts) us rest h = h tt
+  some_by false x (more t ts) us rest h = tt
 
   mutual
     unfolding flatten words
 
-    splice-some : (t : Term) (rest : Terms) → Some (each (splice s t rest))
-    splice-some (node x ts) rest = some-by (adds s x) x (flattens s ts) (splices s ts rest) rest (λ p. splices-some ts rest p)
+    splice_some : (t : Term) (rest : Terms) → Some (each (splice s t rest))
+    splice_some (node x ts) rest = some_by (adds s x) x (flattens s ts) (splices s ts rest) rest (λ p. splices_some ts rest p)
 
-    splices-some : (ts rest : Terms) → Some (each (flattens s ts)) → Some (each (splices s ts rest))
-    splices-some none rest p = absurd p
-    splices-some (more t ts) rest p = splice-some t (splices s ts rest)
+    splices_some : (ts rest : Terms) → Some (each (flattens s ts)) → Some (each (splices s ts rest))
+    splices_some none rest p = absurd p
+    splices_some (more t ts) rest p = splice_some t (splices s ts rest)
 
   -- ---- the words of a term, and of a list, in a sum or not
 
-  pub leaf-words : (b : Bool) (x : ℕ) → term-words s b (node x none) ≡ x ∷ []
+  pub leaf_words : (b : Bool) (x : ℕ) → term_words s b (node x none) ≡ x ∷ []
   unfolding flatten words headed inner
-  leaf-words true x = refl
-  leaf-words false x = refl
+  leaf_words true x = refl
+  leaf_words false x = refl
 
-  pub one-words : (b : Bool) (t : Term) → list-words s b t none ≡ term-words s b t
+  pub one_words : (b : Bool) (t : Term) → list_words s b t none ≡ term_words s b t
   unfolding flatten words inner
-  one-words true t = refl
-  one-words false t = refl
+  one_words true t = refl
+  one_words false t = refl
 
-  pub more-words : (b : Bool) (t u : Term) (us : Terms) → list-words s b t (more u us) ≡ term-words s b t ++ (2883584 ∷ list-words s b u us)
+  pub more_words : (b : Bool) (t u : Term) (us : Terms) → list_words s b t (more u us) ≡ term_words s b t ++ (2883584 ∷ list_words s b u us)
   unfolding flatten words inner
-  more-words true t u us =
-      ap inner (splice-rest t (splice s u (splices s us none)))
-      ∙ inner-append (each (splice s t none)) (each (splice s u (splices s us none))) (splice-some t none) (splice-some u (splices s us none))
-  more-words false t u us = refl
+  more_words true t u us =
+      ap inner (splice_rest t (splice s u (splices s us none)))
+      ∙ inner_append (each (splice s t none)) (each (splice s u (splices s us none))) (splice_some t none) (splice_some u (splices s us none))
+  more_words false t u us = refl
 
   -- a name with its list
-  pub node-words : (a b : Bool) (x : ℕ) (t : Term) (ts : Terms) → adds s x ≡ a
-      → opening a b x ++ (list-words s (not (eqb (bracket a b) 0)) t ts ++ closing (bracket a b)) ≡ term-words s b (node x (more t ts))
+  pub node_words : (a b : Bool) (x : ℕ) (t : Term) (ts : Terms) → adds s x ≡ a
+      → opening a b x ++ (list_words s (not (eqb (bracket a b) 0)) t ts ++ closing (bracket a b)) ≡ term_words s b (node x (more t ts))
   unfolding flatten words headed inner
-  node-words true true x t ts e = append-nil _ ∙ ap (λ (a : Bool). inner (each (splice-by a x (more (flatten s t) (flattens s ts)) (splice s t (splices s ts none)) none))) (sym e)
-  node-words true false x t ts e =
-      sym (headed-some 16777216 (each (splice s t (splices s ts none))) (splice-some t (splices s ts none)))
-      ∙ ap (λ (a : Bool). words (flat-by a x (more (flatten s t) (flattens s ts)) (splice s t (splices s ts none)))) (sym e)
-  node-words false true x t ts e = ap (λ (a : Bool). inner (each (splice-by a x (more (flatten s t) (flattens s ts)) (splice s t (splices s ts none)) none))) (sym e)
-  node-words false false x t ts e = ap (λ (a : Bool). words (flat-by a x (more (flatten s t) (flattens s ts)) (splice s t (splices s ts none)))) (sym e)
+  node_words true true x t ts e = append-nil _ ∙ ap (λ (a : Bool). inner (each (splice_by a x (more (flatten s t) (flattens s ts)) (splice s t (splices s ts none)) none))) (sym e)
+  node_words true false x t ts e =
+      sym (headed_some 16777216 (each (splice s t (splices s ts none))) (splice_some t (splices s ts none)))
+      ∙ ap (λ (a : Bool). words (flat_by a x (more (flatten s t) (flattens s ts)) (splice s t (splices s ts none)))) (sym e)
+  node_words false true x t ts e = ap (λ (a : Bool). inner (each (splice_by a x (more (flatten s t) (flattens s ts)) (splice s t (splices s ts none)) none))) (sym e)
+  node_words false false x t ts e = ap (λ (a : Bool). words (flat_by a x (more (flatten s t) (flattens s ts)) (splice s t (splices s ts none)))) (sym e)
 
   -- ---- what is written, by what is read
 
-  abbrev pub after-term : Read Term → List ℕ → Option (List ℕ)
-  after-term o cs = o >>= λ (t, is). emits (term-words s (in-sum cs) t) (write s is having cs)
+  abbrev pub after_term : Read Term → List ℕ → Option (List ℕ)
+  after_term o cs = o >>= λ (t, is). emits (term_words s (in_sum cs) t) (write s is having cs)
 
-  abbrev pub after-list : Read (Term × Terms) → ℕ → List ℕ → Option (List ℕ)
-  after-list o c cs = o >>= λ ((t, ts), is). emits (list-words s (not (eqb c 0)) t ts) (emits (closing c) (write s is having cs))
+  abbrev pub after_list : Read (Term × Terms) → ℕ → List ℕ → Option (List ℕ)
+  after_list o c cs = o >>= λ ((t, ts), is). emits (list_words s (not (eqb c 0)) t ts) (emits (closing c) (write s is having cs))
 
-  node-written : (x : ℕ) (cs : List ℕ) (o : Read (Term × Terms))
-      → emits (opening (adds s x) (in-sum cs) x) (after-list o (bracket (adds s x) (in-sum cs)) cs) ≡ after-term (o >>= λ ((t, ts), is). some (node x (more t ts), is)) cs
-  node-written x cs nothing = refl
-  node-written x cs (some ((t, ts), is)) =
+  node_written : (x : ℕ) (cs : List ℕ) (o : Read (Term × Terms))
+      → emits (opening (adds s x) (in_sum cs) x) (after_list o (bracket (adds s x) (in_sum cs)) cs) ≡ after_term (o >>= λ ((t, ts), is). some (node x (more t ts), is)) cs
+  node_written x cs nothing = refl
+  node_written x cs (some ((t, ts), is)) =
       let a = adds s x in
-      let b = in-sum cs in
-      let l = list-words s (not (eqb (bracket a b) 0)) t ts in
+      let b = in_sum cs in
+      let l = list_words s (not (eqb (bracket a b) 0)) t ts in
       let c = closing (bracket a b) in
-      ap (emits (opening a b x)) (emits-emits l c (write s is having cs)) ∙ emits-emits (opening a b x) (l ++ c) (write s is having cs)
-      ∙ ap (λ (m : List ℕ). emits m (write s is having cs)) (node-words a b x t ts refl)
+      ap (emits (opening a b x)) (emits_emits l c (write s is having cs)) ∙ emits_emits (opening a b x) (l ++ c) (write s is having cs)
+      ∙ ap (λ (m : List ℕ). emits m (write s is having cs)) (node_words a b x t ts refl)
 
-  leaf-written : (x : ℕ) (cs : List ℕ) (o : Option (List ℕ)) → emits (x ∷ []) o ≡ emits (term-words s (in-sum cs) (node x none)) o
-  leaf-written x cs o = ap (λ (m : List ℕ). emits m o) (sym (leaf-words (in-sum cs) x))
+  leaf_written : (x : ℕ) (cs : List ℕ) (o : Option (List ℕ)) → emits (x ∷ []) o ≡ emits (term_words s (in_sum cs) (node x none)) o
+  leaf_written x cs o = ap (λ (m : List ℕ). emits m o) (sym (leaf_words (in_sum cs) x))
 
   -- a name and what follows it
-  name-written : (x : ℕ) (is cs : List _) (go : List Item → Read (Term × Terms)) → Proper s is
-      → ((js : List Item) (c : ℕ) → Proper s js → length js < length is → write s js wanting (c ∷ cs) ≡ after-list (go js) c cs)
-      → write s is (naming x) cs ≡ after-term (opened is (λ ks. go ks >>= λ ((t, ts), ls). some (node x (more t ts), ls)) (some (node x none, is))) cs
+  name_written : (x : ℕ) (is cs : List _) (go : List Item → Read (Term × Terms)) → Proper s is
+      → ((js : List Item) (c : ℕ) → Proper s js → length js < length is → write s js wanting (c ∷ cs) ≡ after_list (go js) c cs)
+      → write s is (naming x) cs ≡ after_term (opened is (λ ks. go ks >>= λ ((t, ts), ls). some (node x (more t ts), ls)) (some (node x none, is))) cs
   unfolding write
-  name-written x [] cs go p f = leaf-written x cs (all-closed s cs)
-  name-written x (begin ∷ is) cs go (begins p) f =
-      ap (emits (opening (adds s x) (in-sum cs) x)) (f is (bracket (adds s x) (in-sum cs)) p (omega arith)) ∙ node-written x cs (go is)
-  name-written x (shut ∷ is) [] go p f = refl
-  name-written x (shut ∷ is) (c ∷ cs) go p f = leaf-written x (c ∷ cs) (emits (closing c) (write s is having cs))
-  name-written x (comma ∷ is) [] go p f = refl
-  name-written x (comma ∷ is) (c ∷ cs) go p f = leaf-written x (c ∷ cs) (emits (2883584 ∷ []) (write s is wanting (c ∷ cs)))
-  name-written x (name y ∷ is) cs go p f = refl
+  name_written x [] cs go p f = leaf_written x cs (all_closed s cs)
+  name_written x (begin ∷ is) cs go (begins p) f =
+      ap (emits (opening (adds s x) (in_sum cs) x)) (f is (bracket (adds s x) (in_sum cs)) p (omega arith)) ∙ node_written x cs (go is)
+  name_written x (shut ∷ is) [] go p f = refl
+  name_written x (shut ∷ is) (c ∷ cs) go p f = leaf_written x (c ∷ cs) (emits (closing c) (write s is having cs))
+  name_written x (comma ∷ is) [] go p f = refl
+  name_written x (comma ∷ is) (c ∷ cs) go p f = leaf_written x (c ∷ cs) (emits (2883584 ∷ []) (write s is wanting (c ∷ cs)))
+  name_written x (name y ∷ is) cs go p f = refl
 
-  more-written : (t : Term) (c : ℕ) (cs : List ℕ) (o : Read (Term × Terms))
-      → emits (term-words s (not (eqb c 0)) t) (emits (2883584 ∷ []) (after-list o c cs)) ≡ after-list (o >>= λ ((u, us), ls). some ((t, more u us), ls)) c cs
-  more-written t c cs nothing = refl
-  more-written t c cs (some ((u, us), is)) =
+  more_written : (t : Term) (c : ℕ) (cs : List ℕ) (o : Read (Term × Terms))
+      → emits (term_words s (not (eqb c 0)) t) (emits (2883584 ∷ []) (after_list o c cs)) ≡ after_list (o >>= λ ((u, us), ls). some ((t, more u us), ls)) c cs
+  more_written t c cs nothing = refl
+  more_written t c cs (some ((u, us), is)) =
       let b = not (eqb c 0) in
       let m = emits (closing c) (write s is having cs) in
-      emits-emits (term-words s b t) (2883584 ∷ []) (emits (list-words s b u us) m) ∙ emits-emits (term-words s b t ++ (2883584 ∷ [])) (list-words s b u us) m
-      ∙ ap (λ (l : List ℕ). emits l m) (append-assoc (term-words s b t) (2883584 ∷ []) (list-words s b u us) ∙ sym (more-words b t u us))
+      emits_emits (term_words s b t) (2883584 ∷ []) (emits (list_words s b u us) m) ∙ emits_emits (term_words s b t ++ (2883584 ∷ [])) (list_words s b u us) m
+      ∙ ap (λ (l : List ℕ). emits l m) (append_assoc (term_words s b t) (2883584 ∷ []) (list_words s b u us) ∙ sym (more_words b t u us))
 
   -- a term of a list and what follows it
-  rest-written : (n c : ℕ) (cs : List ℕ) (go : List Item → Read (Term × Terms)) → ((js : List Item) → Proper s js → length js + 1 < n → write s js wanting (c ∷ cs) ≡ after-list (go js) c cs)
-      → (o : Read Term) → GoodTerm s n o → after-term o (c ∷ cs)
-      ≡ after-list (o >>= λ (t, js). delimited js (λ ks. go ks >>= λ ((u, us), ls). some ((t, more u us), ls)) (λ ks. some ((t, none), ks)) nothing) c cs
+  rest_written : (n c : ℕ) (cs : List ℕ) (go : List Item → Read (Term × Terms)) → ((js : List Item) → Proper s js → length js + 1 < n → write s js wanting (c ∷ cs) ≡ after_list (go js) c cs)
+      → (o : Read Term) → GoodTerm s n o → after_term o (c ∷ cs)
+      ≡ after_list (o >>= λ (t, js). delimited js (λ ks. go ks >>= λ ((u, us), ls). some ((t, more u us), ls)) (λ ks. some ((t, none), ks)) nothing) c cs
   unfolding write
-  rest-written n c cs go f nothing g = refl
-  rest-written n c cs go f (some (t, [])) g = refl
-  rest-written n c cs go f (some (t, begin ∷ is)) g = refl
-  rest-written n c cs go f (some (t, shut ∷ is)) g = ap (λ (l : List ℕ). emits l (emits (closing c) (write s is having cs))) (sym (one-words (not (eqb c 0)) t))
-  rest-written n c cs go f (some (t, comma ∷ is)) (h, commas p, l) =
-      ap (λ (o : Option (List ℕ)). emits (term-words s (not (eqb c 0)) t) (emits (2883584 ∷ []) o)) (f is p (omega arith)) ∙ more-written t c cs (go is)
-  rest-written n c cs go f (some (t, name x ∷ is)) g = refl
+  rest_written n c cs go f nothing g = refl
+  rest_written n c cs go f (some (t, [])) g = refl
+  rest_written n c cs go f (some (t, begin ∷ is)) g = refl
+  rest_written n c cs go f (some (t, shut ∷ is)) g = ap (λ (l : List ℕ). emits l (emits (closing c) (write s is having cs))) (sym (one_words (not (eqb c 0)) t))
+  rest_written n c cs go f (some (t, comma ∷ is)) (h, commas p, l) =
+      ap (λ (o : Option (List ℕ)). emits (term_words s (not (eqb c 0)) t) (emits (2883584 ∷ []) o)) (f is p (omega arith)) ∙ more_written t c cs (go is)
+  rest_written n c cs go f (some (t, name x ∷ is)) g = refl
 
   mutual
-    unfolding item-term write
+    unfolding item_term write
 
-    pub term-written : (k : ℕ) (is cs : List _) → Proper s is → length is ≤ k → write s is wanting cs ≡ after-term (item-term k is) cs
-    term-written zero [] cs p l = refl
-    term-written zero (i ∷ is) cs p l = absurd (omega arith)
-    term-written (suc k) [] cs p l = refl
-    term-written (suc k) (begin ∷ is) cs p l = refl
-    term-written (suc k) (shut ∷ is) cs p l = refl
-    term-written (suc k) (comma ∷ is) cs p l = refl
-    term-written (suc k) (name x ∷ is) cs (names h p) l = name-written x is cs (item-list k) p (λ js c q m. list-written k js c cs q (omega arith))
+    pub term_written : (k : ℕ) (is cs : List _) → Proper s is → length is ≤ k → write s is wanting cs ≡ after_term (item_term k is) cs
+    term_written zero [] cs p l = refl
+    term_written zero (i ∷ is) cs p l = absurd (omega arith)
+    term_written (suc k) [] cs p l = refl
+    term_written (suc k) (begin ∷ is) cs p l = refl
+    term_written (suc k) (shut ∷ is) cs p l = refl
+    term_written (suc k) (comma ∷ is) cs p l = refl
+    term_written (suc k) (name x ∷ is) cs (names h p) l = name_written x is cs (item_list k) p (λ js c q m. list_written k js c cs q (omega arith))
 
-    pub list-written : (k : ℕ) (is : List Item) (c : ℕ) (cs : List ℕ) → Proper s is → length is < k → write s is wanting (c ∷ cs) ≡ after-list (item-list k is) c cs
-    list-written zero is c cs p l = absurd (omega arith)
-    list-written (suc k) is c cs p l =
-        term-written k is (c ∷ cs) p (omega arith)
-        ∙ rest-written (length is) c cs (item-list k) (λ js q m. list-written k js c cs q (omega arith)) (item-term k is) (good-term s k is p)
+    pub list_written : (k : ℕ) (is : List Item) (c : ℕ) (cs : List ℕ) → Proper s is → length is < k → write s is wanting (c ∷ cs) ≡ after_list (item_list k is) c cs
+    list_written zero is c cs p l = absurd (omega arith)
+    list_written (suc k) is c cs p l =
+        term_written k is (c ∷ cs) p (omega arith)
+        ∙ rest_written (length is) c cs (item_list k) (λ js q m. list_written k js c cs q (omega arith)) (item_term k is) (good_term s k is p)

@@ -1,111 +1,111 @@
 -- The steps of the writer of words: one or two words written, a bracket looked up, a name tested.
-use Prim.Native.Nat.{ℕ, zero, suc, _+_, _-_, _<_, _≤_}
-use mathlib.Core.Path.{_≡_, refl, sym, ap, ap₂, subst, _∙_}
+use Prim.Native.Nat.{ℕ, zero, suc, ◌+◌, ◌-◌, ◌<◌, ◌≤◌}
+use mathlib.Core.Path.{◌≡◌, refl, sym, ap, ap₂, subst, ◌∙◌}
 use mathlib.Core.Bool.{Bool, true, false}
-use mathlib.Core.List.{List, [], _∷_, _++_}
-use lib.ListN.{length, getD, take, drop, set, length-set}
-use lib.Seq.{slice, getD-set-same, getD-set-other}
+use mathlib.Core.List.{List, [], ◌∷◌, ◌++◌}
+use lib.ListN.{length, get_or, take, drop, set, length-set}
+use lib.Seq.{slice, get_or-set_same, get_or-set_other}
 use native.Mathlib.Omega.{arith}
-use borrow.Author.Tests.{eq-eqb, ne-eqb}
-use Rattle·rules.specs.Bytes.{Text, same}
-use Rattle·rules.specs.Tree.{tamtplus}
-use Rattle·text.specs.Sorting.{Wrote}
-use Rattle·text.proofs.Slices.{slice-none, slice-set, slice-same}
-use Rattle·flattening·specs.specs.Items.{place-word, adds, in-sum, opening, bracket, closing, brackets}
-use Rattle·flattening·specs.specs.Writer.{ListOpened}
-use Rattle·flattening·proofs.proofs.ItemTokens.{place-text}
+use borrow.Author.Tests.{eq-eqb, ne_eqb}
+use Rattle.rules.specs.Bytes.{Text, same}
+use Rattle.rules.specs.Tree.{tamtplus}
+use Rattle.text.specs.Sorting.{Wrote}
+use Rattle.text.proofs.Slices.{slice_none, slice_set, slice_same}
+use Rattle.flattening.specs.Items.{place_word, adds, in_sum, opening, bracket, closing, brackets}
+use Rattle.flattening.specs.Writer.{ListOpened}
+use Rattle.flattening.proofs.ItemTokens.{place_text}
 
 -- ---- words written
 
-pub wrote-nothing : (w : List ℕ) (out : ℕ) → Wrote w w out []
-wrote-nothing w out = record { len = refl; below = λ p q. refl; above = λ p q. refl; words = slice-none out (out + 0) w (omega arith) }
+pub wrote_nothing : (w : List ℕ) (out : ℕ) → Wrote w w out []
+wrote_nothing w out = record { len = refl; below = λ p q. refl; above = λ p q. refl; words = slice_none out (out + 0) w (omega arith) }
 
-pub wrote-one : (w : List ℕ) (out x : ℕ) → out < length w → Wrote w (set w out x) out (x ∷ [])
-wrote-one w out x h = record {
+pub wrote_one : (w : List ℕ) (out x : ℕ) → out < length w → Wrote w (set w out x) out (x ∷ [])
+wrote_one w out x h = record {
   len = length-set w out x;
-  below = λ p q. getD-set-other w out p x 0 (λ e. omega arith);
-  above = λ p q. getD-set-other w out p x 0 (λ e. omega arith);
-  words = slice-set out out w x (omega arith) h ∙ ap (λ (l : List ℕ). l ++ (x ∷ [])) (slice-none out out w (omega arith));
+  below = λ p q. get_or-set_other w out p x 0 (λ e. omega arith);
+  above = λ p q. get_or-set_other w out p x 0 (λ e. omega arith);
+  words = slice_set out out w x (omega arith) h ∙ ap (λ (l : List ℕ). l ++ (x ∷ [])) (slice_none out out w (omega arith));
 }
 
-pub wrote-two : (w : List ℕ) (out x y : ℕ) → out + 2 ≤ length w → Wrote w (set (set w out x) (out + 1) y) out (x ∷ y ∷ [])
-wrote-two w out x y h =
+pub wrote_two : (w : List ℕ) (out x y : ℕ) → out + 2 ≤ length w → Wrote w (set (set w out x) (out + 1) y) out (x ∷ y ∷ [])
+wrote_two w out x y h =
     let v = set w out x in
     let l : length v ≡ length w = length-set w out x in
-    let o = wrote-one w out x (omega arith) in
+    let o = wrote_one w out x (omega arith) in
     let e : out + 2 ≡ out + 1 + 1 = omega arith in
     record {
       len = length-set v (out + 1) y ∙ l;
-      below = λ p q. getD-set-other v (out + 1) p y 0 (λ e. omega arith) ∙ getD-set-other w out p x 0 (λ e. omega arith);
-      above = λ p q. getD-set-other v (out + 1) p y 0 (λ e. omega arith) ∙ getD-set-other w out p x 0 (λ e. omega arith);
-      words = ap (λ (k : ℕ). slice out k (set v (out + 1) y)) e ∙ slice-set out (out + 1) v y (omega arith) (omega arith) ∙ ap (λ (k : List ℕ). k ++ (y ∷ [])) (o .words);
+      below = λ p q. get_or-set_other v (out + 1) p y 0 (λ e. omega arith) ∙ get_or-set_other w out p x 0 (λ e. omega arith);
+      above = λ p q. get_or-set_other v (out + 1) p y 0 (λ e. omega arith) ∙ get_or-set_other w out p x 0 (λ e. omega arith);
+      words = ap (λ (k : ℕ). slice out k (set v (out + 1) y)) e ∙ slice_set out (out + 1) v y (omega arith) (omega arith) ∙ ap (λ (k : List ℕ). k ++ (y ∷ [])) o.words;
     }
 
-pub closing-none : (c : ℕ) → c ≡ 2 → closing c ≡ []
-closing-none c e = rw (eq-eqb c 2 e)
+pub closing_none : (c : ℕ) → c ≡ 2 → closing c ≡ []
+closing_none c e = rw (eq-eqb c 2 e)
 
-pub closing-one : (c : ℕ) → (c ≡ 2 → ⊥) → closing c ≡ 2686976 ∷ []
-closing-one c e = rw (ne-eqb c 2 e)
+pub closing_one : (c : ℕ) → (c ≡ 2 → ⊥) → closing c ≡ 2686976 ∷ []
+closing_one c e = rw (ne_eqb c 2 e)
 
 -- ---- brackets
 
-pub no-bracket : (w : List ℕ) (stack depth : ℕ) → depth ≡ 0 → brackets w stack depth ≡ []
+pub no_bracket : (w : List ℕ) (stack depth : ℕ) → depth ≡ 0 → brackets w stack depth ≡ []
 unfolding brackets
-no-bracket w stack depth e = rw e
+no_bracket w stack depth e = rw e
 
-pub last-bracket : (w : List ℕ) (stack depth : ℕ) → (depth ≡ 0 → ⊥) → brackets w stack depth ≡ getD w (stack + (depth - 1)) 0 ∷ brackets w stack (depth - 1)
+pub last_bracket : (w : List ℕ) (stack depth : ℕ) → (depth ≡ 0 → ⊥) → brackets w stack depth ≡ get_or w (stack + (depth - 1)) 0 ∷ brackets w stack (depth - 1)
 unfolding brackets
-last-bracket w stack zero h = absurd (h refl)
-last-bracket w stack (suc d) h = let e : suc d - 1 ≡ d = omega arith in rw e
+last_bracket w stack zero h = absurd (h refl)
+last_bracket w stack (suc d) h = let e : suc d - 1 ≡ d = omega arith in rw e
 
-pub brackets-kept : (w v : List ℕ) (stack depth : ℕ) → ((p : ℕ) → stack ≤ p → p < stack + depth → getD v p 0 ≡ getD w p 0) → brackets v stack depth ≡ brackets w stack depth
+pub brackets_kept : (w v : List ℕ) (stack depth : ℕ) → ((p : ℕ) → stack ≤ p → p < stack + depth → get_or v p 0 ≡ get_or w p 0) → brackets v stack depth ≡ brackets w stack depth
 unfolding brackets
-brackets-kept w v stack zero h = refl
-brackets-kept w v stack (suc d) h = ap₂ (λ (c : ℕ) (cs : List ℕ). c ∷ cs) (h (stack + d) (omega arith) (omega arith)) (brackets-kept w v stack d (λ p q r. h p q (omega arith)))
+brackets_kept w v stack zero h = refl
+brackets_kept w v stack (suc d) h = ap₂ (λ (c : ℕ) (cs : List ℕ). c ∷ cs) (h (stack + d) (omega arith) (omega arith)) (brackets_kept w v stack d (λ p q r. h p q (omega arith)))
 
 -- ---- names
 
-pub adds-is : (s : Text) (f t : ℕ) → f < t → t < 65536 → same (take (t - f) (drop f s)) tamtplus ≡ adds s (place-word f t)
+pub adds_is : (s : Text) (f t : ℕ) → f < t → t < 65536 → same (take (t - f) (drop f s)) tamtplus ≡ adds s (place_word f t)
 unfolding adds
-adds-is s f t a b = sym (ap (λ (n : Text). same n tamtplus) (place-text s f t a b))
+adds_is s f t a b = sym (ap (λ (n : Text). same n tamtplus) (place_text s f t a b))
 
 -- ---- a name and its bracket
 
-pub opening-short : (a b : Bool) (x : ℕ) → length (opening a b x) ≤ 2
-opening-short true true x = omega arith
-opening-short true false x = omega arith
-opening-short false b x = omega arith
+pub opening_short : (a b : Bool) (x : ℕ) → length (opening a b x) ≤ 2
+opening_short true true x = omega arith
+opening_short true false x = omega arith
+opening_short false b x = omega arith
 
 module _ (s : Text) (w v : List ℕ) (stack depth out x r : ℕ) (room : out + 2 ≤ stack) (fits : stack + depth < length w) where
   abbrev words : List ℕ
-  words = opening (adds s x) (in-sum (brackets w stack depth)) x
+  words = opening (adds s x) (in_sum (brackets w stack depth)) x
 
-  pub opened-is : Wrote w v out (opening (adds s x) (in-sum (brackets w stack depth)) x) → r ≡ out + length (opening (adds s x) (in-sum (brackets w stack depth)) x) → (c : ℕ) → c ≡ bracket (adds s x) (in-sum (brackets w stack depth))
+  pub opened_is : Wrote w v out (opening (adds s x) (in_sum (brackets w stack depth)) x) → r ≡ out + length (opening (adds s x) (in_sum (brackets w stack depth)) x) → (c : ℕ) → c ≡ bracket (adds s x) (in_sum (brackets w stack depth))
       → ListOpened s w (set v (stack + depth) c) stack depth out x r
-  opened-is h e c f =
-      let n = opening-short (adds s x) (in-sum (brackets w stack depth)) x in
-      let lv = h .len in
+  opened_is h e c f =
+      let n = opening_short (adds s x) (in_sum (brackets w stack depth)) x in
+      let lv = h.len in
       let k : out + length words ≤ out + 2 = omega arith in
       let lc = length-set v (stack + depth) c in
       record {
         len = lc ∙ lv;
-        below = λ p q. getD-set-other v (stack + depth) p c 0 (λ z. omega arith) ∙ h .below p q;
-        between = λ p q m. getD-set-other v (stack + depth) p c 0 (λ z. omega arith) ∙ h .above p (omega arith);
-        above = λ p q. getD-set-other v (stack + depth) p c 0 (λ z. omega arith) ∙ h .above p (omega arith);
-        words = slice-same out r (set v (stack + depth) c) v (omega arith) (omega arith) (λ p q m. getD-set-other v (stack + depth) p c 0 (λ z. omega arith)) ∙ ap (λ (k : ℕ). slice out k v) e ∙ h .words;
+        below = λ p q. get_or-set_other v (stack + depth) p c 0 (λ z. omega arith) ∙ h.below p q;
+        between = λ p q m. get_or-set_other v (stack + depth) p c 0 (λ z. omega arith) ∙ h.above p (omega arith);
+        above = λ p q. get_or-set_other v (stack + depth) p c 0 (λ z. omega arith) ∙ h.above p (omega arith);
+        words = slice_same out r (set v (stack + depth) c) v (omega arith) (omega arith) (λ p q m. get_or-set_other v (stack + depth) p c 0 (λ z. omega arith)) ∙ ap (λ (k : ℕ). slice out k v) e ∙ h.words;
         ends = e;
-        top = getD-set-same v (stack + depth) c 0 (omega arith) ∙ f;
+        top = get_or-set_same v (stack + depth) c 0 (omega arith) ∙ f;
       }
 
 -- what the parts of the opening answered, put in
-pub opening-is : (s : Text) (w v : List ℕ) (stack depth out x r : ℕ) {a b : Bool} {y : ℕ} → a ≡ adds s x → b ≡ in-sum (brackets w stack depth) → y ≡ x
+pub opening_is : (s : Text) (w v : List ℕ) (stack depth out x r : ℕ) {a b : Bool} {y : ℕ} → a ≡ adds s x → b ≡ in_sum (brackets w stack depth) → y ≡ x
     → Wrote w v out (opening a b y) × (r ≡ out + length (opening a b y))
-    → Wrote w v out (opening (adds s x) (in-sum (brackets w stack depth)) x) × (r ≡ out + length (opening (adds s x) (in-sum (brackets w stack depth)) x))
-opening-is s w v stack depth out x r {a} {b} e f g h =
+    → Wrote w v out (opening (adds s x) (in_sum (brackets w stack depth)) x) × (r ≡ out + length (opening (adds s x) (in_sum (brackets w stack depth)) x))
+opening_is s w v stack depth out x r {a} {b} e f g h =
     let z = ap₂ (λ (a b : Bool). opening a b x) e f in
     let k = ap (λ (y : ℕ). opening a b y) g ∙ z in
     subst (λ (l : List ℕ). Wrote w v out l × (r ≡ out + length l)) k h
 
-pub bracket-is : (s : Text) (w : List ℕ) (stack depth x : ℕ) {a b : Bool} {c : ℕ} → a ≡ adds s x → b ≡ in-sum (brackets w stack depth) → c ≡ bracket a b
-    → c ≡ bracket (adds s x) (in-sum (brackets w stack depth))
-bracket-is s w stack depth x e f g = g ∙ ap₂ bracket e f
+pub bracket_is : (s : Text) (w : List ℕ) (stack depth x : ℕ) {a b : Bool} {c : ℕ} → a ≡ adds s x → b ≡ in_sum (brackets w stack depth) → c ≡ bracket a b
+    → c ≡ bracket (adds s x) (in_sum (brackets w stack depth))
+bracket_is s w stack depth x e f g = g ∙ ap₂ bracket e f

@@ -1,103 +1,103 @@
 -- The turns of the writer of words, by the symbol that is read.
 use Prim.Native.Nat.{ℕ}
-use mathlib.Core.Path.{_≡_, refl}
-use mathlib.Core.List.{List, [], _∷_}
-use mathlib.Core.Logic.{⊎-elim}
+use mathlib.Core.Path.{◌≡◌, refl}
+use mathlib.Core.List.{List, [], ◌∷◌}
+use mathlib.Core.Logic.{⊎_elim}
 use mathlib.Core.Option.{Option, some, none}
-use denote.Enum.Declared.{tagOf}
+use denote.Enum.Declared.{tag_of}
 use types.Run.{OneOf}
 use native.Mathlib.Omega.{arith}
-use Rattle·rules.specs.Bytes.{Text}
-use Rattle·syntax.specs.declared.Symbol.{Symbol}
-use Rattle·syntax.specs.declared.Symbol.the-variants.{Begin, Shut, Comma, Name, Stop, Bad}
-use Rattle·syntax.proofs.Symbol.{the-type}
-use Rattle·flattening·specs.specs.Items.{Item, begin, shut, comma, name, place-word, item-before, items-by, Mode, wanting, naming, having, emits, adds, in-sum, opening, bracket, closing, write, writes}
-use Rattle·flattening·specs.specs.Writer.{finished}
-use Rattle·flattening·specs.specs.declared.Written.the-variants.{Unreadable}
+use Rattle.rules.specs.Bytes.{Text}
+use Rattle.syntax.specs.declared.Symbol.{Symbol}
+use Rattle.syntax.specs.declared.Symbol.TheVariants.{Begin, Shut, Comma, Name, Stop, Bad}
+use Rattle.syntax.specs.contracts.Symbol.{the_type}
+use Rattle.flattening.specs.Items.{Item, begin, shut, comma, name, place_word, item_before, items_by, Mode, wanting, naming, having, emits, adds, in_sum, opening, bracket, closing, write, writes}
+use Rattle.flattening.specs.Writer.{finished}
+use Rattle.flattening.specs.declared.Written.TheVariants.{Unreadable}
 
 -- ---- what is written from an item on
 
 module _ (s : Text) where
-  pub name-on : (x : ℕ) (o : Option (List Item)) (cs : List ℕ) → writes s (item-before (name x) o) wanting cs ≡ writes s o (naming x) cs
+  pub name_on : (x : ℕ) (o : Option (List Item)) (cs : List ℕ) → writes s (item_before (name x) o) wanting cs ≡ writes s o (naming x) cs
   unfolding write
-  name-on x none cs = refl
-  name-on x (some is) cs = refl
+  name_on x none cs = refl
+  name_on x (some is) cs = refl
 
-  pub begin-on : (x : ℕ) (o : Option (List Item)) (cs : List ℕ)
-      → writes s (item-before begin o) (naming x) cs ≡ emits (opening (adds s x) (in-sum cs) x) (writes s o wanting (bracket (adds s x) (in-sum cs) ∷ cs))
+  pub begin_on : (x : ℕ) (o : Option (List Item)) (cs : List ℕ)
+      → writes s (item_before begin o) (naming x) cs ≡ emits (opening (adds s x) (in_sum cs) x) (writes s o wanting (bracket (adds s x) (in_sum cs) ∷ cs))
   unfolding write
-  begin-on x none cs = refl
-  begin-on x (some is) cs = refl
+  begin_on x none cs = refl
+  begin_on x (some is) cs = refl
 
-  pub shut-on : (o : Option (List Item)) (c : ℕ) (cs : List ℕ) → writes s (item-before shut o) having (c ∷ cs) ≡ emits (closing c) (writes s o having cs)
+  pub shut_on : (o : Option (List Item)) (c : ℕ) (cs : List ℕ) → writes s (item_before shut o) having (c ∷ cs) ≡ emits (closing c) (writes s o having cs)
   unfolding write
-  shut-on none c cs = refl
-  shut-on (some is) c cs = refl
+  shut_on none c cs = refl
+  shut_on (some is) c cs = refl
 
-  pub comma-on : (o : Option (List Item)) (c : ℕ) (cs : List ℕ) → writes s (item-before comma o) having (c ∷ cs) ≡ emits (2883584 ∷ []) (writes s o wanting (c ∷ cs))
+  pub comma_on : (o : Option (List Item)) (c : ℕ) (cs : List ℕ) → writes s (item_before comma o) having (c ∷ cs) ≡ emits (2883584 ∷ []) (writes s o wanting (c ∷ cs))
   unfolding write
-  comma-on none c cs = refl
-  comma-on (some is) c cs = refl
+  comma_on none c cs = refl
+  comma_on (some is) c cs = refl
 
   -- an item that does not fit
-  pub off : (i : Item) (m : Mode) (o : Option (List Item)) (cs : List ℕ) → ((is : List Item) → write s (i ∷ is) m cs ≡ none) → writes s (item-before i o) m cs ≡ none
+  pub off : (i : Item) (m : Mode) (o : Option (List Item)) (cs : List ℕ) → ((is : List Item) → write s (i ∷ is) m cs ≡ none) → writes s (item_before i o) m cs ≡ none
   off i m none cs h = refl
   off i m (some is) cs h = h is
 
   -- a symbol other than a name, where a term is wanted
-  pub wanting-off : (f : ℕ → Option (List Item)) (cs : List ℕ) (q : Symbol) → OneOf (0 ∷ 1 ∷ 2 ∷ 4 ∷ 5 ∷ []) (tagOf the-type q) → writes s (items-by q f) wanting cs ≡ none
+  pub wanting_off : (f : ℕ → Option (List Item)) (cs : List ℕ) (q : Symbol) → OneOf (0 ∷ 1 ∷ 2 ∷ 4 ∷ 5 ∷ []) (tag_of the_type q) → writes s (items_by q f) wanting cs ≡ none
   unfolding write
-  wanting-off f cs (Begin t) h = off begin wanting (f t) cs (λ is. refl)
-  wanting-off f cs (Shut t) h = off shut wanting (f t) cs (λ is. refl)
-  wanting-off f cs (Comma t) h = off comma wanting (f t) cs (λ is. refl)
-  wanting-off f cs (Name a t) h =
-      absurd (⊎-elim (λ a. omega arith) (⊎-elim (λ a. omega arith) (⊎-elim (λ a. omega arith) (⊎-elim (λ a. omega arith) (λ a. omega arith)))) h)
-  wanting-off f cs Stop h = refl
-  wanting-off f cs Bad h = refl
+  wanting_off f cs (Begin t) h = off begin wanting (f t) cs (λ is. refl)
+  wanting_off f cs (Shut t) h = off shut wanting (f t) cs (λ is. refl)
+  wanting_off f cs (Comma t) h = off comma wanting (f t) cs (λ is. refl)
+  wanting_off f cs (Name a t) h =
+      absurd (⊎_elim (λ a. omega arith) (⊎_elim (λ a. omega arith) (⊎_elim (λ a. omega arith) (⊎_elim (λ a. omega arith) (λ a. omega arith)))) h)
+  wanting_off f cs Stop h = refl
+  wanting_off f cs Bad h = refl
 
   -- a symbol other than a comma and a closing bracket, inside a list
-  pub having-off : (f : ℕ → Option (List Item)) (c : ℕ) (cs : List ℕ) (q : Symbol) → OneOf (0 ∷ 3 ∷ 4 ∷ 5 ∷ []) (tagOf the-type q) → writes s (items-by q f) having (c ∷ cs) ≡ none
+  pub having_off : (f : ℕ → Option (List Item)) (c : ℕ) (cs : List ℕ) (q : Symbol) → OneOf (0 ∷ 3 ∷ 4 ∷ 5 ∷ []) (tag_of the_type q) → writes s (items_by q f) having (c ∷ cs) ≡ none
   unfolding write
-  having-off f c cs (Begin t) h = off begin having (f t) (c ∷ cs) (λ is. refl)
-  having-off f c cs (Shut t) h = absurd (⊎-elim (λ a. omega arith) (⊎-elim (λ a. omega arith) (⊎-elim (λ a. omega arith) (λ a. omega arith))) h)
-  having-off f c cs (Comma t) h = absurd (⊎-elim (λ a. omega arith) (⊎-elim (λ a. omega arith) (⊎-elim (λ a. omega arith) (λ a. omega arith))) h)
-  having-off f c cs (Name a t) h = off (name (place-word a t)) having (f t) (c ∷ cs) (λ is. refl)
-  having-off f c cs Stop h = refl
-  having-off f c cs Bad h = refl
+  having_off f c cs (Begin t) h = off begin having (f t) (c ∷ cs) (λ is. refl)
+  having_off f c cs (Shut t) h = absurd (⊎_elim (λ a. omega arith) (⊎_elim (λ a. omega arith) (⊎_elim (λ a. omega arith) (λ a. omega arith))) h)
+  having_off f c cs (Comma t) h = absurd (⊎_elim (λ a. omega arith) (⊎_elim (λ a. omega arith) (⊎_elim (λ a. omega arith) (λ a. omega arith))) h)
+  having_off f c cs (Name a t) h = off (name (place_word a t)) having (f t) (c ∷ cs) (λ is. refl)
+  having_off f c cs Stop h = refl
+  having_off f c cs Bad h = refl
 
   -- a name that no bracket follows is a term
   alone : (i : Item) (x : ℕ) (o : Option (List Item)) (cs : List ℕ) → ((is : List Item) → write s (i ∷ is) (naming x) cs ≡ emits (x ∷ []) (write s (i ∷ is) having cs))
-      → writes s (item-before i o) (naming x) cs ≡ emits (x ∷ []) (writes s (item-before i o) having cs)
+      → writes s (item_before i o) (naming x) cs ≡ emits (x ∷ []) (writes s (item_before i o) having cs)
   alone i x none cs h = refl
   alone i x (some is) cs h = h is
 
-  shut-alone : (x : ℕ) (cs : List ℕ) (is : List Item) → write s (shut ∷ is) (naming x) cs ≡ emits (x ∷ []) (write s (shut ∷ is) having cs)
+  shut_alone : (x : ℕ) (cs : List ℕ) (is : List Item) → write s (shut ∷ is) (naming x) cs ≡ emits (x ∷ []) (write s (shut ∷ is) having cs)
   unfolding write
-  shut-alone x [] is = refl
-  shut-alone x (c ∷ cs) is = refl
+  shut_alone x [] is = refl
+  shut_alone x (c ∷ cs) is = refl
 
-  comma-alone : (x : ℕ) (cs : List ℕ) (is : List Item) → write s (comma ∷ is) (naming x) cs ≡ emits (x ∷ []) (write s (comma ∷ is) having cs)
+  comma_alone : (x : ℕ) (cs : List ℕ) (is : List Item) → write s (comma ∷ is) (naming x) cs ≡ emits (x ∷ []) (write s (comma ∷ is) having cs)
   unfolding write
-  comma-alone x [] is = refl
-  comma-alone x (c ∷ cs) is = refl
+  comma_alone x [] is = refl
+  comma_alone x (c ∷ cs) is = refl
 
-  pub naming-on : (f : ℕ → Option (List Item)) (x : ℕ) (cs : List ℕ) (q : Symbol) → OneOf (1 ∷ 2 ∷ 3 ∷ 4 ∷ 5 ∷ []) (tagOf the-type q)
-      → writes s (items-by q f) (naming x) cs ≡ emits (x ∷ []) (writes s (items-by q f) having cs)
+  pub naming_on : (f : ℕ → Option (List Item)) (x : ℕ) (cs : List ℕ) (q : Symbol) → OneOf (1 ∷ 2 ∷ 3 ∷ 4 ∷ 5 ∷ []) (tag_of the_type q)
+      → writes s (items_by q f) (naming x) cs ≡ emits (x ∷ []) (writes s (items_by q f) having cs)
   unfolding write
-  naming-on f x cs (Begin t) h =
-      absurd (⊎-elim (λ a. omega arith) (⊎-elim (λ a. omega arith) (⊎-elim (λ a. omega arith) (⊎-elim (λ a. omega arith) (λ a. omega arith)))) h)
-  naming-on f x cs (Shut t) h = alone shut x (f t) cs (shut-alone x cs)
-  naming-on f x cs (Comma t) h = alone comma x (f t) cs (comma-alone x cs)
-  naming-on f x cs (Name a t) h = alone (name (place-word a t)) x (f t) cs (λ is. refl)
-  naming-on f x cs Stop h = refl
-  naming-on f x cs Bad h = refl
+  naming_on f x cs (Begin t) h =
+      absurd (⊎_elim (λ a. omega arith) (⊎_elim (λ a. omega arith) (⊎_elim (λ a. omega arith) (⊎_elim (λ a. omega arith) (λ a. omega arith)))) h)
+  naming_on f x cs (Shut t) h = alone shut x (f t) cs (shut_alone x cs)
+  naming_on f x cs (Comma t) h = alone comma x (f t) cs (comma_alone x cs)
+  naming_on f x cs (Name a t) h = alone (name (place_word a t)) x (f t) cs (λ is. refl)
+  naming_on f x cs Stop h = refl
+  naming_on f x cs Bad h = refl
 
 -- a symbol other than the end
-pub finished-other : (out : ℕ) (q : Symbol) → OneOf (0 ∷ 1 ∷ 2 ∷ 3 ∷ 5 ∷ []) (tagOf the-type q) → Unreadable ≡ finished q out
-finished-other out (Begin t) h = refl
-finished-other out (Shut t) h = refl
-finished-other out (Comma t) h = refl
-finished-other out (Name f t) h = refl
-finished-other out Stop h =
-    absurd (⊎-elim (λ a. omega arith) (⊎-elim (λ a. omega arith) (⊎-elim (λ a. omega arith) (⊎-elim (λ a. omega arith) (λ a. omega arith)))) h)
-finished-other out Bad h = refl
+pub finished_other : (out : ℕ) (q : Symbol) → OneOf (0 ∷ 1 ∷ 2 ∷ 3 ∷ 5 ∷ []) (tag_of the_type q) → Unreadable ≡ finished q out
+finished_other out (Begin t) h = refl
+finished_other out (Shut t) h = refl
+finished_other out (Comma t) h = refl
+finished_other out (Name f t) h = refl
+finished_other out Stop h =
+    absurd (⊎_elim (λ a. omega arith) (⊎_elim (λ a. omega arith) (⊎_elim (λ a. omega arith) (⊎_elim (λ a. omega arith) (λ a. omega arith)))) h)
+finished_other out Bad h = refl

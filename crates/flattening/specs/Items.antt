@@ -1,18 +1,14 @@
 -- The words of a text: names, brackets and commas as they come, in which a sum inside a sum loses its name and brackets.
 -- Definitions only.
-use Prim.Native.Nat.{ℕ, zero, suc, _+_, _-_, _*_}
-use mathlib.Core.Bool.{Bool, true, false, cond, not}
-use mathlib.Core.List.{List, [], _∷_, _++_}
-use mathlib.Core.Option.{Option, some, none}
-use lib.Dec.{eqb}
-use lib.ListN.{length, getD}
-use Rattle·rules.specs.Bytes.{Text, same}
-use Rattle·rules.specs.Maybe.{_>>=_}
-use Rattle·rules.specs.Tree.{tamtplus}
-use Rattle·syntax.specs.Symbols.{symbol-at}
-use Rattle·syntax.specs.declared.Symbol.{Symbol}
-use Rattle·syntax.specs.declared.Symbol.the-variants.{Begin, Shut, Comma, Name, Stop, Bad}
-use Rattle·runs.specs.Texts.{word-text}
+use Rattle.std.specs.Prelude.{ℕ, zero, suc, ◌+◌, ◌-◌, ◌*◌, Bool, true, false, cond, not, List, [], ◌∷◌, ◌++◌, eqb, length, get_or}
+use Rattle.std.proofs.Math.Option.{Option, some, none}
+use Rattle.rules.specs.Bytes.{Text, same}
+use Rattle.rules.specs.Maybe.{◌>>=◌}
+use Rattle.rules.specs.Tree.{tamtplus}
+use Rattle.syntax.specs.Symbols.{symbol_at}
+use Rattle.syntax.specs.declared.Symbol.{Symbol}
+use Rattle.syntax.specs.declared.Symbol.TheVariants.{Begin, Shut, Comma, Name, Stop, Bad}
+use Rattle.runs.specs.Texts.{word_text}
 
 -- a token of a text; a name by its word
 pub data Item : Type 0 where
@@ -20,30 +16,30 @@ pub data Item : Type 0 where
   name : ℕ → Item
 
 -- the word of a place
-abbrev pub place-word : ℕ → ℕ → ℕ
-place-word from to = from * 65536 + (to - from)
+abbrev pub place_word : ℕ → ℕ → ℕ
+place_word from to = from * 65536 + (to - from)
 
-abbrev pub item-before : Item → Option (List Item) → Option (List Item)
-item-before i o = o >>= λ is. some (i ∷ is)
+abbrev pub item_before : Item → Option (List Item) → Option (List Item)
+item_before i o = o >>= λ is. some (i ∷ is)
 
 -- the items from a symbol on, where `from` gives those from a position on
-abbrev pub items-by : Symbol → (ℕ → Option (List Item)) → Option (List Item)
-items-by (Begin to) from = item-before begin (from to)
-items-by (Shut to) from = item-before shut (from to)
-items-by (Comma to) from = item-before comma (from to)
-items-by (Name start to) from = item-before (name (place-word start to)) (from to)
-items-by Stop from = some []
-items-by Bad from = none
+abbrev pub items_by : Symbol → (ℕ → Option (List Item)) → Option (List Item)
+items_by (Begin to) from = item_before begin (from to)
+items_by (Shut to) from = item_before shut (from to)
+items_by (Comma to) from = item_before comma (from to)
+items_by (Name start to) from = item_before (name (place_word start to)) (from to)
+items_by Stop from = some []
+items_by Bad from = none
 
 -- the items from a position on, at most so many
 unfoldable pub items : ℕ → Text → ℕ → Option (List Item)
 items zero s at = none
-items (suc k) s at = items-by (symbol-at s at) (items k s)
+items (suc k) s at = items_by (symbol_at s at) (items k s)
 
 -- all of them
-unfoldable pub items-at : Text → ℕ → Option (List Item)
+unfoldable pub items_at : Text → ℕ → Option (List Item)
 unfolding items
-items-at s at = items (suc (length s - at)) s at
+items_at s at = items (suc (length s - at)) s at
 
 -- a term is wanted; a name is there; a term is there
 pub data Mode : Type 0 where
@@ -56,12 +52,12 @@ emits l o = o >>= λ m. some (l ++ m)
 
 -- the word's text is the name of sums
 unfoldable pub adds : Text → ℕ → Bool
-adds s x = same (word-text s x) tamtplus
+adds s x = same (word_text s x) tamtplus
 
 -- open brackets are 0, that of a sum 1, and that of a sum inside a sum 2; the last opened comes first
-abbrev pub in-sum : List ℕ → Bool
-in-sum [] = false
-in-sum (c ∷ cs) = not (eqb c 0)
+abbrev pub in_sum : List ℕ → Bool
+in_sum [] = false
+in_sum (c ∷ cs) = not (eqb c 0)
 
 -- what is written for a name and its bracket, and which bracket it is
 abbrev pub opening : Bool → Bool → ℕ → List ℕ
@@ -80,16 +76,16 @@ closing c = cond (eqb c 2) [] (2686976 ∷ [])
 
 -- the words of items, none where they are no term
 module _ (s : Text) where
-  abbrev pub all-closed : List ℕ → Option (List ℕ)
-  all-closed [] = some []
-  all-closed (c ∷ cs) = none
+  abbrev pub all_closed : List ℕ → Option (List ℕ)
+  all_closed [] = some []
+  all_closed (c ∷ cs) = none
 
   unfoldable pub write : List Item → Mode → List ℕ → Option (List ℕ)
   write [] wanting cs = none
-  write [] (naming x) cs = emits (x ∷ []) (all-closed cs)
-  write [] having cs = all-closed cs
+  write [] (naming x) cs = emits (x ∷ []) (all_closed cs)
+  write [] having cs = all_closed cs
   write (begin ∷ is) wanting cs = none
-  write (begin ∷ is) (naming x) cs = emits (opening (adds s x) (in-sum cs) x) (write is wanting (bracket (adds s x) (in-sum cs) ∷ cs))
+  write (begin ∷ is) (naming x) cs = emits (opening (adds s x) (in_sum cs) x) (write is wanting (bracket (adds s x) (in_sum cs) ∷ cs))
   write (begin ∷ is) having cs = none
   write (shut ∷ is) wanting cs = none
   write (shut ∷ is) (naming x) [] = none
@@ -110,11 +106,11 @@ module _ (s : Text) where
   writes o m cs = o >>= λ is. write is m cs
 
 -- the words of the text t from a position on; the names are places of s
-unfoldable pub text-words : Text → Text → ℕ → Option (List ℕ)
-unfolding items-at write
-text-words s t at = writes s (items-at t at) wanting []
+unfoldable pub text_words : Text → Text → ℕ → Option (List ℕ)
+unfolding items_at write
+text_words s t at = writes s (items_at t at) wanting []
 
 -- the open brackets, in the words from `stack` on
 unfoldable pub brackets : List ℕ → ℕ → ℕ → List ℕ
 brackets w stack zero = []
-brackets w stack (suc d) = getD w (stack + d) 0 ∷ brackets w stack d
+brackets w stack (suc d) = get_or w (stack + d) 0 ∷ brackets w stack d

@@ -1,11 +1,8 @@
 -- Terms whose names are words, their words, and their canonical words: the summands of each sum sorted by their texts. Definitions only.
-use Prim.Native.Nat.{ℕ}
-use mathlib.Core.Bool.{cond}
-use mathlib.Core.List.{List, [], _∷_, _++_}
-use lib.Dec.{eqb}
-use Rattle·rules.specs.Bytes.{upto, sort}
-use Rattle·rules.specs.Writing.{listed}
-use Rattle·runs.specs.Texts.{word-text, texts}
+use Rattle.std.specs.Prelude.{ℕ, cond, List, [], ◌∷◌, ◌++◌, eqb}
+use Rattle.rules.specs.Bytes.{upto, sort}
+use Rattle.rules.specs.Writing.{listed}
+use Rattle.runs.specs.Texts.{word_text, texts}
 
 mutual
   pub data Term : Type 0 where
@@ -22,13 +19,13 @@ inner (l ∷ []) = l
 inner (l ∷ (m ∷ ls)) = l ++ (2883584 ∷ inner (m ∷ ls))
 
 -- lists of words, sorted by their texts
-unfoldable pub insert-words : List ℕ → List ℕ → List (List ℕ) → List (List ℕ)
-insert-words s l [] = l ∷ []
-insert-words s l (m ∷ ls) = cond (upto (texts s l) (texts s m)) (l ∷ m ∷ ls) (m ∷ insert-words s l ls)
+unfoldable pub insert_words : List ℕ → List ℕ → List (List ℕ) → List (List ℕ)
+insert_words s l [] = l ∷ []
+insert_words s l (m ∷ ls) = cond (upto (texts s l) (texts s m)) (l ∷ m ∷ ls) (m ∷ insert_words s l ls)
 
-unfoldable pub sort-words : List ℕ → List (List ℕ) → List (List ℕ)
-sort-words s [] = []
-sort-words s (l ∷ ls) = insert-words s l (sort-words s ls)
+unfoldable pub sort_words : List ℕ → List (List ℕ) → List (List ℕ)
+sort_words s [] = []
+sort_words s (l ∷ ls) = insert_words s l (sort_words s ls)
 
 -- a name and its list
 unfoldable pub headed : ℕ → List (List ℕ) → List ℕ
@@ -39,18 +36,18 @@ unfoldable mutual
   unfolding headed
 
   pub words : Term → List ℕ
-  words (node x ts) = headed x (words-each ts)
+  words (node x ts) = headed x (words_each ts)
 
-  pub words-each : Terms → List (List ℕ)
-  words-each none = []
-  words-each (more t ts) = words t ∷ words-each ts
+  pub words_each : Terms → List (List ℕ)
+  words_each none = []
+  words_each (more t ts) = words t ∷ words_each ts
 
 -- the canonical words of a term in which no sum is a summand
 unfoldable mutual
-  unfolding headed sort-words
+  unfolding headed sort_words
 
   pub canonical : List ℕ → ℕ → Term → List ℕ
-  canonical s plus (node x ts) = headed x (cond (eqb x plus) (sort-words s (canonicals s plus ts)) (canonicals s plus ts))
+  canonical s plus (node x ts) = headed x (cond (eqb x plus) (sort_words s (canonicals s plus ts)) (canonicals s plus ts))
 
   pub canonicals : List ℕ → ℕ → Terms → List (List ℕ)
   canonicals s plus none = []
@@ -58,11 +55,11 @@ unfoldable mutual
 
 -- the canonical text of a term in which no sum is a summand
 unfoldable mutual
-  unfolding listed sort word-text
+  unfolding listed sort word_text
 
-  pub canon-text : List ℕ → ℕ → Term → List ℕ
-  canon-text s plus (node x ts) = listed (word-text s x) (cond (eqb x plus) (sort (canon-texts s plus ts)) (canon-texts s plus ts))
+  pub canon_text : List ℕ → ℕ → Term → List ℕ
+  canon_text s plus (node x ts) = listed (word_text s x) (cond (eqb x plus) (sort (canon_texts s plus ts)) (canon_texts s plus ts))
 
-  pub canon-texts : List ℕ → ℕ → Terms → List (List ℕ)
-  canon-texts s plus none = []
-  canon-texts s plus (more t ts) = canon-text s plus t ∷ canon-texts s plus ts
+  pub canon_texts : List ℕ → ℕ → Terms → List (List ℕ)
+  canon_texts s plus none = []
+  canon_texts s plus (more t ts) = canon_text s plus t ∷ canon_texts s plus ts

@@ -1,18 +1,17 @@
 // The words of a text, written while its form is read; a sum inside a sum loses its name and brackets.
-ghost use mathlib.Core.Path.{_≡_};
-ghost use Prim.Native.Nat.{_+_, _-_, _<_, _≤_};
-ghost use lib.ListN.{length, getD, take};
-ghost use Rattle·text.specs.Sorting.{Wrote};
-ghost use Rattle·flattening·specs.specs.Items.{place-word, adds, in-sum, opening, bracket, closing, brackets};
-ghost use Rattle·flattening·specs.specs.Writer.{ListOpened, ListClosed, TextWritten, finished};
-ghost use Rattle·text.specs.Frames.{Outside};
-use runs::COMMA;
-use runs::OPEN;
-use runs::PLUS;
-use runs::SHUT;
+#![tactic(auto)]
+
+ghost use Rattle.std.specs.Prelude.{◌≡◌, ◌+◌, ◌-◌, ◌<◌, ◌≤◌, length, get_or, take};
+ghost use Rattle.text.specs.Sorting.{Wrote};
+ghost use Rattle.flattening.specs.Items.{place_word, adds, in_sum, opening, bracket, closing, brackets};
+ghost use Rattle.flattening.specs.Writer.{ListOpened, ListClosed, TextWritten, finished};
+ghost use Rattle.text.specs.Frames.{Outside};
+
+use runs::{COMMA, OPEN, PLUS, SHUT};
 use syntax::Symbol;
 
 // What became of a text: its words, up to the one that is answered, or no term.
+#[derive(Clone, Copy)]
 pub enum Written {
     Words(usize),
     Unreadable,
@@ -20,24 +19,24 @@ pub enum Written {
 
 // The word of a place.
 fn place(from: usize, to: usize) -> u32
-    requires { ⌜ (from ≤ to) × (to < 65536) ⌝ }
-    ensures { λ r. ⌜ r ≡ place-word from to ⌝ }
+    requires { (from ≤ to) × (to < 65536) }
+    ensures { result ≡ place_word from to }
 {
     (from * 65536 + (to - from)) as u32
 }
 
 // Whether the bytes of a place are the name of sums.
 fn adds(sheet: &[u8], from: usize, to: usize) -> bool
-    requires { ⌜ (from < to) × (to ≤ length (now sheet)) × (to < 65536) ⌝ }
-    ensures { λ r. ⌜ r ≡ adds (now (sheet .entry)) (place-word from to) ⌝ }
+    requires { (from < to) × (to ≤ length sheet.now) × (to < 65536) }
+    ensures { result ≡ adds sheet.now (place_word from to) }
 {
     text::same(&sheet[from..to], b"tamtplus")
 }
 
 // Whether the last bracket that is open is that of a sum.
 fn in_sum(work: &[u32], stack: usize, depth: usize) -> bool
-    requires { ⌜ stack + depth ≤ length (now work) ⌝ }
-    ensures { λ r. ⌜ r ≡ in-sum (brackets (now (work .entry)) stack depth) ⌝ }
+    requires { stack + depth ≤ length work.now }
+    ensures { result ≡ in_sum (brackets work.now stack depth) }
 {
     if depth == 0 {
         return false;
@@ -47,7 +46,7 @@ fn in_sum(work: &[u32], stack: usize, depth: usize) -> bool
 
 // Which bracket a name opens.
 pub fn bracket_of(sum: bool, inside: bool) -> u32
-    ensures { λ r. ⌜ r ≡ bracket sum inside ⌝ }
+    ensures { result ≡ bracket sum inside }
 {
     if sum {
         if inside {
@@ -60,8 +59,8 @@ pub fn bracket_of(sum: bool, inside: bool) -> u32
 
 // Writes a name and its opening bracket, and answers where the next word goes.
 pub fn put_opening(work: &mut [u32], out: usize, sum: bool, inside: bool, word: u32) -> usize
-    requires { ⌜ out + 2 ≤ length (now work) ⌝ }
-    ensures { λ r. ⌜ Wrote (now (work .entry)) (now (work .exit)) out (opening sum inside word) × (r ≡ out + length (opening sum inside word)) ⌝ }
+    requires { out + 2 ≤ length work.old }
+    ensures { Wrote work.old work.new out (opening sum inside word) × (result ≡ out + length (opening sum inside word)) }
 {
     if sum {
         if inside {
@@ -78,8 +77,8 @@ pub fn put_opening(work: &mut [u32], out: usize, sum: bool, inside: bool, word: 
 
 // Writes a closing bracket, unless it is that of a sum inside a sum.
 pub fn put_closing(work: &mut [u32], out: usize, bracket: u32) -> usize
-    requires { ⌜ out + 1 ≤ length (now work) ⌝ }
-    ensures { λ r. ⌜ Wrote (now (work .entry)) (now (work .exit)) out (closing bracket) × (r ≡ out + length (closing bracket)) ⌝ }
+    requires { out + 1 ≤ length work.old }
+    ensures { Wrote work.old work.new out (closing bracket) × (result ≡ out + length (closing bracket)) }
 {
     if bracket == 2 {
         return out;
@@ -98,8 +97,8 @@ fn open_list(
     depth: usize,
     out: usize,
 ) -> usize
-    requires { ⌜ (from < to) × (to ≤ length (now sheet)) × (to < 65536) × (out + 2 ≤ stack) × (stack + depth < length (now work)) ⌝ }
-    ensures { λ r. ⌜ ListOpened (now (sheet .entry)) (now (work .entry)) (now (work .exit)) stack depth out (place-word from to) r ⌝ }
+    requires { (from < to) × (to ≤ length sheet.now) × (to < 65536) × (out + 2 ≤ stack) × (stack + depth < length work.old) }
+    ensures { ListOpened sheet.now work.old work.new stack depth out (place_word from to) result }
 {
     let sum = adds(sheet, from, to);
     let inside = in_sum(work, stack, depth);
@@ -110,8 +109,8 @@ fn open_list(
 
 // The closing bracket of the list that was opened last; `depth` brackets stay open.
 fn close_list(work: &mut [u32], stack: usize, depth: usize, out: usize) -> usize
-    requires { ⌜ (out + 1 ≤ stack) × (stack + depth < length (now work)) ⌝ }
-    ensures { λ r. ⌜ ListClosed (now (work .entry)) (now (work .exit)) stack depth out r ⌝ }
+    requires { (out + 1 ≤ stack) × (stack + depth < length work.old) }
+    ensures { ListClosed work.old work.new stack depth out result }
 {
     let bracket = work[stack + depth];
     put_closing(work, out, bracket)
@@ -119,7 +118,7 @@ fn close_list(work: &mut [u32], stack: usize, depth: usize, out: usize) -> usize
 
 // What a text is whose last bracket is closed: its words, if nothing follows.
 fn finished(next: Symbol, out: usize) -> Written
-    ensures { λ r. ⌜ r ≡ finished next out ⌝ }
+    ensures { result ≡ finished next out }
 {
     match next {
         Symbol::Stop => Written::Words(out),
@@ -137,8 +136,8 @@ pub fn write_text(
     base: usize,
     stack: usize,
 ) -> Written
-    requires { ⌜ (from ≤ to) × (to ≤ length (now sheet)) × (to < 65536) × (base + (to - from) ≤ stack) × (stack + (to - from) ≤ length (now work)) ⌝ }
-    ensures { λ r. ⌜ Outside (now (work .entry)) (now (work .exit)) base (stack + (to - from)) × TextWritten (now (sheet .entry)) (now (work .exit)) from to base r ⌝ }
+    requires { (from ≤ to) × (to ≤ length sheet.now) × (to < 65536) × (base + (to - from) ≤ stack) × (stack + (to - from) ≤ length work.old) }
+    ensures { Outside work.old work.new base (stack + (to - from)) × TextWritten sheet.now work.new from to base result }
 {
     let mut at = from;
     let mut depth: usize = 0;

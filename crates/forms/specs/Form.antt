@@ -1,39 +1,35 @@
 -- The kinds of sheet as the code reads them: what a form stands for, and the words that it needs. Definitions only.
-use Prim.Native.Nat.{ℕ, _≤_, _<_}
-use mathlib.Core.Path.{_≡_}
-use mathlib.Core.Bool.{Bool, true, false}
-use mathlib.Core.List.{List}
-use mathlib.Core.Option.{Option, some, none}
-use lib.ListN.{length}
-use Rattle·rules.specs.Bytes.{Text}
-use Rattle·rules.specs.Text.{bytes}
-use Rattle·rules.specs.Maybe.{_>>=_}
-use Rattle·rules.specs.Lines.{value}
-use Rattle·rules.specs.Sheet.{Sheet, Member, asks-equal, asks-unify, asks-match, asks-reduce, asks-cover, asks-sound, asks-complete, pairs, members-from, none-waiting, at-end, one-member, Kind, Equal, Unify, Match, Reduce, Cover, Sound, Complete, read-kind, raise, words-needed}
-use Rattle·sheet.specs.Lines.{part-of, lines-at}
-use Rattle·sheet.specs.Pairs.{two-lines-at}
-use Rattle·forms·specs.specs.Members.{members-at, Walks}
-use Rattle·sheet.specs.declared.Place.{Place}
-use Rattle·sheet.specs.declared.PairLine.the-variants.{End}
-use Rattle·forms·specs.specs.declared.form.Form.{Form}
-use Rattle·forms·specs.specs.declared.form.Form.the-variants as form
-use Rattle·forms·specs.specs.declared.form.ReadForm.{ReadForm}
-use Rattle·forms·specs.specs.declared.form.ReadForm.the-variants as found
-use Rattle·forms·specs.specs.declared.form.TermMembers.{TermMembers}
-use Rattle·forms·specs.specs.declared.form.TermMembers.the-variants as termed
-use Rattle·forms·specs.specs.declared.form.Kind as code
-use Rattle·forms·specs.specs.declared.form.Kind.the-variants as named
+use Rattle.std.specs.Prelude.{ℕ, ◌≤◌, ◌<◌, ◌≡◌, Bool, true, false, List, length}
+use Rattle.std.proofs.Math.Option.{Option, some, none}
+use Rattle.rules.specs.Bytes.{Text}
+use Rattle.rules.specs.Text.{bytes}
+use Rattle.rules.specs.Maybe.{◌>>=◌}
+use Rattle.rules.specs.Lines.{value}
+use Rattle.rules.specs.Sheet.{Sheet, Member, asks_equal, asks_unify, asks_match, asks_reduce, asks_cover, asks_sound, asks_complete, pairs, members_from, none_waiting, at_end, one_member, Kind, Equal, Unify, Match, Reduce, Cover, Sound, Complete, read_kind, raise, words_needed}
+use Rattle.sheet.specs.Lines.{part_of, lines_at}
+use Rattle.sheet.specs.Pairs.{two_lines_at}
+use Rattle.forms.specs.Members.{members_at, Walks}
+use Rattle.sheet.specs.declared.Place.{Place}
+use Rattle.sheet.specs.declared.PairLine.TheVariants.{End}
+use Rattle.forms.specs.declared.form.Form.{Form}
+use Rattle.forms.specs.declared.form.Form.TheVariants as form
+use Rattle.forms.specs.declared.form.ReadForm.{ReadForm}
+use Rattle.forms.specs.declared.form.ReadForm.TheVariants as found
+use Rattle.forms.specs.declared.form.TermMembers.{TermMembers}
+use Rattle.forms.specs.declared.form.TermMembers.TheVariants as termed
+use Rattle.forms.specs.declared.form.Kind as code
+use Rattle.forms.specs.declared.form.Kind.TheVariants as named
 
 -- the kind that a name was found to have
-abbrev pub kind-read : code.Kind → Option Kind
-kind-read named.Equal = some Equal
-kind-read named.Unify = some Unify
-kind-read named.Match = some Match
-kind-read named.Reduce = some Reduce
-kind-read named.Cover = some Cover
-kind-read named.Sound = some Sound
-kind-read named.Complete = some Complete
-kind-read named.Unknown = none
+abbrev pub kind_read : code.Kind → Option Kind
+kind_read named.Equal = some Equal
+kind_read named.Unify = some Unify
+kind_read named.Match = some Match
+kind_read named.Reduce = some Reduce
+kind_read named.Cover = some Cover
+kind_read named.Sound = some Sound
+kind_read named.Complete = some Complete
+kind_read named.Unknown = none
 
 -- `match` or `unify`
 abbrev pub solving : Bool → Kind
@@ -41,46 +37,46 @@ solving true = Match
 solving false = Unify
 
 -- the lines from a position on, read as those after `kind`
-unfoldable pub read-kind-at : Kind → Text → ℕ → Option Sheet
-unfolding read-kind
-read-kind-at kind s at = lines-at s at >>= read-kind kind
+unfoldable pub read_kind_at : Kind → Text → ℕ → Option Sheet
+unfolding read_kind
+read_kind_at kind s at = lines_at s at >>= read_kind kind
 
-abbrev pub text-of : Text → Place → Text
-text-of s p = part-of (p .from) (p .to) s
+abbrev pub text_of : Text → Place → Text
+text_of s p = part_of p.from p.to s
 
 -- the sheet that a form stands for
-unfoldable pub sheet-of : Text → Form → Option Sheet
-sheet-of s (form.Equal l r) = some (asks-equal (text-of s l) (text-of s r))
-sheet-of s (form.Unify fuel c) = lines-at s (c .at) >>= λ ls. pairs ls >>= λ p. at-end (p .1) (asks-unify fuel (p .0))
-sheet-of s (form.Match fuel c) = lines-at s (c .at) >>= λ ls. pairs ls >>= λ p. at-end (p .1) (asks-match fuel (p .0))
-sheet-of s (form.Reduce t) = some (asks-reduce (text-of s t))
-sheet-of s (form.Cover c d) = lines-at s (c .at) >>= λ ls. pairs ls >>= λ p. members-at s (d .at) >>= λ ms. some (asks-cover (p .0) ms)
-sheet-of s (form.Sound t c) = members-at s (c .at) >>= λ ms. one-member ms >>= λ m. some (asks-sound (text-of s t) m)
-sheet-of s (form.Complete t c) = members-at s (c .at) >>= λ ms. some (asks-complete (text-of s t) ms)
+unfoldable pub sheet_of : Text → Form → Option Sheet
+sheet_of s (form.Equal l r) = some (asks_equal (text_of s l) (text_of s r))
+sheet_of s (form.Unify fuel c) = lines_at s c.at >>= λ ls. pairs ls >>= λ p. at_end p.1 (asks_unify fuel p.0)
+sheet_of s (form.Match fuel c) = lines_at s c.at >>= λ ls. pairs ls >>= λ p. at_end p.1 (asks_match fuel p.0)
+sheet_of s (form.Reduce t) = some (asks_reduce (text_of s t))
+sheet_of s (form.Cover c d) = lines_at s c.at >>= λ ls. pairs ls >>= λ p. members_at s d.at >>= λ ms. some (asks_cover p.0 ms)
+sheet_of s (form.Sound t c) = members_at s c.at >>= λ ms. one_member ms >>= λ m. some (asks_sound (text_of s t) m)
+sheet_of s (form.Complete t c) = members_at s c.at >>= λ ms. some (asks_complete (text_of s t) ms)
 
 abbrev pub Inside : Text → Place → Type 0
-Inside s p = (p .from ≤ p .to) × (p .to < length s)
+Inside s p = (p.from ≤ p.to) × (p.to < length s)
 
 -- the pairs `left`, `right` that were walked over from `at` to c, and no more of them follow
 pub record Walked (s : Text) (at c : ℕ) : Type 0 where
   pub walk : Walks (bytes "left=") (bytes "right=") s at c
-  pub stops : End ≡ two-lines-at (bytes "left=") (bytes "right=") s c
+  pub stops : End ≡ two_lines_at (bytes "left=") (bytes "right=") s c
 
 -- places and cursors stand in the sheet, fuel is at most 65,536, the members of `cover` follow its pairs and those of `complete` its term
 abbrev pub Within : Text → Form → Type 0
 Within s (form.Equal l r) = Inside s l × Inside s r
-Within s (form.Unify fuel c) = (fuel ≤ 65536) × (c .at ≤ length s)
-Within s (form.Match fuel c) = (fuel ≤ 65536) × (c .at ≤ length s)
+Within s (form.Unify fuel c) = (fuel ≤ 65536) × (c.at ≤ length s)
+Within s (form.Match fuel c) = (fuel ≤ 65536) × (c.at ≤ length s)
 Within s (form.Reduce t) = Inside s t
-Within s (form.Cover c d) = (c .at ≤ length s) × (d .at ≤ length s) × Walked s (c .at) (d .at)
-Within s (form.Sound t c) = Inside s t × (c .at ≤ length s)
-Within s (form.Complete t c) = Inside s t × (t .to ≤ c .at) × (c .at ≤ length s)
+Within s (form.Cover c d) = (c.at ≤ length s) × (d.at ≤ length s) × Walked s c.at d.at
+Within s (form.Sound t c) = Inside s t × (c.at ≤ length s)
+Within s (form.Complete t c) = Inside s t × (t.to ≤ c.at) × (c.at ≤ length s)
 
 -- f stands for the sheet that was read
 pub record FormStands (s : Text) (o : Option Sheet) (f : Form) : Type 0 where
   pub sheet : Sheet
   pub reads : o ≡ some sheet
-  pub decodes : sheet-of s f ≡ some sheet
+  pub decodes : sheet_of s f ≡ some sheet
   pub within : Within s f
 
 -- r is what was read, or there is none
@@ -89,37 +85,37 @@ ReadsAs s o (found.Sheet f) = FormStands s o f
 ReadsAs s o found.LineOutOfPlace = o ≡ none
 
 -- a `term` line and the members after it, from a position on
-unfoldable pub term-members : Text → ℕ → Option (Text × List Member)
-term-members s at = do
-  ls ← lines-at s at
+unfoldable pub term_members : Text → ℕ → Option (Text × List Member)
+term_members s at = do
+  ls ← lines_at s at
   (term, ls₁) ← value (bytes "term=") ls
-  ms ← none-waiting (members-from ls₁)
+  ms ← none_waiting (members_from ls₁)
   some (term, ms)
 
 -- so many members stand from c on, after the term
 pub record TermThen (s : Text) (at : ℕ) (t : Place) (c : ℕ) (count : ℕ) : Type 0 where
   pub ms : List Member
-  pub parts : term-members s at ≡ some (text-of s t, ms)
-  pub later : members-at s c ≡ some ms
+  pub parts : term_members s at ≡ some (text_of s t, ms)
+  pub later : members_at s c ≡ some ms
   pub many : count ≡ length ms
   pub placed : Inside s t
-  pub follows : t .to ≤ c
+  pub follows : t.to ≤ c
   pub inside : c ≤ length s
 
 abbrev pub ReadsTermMembers : Text → ℕ → TermMembers → Type 0
-ReadsTermMembers s at (termed.Read t c count) = TermThen s at t (c .at) count
-ReadsTermMembers s at termed.LineOutOfPlace = term-members s at ≡ none
+ReadsTermMembers s at (termed.Read t c count) = TermThen s at t c.at count
+ReadsTermMembers s at termed.LineOutOfPlace = term_members s at ≡ none
 
 -- n is the raise of the sheet that a form stands for
 abbrev pub RaisesBy : Text → Form → ℕ → Type 0
-RaisesBy s f n = (sheet : Sheet) → sheet-of s f ≡ some sheet → n ≡ raise sheet
+RaisesBy s f n = (sheet : Sheet) → sheet_of s f ≡ some sheet → n ≡ raise sheet
 
 -- n is the words that the sheet needs for which a form stands
 abbrev pub NeedsWords : Text → Form → ℕ → Type 0
-NeedsWords s f n = (sheet : Sheet) → sheet-of s f ≡ some sheet → n ≡ words-needed s sheet
+NeedsWords s f n = (sheet : Sheet) → sheet_of s f ≡ some sheet → n ≡ words_needed s sheet
 
 -- n words are enough for the sheet that a form stands for
 pub record EnoughWords (s : Text) (f : Form) (n : ℕ) : Type 0 where
   pub sheet : Sheet
-  pub stands : sheet-of s f ≡ some sheet
-  pub enough : words-needed s sheet ≤ n
+  pub stands : sheet_of s f ≡ some sheet
+  pub enough : words_needed s sheet ≤ n

@@ -1,20 +1,12 @@
 // The kinds of sheet: what a sheet asks, as places and cursors, and the words of the work area that it needs.
+ghost use Rattle.std.specs.Prelude.{◌≡◌, ◌≤◌, length};
+ghost use Rattle.rules.specs.Sheet.{Equal, Reduce, Cover, Sound, Complete, read_sheet, kind_in, kinds};
+ghost use Rattle.forms.specs.Form.{kind_read, solving, Walked, read_kind_at, ReadsTermMembers, ReadsAs, Within, RaisesBy, NeedsWords};
+
 use crate::members::members;
-use sheet::Cursor;
-use sheet::Line;
-use sheet::PairLine;
-use sheet::Place;
-use sheet::next_pair;
-use sheet::part;
-use text::count_of;
-use text::decimal::Number;
-use text::decimal::number_up_to;
-use text::same;
-ghost use mathlib.Core.Path.{_≡_};
-ghost use Prim.Native.Nat.{_≤_};
-ghost use lib.ListN.{length};
-ghost use Rattle·rules.specs.Sheet.{Equal, Reduce, Cover, Sound, Complete, read-sheet, kind-in, kinds};
-ghost use Rattle·forms·specs.specs.Form.{kind-read, solving, Walked, read-kind-at, ReadsTermMembers, ReadsAs, Within, RaisesBy, NeedsWords};
+use sheet::{Cursor, Line, PairLine, Place, next_pair, part};
+use text::decimal::{Number, number_up_to};
+use text::{count_of, same};
 
 // The most fuel that a sheet may give.
 const MOST_FUEL: usize = 65536;
@@ -22,6 +14,7 @@ const MOST_FUEL: usize = 65536;
 const BLOCK: usize = 65536;
 
 // What a sheet asks.
+#[derive(Clone, Copy)]
 pub enum Form {
     Equal { left: Place, right: Place },
     Unify { fuel: usize, pairs: Cursor },
@@ -33,12 +26,14 @@ pub enum Form {
 }
 
 // What a sheet was read as.
+#[derive(Clone, Copy)]
 pub enum ReadForm {
     Sheet(Form),
     LineOutOfPlace,
 }
 
 // The kinds by their names.
+#[derive(Clone, Copy)]
 enum Kind {
     Equal,
     Unify,
@@ -52,7 +47,7 @@ enum Kind {
 
 // The kind of a name.
 fn kind_of(name: &[u8]) -> Kind
-    ensures { λ r. ⌜ kind-read r ≡ kind-in kinds (now (name .entry)) ⌝ }
+    ensures { kind_read result ≡ kind_in kinds name.now }
 {
     if same(name, b"equal") {
         return Kind::Equal;
@@ -80,7 +75,7 @@ fn kind_of(name: &[u8]) -> Kind
 
 // Where the pairs of lines `left`, `right` from a cursor on end.
 fn after_pairs(sheet: &[u8], start: Cursor) -> Cursor
-    ensures { λ r. ⌜ Walked (now (sheet .entry)) (start .at) (r .at) ⌝ }
+    ensures { Walked sheet.now start.at result.at }
 {
     let mut cursor = start;
     loop {
@@ -98,7 +93,7 @@ fn after_pairs(sheet: &[u8], start: Cursor) -> Cursor
 }
 
 fn read_equal(sheet: &[u8], start: Cursor) -> ReadForm
-    ensures { λ r. ⌜ ReadsAs (now (sheet .entry)) (read-kind-at Equal (now (sheet .entry)) (start .at)) r ⌝ }
+    ensures { ReadsAs sheet.now (read_kind_at Equal sheet.now start.at) result }
 {
     let pair = next_pair(sheet, start);
     let PairLine::Sides { left, right, next } = pair else {
@@ -113,7 +108,7 @@ fn read_equal(sheet: &[u8], start: Cursor) -> ReadForm
 
 // Kinds `unify` and `match`.
 fn read_solving(sheet: &[u8], start: Cursor, matching: bool) -> ReadForm
-    ensures { λ r. ⌜ ReadsAs (now (sheet .entry)) (read-kind-at (solving matching) (now (sheet .entry)) (start .at)) r ⌝ }
+    ensures { ReadsAs sheet.now (read_kind_at (solving matching) sheet.now start.at) result }
 {
     let line = start.keyed(sheet, b"fuel=");
     let Line::Whole { from, to, next } = line else {
@@ -135,7 +130,7 @@ fn read_solving(sheet: &[u8], start: Cursor, matching: bool) -> ReadForm
 }
 
 fn read_reduce(sheet: &[u8], start: Cursor) -> ReadForm
-    ensures { λ r. ⌜ ReadsAs (now (sheet .entry)) (read-kind-at Reduce (now (sheet .entry)) (start .at)) r ⌝ }
+    ensures { ReadsAs sheet.now (read_kind_at Reduce sheet.now start.at) result }
 {
     let line = start.keyed(sheet, b"term=");
     let Line::Whole { from, to, next } = line else {
@@ -151,8 +146,8 @@ fn read_reduce(sheet: &[u8], start: Cursor) -> ReadForm
 }
 
 fn read_cover(sheet: &[u8], start: Cursor) -> ReadForm
-    requires { ⌜ (length (now sheet) ≤ 65536) × (start .at ≤ length (now sheet)) ⌝ }
-    ensures { λ r. ⌜ ReadsAs (now (sheet .entry)) (read-kind-at Cover (now (sheet .entry)) (start .at)) r ⌝ }
+    requires { (length sheet.now ≤ 65536) × (start.at ≤ length sheet.now) }
+    ensures { ReadsAs sheet.now (read_kind_at Cover sheet.now start.at) result }
 {
     let end = after_pairs(sheet, start);
     let number = members(sheet, end);
@@ -166,6 +161,7 @@ fn read_cover(sheet: &[u8], start: Cursor) -> ReadForm
 }
 
 // A `term` line and the members after it.
+#[derive(Clone, Copy)]
 enum TermMembers {
     Read {
         term: Place,
@@ -177,8 +173,8 @@ enum TermMembers {
 
 // A `term` line, then members up to the sheet's end.
 fn term_then_members(sheet: &[u8], start: Cursor) -> TermMembers
-    requires { ⌜ length (now sheet) ≤ 65536 ⌝ }
-    ensures { λ r. ⌜ ReadsTermMembers (now (sheet .entry)) (start .at) r ⌝ }
+    requires { length sheet.now ≤ 65536 }
+    ensures { ReadsTermMembers sheet.now start.at result }
 {
     let line = start.keyed(sheet, b"term=");
     let Line::Whole { from, to, next } = line else {
@@ -196,8 +192,8 @@ fn term_then_members(sheet: &[u8], start: Cursor) -> TermMembers
 }
 
 fn read_sound(sheet: &[u8], start: Cursor) -> ReadForm
-    requires { ⌜ length (now sheet) ≤ 65536 ⌝ }
-    ensures { λ r. ⌜ ReadsAs (now (sheet .entry)) (read-kind-at Sound (now (sheet .entry)) (start .at)) r ⌝ }
+    requires { length sheet.now ≤ 65536 }
+    ensures { ReadsAs sheet.now (read_kind_at Sound sheet.now start.at) result }
 {
     let read = term_then_members(sheet, start);
     let TermMembers::Read {
@@ -218,8 +214,8 @@ fn read_sound(sheet: &[u8], start: Cursor) -> ReadForm
 }
 
 fn read_complete(sheet: &[u8], start: Cursor) -> ReadForm
-    requires { ⌜ length (now sheet) ≤ 65536 ⌝ }
-    ensures { λ r. ⌜ ReadsAs (now (sheet .entry)) (read-kind-at Complete (now (sheet .entry)) (start .at)) r ⌝ }
+    requires { length sheet.now ≤ 65536 }
+    ensures { ReadsAs sheet.now (read_kind_at Complete sheet.now start.at) result }
 {
     let read = term_then_members(sheet, start);
     let TermMembers::Read {
@@ -235,8 +231,8 @@ fn read_complete(sheet: &[u8], start: Cursor) -> ReadForm
 
 // What a sheet asks.
 pub fn read_sheet(sheet: &[u8]) -> ReadForm
-    requires { ⌜ length (now sheet) ≤ 65536 ⌝ }
-    ensures { λ r. ⌜ ReadsAs (now (sheet .entry)) (read-sheet (now (sheet .entry))) r ⌝ }
+    requires { length sheet.now ≤ 65536 }
+    ensures { ReadsAs sheet.now (read_sheet sheet.now) result }
 {
     let start = Cursor { at: 0 };
     let line = start.keyed(sheet, b"kind=");
@@ -258,9 +254,9 @@ pub fn read_sheet(sheet: &[u8]) -> ReadForm
 
 // Twice the count of `(` in the `term` line, for `complete`.
 fn raise_of(sheet: &[u8], form: Form) -> usize
-    requires { ⌜ length (now sheet) ≤ 65536 ⌝ }
-    requires { ⌜ Within (now sheet) form ⌝ }
-    ensures { λ r. ⌜ RaisesBy (now (sheet .entry)) form r × (r ≤ 131072) ⌝ }
+    requires sheet_len_bound { length sheet.now ≤ 65536 }
+    requires within { Within sheet.now form }
+    ensures { RaisesBy sheet.now form result × (result ≤ 131072) }
 {
     match form {
         Form::Complete { term, members: _ } => {
@@ -274,9 +270,9 @@ fn raise_of(sheet: &[u8], form: Form) -> usize
 
 // The words of the work area that a sheet needs.
 pub fn words_needed(sheet: &[u8], form: Form) -> usize
-    requires { ⌜ length (now sheet) ≤ 65536 ⌝ }
-    requires { ⌜ Within (now sheet) form ⌝ }
-    ensures { λ r. ⌜ NeedsWords (now (sheet .entry)) form r ⌝ }
+    requires sheet_len_bound { length sheet.now ≤ 65536 }
+    requires within { Within sheet.now form }
+    ensures { NeedsWords sheet.now form result }
 {
     BLOCK * (count_of(sheet, b':') + raise_of(sheet, form) + 16) + 16 * sheet.len()
 }

@@ -1,21 +1,13 @@
 // The members of a sheet: their keys as sorted places, and how many members there are.
-use sheet::Cursor;
-use sheet::Line;
-use sheet::PairLine;
-use sheet::Place;
-use sheet::next_entry;
-use sheet::next_member;
+ghost use Rattle.std.specs.Prelude.{◌≡◌, map, ◌+◌, ◌-◌, ◌*◌, ◌≤◌, ◌<◌, length, take};
+ghost use Rattle.rules.specs.Bytes.{same};
+ghost use Rattle.text.specs.Places.{text_at};
+ghost use Rattle.forms.specs.Members.{members_at, counted, distinct, apart, Gathered};
+
+use sheet::{Cursor, Line, PairLine, Place, next_entry, next_member};
 use text::decimal::Number;
-use text::places::sort_places;
-use text::places::text_at;
+use text::places::{sort_places, text_at};
 use text::same;
-ghost use mathlib.Core.Path.{_≡_};
-ghost use mathlib.Core.List.{map};
-ghost use Prim.Native.Nat.{_+_, _-_, _*_, _≤_, _<_};
-ghost use lib.ListN.{length, take};
-ghost use Rattle·rules.specs.Bytes.{same};
-ghost use Rattle·text.specs.Places.{text-at};
-ghost use Rattle·forms·specs.specs.Members.{members-at, counted, distinct, apart, Gathered};
 
 // A place is one word: its start times this, and its length.
 const START: usize = 65536;
@@ -24,8 +16,8 @@ const MOST_KEYS: usize = 8192;
 
 // A place as one word.
 fn word_of(place: Place) -> u32
-    requires { ⌜ (place .from < 65536) × (place .from ≤ place .to) × (place .to < place .from + 65536) ⌝ }
-    ensures { λ r. ⌜ r ≡ place .from * 65536 + (place .to - place .from) ⌝ }
+    requires { (place.from < 65536) × (place.from ≤ place.to) × (place.to < place.from + 65536) }
+    ensures { result ≡ place.from * 65536 + (place.to - place.from) }
 {
     let from = place.from;
     let to = place.to;
@@ -33,6 +25,7 @@ fn word_of(place: Place) -> u32
 }
 
 // How many keys one member has, and where its entries end.
+#[derive(Clone, Copy)]
 struct Keys {
     count: usize,
     next: Cursor,
@@ -40,8 +33,8 @@ struct Keys {
 
 // Writes the places of a member's keys into the first words.
 fn gather(sheet: &[u8], start: Cursor, words: &mut [u32]) -> Keys
-    requires { ⌜ (length (now sheet) ≤ 65536) × (8192 ≤ length (now words)) ⌝ }
-    ensures { λ r. ⌜ Gathered (now (sheet .entry)) (start .at) (now (words .exit)) (r .count) (r .next .at) ⌝ }
+    requires { (length sheet.now ≤ 65536) × (8192 ≤ length words.old) }
+    ensures { Gathered sheet.now start.at words.new result.count result.next.at }
 {
     let mut count: usize = 0;
     let mut cursor = start;
@@ -66,15 +59,15 @@ fn gather(sheet: &[u8], start: Cursor, words: &mut [u32]) -> Keys
 
 // Whether two keys, by their places, are the same: their bytes are.
 fn same_key(sheet: &[u8], x: u32, y: u32) -> bool
-    ensures { λ r. ⌜ r ≡ same (text-at (now (sheet .entry)) x) (text-at (now (sheet .entry)) y) ⌝ }
+    ensures { result ≡ same (text_at sheet.now x) (text_at sheet.now y) }
 {
     same(text_at(sheet, x), text_at(sheet, y))
 }
 
 // Whether none of the first words names the same key as the next.
 fn all_apart(sheet: &[u8], words: &[u32], count: usize) -> bool
-    requires { ⌜ count ≤ length (now words) ⌝ }
-    ensures { λ r. ⌜ r ≡ apart (map (text-at (now (sheet .entry))) (take count (now (words .entry)))) ⌝ }
+    requires { count ≤ length words.now }
+    ensures { result ≡ apart (map (text_at sheet.now) (take count words.now)) }
 {
     let mut i: usize = 1;
     while i < count {
@@ -88,8 +81,8 @@ fn all_apart(sheet: &[u8], words: &[u32], count: usize) -> bool
 
 // Whether the first words name each key once. They get sorted; the words from 8192 on are the buffer.
 fn all_distinct(sheet: &[u8], words: &mut [u32], count: usize) -> bool
-    requires { ⌜ (count ≤ 8192) × (16384 ≤ length (now words)) ⌝ }
-    ensures { λ r. ⌜ r ≡ distinct (map (text-at (now (sheet .entry))) (take count (now (words .entry)))) ⌝ }
+    requires { (count ≤ 8192) × (16384 ≤ length words.old) }
+    ensures { result ≡ distinct (map (text_at sheet.now) (take count words.old)) }
 {
     sort_places(sheet, words, 0, count, MOST_KEYS);
     all_apart(sheet, words, count)
@@ -97,8 +90,8 @@ fn all_distinct(sheet: &[u8], words: &mut [u32], count: usize) -> bool
 
 // How many members stand from a cursor to the sheet's end, if nothing else does and none repeats a key.
 fn count_members(sheet: &[u8], start: Cursor, words: &mut [u32]) -> Number
-    requires { ⌜ (length (now sheet) ≤ 65536) × (16384 ≤ length (now words)) ⌝ }
-    ensures { λ r. ⌜ r ≡ counted 0 (members-at (now (sheet .entry)) (start .at)) ⌝ }
+    requires { (length sheet.now ≤ 65536) × (16384 ≤ length words.old) }
+    ensures { result ≡ counted 0 (members_at sheet.now start.at) }
 {
     let mut n: usize = 0;
     let mut cursor = start;
@@ -128,15 +121,15 @@ fn count_members(sheet: &[u8], start: Cursor, words: &mut [u32]) -> Number
 
 // The words that a member's keys and their sorting take.
 fn key_words() -> [u32; 16384]
-    ensures { λ r. ⌜ 16384 ≡ length r ⌝ }
+    ensures { 16384 ≡ length result }
 {
     [0u32; 16384]
 }
 
 // How many members stand from a cursor to the sheet's end, if nothing else does and none repeats a key.
 pub(crate) fn members(sheet: &[u8], start: Cursor) -> Number
-    requires { ⌜ length (now sheet) ≤ 65536 ⌝ }
-    ensures { λ r. ⌜ r ≡ counted 0 (members-at (now (sheet .entry)) (start .at)) ⌝ }
+    requires { length sheet.now ≤ 65536 }
+    ensures { result ≡ counted 0 (members_at sheet.now start.at) }
 {
     let mut words = key_words();
     count_members(sheet, start, &mut words)

@@ -1,93 +1,93 @@
 -- The variables of a term as a list of cells, and one above their indices.
-use Prim.Native.Nat.{ℕ, _+_, _*_, _-_, _≤_}
-use mathlib.Core.Path.{_≡_, refl, sym, ap, subst, _∙_}
+use Prim.Native.Nat.{ℕ, ◌+◌, ◌*◌, ◌-◌, ◌≤◌}
+use mathlib.Core.Path.{◌≡◌, refl, sym, ap, subst, ◌∙◌}
 use mathlib.Core.List.{List, [], map, append-nil}
 use mathlib.Core.Option.{Option, some, none as nothing}
 use lib.ListN.{length}
 use lib.Seq.{slice}
 use native.Mathlib.Omega.{arith}
-use Rattle·rules.specs.Bytes.{Text}
-use Rattle·rules.specs.Tree.{Tree, Trees, none, more, size, sizes, variable-names, variable-names-in}
-use Rattle·rules.specs.Tidy.{nil, both}
-use Rattle·rules.specs.Cover.{variables}
-use Rattle·rules.specs.Variants.{fresh-base}
-use Rattle·text.specs.Places.{text-at}
-use Rattle·tree.specs.Cells.{tree-at, trees-at}
-use Rattle·tree.specs.Arena.{Arena, Linked, Below}
-use Rattle·tree.proofs.Decoding.{trees-none}
-use Rattle·tree.proofs.Areas.{below-then, below-grown}
-use Rattle·equivalence.proofs.Scratch.{below-kept}
-use Rattle·variables.specs.Ordered.{ordered-once}
-use Rattle·variables.specs.Variables.{Short, Readable, ReadableAll, Ordered}
-use Rattle·variables.specs.Listing.{ListsVariables}
-use Rattle·variables.specs.Pairing.{names-at}
-use Rattle·variables.proofs.Ordering.{variables-inserted}
-use Rattle·variables.proofs.Listed.{names-count, listed-names, listed-variables, listed-below, listed-used}
-use Rattle·fresh·specs.specs.Indices.{names-base, base-found}
-use Rattle·fresh·specs.specs.TermNames.{TermNames}
-use Rattle·fresh·specs.specs.declared.indices.Base.the-variants.{From, Nothing}
-use Rattle·fresh·proofs.proofs.Indexing.{base-bounded, ordered-names-base}
+use Rattle.rules.specs.Bytes.{Text}
+use Rattle.rules.specs.Tree.{Tree, Trees, none, more, size, sizes, variable_names, variable_names_in}
+use Rattle.rules.specs.Tidy.{nil, both}
+use Rattle.rules.specs.Cover.{variables}
+use Rattle.rules.specs.Variants.{fresh_base}
+use Rattle.text.specs.Places.{text_at}
+use Rattle.tree.specs.Cells.{tree_at, trees_at}
+use Rattle.tree.specs.Arena.{Arena, Linked, Below}
+use Rattle.tree.proofs.Decoding.{trees_none}
+use Rattle.tree.proofs.Areas.{below_then, below_grown}
+use Rattle.equivalence.proofs.Scratch.{below_kept}
+use Rattle.variables.specs.Ordered.{ordered_once}
+use Rattle.variables.specs.Variables.{Short, Readable, ReadableAll, Ordered}
+use Rattle.variables.specs.Listing.{ListsVariables}
+use Rattle.variables.specs.Pairing.{names_at}
+use Rattle.variables.proofs.Ordering.{variables_inserted}
+use Rattle.variables.proofs.Listed.{names_count, listed_names, listed_variables, listed_below, listed_used}
+use Rattle.fresh.specs.Indices.{names_base, base_found}
+use Rattle.fresh.specs.TermNames.{TermNames}
+use Rattle.fresh.specs.declared.indices.Base.TheVariants.{From, Nothing}
+use Rattle.fresh.proofs.Indexing.{base_bounded, ordered_names_base}
 
-one-names : (t : Tree) → variable-names-in (more t none) ≡ variable-names t
-unfolding variable-names
-one-names t = append-nil (variable-names t)
+one_names : (t : Tree) → variable_names_in (more t none) ≡ variable_names t
+unfolding variable_names
+one_names t = append-nil (variable_names t)
 
-found-some : (o : Option ℕ) (b : ℕ) → From b ≡ base-found o → o ≡ some b
-found-some nothing b e = cc
-found-some (some c) b e = cc
+found_some : (o : Option ℕ) (b : ℕ) → From b ≡ base_found o → o ≡ some b
+found_some nothing b e = cc
+found_some (some c) b e = cc
 
-found-none : (o : Option ℕ) → Nothing ≡ base-found o → o ≡ nothing
-found-none nothing e = refl
-found-none (some c) e = cc
+found_none : (o : Option ℕ) → Nothing ≡ base_found o → o ≡ nothing
+found_none nothing e = refl
+found_none (some c) e = cc
 
-module _ {s : Text} {w v : List ℕ} {n : ℕ} (term f : ℕ) (q : f ≡ n + 1) (h : Linked s w v n 0 (tree-at s w term)) where
+module _ {s : Text} {w v : List ℕ} {n : ℕ} (term f : ℕ) (q : f ≡ n + 1) (h : Linked s w v n 0 (tree_at s w term)) where
   abbrev tree : Tree
-  tree = tree-at s w term
+  tree = tree_at s w term
 
-  one-tree : trees-at s v n ≡ more tree none
-  one-tree = h .trees ∙ ap (more tree) (trees-none s w 0 refl)
+  one_tree : trees_at s v n ≡ more tree none
+  one_tree = h.trees ∙ ap (more tree) (trees_none s w 0 refl)
 
-  pub shared-arena : Arena s v f
-  shared-arena = subst (Arena s v) (sym q) (h .arena)
+  pub shared_arena : Arena s v f
+  shared_arena = subst (Arena s v) (sym q) h.arena
 
-  pub one-spelled : Readable tree → ReadableAll (trees-at s v n)
-  one-spelled b = subst ReadableAll (sym one-tree) (record { built = both (b .built) nil; short = subst Short (sym (one-names tree)) (b .short) })
+  pub one_spelled : Readable tree → ReadableAll (trees_at s v n)
+  one_spelled b = subst ReadableAll (sym one_tree) (record { built = both b.built nil; short = subst Short (sym (one_names tree)) b.short })
 
-  pub one-size : sizes (trees-at s v n) ≡ size tree
+  pub one_size : sizes (trees_at s v n) ≡ size tree
   unfolding size
-  one-size = let e = ap sizes one-tree in omega arith
+  one_size = let e = ap sizes one_tree in omega arith
 
-  module _ {u : List ℕ} {at end most : ℕ} (l : 4 * f ≤ at) (o : Ordered s v u at end most (variable-names-in (trees-at s v n))) where
-    ordered-are : ordered-once (variable-names-in (trees-at s v n)) ≡ ordered-once (variable-names tree)
-    ordered-are = ap (λ (ts : Trees). ordered-once (variable-names-in ts)) one-tree ∙ ap ordered-once (one-names tree)
+  module _ {u : List ℕ} {at end most : ℕ} (l : 4 * f ≤ at) (o : Ordered s v u at end most (variable_names_in (trees_at s v n))) where
+    ordered_are : ordered_once (variable_names_in (trees_at s v n)) ≡ ordered_once (variable_names tree)
+    ordered_are = ap (λ (ts : Trees). ordered_once (variable_names_in ts)) one_tree ∙ ap ordered_once (one_names tree)
 
-    base-are : names-base (map (text-at s) (slice at end u)) ≡ fresh-base tree 0
-    base-are = ap names-base (o .are ∙ ordered-are) ∙ ordered-names-base tree
+    base_are : names_base (map (text_at s) (slice at end u)) ≡ fresh_base tree 0
+    base_are = ap names_base (o.are ∙ ordered_are) ∙ ordered_names_base tree
 
-    pub no-base : Nothing ≡ base-found (names-base (map (text-at s) (slice at end u))) → (fresh-base tree 0 ≡ nothing) × Below w u n
-    no-base e = (
-      sym base-are ∙ found-none (names-base (map (text-at s) (slice at end u))) e,
-      below-then (below-grown (h .grown)) (below-kept {n = n} (o .kept) (omega arith)) (omega arith),
+    pub no_base : Nothing ≡ base_found (names_base (map (text_at s) (slice at end u))) → (fresh_base tree 0 ≡ nothing) × Below w u n
+    no_base e = (
+      sym base_are ∙ found_none (names_base (map (text_at s) (slice at end u))) e,
+      below_then (below_grown h.grown) (below_kept {n = n} o.kept (omega arith)) (omega arith),
     )
 
-    module _ {z : List ℕ} {i m : ℕ} (base : ℕ) (e : From base ≡ base-found (names-base (map (text-at s) (slice at end u)))) (room : at + most ≤ length v)
-        (k : ListsVariables s u z f (end - at) (map (text-at s) (slice at end u)) i m) where
-      names-are : names-at s z i ≡ variables tree []
+    module _ {z : List ℕ} {i m : ℕ} (base : ℕ) (e : From base ≡ base_found (names_base (map (text_at s) (slice at end u)))) (room : at + most ≤ length v)
+        (k : ListsVariables s u z f (end - at) (map (text_at s) (slice at end u)) i m) where
+      names_are : names_at s z i ≡ variables tree []
       unfolding variables
-      names-are = listed-names s n l o room k ∙ ordered-are ∙ sym (variables-inserted tree [])
+      names_are = listed_names s n l o room k ∙ ordered_are ∙ sym (variables_inserted tree [])
 
-      pub term-names : TermNames s w z n term i base m
-      term-names =
-          let c = names-count s z i (listed-variables s n l o room k) in
-          let d = ap (λ (xs : List Text). length xs) names-are in
-          let found = found-some (names-base (map (text-at s) (slice at end u))) base e in
+      pub term_names : TermNames s w z n term i base m
+      term_names =
+          let c = names_count s z i (listed_variables s n l o room k) in
+          let d = ap (λ (xs : List Text). length xs) names_are in
+          let found = found_some (names_base (map (text_at s) (slice at end u))) base e in
           record {
-            arena = k .made .arena;
-            below = below-then (below-grown (h .grown)) (listed-below s n l o room k) (omega arith);
-            inside = k .made .inside;
-            of-variables = listed-variables s n l o room k;
-            are = names-are;
-            used = omega (arith, listed-used s n l o room k);
-            based = sym base-are ∙ found;
-            small = omega (arith, base-bounded 0 (map (text-at s) (slice at end u)) base found (omega arith));
+            arena = k.made.arena;
+            below = below_then (below_grown h.grown) (listed_below s n l o room k) (omega arith);
+            inside = k.made.inside;
+            of_variables = listed_variables s n l o room k;
+            are = names_are;
+            used = omega (arith, listed_used s n l o room k);
+            based = sym base_are ∙ found;
+            small = omega (arith, base_bounded 0 (map (text_at s) (slice at end u)) base found (omega arith));
           }

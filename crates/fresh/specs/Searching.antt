@@ -1,26 +1,22 @@
 -- Whether a text is spelled somewhere in a sheet, and what a search for it answers. Definitions only.
-use Prim.Native.Nat.{ℕ, _+_, _<_, _≤_}
-use mathlib.Core.Path.{_≡_}
-use mathlib.Core.Bool.{Bool, true, false, _||_}
-use mathlib.Core.List.{[], _∷_}
-use lib.ListN.{length, take, drop}
-use Rattle·rules.specs.Bytes.{Text}
-use Rattle·text.specs.Prefix.{begins-with}
-use Rattle·fresh·specs.specs.declared.searching.Found.{Found}
-use Rattle·fresh·specs.specs.declared.searching.Found.the-variants.{At, Nowhere}
+use Rattle.std.specs.Prelude.{ℕ, ◌+◌, ◌<◌, ◌≤◌, ◌≡◌, Bool, true, false, ◌||◌, [], ◌∷◌, length, take, drop}
+use Rattle.rules.specs.Bytes.{Text}
+use Rattle.text.specs.Prefix.{begins_with}
+use Rattle.fresh.specs.declared.searching.Found.{Found}
+use Rattle.fresh.specs.declared.searching.Found.TheVariants.{At, Nowhere}
 
 -- the sheet s spells x
 unfoldable pub spells : Text → Text → Bool
-unfolding begins-with
-spells [] x = begins-with x []
-spells (b ∷ s) x = begins-with x (b ∷ s) || spells s x
+unfolding begins_with
+spells [] x = begins_with x []
+spells (b ∷ s) x = begins_with x (b ∷ s) || spells s x
 
 -- it does from `at` on, and nowhere before
 pub record SpelledAt (s x : Text) (at : ℕ) : Type 0 where
   pub inside : at + length x ≤ length s
   pub part : take (length x) (drop at s) ≡ x
   pub spelled : spells s x ≡ true
-  pub first : (p : ℕ) → p < at → begins-with x (drop p s) ≡ false
+  pub first : (p : ℕ) → p < at → begins_with x (drop p s) ≡ false
 
 abbrev pub FindsText : Text → Text → Found → Type 0
 FindsText s x (At at) = SpelledAt s x at

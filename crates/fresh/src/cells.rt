@@ -1,27 +1,24 @@
 // The fresh variables of `complete` as cells: x, a number from the base on and :Msg where the sheet spells that, else a name that no
 // sheet spells.
-use crate::searching::Found;
-use crate::searching::find_text;
+ghost use Rattle.std.specs.Prelude.{◌≡◌, ◌+◌, ◌*◌, ◌<◌, ◌≤◌, ◌^◌, length};
+ghost use Rattle.rules.specs.Tree.{variable};
+ghost use Rattle.rules.specs.Variants.{fresh_name};
+ghost use Rattle.tree.specs.Arena.{Arena, Linked};
+ghost use Rattle.text.specs.Printing.{Printed};
+ghost use Rattle.fresh.specs.Searching.{FindsText};
+ghost use Rattle.fresh.specs.Fresh.{chosen_in, WritesFresh};
+
+use crate::searching::{Found, find_text};
 use sheet::part;
-use text::decimal::print;
-use text::decimal::width_of;
+use text::decimal::{print, width_of};
 use tree::cells::push_unspelled;
 use tree::names::print_text;
 use variables::listing::push_variable;
-ghost use mathlib.Core.Path.{_≡_};
-ghost use Prim.Native.Nat.{_+_, _*_, _<_, _≤_, _^_};
-ghost use lib.ListN.{length};
-ghost use Rattle·rules.specs.Tree.{variable};
-ghost use Rattle·rules.specs.Variants.{fresh-name};
-ghost use Rattle·tree.specs.Arena.{Arena, Linked};
-ghost use Rattle·text.specs.Printing.{Printed};
-ghost use Rattle·fresh·specs.specs.Searching.{FindsText};
-ghost use Rattle·fresh·specs.specs.Fresh.{chosen-in, WritesFresh};
 
 // Writes the name x<n>:Msg from the front of out on, and returns where it ends.
 fn print_fresh(n: usize, out: &mut [u8]) -> usize
-    requires { ⌜ 25 ≤ length (now out) ⌝ }
-    ensures { λ r. ⌜ Printed (now (out .entry)) (now (out .exit)) 0 (fresh-name n) r ⌝ }
+    requires { 25 ≤ length out.old }
+    ensures { Printed out.old out.new 0 (fresh_name n) result }
 {
     let first = print_text(out, 0, b"x");
     let end = print(n, out, first);
@@ -30,14 +27,14 @@ fn print_fresh(n: usize, out: &mut [u8]) -> usize
 
 // The bytes that a name takes.
 fn name_bytes() -> [u8; 32]
-    ensures { λ r. ⌜ 32 ≡ length r ⌝ }
+    ensures { 32 ≡ length result }
 {
     [0u8; 32]
 }
 
 // Where the sheet spells x<n>:Msg.
 fn find_fresh(sheet: &[u8], n: usize) -> Found
-    ensures { λ r. ⌜ FindsText (now (sheet .entry)) (fresh-name n) r ⌝ }
+    ensures { FindsText sheet.now (fresh_name n) result }
 {
     let mut name = name_bytes();
     let end = print_fresh(n, &mut name);
@@ -46,18 +43,18 @@ fn find_fresh(sheet: &[u8], n: usize) -> Found
 
 // The place of a text, by its start and its length.
 fn place_of(start: usize, len: usize) -> u32
-    requires { ⌜ (start < 65536) × (len < 65536) ⌝ }
-    ensures { λ r. ⌜ r ≡ start * 65536 + len ⌝ }
+    requires { (start < 65536) × (len < 65536) }
+    ensures { result ≡ start * 65536 + len }
 {
     (start * 65536 + len) as u32
 }
 
 // Writes the n-th fresh variable as cell `free`, and returns the free end after it.
 fn push_fresh(sheet: &[u8], work: &mut [u32], free: usize, base: usize, n: usize) -> usize
-    requires { ⌜ Arena (now sheet) (now work) free × (length (now sheet) ≤ 65536) ⌝ }
-    requires { ⌜ (n < 24) × (base ≤ 2 ^ 63) ⌝ }
-    requires { ⌜ (4 * free + 4 ≤ length (now work)) × (free < 2 ^ 32) ⌝ }
-    ensures { λ r. ⌜ (r ≡ free + 1) × Linked (now (sheet .entry)) (now (work .entry)) (now (work .exit)) free 0 (variable (chosen-in (now (sheet .entry)) base n)) ⌝ }
+    requires arena { Arena sheet.now work.old free × (length sheet.now ≤ 65536) }
+    requires n_bound { (n < 24) × (base ≤ 2 ^ 63) }
+    requires free_in_bounds { (4 * free + 4 ≤ length work.old) × (free < 2 ^ 32) }
+    ensures { (result ≡ free + 1) × Linked sheet.now work.old work.new free 0 (variable (chosen_in sheet.now base n)) }
 {
     let number = base + n;
     let found = find_fresh(sheet, number);
@@ -70,9 +67,9 @@ fn push_fresh(sheet: &[u8], work: &mut [u32], free: usize, base: usize, n: usize
 
 // Writes the 24 fresh variables as the cells from `free` on, and returns the free end after them.
 pub fn fresh_cells(sheet: &[u8], work: &mut [u32], free: usize, base: usize) -> usize
-    requires { ⌜ Arena (now sheet) (now work) free × (length (now sheet) ≤ 65536) × (base ≤ 2 ^ 63) ⌝ }
-    requires { ⌜ (4 * (free + 24) ≤ length (now work)) × (free + 24 < 2 ^ 32) ⌝ }
-    ensures { λ r. ⌜ WritesFresh (now (sheet .entry)) (now (work .entry)) (now (work .exit)) free base r ⌝ }
+    requires arena { Arena sheet.now work.old free × (length sheet.now ≤ 65536) × (base ≤ 2 ^ 63) }
+    requires free_in_bounds { (4 * (free + 24) ≤ length work.old) × (free + 24 < 2 ^ 32) }
+    ensures { WritesFresh sheet.now work.old work.new free base result }
 {
     let mut n: usize = 0;
     let mut end = free;

@@ -1,21 +1,18 @@
 // The indices of variables, x and a number below 2^63, and the base of fresh variables: one above all of them.
+ghost use Rattle.std.specs.Prelude.{◌≡◌, map, ◌≤◌, max, length};
+ghost use Rattle.std.proofs.Math.Seq.{slice};
+ghost use Rattle.rules.specs.Variants.{index_of};
+ghost use Rattle.text.specs.Numbers.{number_of};
+ghost use Rattle.text.specs.Places.{text_at};
+ghost use Rattle.fresh.specs.Indices.{names_base, base_found};
+
 use sheet::part;
-use syntax::Class;
-use syntax::run_end;
-use text::decimal::Number;
-use text::decimal::number_up_to;
+use syntax::{Class, run_end};
+use text::decimal::{Number, number_up_to};
 use text::places::text_at;
-ghost use mathlib.Core.Path.{_≡_};
-ghost use mathlib.Core.List.{map};
-ghost use Prim.Native.Nat.{_≤_, max};
-ghost use lib.ListN.{length};
-ghost use lib.Seq.{slice};
-ghost use Rattle·rules.specs.Variants.{index-of};
-ghost use Rattle·text.specs.Numbers.{number-of};
-ghost use Rattle·text.specs.Places.{text-at};
-ghost use Rattle·fresh·specs.specs.Indices.{names-base, base-found};
 
 // One above every index, or nothing where a variable has none.
+#[derive(Clone, Copy)]
 pub(crate) enum Base {
     From(usize),
     Nothing,
@@ -23,7 +20,7 @@ pub(crate) enum Base {
 
 // The index of a variable, by its name.
 fn index_of(name: &[u8]) -> Number
-    ensures { λ r. ⌜ r ≡ number-of (index-of (now (name .entry))) ⌝ }
+    ensures { result ≡ number_of (index_of name.now) }
 {
     if name.len() == 0 {
         return Number::Not;
@@ -37,7 +34,7 @@ fn index_of(name: &[u8]) -> Number
 
 // The larger of two numbers.
 fn larger(a: usize, b: usize) -> usize
-    ensures { λ r. ⌜ r ≡ max a b ⌝ }
+    ensures { result ≡ max a b }
 {
     if a < b {
         return b;
@@ -47,8 +44,8 @@ fn larger(a: usize, b: usize) -> usize
 
 // One above every index of the variables whose places stand in the words from `at` to `end`.
 pub(crate) fn base_of(sheet: &[u8], work: &[u32], at: usize, end: usize) -> Base
-    requires { ⌜ (at ≤ end) × (end ≤ length (now work)) ⌝ }
-    ensures { λ r. ⌜ r ≡ base-found (names-base (map (text-at (now (sheet .entry))) (slice at end (now (work .entry))))) ⌝ }
+    requires { (at ≤ end) × (end ≤ length work.now) }
+    ensures { result ≡ base_found (names_base (map (text_at sheet.now) (slice at end work.now))) }
 {
     let mut base: usize = 0;
     let mut i = at;

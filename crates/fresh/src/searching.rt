@@ -1,11 +1,12 @@
 // The search for a text in the sheet.
+ghost use Rattle.std.specs.Prelude.{◌<◌, length};
+ghost use Rattle.fresh.specs.Searching.{FindsText};
+
 use sheet::part;
 use text::begins;
-ghost use Prim.Native.Nat.{_<_};
-ghost use lib.ListN.{length};
-ghost use Rattle·fresh·specs.specs.Searching.{FindsText};
 
 // Where a text is spelled in the sheet.
+#[derive(Clone, Copy)]
 pub(crate) enum Found {
     At(usize),
     Nowhere,
@@ -13,8 +14,8 @@ pub(crate) enum Found {
 
 // The first place in the sheet where a text is spelled.
 pub(crate) fn find_text(sheet: &[u8], text: &[u8]) -> Found
-    requires { ⌜ 0 < length (now text) ⌝ }
-    ensures { λ r. ⌜ FindsText (now (sheet .entry)) (now (text .entry)) r ⌝ }
+    requires { 0 < length text.now }
+    ensures { FindsText sheet.now text.now result }
 {
     let mut at: usize = 0;
     while at < sheet.len() {

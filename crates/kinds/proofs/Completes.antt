@@ -1,77 +1,77 @@
 -- The answer to a sheet of kind `complete`: what its term and members are, and what is claimed of them.
-use mathlib.Core.Path.{_≡_, sym, ap, subst, _∙_}
+use mathlib.Core.Path.{◌≡◌, sym, ap, subst, ◌∙◌}
 use mathlib.Core.Bool.{Bool}
 use mathlib.Core.List.{List}
 use mathlib.Core.Option.{Option, some, none}
-use Prim.Native.Nat.{ℕ, _+_, _*_, _≤_}
+use Prim.Native.Nat.{ℕ, ◌+◌, ◌*◌, ◌≤◌}
 use native.Mathlib.Omega.{arith}
 use lib.ListN.{length}
-use Rattle·rules.specs.Bytes.{Text}
-use Rattle·rules.specs.Text.{bytes, count-of}
-use Rattle·rules.specs.Maybe.{_>>=_}
-use Rattle·rules.specs.Tree.{Tree}
-use Rattle·rules.specs.Reading.{parse}
-use Rattle·rules.specs.Sheet.{Member, asks-complete, read-sheet}
-use Rattle·rules.specs.Variants.{complete}
-use Rattle·rules.specs.Answer.{line, claim, answer-of}
-use Rattle·forms.specs.Members.{members-at}
-use Rattle·forms.specs.Form.{text-of, sheet-of, Within}
-use Rattle·sheet.specs.declared.Cursor.{Cursor}
-use Rattle·sheet.specs.declared.Place.{Place}
-use Rattle·forms.specs.declared.form.Form.{Form}
-use Rattle·forms.specs.declared.form.Form.the-variants as form
-use Rattle·forms.proofs.WalkLaws.{complete-members}
-use Rattle·tree.specs.Cells.{tree-at}
-use Rattle·reading.specs.Parsing.{Read}
-use Rattle·sheet.specs.Claims as code
-use Rattle·sheet.specs.declared.claims.Claim.{Claim}
-use Rattle·complete.specs.Completing.{CompleteInput}
-use Rattle·admission.specs.Admission.{Decoded}
-use Rattle·kinds·specs.specs.Outcomes.{DecidesForm}
-use Rattle·kinds·specs.specs.Outcomes.{CompleteAsked}
-use Rattle·answers.specs.Deciding.{claim-decision}
-use Rattle·answers.specs.declared.deciding.Key.the-variants as key
-use Rattle·answers.specs.declared.deciding.Decision.{Decision}
-use Rattle·answers.specs.declared.deciding.Decision.the-variants.{Refused}
-use Rattle·admission.specs.declared.refusal.Refusal.the-variants.{UnreadableTerm}
-use Rattle·answers.proofs.Decides.{unreadable-decides, claim-decides}
-use Rattle·kinds·proofs.proofs.KindLaws.{read-decided}
+use Rattle.rules.specs.Bytes.{Text}
+use Rattle.rules.specs.Text.{bytes, count_of}
+use Rattle.rules.specs.Maybe.{◌>>=◌}
+use Rattle.rules.specs.Tree.{Tree}
+use Rattle.rules.specs.Reading.{parse}
+use Rattle.rules.specs.Sheet.{Member, asks_complete, read_sheet}
+use Rattle.rules.specs.Variants.{complete}
+use Rattle.rules.specs.Answer.{line, claim, answer_of}
+use Rattle.forms.specs.Members.{members_at}
+use Rattle.forms.specs.Form.{text_of, sheet_of, Within}
+use Rattle.sheet.specs.declared.Cursor.{Cursor}
+use Rattle.sheet.specs.declared.Place.{Place}
+use Rattle.forms.specs.declared.form.Form.{Form}
+use Rattle.forms.specs.declared.form.Form.TheVariants as form
+use Rattle.forms.proofs.WalkLaws.{complete_members}
+use Rattle.tree.specs.Cells.{tree_at}
+use Rattle.reading.specs.Parsing.{Read}
+use Rattle.sheet.specs.Claims as code
+use Rattle.sheet.specs.declared.claims.Claim.{Claim}
+use Rattle.complete.specs.Completing.{CompleteInput}
+use Rattle.admission.specs.Admission.{Decoded}
+use Rattle.kinds.specs.Outcomes.{DecidesForm}
+use Rattle.kinds.specs.Outcomes.{CompleteAsked}
+use Rattle.answers.specs.Deciding.{claim_decision}
+use Rattle.answers.specs.declared.deciding.Key.TheVariants as key
+use Rattle.answers.specs.declared.deciding.Decision.{Decision}
+use Rattle.answers.specs.declared.deciding.Decision.TheVariants.{Refused}
+use Rattle.admission.specs.declared.refusal.Refusal.TheVariants.{UnreadableTerm}
+use Rattle.answers.proofs.Decides.{unreadable_decides, claim_decides}
+use Rattle.kinds.proofs.KindLaws.{read_decided}
 
-pub complete-asked : (s : Text) (t : Place) (c : Cursor) (f : Form) → f ≡ form.Complete t c → Decoded s f → CompleteAsked s t (c .at)
-complete-asked s t c f e h =
-    let (ms, g, there) = complete-members s t c (h .sheet) (ap (sheet-of s) (sym e) ∙ h .decodes) in
-    let w = subst (Within s) e (h .within) in
-    record { members = ms; reads = h .reads ∙ ap some g; later = there; short = h .short; placed = w .0; follows = w .1; inside = w .2 }
+pub complete_asked : (s : Text) (t : Place) (c : Cursor) (f : Form) → f ≡ form.Complete t c → Decoded s f → CompleteAsked s t c.at
+complete_asked s t c f e h =
+    let (ms, g, there) = complete_members s t c h.sheet (ap (sheet_of s) (sym e) ∙ h.decodes) in
+    let w = subst (Within s) e h.within in
+    record { members = ms; reads = h.reads ∙ ap some g; later = there; short = h.short; placed = w.0; follows = w.1; inside = w.2 }
 
 module _ (s : Text) (t : Place) (at : ℕ) (a : CompleteAsked s t at) where
   -- the answer, by what the term reads as
-  complete-answer : (o : Option Tree) → parse (text-of s t) ≡ o
-      → answer-of (asks-complete (text-of s t) (a .members)) ≡ (o >>= λ u. some (line (bytes "complete=") (claim (complete u (a .members)))))
-  unfolding answer-of
-  complete-answer o e = ap (λ (o : Option Tree). o >>= λ u. some (line (bytes "complete=") (claim (complete u (a .members))))) e
+  complete_answer : (o : Option Tree) → parse (text_of s t) ≡ o
+      → answer_of (asks_complete (text_of s t) a.members) ≡ (o >>= λ u. some (line (bytes "complete=") (claim (complete u a.members))))
+  unfolding answer_of
+  complete_answer o e = ap (λ (o : Option Tree). o >>= λ u. some (line (bytes "complete=") (claim (complete u a.members)))) e
 
-  pub complete-unread : {w : List ℕ} → parse (text-of s t) ≡ none → DecidesForm (read-sheet s) s w (Refused UnreadableTerm)
-  complete-unread e = read-decided s (asks-complete (text-of s t) (a .members)) none (a .reads) (complete-answer none e) unreadable-decides
+  pub complete_unread : {w : List ℕ} → parse (text_of s t) ≡ none → DecidesForm (read_sheet s) s w (Refused UnreadableTerm)
+  complete_unread e = read_decided s (asks_complete (text_of s t) a.members) none a.reads (complete_answer none e) unreadable_decides
 
-  module _ {w v : List ℕ} {i m : ℕ} (r : Read s w v 1 (t .from) (t .to) i m) where
-    pub complete-asks : {colons brackets named : ℕ} → colons ≡ count-of 58 (text-of s t) → brackets ≡ count-of 40 (text-of s t) → named ≡ colons + 2 * brackets
-        → 65536 * (count-of 58 s + 2 * count-of 40 (text-of s t) + 16) + 16 * length s ≤ length w → CompleteInput s v m i named at
-    complete-asks x y z enough = record {
-      text = text-of s t;
-      members = a .members;
-      reads = a .reads;
-      short = a .short;
-      parsed = r .reads;
-      later = a .later;
-      inside = a .inside;
-      used = omega (arith, r .room, a .follows);
-      named-is = omega arith;
-      words = omega (arith, r .outside .len);
+  module _ {w v : List ℕ} {i m : ℕ} (r : Read s w v 1 t.from t.to i m) where
+    pub complete_asks : {colons brackets named : ℕ} → colons ≡ count_of 58 (text_of s t) → brackets ≡ count_of 40 (text_of s t) → named ≡ colons + 2 * brackets
+        → 65536 * (count_of 58 s + 2 * count_of 40 (text_of s t) + 16) + 16 * length s ≤ length w → CompleteInput s v m i named at
+    complete_asks x y z enough = record {
+      text = text_of s t;
+      members = a.members;
+      reads = a.reads;
+      short = a.short;
+      parsed = r.reads;
+      later = a.later;
+      inside = a.inside;
+      used = omega (arith, r.room, a.follows);
+      named_is = omega arith;
+      words = omega (arith, r.outside.len);
     }
 
-    pub complete-decided : {u : List ℕ} (c : Claim) {d : Decision} → ((ms : List Member) → members-at s at ≡ some ms → code.truth c ≡ complete (tree-at s v i) ms)
-        → d ≡ claim-decision key.Complete c → DecidesForm (read-sheet s) s u d
-    complete-decided c h k =
-        read-decided s (asks-complete (text-of s t) (a .members)) (some (line (bytes "complete=") (claim (code.truth c)))) (a .reads)
-        (complete-answer (some (tree-at s v i)) (r .reads) ∙ ap (λ (o : Option Bool). some (line (bytes "complete=") (claim o))) (sym (h (a .members) (a .later))))
-        (claim-decides key.Complete c k)
+    pub complete_decided : {u : List ℕ} (c : Claim) {d : Decision} → ((ms : List Member) → members_at s at ≡ some ms → code.truth c ≡ complete (tree_at s v i) ms)
+        → d ≡ claim_decision key.Complete c → DecidesForm (read_sheet s) s u d
+    complete_decided c h k =
+        read_decided s (asks_complete (text_of s t) a.members) (some (line (bytes "complete=") (claim (code.truth c)))) a.reads
+        (complete_answer (some (tree_at s v i)) r.reads ∙ ap (λ (o : Option Bool). some (line (bytes "complete=") (claim o))) (sym (h a.members a.later)))
+        (claim_decides key.Complete c k)

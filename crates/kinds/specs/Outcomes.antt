@@ -1,45 +1,41 @@
 -- What a sheet of kind `unify`, `match`, `cover` or `complete` asks, the answer as the code makes it, and what is decided. Definitions only.
-use Prim.Native.Nat.{ℕ, _≤_}
-use mathlib.Core.Path.{_≡_}
-use mathlib.Core.Bool.{Bool, true, false}
-use mathlib.Core.List.{List, []}
-use mathlib.Core.Option.{Option, some}
-use lib.ListN.{length}
-use Rattle·rules.specs.Bytes.{Text}
-use Rattle·rules.specs.Maybe.{_>>=_}
-use Rattle·rules.specs.Answer.{answer-of}
-use Rattle·rules.specs.Call.{given}
-use Rattle·rules.specs.RefusalNumbers.{number-for, UnreadableTerm}
-use Rattle·rules.specs.Substitution.{Pair}
-use Rattle·rules.specs.Solving.{solved, failed, unsupported, Answer, unify}
-use Rattle·rules.specs.Matching.{matcher}
-use Rattle·rules.specs.Sheet.{Sheet, Entry, Member, asks-unify, asks-match, asks-cover, asks-complete, pairs, members-from, none-waiting, read-sheet}
-use Rattle·substitution.specs.Bindings.{bindings-at}
-use Rattle·sheet.specs.Lines.{lines-at}
-use Rattle·forms.specs.Members.{members-at}
-use Rattle·forms.specs.Form.{text-of, Inside}
-use Rattle·sheet.specs.declared.Place.{Place}
-use Rattle·answers.specs.Deciding.{DecisionIs}
-use Rattle·answers.specs.declared.deciding.Lines.the-variants as verdict
-use Rattle·answers.specs.declared.deciding.Decision.{Decision}
-use Rattle·answers.specs.declared.deciding.Decision.the-variants.{Given}
-use Rattle·unifier.specs.declared.unifying.Outcome.{Outcome}
-use Rattle·unifier.specs.declared.unifying.Outcome.the-variants as outcome
+use Rattle.std.specs.Prelude.{ℕ, ◌≤◌, ◌≡◌, Bool, true, false, List, [], length}
+use Rattle.std.proofs.Math.Option.{Option, some}
+use Rattle.rules.specs.Bytes.{Text}
+use Rattle.rules.specs.Maybe.{◌>>=◌}
+use Rattle.rules.specs.Answer.{answer_of}
+use Rattle.rules.specs.Call.{given}
+use Rattle.rules.specs.RefusalNumbers.{number_for, UnreadableTerm}
+use Rattle.rules.specs.Substitution.{Pair}
+use Rattle.rules.specs.Solving.{solved, failed, unsupported, Answer, unify}
+use Rattle.rules.specs.Matching.{matcher}
+use Rattle.rules.specs.Sheet.{Sheet, Entry, Member, asks_unify, asks_match, asks_cover, asks_complete, pairs, members_from, none_waiting, read_sheet}
+use Rattle.substitution.specs.Bindings.{bindings_at}
+use Rattle.sheet.specs.Lines.{lines_at}
+use Rattle.forms.specs.Members.{members_at}
+use Rattle.forms.specs.Form.{text_of, Inside}
+use Rattle.sheet.specs.declared.Place.{Place}
+use Rattle.answers.specs.Deciding.{DecisionIs}
+use Rattle.answers.specs.declared.deciding.Lines.TheVariants as verdict
+use Rattle.answers.specs.declared.deciding.Decision.{Decision}
+use Rattle.answers.specs.declared.deciding.Decision.TheVariants.{Given}
+use Rattle.unifier.specs.declared.unifying.Outcome.{Outcome}
+use Rattle.unifier.specs.declared.unifying.Outcome.TheVariants as outcome
 
 -- `match` or `unify`
 abbrev pub asks : Bool → ℕ → List Entry → Sheet
-asks true = asks-match
-asks false = asks-unify
+asks true = asks_match
+asks false = asks_unify
 
-abbrev pub solve-by : Bool → ℕ → List Pair → Answer
-solve-by true = matcher
-solve-by false = unify
+abbrev pub solve_by : Bool → ℕ → List Pair → Answer
+solve_by true = matcher
+solve_by false = unify
 
 -- the sheet asks for its pairs to be solved, which stand from a position on
 pub record Asked (s : Text) (matching : Bool) (fuel at : ℕ) : Type 0 where
   pub entries : List Entry
-  pub lines : (lines-at s at >>= pairs) ≡ some (entries, [])
-  pub reads : read-sheet s ≡ some (asks matching fuel entries)
+  pub lines : (lines_at s at >>= pairs) ≡ some (entries, [])
+  pub reads : read_sheet s ≡ some (asks matching fuel entries)
   pub short : length s ≤ 65536
   pub fuelled : fuel ≤ 65536
   pub inside : at ≤ length s
@@ -49,37 +45,37 @@ pub record CoverAsked (s : Text) (at : ℕ) : Type 0 where
   pub entries : List Entry
   pub rest : List Text
   pub members : List Member
-  pub lines : (lines-at s at >>= pairs) ≡ some (entries, rest)
-  pub later : none-waiting (members-from rest) ≡ some members
-  pub reads : read-sheet s ≡ some (asks-cover entries members)
+  pub lines : (lines_at s at >>= pairs) ≡ some (entries, rest)
+  pub later : none_waiting (members_from rest) ≡ some members
+  pub reads : read_sheet s ≡ some (asks_cover entries members)
   pub short : length s ≤ 65536
   pub inside : at ≤ length s
 
 -- the sheet asks whether its members, which stand from a position on, are complete for its term
 pub record CompleteAsked (s : Text) (t : Place) (at : ℕ) : Type 0 where
   pub members : List Member
-  pub reads : read-sheet s ≡ some (asks-complete (text-of s t) members)
-  pub later : members-at s at ≡ some members
+  pub reads : read_sheet s ≡ some (asks_complete (text_of s t) members)
+  pub later : members_at s at ≡ some members
   pub short : length s ≤ 65536
   pub placed : Inside s t
-  pub follows : t .to ≤ at
+  pub follows : t.to ≤ at
   pub inside : at ≤ length s
 
 -- the answer that an outcome stands for
 abbrev pub told : Text → List ℕ → Outcome → Answer
-told s w (outcome.Solved b m spent) = (solved (bindings-at s w b), spent)
+told s w (outcome.Solved b m spent) = (solved (bindings_at s w b), spent)
 told s w (outcome.Failed spent) = (failed, spent)
 told s w (outcome.Unsupported spent) = (unsupported, spent)
 
 -- an outcome as a decision
-abbrev pub verdict-of : Outcome → Decision
-verdict-of (outcome.Solved b m spent) = Given (verdict.Solved b m spent)
-verdict-of (outcome.Failed spent) = Given (verdict.Failed spent)
-verdict-of (outcome.Unsupported spent) = Given (verdict.Unsupported spent)
+abbrev pub verdict_of : Outcome → Decision
+verdict_of (outcome.Solved b m spent) = Given (verdict.Solved b m spent)
+verdict_of (outcome.Failed spent) = Given (verdict.Failed spent)
+verdict_of (outcome.Unsupported spent) = Given (verdict.Unsupported spent)
 
 -- what is decided of a sheet: its answer, or 4 where there is none
 abbrev pub DecidesSheet : Sheet → Text → List ℕ → Decision → Type 0
-DecidesSheet sheet s w d = DecisionIs (given (answer-of sheet) (number-for UnreadableTerm)) s w d
+DecidesSheet sheet s w d = DecisionIs (given (answer_of sheet) (number_for UnreadableTerm)) s w d
 
 -- the same of a sheet that was read
 abbrev pub DecidesForm : Option Sheet → Text → List ℕ → Decision → Type 0

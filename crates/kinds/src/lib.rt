@@ -1,51 +1,41 @@
 // One function for each kind of sheet: it decides, and writes nothing. The work area that they are lent is the words that the sheet
 // needs; a decision tells where in it its term or its bindings stand.
+#![tactic(auto)]
+
+ghost use Rattle.std.specs.Prelude.{◌≡◌, [], ◌∷◌, ◌+◌, ◌*◌, ◌<◌, ◌≤◌, length};
+ghost use Rattle.std.proofs.Math.Option.{some};
+ghost use Rattle.rules.specs.Text.{count_of};
+ghost use Rattle.rules.specs.Sheet.{Member, asks_equal, asks_reduce, asks_sound, read_sheet};
+ghost use Rattle.forms.specs.Members.{members_at};
+ghost use Rattle.tree.specs.Cells.{trees_at};
+ghost use Rattle.tree.specs.Arena.{Arena};
+ghost use Rattle.forms.specs.Form.{text_of, Inside, sheet_of, EnoughWords};
+ghost use Rattle.admission.specs.Admission.{Decoded};
+ghost use Rattle.elimination.specs.Stack.{Whole, pairs_at, FitPairs};
+ghost use Rattle.unifier.specs.Running.{Roomy, Answers as Solves};
+ghost use Rattle.variants.specs.Soundness.{OneMember};
+ghost use Rattle.kinds.specs.Outcomes.{solve_by, Asked, CoverAsked, CompleteAsked, verdict_of, DecidesSheet, DecidesForm};
+
 use admission::refusal::Refusal;
-use answers::deciding::Decision;
-use answers::deciding::Key;
-use answers::deciding::Lines;
-use answers::deciding::Word;
-use answers::deciding::claimed;
-use certificate::Equivalence;
-use certificate::equivalent_texts;
+use answers::deciding::{Decision, Key, Lines, Word, claimed};
+use certificate::{Equivalence, equivalent_texts};
 use complete::completing::complete;
 use cover::covered::covered;
 use forms::form::Form;
 use matching::matcher;
-use pairs::Pairs;
-use pairs::read_pairs;
-use reading::Parsed;
-use reading::parse;
+use pairs::{Pairs, read_pairs};
+use reading::{Parsed, parse};
 use reduction::normalizing::normalize;
-use sheet::Cursor;
-use sheet::Place;
-use sheet::part;
+use sheet::{Cursor, Place, part};
 use text::count_of;
-use unifier::unifying::Outcome;
-use unifier::unifying::unify;
+use unifier::unifying::{Outcome, unify};
 use variants::soundness::sound;
-ghost use mathlib.Core.Path.{_≡_};
-ghost use mathlib.Core.List.{[], _∷_};
-ghost use mathlib.Core.Option.{some};
-ghost use Prim.Native.Nat.{_+_, _*_, _<_, _≤_};
-ghost use lib.ListN.{length};
-ghost use Rattle·rules.specs.Text.{count-of};
-ghost use Rattle·rules.specs.Sheet.{Member, asks-equal, asks-reduce, asks-sound, read-sheet};
-ghost use Rattle·forms.specs.Members.{members-at};
-ghost use Rattle·tree.specs.Cells.{trees-at};
-ghost use Rattle·tree.specs.Arena.{Arena};
-ghost use Rattle·forms.specs.Form.{text-of, Inside, sheet-of, EnoughWords};
-ghost use Rattle·admission.specs.Admission.{Decoded};
-ghost use Rattle·elimination.specs.Stack.{Whole, pairs-at, FitPairs};
-ghost use Rattle·unifier.specs.Running.{Roomy, Answers as Solves};
-ghost use Rattle·variants.specs.Soundness.{OneMember};
-ghost use Rattle·kinds·specs.specs.Outcomes.{solve-by, Asked, CoverAsked, CompleteAsked, verdict-of, DecidesSheet, DecidesForm};
 
 // Kind `equal`.
 fn equal(sheet: &[u8], work: &mut [u32], left: Place, right: Place) -> Decision
-    requires { ⌜ (length (now sheet) ≤ 65536) × (4 * length (now sheet) < length (now work)) ⌝ }
-    requires { ⌜ Inside (now sheet) left × Inside (now sheet) right ⌝ }
-    ensures { λ r. ⌜ DecidesSheet (asks-equal (text-of (now (sheet .entry)) left) (text-of (now (sheet .entry)) right)) (now (sheet .entry)) (now (work .exit)) r ⌝ }
+    requires sheet_len_bound { (length sheet.now ≤ 65536) × (4 * length sheet.now < length work.old) }
+    requires inside { Inside sheet.now left × Inside sheet.now right }
+    ensures { DecidesSheet (asks_equal (text_of sheet.now left) (text_of sheet.now right)) sheet.now work.new result }
 {
     let a = left.from;
     let b = left.to;
@@ -67,9 +57,9 @@ fn equal(sheet: &[u8], work: &mut [u32], left: Place, right: Place) -> Decision
 
 // Kind `reduce`. Cells start at 1.
 fn reduce(sheet: &[u8], work: &mut [u32], term: Place) -> Decision
-    requires { ⌜ (length (now sheet) ≤ 65536) × (1048576 + 16 * length (now sheet) ≤ length (now work)) ⌝ }
-    requires { ⌜ Inside (now sheet) term ⌝ }
-    ensures { λ r. ⌜ DecidesSheet (asks-reduce (text-of (now (sheet .entry)) term)) (now (sheet .entry)) (now (work .exit)) r ⌝ }
+    requires sheet_len_bound { (length sheet.now ≤ 65536) × (1048576 + 16 * length sheet.now ≤ length work.old) }
+    requires inside { Inside sheet.now term }
+    ensures { DecidesSheet (asks_reduce (text_of sheet.now term)) sheet.now work.new result }
 {
     let from = term.from;
     let to = term.to;
@@ -96,10 +86,10 @@ fn solve(
     fuel: usize,
     matching: bool,
 ) -> Outcome
-    requires { ⌜ Arena (now sheet) (now work) free ⌝ }
-    requires { ⌜ (stack < free) × (fuel ≤ 65536) × Whole (trees-at (now sheet) (now work) stack) × FitPairs (pairs-at (now sheet) (now work) stack) ⌝ }
-    requires { ⌜ Roomy (now work) free fuel (pairs-at (now sheet) (now work) stack) ⌝ }
-    ensures { λ r. ⌜ Solves (now (sheet .entry)) (now (work .entry)) (now (work .exit)) free (solve-by matching fuel (pairs-at (now (sheet .entry)) (now (work .entry)) stack)) r ⌝ }
+    requires arena { Arena sheet.now work.old free }
+    requires stack_lt_free { (stack < free) × (fuel ≤ 65536) × Whole (trees_at sheet.now work.old stack) × FitPairs (pairs_at sheet.now work.old stack) }
+    requires roomy { Roomy work.old free fuel (pairs_at sheet.now work.old stack) }
+    ensures { Solves sheet.now work.old work.new free (solve_by matching fuel (pairs_at sheet.now work.old stack)) result }
 {
     if matching {
         return matcher(sheet, work, free, stack, fuel);
@@ -109,7 +99,7 @@ fn solve(
 
 // An answer of `unify` or `match` as a decision.
 fn verdict(outcome: Outcome) -> Decision
-    ensures { λ r. ⌜ r ≡ verdict-of outcome ⌝ }
+    ensures { result ≡ verdict_of outcome }
 {
     match outcome {
         Outcome::Solved {
@@ -128,9 +118,9 @@ fn verdict(outcome: Outcome) -> Decision
 
 // Kinds `unify` and `match`.
 fn solving(sheet: &[u8], work: &mut [u32], fuel: usize, pairs: Cursor, matching: bool) -> Decision
-    requires { ⌜ Asked (now sheet) matching fuel (pairs .at) ⌝ }
-    requires { ⌜ 65536 * (count-of 58 (now sheet) + 16) + 16 * length (now sheet) ≤ length (now work) ⌝ }
-    ensures { λ r. ⌜ DecidesForm (read-sheet (now (sheet .entry))) (now (sheet .entry)) (now (work .exit)) r ⌝ }
+    requires asked { Asked sheet.now matching fuel pairs.at }
+    requires sheet_in_bounds { 65536 * (count_of 58 sheet.now + 16) + 16 * length sheet.now ≤ length work.old }
+    ensures { DecidesForm (read_sheet sheet.now) sheet.now work.new result }
 {
     let read = read_pairs(sheet, work, pairs);
     let Pairs::Stack {
@@ -147,10 +137,10 @@ fn solving(sheet: &[u8], work: &mut [u32], fuel: usize, pairs: Cursor, matching:
 
 // Kind `sound`. Cells start at 1.
 fn sound_of(sheet: &[u8], work: &mut [u32], term: Place, member: Cursor) -> Decision
-    requires { ⌜ (length (now sheet) ≤ 65536) × (1048576 + 16 * length (now sheet) ≤ length (now work)) ⌝ }
-    requires { ⌜ Inside (now sheet) term ⌝ }
-    requires { ⌜ OneMember (now sheet) (member .at) ⌝ }
-    ensures { λ r. ⌜ ((m : Member) → members-at (now (sheet .entry)) (member .at) ≡ some (m ∷ []) → DecidesSheet (asks-sound (text-of (now (sheet .entry)) term) m) (now (sheet .entry)) (now (work .exit)) r) ⌝ }
+    requires sheet_len_bound { (length sheet.now ≤ 65536) × (1048576 + 16 * length sheet.now ≤ length work.old) }
+    requires inside { Inside sheet.now term }
+    requires one_member { OneMember sheet.now member.at }
+    ensures { (m : Member) → members_at sheet.now member.at ≡ some (m ∷ []) → DecidesSheet (asks_sound (text_of sheet.now term) m) sheet.now work.new result }
 {
     let from = term.from;
     let to = term.to;
@@ -164,9 +154,9 @@ fn sound_of(sheet: &[u8], work: &mut [u32], term: Place, member: Cursor) -> Deci
 
 // Kind `cover`. The members stand where the pairs end.
 fn cover_of(sheet: &[u8], work: &mut [u32], pairs: Cursor) -> Decision
-    requires { ⌜ CoverAsked (now sheet) (pairs .at) ⌝ }
-    requires { ⌜ 65536 * (count-of 58 (now sheet) + 16) + 16 * length (now sheet) ≤ length (now work) ⌝ }
-    ensures { λ r. ⌜ DecidesForm (read-sheet (now (sheet .entry))) (now (sheet .entry)) (now (work .exit)) r ⌝ }
+    requires cover_asked { CoverAsked sheet.now pairs.at }
+    requires sheet_in_bounds { 65536 * (count_of 58 sheet.now + 16) + 16 * length sheet.now ≤ length work.old }
+    ensures { DecidesForm (read_sheet sheet.now) sheet.now work.new result }
 {
     let read = read_pairs(sheet, work, pairs);
     let Pairs::Stack { index, free, next } = read else {
@@ -178,9 +168,9 @@ fn cover_of(sheet: &[u8], work: &mut [u32], pairs: Cursor) -> Decision
 
 // Kind `complete`. Cells start at 1. A scheme has at most the names of the term, and two for each of its brackets.
 fn complete_of(sheet: &[u8], work: &mut [u32], term: Place, members: Cursor) -> Decision
-    requires { ⌜ CompleteAsked (now sheet) term (members .at) ⌝ }
-    requires { ⌜ 65536 * (count-of 58 (now sheet) + 2 * count-of 40 (text-of (now sheet) term) + 16) + 16 * length (now sheet) ≤ length (now work) ⌝ }
-    ensures { λ r. ⌜ DecidesForm (read-sheet (now (sheet .entry))) (now (sheet .entry)) (now (work .exit)) r ⌝ }
+    requires complete_asked { CompleteAsked sheet.now term members.at }
+    requires sheet_in_bounds { 65536 * (count_of 58 sheet.now + 2 * count_of 40 (text_of sheet.now term) + 16) + 16 * length sheet.now ≤ length work.old }
+    ensures { DecidesForm (read_sheet sheet.now) sheet.now work.new result }
 {
     let from = term.from;
     let to = term.to;
@@ -196,9 +186,9 @@ fn complete_of(sheet: &[u8], work: &mut [u32], term: Place, members: Cursor) -> 
 
 // A sheet that is admitted, by its kind. What was decided may stand in the work area; its other words are free afterwards.
 pub fn decide(sheet: &[u8], work: &mut [u32], form: Form) -> Decision
-    requires { ⌜ Decoded (now sheet) form ⌝ }
-    requires { ⌜ EnoughWords (now sheet) form (length (now work)) ⌝ }
-    ensures { λ r. ⌜ DecidesForm (sheet-of (now (sheet .entry)) form) (now (sheet .entry)) (now (work .exit)) r ⌝ }
+    requires decoded { Decoded sheet.now form }
+    requires enough_words { EnoughWords sheet.now form (length work.old) }
+    ensures { DecidesForm (sheet_of sheet.now form) sheet.now work.new result }
 {
     match form {
         Form::Equal { left, right } => equal(sheet, work, left, right),

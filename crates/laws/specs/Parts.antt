@@ -1,8 +1,6 @@
 -- Parts of a text. Definitions only.
-use Prim.Native.Nat.{ℕ}
-use mathlib.Core.Path.{_≡_}
-use lib.ListN.{take, drop}
-use Rattle·rules.specs.Bytes.{Text}
+use Rattle.std.specs.Prelude.{ℕ, ◌≡◌, take, drop}
+use Rattle.rules.specs.Bytes.{Text}
 
 -- the second text stands in the first: so many bytes from a place on
 abbrev pub PartOf : Text → Text → Type 0

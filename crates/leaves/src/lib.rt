@@ -1,22 +1,21 @@
 // Names of leaves and of atoms.
+#![tactic(auto)]
+
+ghost use Rattle.std.specs.Prelude.{◌≡◌, ◌<◌};
+ghost use Rattle.rules.specs.Names.{digit, letter, letter_name, all};
+ghost use Rattle.rules.specs.Sorts.{sort_named};
+ghost use Rattle.tree.specs.Cells.{kind_of_sort};
+ghost use Rattle.leaves.specs.Leaves.{leaf_kind};
+
 use text::same;
-use tree::cells::APPLICATION;
-use tree::cells::VARIABLE_FRESH;
-use tree::cells::VARIABLE_MSG;
-use tree::cells::VARIABLE_NODE;
-use tree::cells::VARIABLE_OTHER;
-use tree::cells::VARIABLE_PUB;
-use tree::cells::VARIABLE_TAM_NAT;
-ghost use mathlib.Core.Path.{_≡_};
-ghost use Prim.Native.Nat.{_<_};
-ghost use Rattle·rules.specs.Names.{digit, letter, letter-name, all};
-ghost use Rattle·rules.specs.Sorts.{sort-named};
-ghost use Rattle·tree.specs.Cells.{kind-of-sort};
-ghost use Rattle·leaves·specs.specs.Leaves.{leaf-kind};
+use tree::cells::{
+    APPLICATION, VARIABLE_FRESH, VARIABLE_MSG, VARIABLE_NODE, VARIABLE_OTHER, VARIABLE_PUB,
+    VARIABLE_TAM_NAT,
+};
 
 // The kind of a variable, by the name of its sort.
 fn sort_kind(sort: &[u8]) -> usize
-    ensures { λ r. ⌜ (r ≡ kind-of-sort (sort-named (now (sort .entry)))) × (r < 7) ⌝ }
+    ensures { (result ≡ kind_of_sort (sort_named sort.now)) × (result < 7) }
 {
     if same(sort, b"Pub") {
         return VARIABLE_PUB;
@@ -38,7 +37,7 @@ fn sort_kind(sort: &[u8]) -> usize
 
 // The kind of a leaf: 0 for a name without a colon, else that of a variable.
 pub fn leaf_kind(name: &[u8]) -> usize
-    ensures { λ r. ⌜ (r ≡ leaf-kind (now (name .entry))) × (r < 7) ⌝ }
+    ensures { (result ≡ leaf_kind name.now) × (result < 7) }
 {
     let mut i = 0;
     while i < name.len() {
@@ -51,7 +50,7 @@ pub fn leaf_kind(name: &[u8]) -> usize
 }
 
 fn is_letter(b: u8) -> bool
-    ensures { λ r. ⌜ r ≡ letter b ⌝ }
+    ensures { result ≡ letter b }
 {
     match b {
         b'p' | b'f' | b'c' | b't' | b'n' => true,
@@ -61,7 +60,7 @@ fn is_letter(b: u8) -> bool
 
 // Whether a name is one of the letters of atoms.
 pub fn is_letter_name(name: &[u8]) -> bool
-    ensures { λ r. ⌜ r ≡ letter-name (now (name .entry)) ⌝ }
+    ensures { result ≡ letter_name name.now }
 {
     if name.len() != 1 {
         return false;
@@ -70,7 +69,7 @@ pub fn is_letter_name(name: &[u8]) -> bool
 }
 
 pub fn all_digits(name: &[u8]) -> bool
-    ensures { λ r. ⌜ r ≡ all digit (now (name .entry)) ⌝ }
+    ensures { result ≡ all digit name.now }
 {
     let mut i = 0;
     while i < name.len() {

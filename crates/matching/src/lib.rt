@@ -1,23 +1,25 @@
 // Matching of trees in a lent work area (unifier.rs, `matcher`): pattern variables are bound, subject variables are constants.
-use moving::Moved;
-use moving::advance;
+#![tactic(auto)]
+
+ghost use Rattle.std.specs.Prelude.{◌+◌, ◌*◌, ◌<◌, ◌≤◌};
+ghost use Rattle.rules.specs.Matching.{matcher};
+ghost use Rattle.laws.specs.Memory.{weight};
+ghost use Rattle.tree.specs.Cells.{trees_at};
+ghost use Rattle.tree.specs.Arena.{Arena};
+ghost use Rattle.elimination.specs.Stack.{Whole, pairs_at, FitPairs};
+ghost use Rattle.elimination.specs.Area.{Room};
+ghost use Rattle.unifier.specs.Running.{Answers};
+
+use moving::{Moved, advance};
 use tree::cells::next_of;
 use unifier::unifying::Outcome;
-ghost use Prim.Native.Nat.{_+_, _*_, _<_, _≤_};
-ghost use Rattle·rules.specs.Matching.{matcher};
-ghost use Rattle·laws.specs.Memory.{weight};
-ghost use Rattle·tree.specs.Cells.{trees-at};
-ghost use Rattle·tree.specs.Arena.{Arena};
-ghost use Rattle·elimination.specs.Stack.{Whole, pairs-at, FitPairs};
-ghost use Rattle·elimination.specs.Area.{Room};
-ghost use Rattle·unifier.specs.Running.{Answers};
 
 // Matches the pairs from cell stack on: the left sides are patterns, the right ones subjects.
 pub fn matcher(sheet: &[u8], work: &mut [u32], free: usize, stack: usize, fuel: usize) -> Outcome
-    requires { ⌜ Arena (now sheet) (now work) free ⌝ }
-    requires { ⌜ (stack < free) × (fuel ≤ 65536) × Whole (trees-at (now sheet) (now work) stack) × FitPairs (pairs-at (now sheet) (now work) stack) ⌝ }
-    requires { ⌜ Room (now work) (free + weight (pairs-at (now sheet) (now work) stack) + 2 * fuel) ⌝ }
-    ensures { λ r. ⌜ Answers (now (sheet .entry)) (now (work .entry)) (now (work .exit)) free (matcher fuel (pairs-at (now (sheet .entry)) (now (work .entry)) stack)) r ⌝ }
+    requires arena { Arena sheet.now work.old free }
+    requires stack_lt_free { (stack < free) × (fuel ≤ 65536) × Whole (trees_at sheet.now work.old stack) × FitPairs (pairs_at sheet.now work.old stack) }
+    requires room { Room work.old (free + weight (pairs_at sheet.now work.old stack) + 2 * fuel) }
+    ensures { Answers sheet.now work.old work.new free (matcher fuel (pairs_at sheet.now work.old stack)) result }
 {
     let mut left = fuel;
     let mut waiting = stack;

@@ -1,17 +1,15 @@
 -- What taking a pair of `match` does to the stack, the bindings and the work area. Definitions only.
-use Prim.Native.Nat.{ℕ, _+_, _<_, _≤_}
-use mathlib.Core.Path.{_≡_}
-use mathlib.Core.List.{List}
-use Rattle·rules.specs.Bytes.{Text}
-use Rattle·rules.specs.Substitution.{Binding, Pair}
-use Rattle·rules.specs.Matching.{Move, onward, clash, beyond}
-use Rattle·laws.specs.Memory.{weight}
-use Rattle·tree.specs.Cells.{trees-at}
-use Rattle·tree.specs.Arena.{Below}
-use Rattle·substitution.specs.Bindings.{flatten-bindings}
-use Rattle·elimination.specs.Stepping.{Waits}
-use Rattle·moving·specs.specs.declared.Moved.{Moved}
-use Rattle·moving·specs.specs.declared.Moved.the-variants as moved
+use Rattle.std.specs.Prelude.{ℕ, ◌+◌, ◌<◌, ◌≤◌, ◌≡◌, List}
+use Rattle.rules.specs.Bytes.{Text}
+use Rattle.rules.specs.Substitution.{Binding, Pair}
+use Rattle.rules.specs.Matching.{Move, onward, clash, beyond}
+use Rattle.laws.specs.Memory.{weight}
+use Rattle.tree.specs.Cells.{trees_at}
+use Rattle.tree.specs.Arena.{Below}
+use Rattle.substitution.specs.Bindings.{flatten_bindings}
+use Rattle.elimination.specs.Stepping.{Waits}
+use Rattle.moving.specs.declared.Moved.{Moved}
+use Rattle.moving.specs.declared.Moved.TheVariants as moved
 
 -- the move d leaves pairs and bindings; the pairs before it weighed h, and it takes two cells more than their weight falls
 pub record Onwards (s : Text) (w v : List ℕ) (n h : ℕ) (d : Move) (st b m : ℕ) : Type 0 where
@@ -19,8 +17,8 @@ pub record Onwards (s : Text) (w v : List ℕ) (n h : ℕ) (d : Move) (st b m : 
   pub bindings : List Binding
   pub is : d ≡ onward pairs bindings
   pub waits : Waits s w v n m st pairs
-  pub list-inside : b < m
-  pub list : trees-at s v b ≡ flatten-bindings bindings
+  pub list_inside : b < m
+  pub list : trees_at s v b ≡ flatten_bindings bindings
   pub used : m + weight pairs ≤ n + h + 2
 
 abbrev pub Moves : Text → List ℕ → List ℕ → ℕ → ℕ → Move → Moved → Type 0

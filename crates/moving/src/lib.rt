@@ -1,34 +1,30 @@
 // One pair of `match`, taken from the stack: pattern variables are bound, subject variables are constants.
+#![tactic(auto)]
+
+ghost use Rattle.std.specs.Prelude.{◌≡◌, false, ◌+◌, ◌*◌, ◌<◌};
+ghost use Rattle.rules.specs.Tree.{tamtplus};
+ghost use Rattle.rules.specs.Solving.{cancel_sums};
+ghost use Rattle.rules.specs.Matching.{bound, match_key, match_rest, ground_eq, match_roots, move};
+ghost use Rattle.laws.specs.Memory.{load, weight};
+ghost use Rattle.tree.specs.Cells.{kind_of, name_at, tree_at, trees_at};
+ghost use Rattle.tree.specs.Arena.{Arena};
+ghost use Rattle.substitution.specs.Bindings.{bindings_at, Chain};
+ghost use Rattle.elimination.specs.Stack.{Whole, pairs_at, Fit, FitBindings};
+ghost use Rattle.elimination.specs.Area.{Room};
+ghost use Rattle.moving.specs.Moves.{Moves};
+
 use equivalence::equivalent;
 use sorts::sorted;
 use steps::pushing::push_children;
-use steps::rest::Rest;
-use steps::rest::match_rest;
-use substitution::bindings::Found;
-use substitution::bindings::lookup;
-use substitution::bindings::push_pair;
+use steps::rest::{Rest, match_rest};
+use substitution::bindings::{Found, lookup, push_pair};
 use sums::is_sum;
-use tree::cells::APPLICATION;
-use tree::cells::ATOMS;
-use tree::cells::VARIABLE_OTHER;
-use tree::cells::kind_of;
+use tree::cells::{APPLICATION, ATOMS, VARIABLE_OTHER, kind_of};
 use tree::children::child_of;
 use tree::names::same_head;
-ghost use mathlib.Core.Path.{_≡_};
-ghost use mathlib.Core.Bool.{false};
-ghost use Prim.Native.Nat.{_+_, _*_, _<_};
-ghost use Rattle·rules.specs.Tree.{tamtplus};
-ghost use Rattle·rules.specs.Solving.{cancel-sums};
-ghost use Rattle·rules.specs.Matching.{bound, match-key, match-rest, ground-eq, match-roots, move};
-ghost use Rattle·laws.specs.Memory.{load, weight};
-ghost use Rattle·tree.specs.Cells.{kind-of, name-at, tree-at, trees-at};
-ghost use Rattle·tree.specs.Arena.{Arena};
-ghost use Rattle·substitution.specs.Bindings.{bindings-at, Chain};
-ghost use Rattle·elimination.specs.Stack.{Whole, pairs-at, Fit, FitBindings};
-ghost use Rattle·elimination.specs.Area.{Room};
-ghost use Rattle·moving·specs.specs.Moves.{Moves};
 
 // What a pair taken gives: the next stack and the bindings, the newest first, or the end of the run.
+#[derive(Clone, Copy)]
 pub enum Moved {
     Onward {
         stack: usize,
@@ -49,12 +45,12 @@ fn match_key(
     rest: usize,
     made: usize,
 ) -> Moved
-    requires { ⌜ Arena (now sheet) (now work) free ⌝ }
-    requires { ⌜ (0 < key) × (key < free) × (0 < value) × (value < free) × (rest < free) × (made < free) ⌝ }
-    requires { ⌜ (0 < kind-of (now work) key) × (kind-of (now work) key < 7) × Whole (trees-at (now sheet) (now work) rest) × Chain (trees-at (now sheet) (now work) made) ⌝ }
-    requires { ⌜ Fit (tree-at (now sheet) (now work) value) × FitBindings (bindings-at (now sheet) (now work) made) ⌝ }
-    requires { ⌜ Room (now work) (free + 2) ⌝ }
-    ensures { λ r. ⌜ Moves (now (sheet .entry)) (now (work .entry)) (now (work .exit)) free (weight (pairs-at (now (sheet .entry)) (now (work .entry)) rest)) (match-key (bound (name-at (now (sheet .entry)) (now (work .entry)) key) (bindings-at (now (sheet .entry)) (now (work .entry)) made)) (name-at (now (sheet .entry)) (now (work .entry)) key) (tree-at (now (sheet .entry)) (now (work .entry)) value) (pairs-at (now (sheet .entry)) (now (work .entry)) rest) (bindings-at (now (sheet .entry)) (now (work .entry)) made)) r ⌝ }
+    requires arena { Arena sheet.now work.old free }
+    requires key_nonzero { (0 < key) × (key < free) × (0 < value) × (value < free) × (rest < free) × (made < free) }
+    requires key_nonzero_2 { (0 < kind_of work.old key) × (kind_of work.old key < 7) × Whole (trees_at sheet.now work.old rest) × Chain (trees_at sheet.now work.old made) }
+    requires fit { Fit (tree_at sheet.now work.old value) × FitBindings (bindings_at sheet.now work.old made) }
+    requires room { Room work.old (free + 2) }
+    ensures { Moves sheet.now work.old work.new free (weight (pairs_at sheet.now work.old rest)) (match_key (bound (name_at sheet.now work.old key) (bindings_at sheet.now work.old made)) (name_at sheet.now work.old key) (tree_at sheet.now work.old value) (pairs_at sheet.now work.old rest) (bindings_at sheet.now work.old made)) result }
 {
     let found = lookup(sheet, work, free, made, key);
     match found {
@@ -98,12 +94,12 @@ fn match_sums(
     rest: usize,
     made: usize,
 ) -> Moved
-    requires { ⌜ Arena (now sheet) (now work) free ⌝ }
-    requires { ⌜ (0 < left) × (left < free) × (0 < right) × (right < free) × (rest < free) × (made < free) ⌝ }
-    requires { ⌜ (kind-of (now work) left ≡ 0) × (name-at (now sheet) (now work) left ≡ tamtplus) × (kind-of (now work) right ≡ 0) × (name-at (now sheet) (now work) right ≡ tamtplus) ⌝ }
-    requires { ⌜ Whole (trees-at (now sheet) (now work) rest) × Chain (trees-at (now sheet) (now work) made) × Fit (tree-at (now sheet) (now work) left) × Fit (tree-at (now sheet) (now work) right) ⌝ }
-    requires { ⌜ Room (now work) (free + load (tree-at (now sheet) (now work) left) (tree-at (now sheet) (now work) right) + 2) ⌝ }
-    ensures { λ r. ⌜ Moves (now (sheet .entry)) (now (work .entry)) (now (work .exit)) free (load (tree-at (now (sheet .entry)) (now (work .entry)) left) (tree-at (now (sheet .entry)) (now (work .entry)) right) + weight (pairs-at (now (sheet .entry)) (now (work .entry)) rest)) (match-rest (cancel-sums false ground-eq (tree-at (now (sheet .entry)) (now (work .entry)) left) (tree-at (now (sheet .entry)) (now (work .entry)) right)) (pairs-at (now (sheet .entry)) (now (work .entry)) rest) (bindings-at (now (sheet .entry)) (now (work .entry)) made)) r ⌝ }
+    requires arena { Arena sheet.now work.old free }
+    requires left_nonzero { (0 < left) × (left < free) × (0 < right) × (right < free) × (rest < free) × (made < free) }
+    requires left_value { (kind_of work.old left ≡ 0) × (name_at sheet.now work.old left ≡ tamtplus) × (kind_of work.old right ≡ 0) × (name_at sheet.now work.old right ≡ tamtplus) }
+    requires whole { Whole (trees_at sheet.now work.old rest) × Chain (trees_at sheet.now work.old made) × Fit (tree_at sheet.now work.old left) × Fit (tree_at sheet.now work.old right) }
+    requires room { Room work.old (free + load (tree_at sheet.now work.old left) (tree_at sheet.now work.old right) + 2) }
+    ensures { Moves sheet.now work.old work.new free (load (tree_at sheet.now work.old left) (tree_at sheet.now work.old right) + weight (pairs_at sheet.now work.old rest)) (match_rest (cancel_sums false ground_eq (tree_at sheet.now work.old left) (tree_at sheet.now work.old right)) (pairs_at sheet.now work.old rest) (bindings_at sheet.now work.old made)) result }
 {
     let found = match_rest(sheet, work, free, left, right);
     match found {
@@ -141,11 +137,11 @@ fn match_roots(
     rest: usize,
     made: usize,
 ) -> Moved
-    requires { ⌜ Arena (now sheet) (now work) free ⌝ }
-    requires { ⌜ (0 < left) × (left < free) × (0 < right) × (right < free) × (rest < free) × (made < free) ⌝ }
-    requires { ⌜ Whole (trees-at (now sheet) (now work) rest) × Chain (trees-at (now sheet) (now work) made) × Fit (tree-at (now sheet) (now work) left) × Fit (tree-at (now sheet) (now work) right) ⌝ }
-    requires { ⌜ Room (now work) (free + load (tree-at (now sheet) (now work) left) (tree-at (now sheet) (now work) right) + 2) ⌝ }
-    ensures { λ r. ⌜ Moves (now (sheet .entry)) (now (work .entry)) (now (work .exit)) free (load (tree-at (now (sheet .entry)) (now (work .entry)) left) (tree-at (now (sheet .entry)) (now (work .entry)) right) + weight (pairs-at (now (sheet .entry)) (now (work .entry)) rest)) (match-roots (tree-at (now (sheet .entry)) (now (work .entry)) left) (tree-at (now (sheet .entry)) (now (work .entry)) right) (pairs-at (now (sheet .entry)) (now (work .entry)) rest) (bindings-at (now (sheet .entry)) (now (work .entry)) made)) r ⌝ }
+    requires arena { Arena sheet.now work.old free }
+    requires left_nonzero { (0 < left) × (left < free) × (0 < right) × (right < free) × (rest < free) × (made < free) }
+    requires whole { Whole (trees_at sheet.now work.old rest) × Chain (trees_at sheet.now work.old made) × Fit (tree_at sheet.now work.old left) × Fit (tree_at sheet.now work.old right) }
+    requires room { Room work.old (free + load (tree_at sheet.now work.old left) (tree_at sheet.now work.old right) + 2) }
+    ensures { Moves sheet.now work.old work.new free (load (tree_at sheet.now work.old left) (tree_at sheet.now work.old right) + weight (pairs_at sheet.now work.old rest)) (match_roots (tree_at sheet.now work.old left) (tree_at sheet.now work.old right) (pairs_at sheet.now work.old rest) (bindings_at sheet.now work.old made)) result }
 {
     if !same_head(sheet, work, free, left, right) {
         return Moved::Clash;
@@ -175,11 +171,11 @@ pub fn advance(
     rest: usize,
     made: usize,
 ) -> Moved
-    requires { ⌜ Arena (now sheet) (now work) free ⌝ }
-    requires { ⌜ (0 < left) × (left < free) × (0 < right) × (right < free) × (rest < free) × (made < free) ⌝ }
-    requires { ⌜ Whole (trees-at (now sheet) (now work) rest) × Chain (trees-at (now sheet) (now work) made) × Fit (tree-at (now sheet) (now work) left) × Fit (tree-at (now sheet) (now work) right) × FitBindings (bindings-at (now sheet) (now work) made) ⌝ }
-    requires { ⌜ Room (now work) (free + load (tree-at (now sheet) (now work) left) (tree-at (now sheet) (now work) right) + 2) ⌝ }
-    ensures { λ r. ⌜ Moves (now (sheet .entry)) (now (work .entry)) (now (work .exit)) free (load (tree-at (now (sheet .entry)) (now (work .entry)) left) (tree-at (now (sheet .entry)) (now (work .entry)) right) + weight (pairs-at (now (sheet .entry)) (now (work .entry)) rest)) (move (tree-at (now (sheet .entry)) (now (work .entry)) left) (tree-at (now (sheet .entry)) (now (work .entry)) right) (pairs-at (now (sheet .entry)) (now (work .entry)) rest) (bindings-at (now (sheet .entry)) (now (work .entry)) made)) r ⌝ }
+    requires arena { Arena sheet.now work.old free }
+    requires left_nonzero { (0 < left) × (left < free) × (0 < right) × (right < free) × (rest < free) × (made < free) }
+    requires whole { Whole (trees_at sheet.now work.old rest) × Chain (trees_at sheet.now work.old made) × Fit (tree_at sheet.now work.old left) × Fit (tree_at sheet.now work.old right) × FitBindings (bindings_at sheet.now work.old made) }
+    requires room { Room work.old (free + load (tree_at sheet.now work.old left) (tree_at sheet.now work.old right) + 2) }
+    ensures { Moves sheet.now work.old work.new free (load (tree_at sheet.now work.old left) (tree_at sheet.now work.old right) + weight (pairs_at sheet.now work.old rest)) (move (tree_at sheet.now work.old left) (tree_at sheet.now work.old right) (pairs_at sheet.now work.old rest) (bindings_at sheet.now work.old made)) result }
 {
     let kind = kind_of(work, left);
     if APPLICATION < kind {

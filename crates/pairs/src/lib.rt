@@ -1,32 +1,29 @@
 // The pairs of lines `left`, `right` of a sheet as one list of trees in cells: left, right, left, right, .. Cells start at 1.
-use reading::Parsed;
-use reading::parse;
-use sheet::Cursor;
-use sheet::PairLine;
-use sheet::Place;
-use sheet::next_pair;
-use substitution::bindings::Pushed;
-use substitution::bindings::push_pair;
-use tree::cells::next_of;
-use tree::cells::share;
-ghost use mathlib.Core.Path.{_≡_};
-ghost use Prim.Native.Nat.{_+_, _*_, _<_, _≤_, _^_};
-ghost use lib.ListN.{length};
-ghost use Rattle·rules.specs.Tree.{none, count};
-ghost use Rattle·forms.specs.Form.{Inside};
-ghost use Rattle·tree.specs.Cells.{trees-at};
-ghost use Rattle·tree.specs.Arena.{Arena};
-ghost use Rattle·closing.specs.Machine.{back};
-ghost use Rattle·substitution.specs.Building.{Made};
-ghost use Rattle·pairs·specs.specs.Pairs.{pair-end, PairsThere, ReadsPair, ReadsReversed, ReadsPairs};
+#![tactic(auto)]
+
+ghost use Rattle.std.specs.Prelude.{◌≡◌, ◌+◌, ◌*◌, ◌<◌, ◌≤◌, ◌^◌, length};
+ghost use Rattle.rules.specs.Tree.{none, count};
+ghost use Rattle.forms.specs.Form.{Inside};
+ghost use Rattle.tree.specs.Cells.{trees_at};
+ghost use Rattle.tree.specs.Arena.{Arena};
+ghost use Rattle.closing.specs.Machine.{back};
+ghost use Rattle.substitution.specs.Building.{Made};
+ghost use Rattle.pairs.specs.Pairs.{pair_end, PairsThere, ReadsPair, ReadsReversed, ReadsPairs};
+
+use reading::{Parsed, parse};
+use sheet::{Cursor, PairLine, Place, next_pair};
+use substitution::bindings::{Pushed, push_pair};
+use tree::cells::{next_of, share};
 
 // A pair before a list of sides and the free end after it, or a side that cannot be read.
+#[derive(Clone, Copy)]
 enum Added {
     List { index: usize, free: usize },
     Unreadable,
 }
 
 // The list of all sides, the free end after it, and where the pairs end; or a side that cannot be read.
+#[derive(Clone, Copy)]
 pub enum Pairs {
     Stack {
         index: usize,
@@ -45,10 +42,10 @@ fn read_pair(
     right: Place,
     list: usize,
 ) -> Added
-    requires { ⌜ Arena (now sheet) (now work) free ⌝ }
-    requires { ⌜ Inside (now sheet) left × Inside (now sheet) right × (list < free) ⌝ }
-    requires { ⌜ (length (now sheet) ≤ 65536) × (1048576 + 16 * length (now sheet) ≤ length (now work)) × (pair-end free left right ≤ 1 + 2 * length (now sheet)) ⌝ }
-    ensures { λ r. ⌜ ReadsPair (now (sheet .entry)) (now (work .entry)) (now (work .exit)) free left right list r ⌝ }
+    requires arena { Arena sheet.now work.old free }
+    requires inside { Inside sheet.now left × Inside sheet.now right × (list < free) }
+    requires sheet_len_bound { (length sheet.now ≤ 65536) × (1048576 + 16 * length sheet.now ≤ length work.old) × (pair_end free left right ≤ 1 + 2 * length sheet.now) }
+    ensures { ReadsPair sheet.now work.old work.new free left right list result }
 {
     let left_from = left.from;
     let left_to = left.to;
@@ -78,9 +75,9 @@ fn read_pair(
 
 // The pairs from a cursor on, the last first, each with its right side first.
 fn read_reversed(sheet: &[u8], work: &mut [u32], start: Cursor) -> Pairs
-    requires { ⌜ (length (now sheet) ≤ 65536) × (1048576 + 16 * length (now sheet) ≤ length (now work)) × (start .at ≤ length (now sheet)) ⌝ }
-    requires { ⌜ PairsThere (now sheet) (start .at) ⌝ }
-    ensures { λ r. ⌜ ReadsReversed (now (sheet .entry)) (now (work .entry)) (now (work .exit)) (start .at) r ⌝ }
+    requires sheet_len_bound { (length sheet.now ≤ 65536) × (1048576 + 16 * length sheet.now ≤ length work.old) × (start.at ≤ length sheet.now) }
+    requires pairs_there { PairsThere sheet.now start.at }
+    ensures { ReadsReversed sheet.now work.old work.new start.at result }
 {
     let mut cursor = start;
     let mut list: usize = 0;
@@ -106,10 +103,10 @@ fn read_reversed(sheet: &[u8], work: &mut [u32], start: Cursor) -> Pairs
 
 // The trees of a list once more, the last first.
 fn reverse(sheet: &[u8], work: &mut [u32], free: usize, list: usize) -> Pushed
-    requires { ⌜ Arena (now sheet) (now work) free ⌝ }
-    requires { ⌜ list < free ⌝ }
-    requires { ⌜ (4 * (free + count (trees-at (now sheet) (now work) list)) ≤ length (now work)) × (free + count (trees-at (now sheet) (now work) list) < 2 ^ 32) ⌝ }
-    ensures { λ r. ⌜ Made (now (sheet .entry)) (now (work .entry)) (now (work .exit)) free (r .free) (r .index) (back (trees-at (now (sheet .entry)) (now (work .entry)) list) none) × (r .free ≡ free + count (trees-at (now (sheet .entry)) (now (work .entry)) list)) ⌝ }
+    requires arena { Arena sheet.now work.old free }
+    requires list_lt_free { list < free }
+    requires list_in_bounds { (4 * (free + count (trees_at sheet.now work.old list)) ≤ length work.old) × (free + count (trees_at sheet.now work.old list) < 2 ^ 32) }
+    ensures { Made sheet.now work.old work.new free result.free result.index (back (trees_at sheet.now work.old list) none) × (result.free ≡ free + count (trees_at sheet.now work.old list)) }
 {
     let mut left = list;
     let mut first: usize = 0;
@@ -129,10 +126,10 @@ fn reverse(sheet: &[u8], work: &mut [u32], free: usize, list: usize) -> Pushed
 
 // The pairs from a cursor on, in their order, each with its left side first.
 pub fn read_pairs(sheet: &[u8], work: &mut [u32], start: Cursor) -> Pairs
-    requires { ⌜ (length (now sheet) ≤ 65536) × (1048576 + 16 * length (now sheet) ≤ length (now work)) ⌝ }
-    requires { ⌜ start .at ≤ length (now sheet) ⌝ }
-    requires { ⌜ PairsThere (now sheet) (start .at) ⌝ }
-    ensures { λ r. ⌜ ReadsPairs (now (sheet .entry)) (now (work .entry)) (now (work .exit)) (start .at) r ⌝ }
+    requires sheet_len_bound { (length sheet.now ≤ 65536) × (1048576 + 16 * length sheet.now ≤ length work.old) }
+    requires at_in_bounds { start.at ≤ length sheet.now }
+    requires pairs_there { PairsThere sheet.now start.at }
+    ensures { ReadsPairs sheet.now work.old work.new start.at result }
 {
     let reversed = read_reversed(sheet, work, start);
     let Pairs::Stack { index, free, next } = reversed else {

@@ -1,20 +1,16 @@
 // The lengths of terms as they are written, up to a room: a shared term may be longer than any number holds.
-use tree::cells::APPLICATION;
-use tree::cells::ATOMS;
-use tree::cells::first_of;
-use tree::cells::kind_of;
-use tree::cells::next_of;
+ghost use Rattle.std.specs.Prelude.{◌≡◌, ◌<◌, length};
+ghost use Rattle.rules.specs.Writing.{render, renders};
+ghost use Rattle.tree.specs.Cells.{tree_at, trees_at};
+ghost use Rattle.tree.specs.Arena.{Arena};
+ghost use Rattle.printing.specs.Marked.{marked};
+ghost use Rattle.printing.specs.Measure.{measured};
+
+use tree::cells::{APPLICATION, ATOMS, first_of, kind_of, next_of};
 use tree::names::name_len;
-ghost use mathlib.Core.Path.{_≡_};
-ghost use Prim.Native.Nat.{_<_};
-ghost use lib.ListN.{length};
-ghost use Rattle·rules.specs.Writing.{render, renders};
-ghost use Rattle·tree.specs.Cells.{tree-at, trees-at};
-ghost use Rattle·tree.specs.Arena.{Arena};
-ghost use Rattle·printing·specs.specs.Marked.{marked};
-ghost use Rattle·printing·specs.specs.Measure.{measured};
 
 // A length, or that it is over the room.
+#[derive(Clone, Copy)]
 pub enum Measured {
     Fits(usize),
     Over,
@@ -22,7 +18,7 @@ pub enum Measured {
 
 // A length that is known.
 fn within(n: usize, room: usize) -> Measured
-    ensures { λ r. ⌜ r ≡ measured n room ⌝ }
+    ensures { result ≡ measured n room }
 {
     if n <= room {
         return Measured::Fits(n);
@@ -31,10 +27,11 @@ fn within(n: usize, room: usize) -> Measured
 }
 
 // The length of the term of cell i.
+#[cycle(measure_list_measure_term)]
 pub fn measure_term(sheet: &[u8], work: &[u32], free: usize, i: usize, room: usize) -> Measured
-    requires { ⌜ Arena (now sheet) (now work) free ⌝ }
-    requires { ⌜ (0 < i) × (i < free) ⌝ }
-    ensures { λ r. ⌜ r ≡ measured (length (render (tree-at (now (sheet .entry)) (now (work .entry)) i))) room ⌝ }
+    requires arena { Arena sheet.now work.now free }
+    requires i_nonzero { (0 < i) × (i < free) }
+    ensures { result ≡ measured (length (render (tree_at sheet.now work.now i))) room }
 {
     let kind = kind_of(work, i);
     let n = name_len(sheet, work, free, i);
@@ -55,6 +52,7 @@ pub fn measure_term(sheet: &[u8], work: &[u32], free: usize, i: usize, room: usi
 }
 
 // The length of the list from cell i on, with its marks and the closing bracket.
+#[cycle(measure_list_measure_term)]
 fn measure_list(
     sheet: &[u8],
     work: &[u32],
@@ -63,9 +61,9 @@ fn measure_list(
     mark: u8,
     room: usize,
 ) -> Measured
-    requires { ⌜ Arena (now sheet) (now work) free ⌝ }
-    requires { ⌜ i < free ⌝ }
-    ensures { λ r. ⌜ r ≡ measured (length (marked mark (renders (trees-at (now (sheet .entry)) (now (work .entry)) i)))) room ⌝ }
+    requires arena { Arena sheet.now work.now free }
+    requires i_lt_free { i < free }
+    ensures { result ≡ measured (length (marked mark (renders (trees_at sheet.now work.now i)))) room }
 {
     if i == 0 {
         if mark == 40 {

@@ -1,27 +1,21 @@
 // Writing of terms: a term writes its name, then its list; a list writes its terms.
-use tree::cells::APPLICATION;
-use tree::cells::ATOMS;
-use tree::cells::first_of;
-use tree::cells::kind_of;
-use tree::cells::next_of;
-use tree::names::print_byte;
-use tree::names::print_name;
-ghost use mathlib.Core.Path.{_≡_};
-ghost use Prim.Native.Nat.{_+_, _<_, _≤_};
-ghost use lib.ListN.{length};
-ghost use Rattle·rules.specs.Writing.{render, renders};
-ghost use Rattle·tree.specs.Cells.{kind-of, tree-at, trees-at};
-ghost use Rattle·tree.specs.Arena.{Arena};
-ghost use Rattle·text.specs.Printing.{Printed};
-ghost use Rattle·printing·specs.specs.Marked.{marked};
+ghost use Rattle.std.specs.Prelude.{◌≡◌, ◌+◌, ◌<◌, ◌≤◌, length};
+ghost use Rattle.rules.specs.Writing.{render, renders};
+ghost use Rattle.tree.specs.Cells.{kind_of, tree_at, trees_at};
+ghost use Rattle.tree.specs.Arena.{Arena};
+ghost use Rattle.text.specs.Printing.{Printed};
+ghost use Rattle.printing.specs.Marked.{marked};
+
+use tree::cells::{APPLICATION, ATOMS, first_of, kind_of, next_of};
+use tree::names::{print_byte, print_name};
 
 // Writes the atom of cell i: its letter, and its digits in brackets.
 fn write_atom(sheet: &[u8], work: &[u32], free: usize, i: usize, out: &mut [u8], at: usize) -> usize
-    requires { ⌜ Arena (now sheet) (now work) free ⌝ }
-    requires { ⌜ (0 < i) × (i < free) ⌝ }
-    requires { ⌜ 7 ≤ kind-of (now work) i ⌝ }
-    requires { ⌜ at + length (render (tree-at (now sheet) (now work) i)) ≤ length (now out) ⌝ }
-    ensures { λ r. ⌜ Printed (now (out .entry)) (now (out .exit)) at (render (tree-at (now (sheet .entry)) (now (work .entry)) i)) r ⌝ }
+    requires arena { Arena sheet.now work.now free }
+    requires i_nonzero { (0 < i) × (i < free) }
+    requires bound { 7 ≤ kind_of work.now i }
+    requires i_in_bounds { at + length (render (tree_at sheet.now work.now i)) ≤ length out.old }
+    ensures { Printed out.old out.new at (render (tree_at sheet.now work.now i)) result }
 {
     let letter = kind_of(work, i) as u8;
     let open = print_byte(out, at, letter);
@@ -31,6 +25,7 @@ fn write_atom(sheet: &[u8], work: &[u32], free: usize, i: usize, out: &mut [u8],
 }
 
 // Writes the term of cell i: its name, then its list. Returns where it ends.
+#[cycle(write_list_write_term)]
 pub fn write_term(
     sheet: &[u8],
     work: &[u32],
@@ -39,10 +34,10 @@ pub fn write_term(
     out: &mut [u8],
     at: usize,
 ) -> usize
-    requires { ⌜ Arena (now sheet) (now work) free ⌝ }
-    requires { ⌜ (0 < i) × (i < free) ⌝ }
-    requires { ⌜ at + length (render (tree-at (now sheet) (now work) i)) ≤ length (now out) ⌝ }
-    ensures { λ r. ⌜ Printed (now (out .entry)) (now (out .exit)) at (render (tree-at (now (sheet .entry)) (now (work .entry)) i)) r ⌝ }
+    requires arena { Arena sheet.now work.now free }
+    requires i_nonzero { (0 < i) × (i < free) }
+    requires i_in_bounds { at + length (render (tree_at sheet.now work.now i)) ≤ length out.old }
+    ensures { Printed out.old out.new at (render (tree_at sheet.now work.now i)) result }
 {
     let kind = kind_of(work, i);
     if ATOMS <= kind {
@@ -57,6 +52,7 @@ pub fn write_term(
 }
 
 // Writes the terms of the list from cell i on, each after a mark, and the closing bracket.
+#[cycle(write_list_write_term)]
 fn write_list(
     sheet: &[u8],
     work: &[u32],
@@ -66,10 +62,10 @@ fn write_list(
     out: &mut [u8],
     at: usize,
 ) -> usize
-    requires { ⌜ Arena (now sheet) (now work) free ⌝ }
-    requires { ⌜ i < free ⌝ }
-    requires { ⌜ at + length (marked mark (renders (trees-at (now sheet) (now work) i))) ≤ length (now out) ⌝ }
-    ensures { λ r. ⌜ Printed (now (out .entry)) (now (out .exit)) at (marked mark (renders (trees-at (now (sheet .entry)) (now (work .entry)) i))) r ⌝ }
+    requires arena { Arena sheet.now work.now free }
+    requires i_lt_free { i < free }
+    requires i_in_bounds { at + length (marked mark (renders (trees_at sheet.now work.now i))) ≤ length out.old }
+    ensures { Printed out.old out.new at (marked mark (renders (trees_at sheet.now work.now i))) result }
 {
     if i == 0 {
         if mark == 40 {

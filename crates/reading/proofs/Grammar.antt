@@ -1,19 +1,19 @@
 -- The machine reads what the grammar reads: from a state that wants a term it goes on with the term that the grammar reads. Assumes
 -- nothing.
-use Prim.Native.Nat.{ℕ, zero, suc, _≤_, _<_}
+use Prim.Native.Nat.{ℕ, zero, suc, ◌≤◌, ◌<◌}
 use native.Mathlib.Omega.{arith}
-use mathlib.Core.Path.{_≡_, refl, _∙_}
-use mathlib.Core.List.{List, [], _∷_}
+use mathlib.Core.Path.{◌≡◌, refl, ◌∙◌}
+use mathlib.Core.List.{List, [], ◌∷◌}
 use mathlib.Core.Option.{Option, some, none as nothing}
 use mathlib.Core.Bool.{Bool, true, false, cond, not}
 use lib.ListN.{length}
-use Rattle·rules.specs.Bytes.{Text, same}
-use Rattle·rules.specs.Text.{bytes, is-one-of}
-use Rattle·rules.specs.Maybe.{_>>=_, guard}
-use Rattle·rules.specs.Tree.{Tree, Trees, none, more}
-use Rattle·rules.specs.Tokens.{tokens}
-use Rattle·rules.specs.Reading.{leaf, close, after-token, wholly, read-term, read-list, read-text}
-use Rattle·closing.specs.Machine.{Stack, bottom, level, add, back, wants, named, has, machine-after, machine, machine-reading}
+use Rattle.rules.specs.Bytes.{Text, same}
+use Rattle.rules.specs.Text.{bytes, is_one_of}
+use Rattle.rules.specs.Maybe.{◌>>=◌, guard}
+use Rattle.rules.specs.Tree.{Tree, Trees, none, more}
+use Rattle.rules.specs.Tokens.{tokens}
+use Rattle.rules.specs.Reading.{leaf, close, after_token, wholly, read_term, read_list, read_text}
+use Rattle.closing.specs.Machine.{Stack, bottom, level, add, back, wants, named, has, machine_after, machine, machine_reading}
 
 abbrev Term : Type 0
 Term = Tree × List Text
@@ -27,118 +27,118 @@ abbrev Shorter : {A : Type 0} → Option (A × List Text) → List Text → Type
 Shorter nothing ts = Unit {0}
 Shorter (some (a, r)) ts = length r < length ts
 
-closed-shorter : (r ts : List Text) (o : Option Tree) → length r < length ts → Shorter (o >>= λ t. some (t, r)) ts
-closed-shorter r ts nothing h = tt
-closed-shorter r ts (some t) h = h
+closed_shorter : (r ts : List Text) (o : Option Tree) → length r < length ts → Shorter (o >>= λ t. some (t, r)) ts
+closed_shorter r ts nothing h = tt
+closed_shorter r ts (some t) h = h
 
-list-closes-shorter : (n : Text) (o : Option Listed) (us ts : List Text) → length us < length ts → Shorter o us → Shorter (o >>= λ (children, vs). close n children >>= λ t. some (t, vs)) ts
-list-closes-shorter n nothing us ts h k = tt
-list-closes-shorter n (some (cs, vs)) us ts h k = closed-shorter vs ts (close n cs) (omega arith)
+list_closes_shorter : (n : Text) (o : Option Listed) (us ts : List Text) → length us < length ts → Shorter o us → Shorter (o >>= λ (children, vs). close n children >>= λ t. some (t, vs)) ts
+list_closes_shorter n nothing us ts h k = tt
+list_closes_shorter n (some (cs, vs)) us ts h k = closed_shorter vs ts (close n cs) (omega arith)
 
-named-shorter : (k : ℕ) (n : Text) → ((us : List Text) → Shorter (read-list close k us) us) → (b : Bool) (ts : List Text)
-    → Shorter {A = Tree} (guard b >>= λ _. elim (after-token (bytes "(") ts) [ nothing ↦ some (leaf n, ts) | some us ↦ read-list close k us >>= λ (children, vs). close n children >>= λ t. some (t, vs) ]) (n ∷ ts)
-unfolding after-token
-named-shorter k n h false ts = tt
-named-shorter k n h true [] = omega arith
-named-shorter k n h true (x ∷ us) = go (same (bytes "(") x)
+named_shorter : (k : ℕ) (n : Text) → ((us : List Text) → Shorter (read_list close k us) us) → (b : Bool) (ts : List Text)
+    → Shorter {A = Tree} (guard b >>= λ _. elim (after_token (bytes "(") ts) [ nothing ↦ some (leaf n, ts) | some us ↦ read_list close k us >>= λ (children, vs). close n children >>= λ t. some (t, vs) ]) (n ∷ ts)
+unfolding after_token
+named_shorter k n h false ts = tt
+named_shorter k n h true [] = omega arith
+named_shorter k n h true (x ∷ us) = go (same (bytes "(") x)
   where
-    go : (b : Bool) → Shorter {A = Tree} (elim (cond b (some us) nothing) [ nothing ↦ some (leaf n, x ∷ us) | some us ↦ read-list close k us >>= λ (children, vs). close n children >>= λ t. some (t, vs) ]) (n ∷ x ∷ us)
-    go true = list-closes-shorter n (read-list close k us) us (n ∷ x ∷ us) (omega arith) (h us)
+    go : (b : Bool) → Shorter {A = Tree} (elim (cond b (some us) nothing) [ nothing ↦ some (leaf n, x ∷ us) | some us ↦ read_list close k us >>= λ (children, vs). close n children >>= λ t. some (t, vs) ]) (n ∷ x ∷ us)
+    go true = list_closes_shorter n (read_list close k us) us (n ∷ x ∷ us) (omega arith) (h us)
     go false = omega arith
 
-more-shorter : (t : Tree) (o : Option Listed) (us ts : List Text) → length us < length ts → Shorter o us → Shorter (o >>= λ (rest, ws). some (more t rest, ws)) ts
-more-shorter t nothing us ts h k = tt
-more-shorter t (some (rest, ws)) us ts h k = omega arith
+more_shorter : (t : Tree) (o : Option Listed) (us ts : List Text) → length us < length ts → Shorter o us → Shorter (o >>= λ (rest, ws). some (more t rest, ws)) ts
+more_shorter t nothing us ts h k = tt
+more_shorter t (some (rest, ws)) us ts h k = omega arith
 
 -- what a list reads after a term of it
-abbrev after-item : (List Text → Option Listed) → Term → Option Listed
-after-item f (t, us) = elim (after-token (bytes ",") us) [
+abbrev after_item : (List Text → Option Listed) → Term → Option Listed
+after_item f (t, us) = elim (after_token (bytes ",") us) [
   | some vs ↦ f vs >>= λ (rest, ws). some (more t rest, ws)
-  | nothing ↦ after-token (bytes ")") us >>= λ vs. some (more t none, vs)
+  | nothing ↦ after_token (bytes ")") us >>= λ vs. some (more t none, vs)
 ]
 
-items-shorter : (f : List Text → Option Listed) → ((us : List Text) → Shorter (f us) us) → (o : Option Term) (ts : List Text) → Shorter o ts → Shorter (o >>= after-item f) ts
-unfolding after-token
-items-shorter f h nothing ts l = tt
-items-shorter f h (some (t, [])) ts l = tt
-items-shorter f h (some (t, x ∷ us)) ts l = go (same (bytes ",") x) (same (bytes ")") x)
+items_shorter : (f : List Text → Option Listed) → ((us : List Text) → Shorter (f us) us) → (o : Option Term) (ts : List Text) → Shorter o ts → Shorter (o >>= after_item f) ts
+unfolding after_token
+items_shorter f h nothing ts l = tt
+items_shorter f h (some (t, [])) ts l = tt
+items_shorter f h (some (t, x ∷ us)) ts l = go (same (bytes ",") x) (same (bytes ")") x)
   where
     go : (b c : Bool) → Shorter {A = Trees} (elim (cond b (some us) nothing) [
       | some vs ↦ f vs >>= λ (rest, ws). some (more t rest, ws)
       | nothing ↦ cond c (some us) nothing >>= λ vs. some (more t none, vs)
     ]) ts
-    go true c = more-shorter t (f us) us ts (omega arith) (h us)
+    go true c = more_shorter t (f us) us ts (omega arith) (h us)
     go false true = omega arith
     go false false = tt
 
 mutual
-  unfolding read-term
+  unfolding read_term
 
-  term-shorter : (k : ℕ) (ts : List Text) → Shorter (read-term close k ts) ts
-  term-shorter zero ts = tt
-  term-shorter (suc k) [] = tt
-  term-shorter (suc k) (n ∷ ts) = named-shorter k n (λ us. list-shorter k us) (not (is-one-of (bytes "(" ∷ bytes ")" ∷ bytes "," ∷ []) n)) ts
+  term_shorter : (k : ℕ) (ts : List Text) → Shorter (read_term close k ts) ts
+  term_shorter zero ts = tt
+  term_shorter (suc k) [] = tt
+  term_shorter (suc k) (n ∷ ts) = named_shorter k n (λ us. list_shorter k us) (not (is_one_of (bytes "(" ∷ bytes ")" ∷ bytes "," ∷ []) n)) ts
 
-  list-shorter : (k : ℕ) (ts : List Text) → Shorter (read-list close k ts) ts
-  list-shorter zero ts = tt
-  list-shorter (suc k) ts = items-shorter (read-list close k) (λ us. list-shorter k us) (read-term close k ts) ts (term-shorter k ts)
+  list_shorter : (k : ℕ) (ts : List Text) → Shorter (read_list close k ts) ts
+  list_shorter zero ts = tt
+  list_shorter (suc k) ts = items_shorter (read_list close k) (λ us. list_shorter k us) (read_term close k ts) ts (term_shorter k ts)
 
 -- The machine and the grammar
 
 -- the machine goes on with what the grammar read: a term; a list, which it closes
-abbrev with-term : Stack → Option Term → Option Tree
-with-term k o = o >>= λ (t, r). machine r (has (add t k))
+abbrev with_term : Stack → Option Term → Option Tree
+with_term k o = o >>= λ (t, r). machine r (has (add t k))
 
-abbrev with-list : Text → Trees → Stack → Option Listed → Option Tree
-with-list n us k o = o >>= λ (vs, r). close n (back us vs) >>= λ t. machine r (has (add t k))
+abbrev with_list : Text → Trees → Stack → Option Listed → Option Tree
+with_list n us k o = o >>= λ (vs, r). close n (back us vs) >>= λ t. machine r (has (add t k))
 
-closes : (r : List Text) (k : Stack) (o : Option Tree) → (o >>= λ t. machine r (has (add t k))) ≡ with-term k (o >>= λ t. some (t, r))
+closes : (r : List Text) (k : Stack) (o : Option Tree) → (o >>= λ t. machine r (has (add t k))) ≡ with_term k (o >>= λ t. some (t, r))
 closes r k nothing = refl
 closes r k (some t) = refl
 
-list-closes : (n : Text) (k : Stack) (o : Option Listed) → with-list n none k o ≡ with-term k (o >>= λ (children, vs). close n children >>= λ t. some (t, vs))
+list_closes : (n : Text) (k : Stack) (o : Option Listed) → with_list n none k o ≡ with_term k (o >>= λ (children, vs). close n children >>= λ t. some (t, vs))
 unfolding back
-list-closes n k nothing = refl
-list-closes n k (some (vs, r)) = closes r k (close n vs)
+list_closes n k nothing = refl
+list_closes n k (some (vs, r)) = closes r k (close n vs)
 
-list-goes : (n : Text) (us : Trees) (t : Tree) (k : Stack) (o : Option Listed) → with-list n (more t us) k o ≡ with-list n us k (o >>= λ (rest, ws). some (more t rest, ws))
+list_goes : (n : Text) (us : Trees) (t : Tree) (k : Stack) (o : Option Listed) → with_list n (more t us) k o ≡ with_list n us k (o >>= λ (rest, ws). some (more t rest, ws))
 unfolding back
-list-goes n us t k nothing = refl
-list-goes n us t k (some (vs, r)) = refl
+list_goes n us t k nothing = refl
+list_goes n us t k (some (vs, r)) = refl
 
 abbrev ListRuns : ℕ → Type 0
-ListRuns f = (q : List Text) (n : Text) (us : Trees) (k : Stack) → length q < f → machine q (wants (level n us k)) ≡ with-list n us k (read-list close f q)
+ListRuns f = (q : List Text) (n : Text) (us : Trees) (k : Stack) → length q < f → machine q (wants (level n us k)) ≡ with_list n us k (read_list close f q)
 
-name-runs : (f : ℕ) → ListRuns f → (n : Text) (k : Stack) (ts : List Text) → length ts ≤ f
-    → machine ts (named n k) ≡ with-term k (elim (after-token (bytes "(") ts) [ nothing ↦ some (leaf n, ts) | some us ↦ read-list close f us >>= λ (children, vs). close n children >>= λ t. some (t, vs) ])
-unfolding machine after-token
-name-runs f h n k [] l = refl
-name-runs f h n k (x ∷ us) l = go (same (bytes "(") x)
+name_runs : (f : ℕ) → ListRuns f → (n : Text) (k : Stack) (ts : List Text) → length ts ≤ f
+    → machine ts (named n k) ≡ with_term k (elim (after_token (bytes "(") ts) [ nothing ↦ some (leaf n, ts) | some us ↦ read_list close f us >>= λ (children, vs). close n children >>= λ t. some (t, vs) ])
+unfolding machine after_token
+name_runs f h n k [] l = refl
+name_runs f h n k (x ∷ us) l = go (same (bytes "(") x)
   where
-    go : (b : Bool) → (cond b (some (wants (level n none k))) (machine-after (add (leaf n) k) x) >>= machine us)
-        ≡ with-term k (elim (cond b (some us) nothing) [ nothing ↦ some (leaf n, x ∷ us) | some us ↦ read-list close f us >>= λ (children, vs). close n children >>= λ t. some (t, vs) ])
-    go true = h us n none k (omega arith) ∙ list-closes n k (read-list close f us)
+    go : (b : Bool) → (cond b (some (wants (level n none k))) (machine_after (add (leaf n) k) x) >>= machine us)
+        ≡ with_term k (elim (cond b (some us) nothing) [ nothing ↦ some (leaf n, x ∷ us) | some us ↦ read_list close f us >>= λ (children, vs). close n children >>= λ t. some (t, vs) ])
+    go true = h us n none k (omega arith) ∙ list_closes n k (read_list close f us)
     go false = refl
 
-term-starts : (f : ℕ) → ListRuns f → (b : Bool) (n : Text) (k : Stack) (ts : List Text) → length ts ≤ f
+term_starts : (f : ℕ) → ListRuns f → (b : Bool) (n : Text) (k : Stack) (ts : List Text) → length ts ≤ f
     → (guard b >>= (λ _. some (named n k)) >>= machine ts)
-    ≡ with-term k (guard b >>= λ _. elim (after-token (bytes "(") ts) [ nothing ↦ some (leaf n, ts) | some us ↦ read-list close f us >>= λ (children, vs). close n children >>= λ t. some (t, vs) ])
-term-starts f h true n k ts l = name-runs f h n k ts l
-term-starts f h false n k ts l = refl
+    ≡ with_term k (guard b >>= λ _. elim (after_token (bytes "(") ts) [ nothing ↦ some (leaf n, ts) | some us ↦ read_list close f us >>= λ (children, vs). close n children >>= λ t. some (t, vs) ])
+term_starts f h true n k ts l = name_runs f h n k ts l
+term_starts f h false n k ts l = refl
 
-items-run : (f : ℕ) → ListRuns f → (n : Text) (us : Trees) (k : Stack) (o : Option Term) (ts : List Text) → length ts ≤ f → Shorter o ts
-    → with-term (level n us k) o ≡ with-list n us k (o >>= after-item (read-list close f))
-unfolding machine after-token back
-items-run f h n us k nothing ts l s = refl
-items-run f h n us k (some (t, [])) ts l s = refl
-items-run f h n us k (some (t, x ∷ q)) ts l s = go (same (bytes ",") x) (same (bytes ")") x)
+items_run : (f : ℕ) → ListRuns f → (n : Text) (us : Trees) (k : Stack) (o : Option Term) (ts : List Text) → length ts ≤ f → Shorter o ts
+    → with_term (level n us k) o ≡ with_list n us k (o >>= after_item (read_list close f))
+unfolding machine after_token back
+items_run f h n us k nothing ts l s = refl
+items_run f h n us k (some (t, [])) ts l s = refl
+items_run f h n us k (some (t, x ∷ q)) ts l s = go (same (bytes ",") x) (same (bytes ")") x)
   where
     go : (b c : Bool) → (cond b (some (wants (level n (more t us) k))) (cond c (close n (back (more t us) none) >>= λ t. some (has (add t k))) nothing) >>= machine q)
-        ≡ with-list n us k (elim (cond b (some q) nothing) [
-          | some vs ↦ read-list close f vs >>= λ (rest, ws). some (more t rest, ws)
+        ≡ with_list n us k (elim (cond b (some q) nothing) [
+          | some vs ↦ read_list close f vs >>= λ (rest, ws). some (more t rest, ws)
           | nothing ↦ cond c (some q) nothing >>= λ vs. some (more t none, vs)
         ])
-    go true c = h q n (more t us) k (omega arith) ∙ list-goes n us t k (read-list close f q)
+    go true c = h q n (more t us) k (omega arith) ∙ list_goes n us t k (read_list close f q)
     go false true = closed (close n (back us (more t none)))
       where
         closed : (o : Option Tree) → (o >>= (λ t. some (has (add t k))) >>= machine q) ≡ (o >>= λ t. machine q (has (add t k)))
@@ -147,30 +147,30 @@ items-run f h n us k (some (t, x ∷ q)) ts l s = go (same (bytes ",") x) (same 
     go false false = refl
 
 mutual
-  unfolding read-term machine
+  unfolding read_term machine
 
-  term-runs : (f : ℕ) (ts : List Text) (k : Stack) → length ts ≤ f → machine ts (wants k) ≡ with-term k (read-term close f ts)
-  term-runs zero [] k l = refl
-  term-runs zero (x ∷ ts) k l = absurd (omega arith)
-  term-runs (suc f) [] k l = refl
-  term-runs (suc f) (n ∷ ts) k l = term-starts f (λ q n us k l. list-runs f q n us k l) (not (is-one-of (bytes "(" ∷ bytes ")" ∷ bytes "," ∷ []) n)) n k ts (omega arith)
+  term_runs : (f : ℕ) (ts : List Text) (k : Stack) → length ts ≤ f → machine ts (wants k) ≡ with_term k (read_term close f ts)
+  term_runs zero [] k l = refl
+  term_runs zero (x ∷ ts) k l = absurd (omega arith)
+  term_runs (suc f) [] k l = refl
+  term_runs (suc f) (n ∷ ts) k l = term_starts f (λ q n us k l. list_runs f q n us k l) (not (is_one_of (bytes "(" ∷ bytes ")" ∷ bytes "," ∷ []) n)) n k ts (omega arith)
 
-  list-runs : (f : ℕ) (q : List Text) (n : Text) (us : Trees) (k : Stack) → length q < f → machine q (wants (level n us k)) ≡ with-list n us k (read-list close f q)
-  list-runs zero q n us k l = absurd (omega arith)
-  list-runs (suc f) q n us k l =
-      term-runs f q (level n us k) (omega arith) ∙ items-run f (λ q n us k l. list-runs f q n us k l) n us k (read-term close f q) q (omega arith) (term-shorter f q)
+  list_runs : (f : ℕ) (q : List Text) (n : Text) (us : Trees) (k : Stack) → length q < f → machine q (wants (level n us k)) ≡ with_list n us k (read_list close f q)
+  list_runs zero q n us k l = absurd (omega arith)
+  list_runs (suc f) q n us k l =
+      term_runs f q (level n us k) (omega arith) ∙ items_run f (λ q n us k l. list_runs f q n us k l) n us k (read_term close f q) q (omega arith) (term_shorter f q)
 
-ends : (o : Option Term) → with-term (bottom none) o ≡ wholly o
+ends : (o : Option Term) → with_term (bottom none) o ≡ wholly o
 unfolding machine
 ends nothing = refl
 ends (some (t, [])) = refl
 ends (some (t, x ∷ r)) = refl
 
 -- the machine from the start reads what the grammar reads
-pub reads : (s : Text) → machine-reading s 0 (wants (bottom none)) ≡ read-text close s
-unfolding read-text
+pub reads : (s : Text) → machine_reading s 0 (wants (bottom none)) ≡ read_text close s
+unfolding read_text
 reads s = go (tokens s)
   where
-    go : (o : Option (List Text)) → (o >>= λ ts. machine ts (wants (bottom none))) ≡ (o >>= λ ts. wholly (read-term close (length ts) ts))
+    go : (o : Option (List Text)) → (o >>= λ ts. machine ts (wants (bottom none))) ≡ (o >>= λ ts. wholly (read_term close (length ts) ts))
     go nothing = refl
-    go (some ts) = term-runs (length ts) ts (bottom none) (omega arith) ∙ ends (read-term close (length ts) ts)
+    go (some ts) = term_runs (length ts) ts (bottom none) (omega arith) ∙ ends (read_term close (length ts) ts)

@@ -1,62 +1,59 @@
 -- The two nested rounds of the term reader: their invariants and turns.
-use Prim.Native.Nat.{ℕ, zero, suc, _+_, _*_, _-_, _<_, _≤_}
+use Prim.Native.Nat.{ℕ, zero, suc, ◌+◌, ◌*◌, ◌-◌, ◌<◌, ◌≤◌}
 use native.Mathlib.Omega.{arith}
-use mathlib.Core.Path.{_≡_, refl, sym, ap, _∙_, subst}
-use mathlib.Core.List.{List, [], _∷_}
+use mathlib.Core.Path.{◌≡◌, refl, sym, ap, ◌∙◌, subst}
+use mathlib.Core.List.{List}
 use mathlib.Core.Option.{some, none as nothing}
-use denote.Enum.Declared.{tagOf}
-use types.Run.{OneOf}
-use lib.ListN.{length, getD, take, drop, set, length-set}
-use lib.Seq.{getD-set-same, getD-set-other}
-use Rattle·rules.specs.Bytes.{Text}
-use Rattle·rules.specs.Tree.{Tree, Trees, none, more, size}
-use Rattle·rules.specs.Reading.{leaf, single, parse}
-use Rattle·text.proofs.Slices.{drop-take}
-use Rattle·laws.proofs.Reading.Colons.{leaf-size}
-use Rattle·syntax.specs.Symbols.{symbol-at}
-use Rattle·syntax.specs.declared.Symbol.{Symbol}
-use Rattle·syntax.specs.declared.Symbol.the-variants.{Begin, Shut, Comma, Name, Stop}
-use Rattle·syntax.proofs.Symbol.{the-type}
-use Rattle·tree.specs.Cells.{part, next-of, tree-at, trees-at}
-use Rattle·tree.specs.Arena.{Links, Arena}
-use Rattle·tree.proofs.Decoding.{trees-none, trees-more}
-use Rattle·tree.proofs.Areas.{arena-frame}
-use Rattle·closing.specs.Machine.{Stack, bottom, level, add, wants, named, has, machine-reading, Bare, HasOne, closing-room}
-use Rattle·text.specs.Frames.{Outside}
-use Rattle·closing.specs.Words.{stack-at, Held, Added, Opened}
-use Rattle·closing.specs.declared.Closed.{Closed}
-use Rattle·closing.specs.Closing.{most, NoTree, closed-level, Popped, Pops}
-use Rattle·reading·specs.specs.declared.Parsed.{Parsed}
-use Rattle·reading·specs.specs.declared.Parsed.the-variants.{Tree as Parsed-tree, Unreadable}
-use Rattle·reading·specs.specs.Parsing.{ended-at, limit-of, stack-end, Read, Parses}
-use Rattle·reading·proofs.proofs.Grammar.{reads}
-use Rattle·closing.proofs.Turns.{limited, name-turn, open-turn, comma-turn, shut-turn, comma-bare, shut-bare, stop-turn, not-name, no-delimiter, leaf-turn, shut-out, small-enough, parse-limited}
-use Rattle·reading·proofs.proofs.Stacks.{stack-top}
-use Rattle·reading·proofs.proofs.NamePlaces.{NameAt, mark-past}
+use lib.ListN.{length, get_or, take, drop, set, length-set}
+use lib.Seq.{get_or-set_same, get_or-set_other}
+use Rattle.rules.specs.Bytes.{Text}
+use Rattle.rules.specs.Tree.{Tree, Trees, none, more, size}
+use Rattle.rules.specs.Reading.{leaf, single, parse}
+use Rattle.text.proofs.Slices.{drop_take}
+use Rattle.laws.proofs.Reading.Colons.{leaf_size}
+use Rattle.syntax.specs.Symbols.{symbol_at}
+use Rattle.syntax.specs.declared.Symbol.{Symbol}
+use Rattle.syntax.specs.declared.Symbol.TheVariants.{Begin, Shut, Comma, Name, Stop}
+use Rattle.tree.specs.Cells.{part, next_of, tree_at, trees_at}
+use Rattle.tree.specs.Arena.{Links, Arena}
+use Rattle.tree.proofs.Decoding.{trees_none, trees_more}
+use Rattle.tree.proofs.Areas.{arena_frame}
+use Rattle.closing.specs.Machine.{Stack, bottom, level, add, wants, named, has, machine_reading, Bare, HasOne, closing_room}
+use Rattle.text.specs.Frames.{Outside}
+use Rattle.closing.specs.Words.{stack_at, Held, Added, Opened}
+use Rattle.closing.specs.declared.Closed.{Closed}
+use Rattle.closing.specs.Closing.{most, NoTree, closed_level, Popped, Pops}
+use Rattle.reading.specs.declared.Parsed.{Parsed}
+use Rattle.reading.specs.declared.Parsed.TheVariants.{Tree as parsed_tree, Unreadable}
+use Rattle.reading.specs.Parsing.{ended_at, limit_of, stack_end, Read, Parses}
+use Rattle.reading.proofs.Grammar.{reads}
+use Rattle.closing.proofs.Turns.{limited, name_turn, open_turn, comma_turn, shut_turn, comma_bare, shut_bare, stop_turn, not_name, no_delimiter, leaf_turn, shut_out, small_enough, parse_limited}
+use Rattle.reading.proofs.Stacks.{stack_top}
+use Rattle.reading.proofs.NamePlaces.{NameAt, mark_past}
 
 -- On stacks
 
-add-weight : (t : Tree) (k : Stack) → closing-room (add t k) ≤ closing-room k + 2
-add-weight t (bottom ts) = omega arith
-add-weight t (level n ts k) = omega arith
+add_weight : (t : Tree) (k : Stack) → closing_room (add t k) ≤ closing_room k + 2
+add_weight t (bottom ts) = omega arith
+add_weight t (level n ts k) = omega arith
 
-add-has : (t : Tree) (k : Stack) → Bare k → size t ≤ 4096 → HasOne (add t k)
-add-has t (bottom ts) b h = (t, ap (more t) b, h)
-add-has t (level n ts k) b h = b
+add_has : (t : Tree) (k : Stack) → Bare k → size t ≤ 4096 → HasOne (add t k)
+add_has t (bottom ts) b h = (t, ap (more t) b, h)
+add_has t (level n ts k) b h = b
 
-pub outside-same : (w : List ℕ) (a b : ℕ) → Outside w w a b
-outside-same w a b = record { len = refl; below = λ p q. refl; above = λ p q. refl }
+pub outside_same : (w : List ℕ) (a b : ℕ) → Outside w w a b
+outside_same w a b = record { len = refl; below = λ p q. refl; above = λ p q. refl }
 
-pub outside-on : {w v u : List ℕ} {a b c d : ℕ} → a ≤ c → d ≤ b → Outside w v a b → Outside v u c d → Outside w u a b
-outside-on x y g h = record {
-  len = h .len ∙ g .len;
-  below = λ p q. h .below p (omega arith) ∙ g .below p q;
-  above = λ p q. h .above p (omega arith) ∙ g .above p q;
+pub outside_on : {w v u : List ℕ} {a b c d : ℕ} → a ≤ c → d ≤ b → Outside w v a b → Outside v u c d → Outside w u a b
+outside_on x y g h = record {
+  len = h.len ∙ g.len;
+  below = λ p q. h.below p (omega arith) ∙ g.below p q;
+  above = λ p q. h.above p (omega arith) ∙ g.above p q;
 }
 
 -- what the reader is given
 pub record Task (s : Text) (start limit from to : ℕ) : Type 0 where
-  pub limit-is : limit ≡ limit-of start from to
+  pub limit_is : limit ≡ limit_of start from to
   pub order : from ≤ to
   pub within : to ≤ length s
   pub small : length s ≤ 65536
@@ -65,7 +62,7 @@ pub record Task (s : Text) (start limit from to : ℕ) : Type 0 where
 -- where it is: v is the area at a round's start, w now
 pub record Stands (s : Text) (v : List ℕ) (start limit from to : ℕ) (w : List ℕ) (free depth at : ℕ) : Type 0 where
   pub held : Held s w free limit depth
-  pub outside : Outside v w (4 * start) (stack-end start from to)
+  pub outside : Outside v w (4 * start) (stack_end start from to)
   pub starts : start ≤ free
   pub after : from ≤ at
   pub within : at ≤ to
@@ -74,31 +71,31 @@ pub record Stands (s : Text) (v : List ℕ) (start limit from to : ℕ) (w : Lis
 -- a term is wanted
 pub record Wants (s : Text) (v : List ℕ) (start limit from to : ℕ) (w : List ℕ) (free depth at : ℕ) : Type 0 where
   pub stands : Stands s v start limit from to w free depth at
-  pub bare : Bare (stack-at s w limit depth)
-  pub room : free + closing-room (stack-at s w limit depth) + 2 * from ≤ start + 2 * at
-  pub reads : limited (machine-reading (take to s) at (wants (stack-at s w limit depth))) ≡ parse (part s from (to - from))
+  pub bare : Bare (stack_at s w limit depth)
+  pub room : free + closing_room (stack_at s w limit depth) + 2 * from ≤ start + 2 * at
+  pub reads : limited (machine_reading (take to s) at (wants (stack_at s w limit depth))) ≡ parse (part s from (to - from))
 
 -- a term is there, read since the position v-at
-pub record Has (s : Text) (v : List ℕ) (start limit from to v-at : ℕ) (w : List ℕ) (free depth at : ℕ) : Type 0 where
+pub record Has (s : Text) (v : List ℕ) (start limit from to v_at : ℕ) (w : List ℕ) (free depth at : ℕ) : Type 0 where
   pub stands : Stands s v start limit from to w free depth at
-  pub past : v-at ≤ at
-  pub one : HasOne (stack-at s w limit depth)
-  pub room : free + closing-room (stack-at s w limit depth) + 2 * from ≤ start + 2 * at + 1
-  pub reads : limited (machine-reading (take to s) at (has (stack-at s w limit depth))) ≡ parse (part s from (to - from))
+  pub past : v_at ≤ at
+  pub one : HasOne (stack_at s w limit depth)
+  pub room : free + closing_room (stack_at s w limit depth) + 2 * from ≤ start + 2 * at + 1
+  pub reads : limited (machine_reading (take to s) at (has (stack_at s w limit depth))) ≡ parse (part s from (to - from))
 
 -- the top level, where there is one
-pub top-level : (s : Text) (w : List ℕ) (limit depth : ℕ) → (depth ≡ 0 → ⊥)
-    → stack-at s w limit depth
-    ≡ level (part s (getD w (4 * limit + 3 * (depth - 1) + 1) 0) (getD w (4 * limit + 3 * (depth - 1) + 2) 0)) (trees-at s w (getD w (4 * limit + 3 * (depth - 1) + 3) 0)) (stack-at s w limit (depth - 1))
-top-level s w limit depth p = let z : depth - 1 + 1 ≡ depth = omega arith in sym (ap (stack-at s w limit) z) ∙ stack-top s w limit (depth - 1)
+pub top_level : (s : Text) (w : List ℕ) (limit depth : ℕ) → (depth ≡ 0 → ⊥)
+    → stack_at s w limit depth
+    ≡ level (part s (get_or w (4 * limit + 3 * (depth - 1) + 1) 0) (get_or w (4 * limit + 3 * (depth - 1) + 2) 0)) (trees_at s w (get_or w (4 * limit + 3 * (depth - 1) + 3) 0)) (stack_at s w limit (depth - 1))
+top_level s w limit depth p = let z : depth - 1 + 1 ≡ depth = omega arith in sym (ap (stack_at s w limit) z) ∙ stack_top s w limit (depth - 1)
 
 module _ {s : Text} {start limit from to : ℕ} (k : Task s start limit from to) where
-  pub wants-start : {w : List ℕ} → Arena s w start → getD w (4 * limit) 0 ≡ 0 → stack-end start from to ≤ length w → Wants s w start limit from to w start 0 from
-  unfolding stack-at
-  wants-start {w} a e room =
-      let o = k .order in
-      let l = k .limit-is in
-      let b : trees-at s w (getD w (4 * limit) 0) ≡ none = trees-none s w (getD w (4 * limit) 0) e in
+  pub wants_start : {w : List ℕ} → Arena s w start → get_or w (4 * limit) 0 ≡ 0 → stack_end start from to ≤ length w → Wants s w start limit from to w start 0 from
+  unfolding stack_at
+  wants_start {w} a e room =
+      let o = k.order in
+      let l = k.limit_is in
+      let b : trees_at s w (get_or w (4 * limit) 0) ≡ none = trees_none s w (get_or w (4 * limit) 0) e in
       record {
         stands = record {
           held = record {
@@ -107,10 +104,10 @@ module _ {s : Text} {start limit from to : ℕ} (k : Task s start limit from to)
             room = omega arith;
             trees = λ i q. (
                 let z : 4 * limit + 3 * i ≡ 4 * limit = omega arith in
-                rw (z, e) (a .links .some));
+                rw (z, e) a.links.some);
             names = λ i q. absurd (omega arith);
           };
-          outside = outside-same w (4 * start) (stack-end start from to);
+          outside = outside_same w (4 * start) (stack_end start from to);
           starts = omega arith;
           after = omega arith;
           within = o;
@@ -119,259 +116,259 @@ module _ {s : Text} {start limit from to : ℕ} (k : Task s start limit from to)
         bare = b;
         room = omega arith;
         reads =
-            ap (λ (ts : Trees). limited (machine-reading (take to s) from (wants (bottom ts)))) b
+            ap (λ (ts : Trees). limited (machine_reading (take to s) from (wants (bottom ts)))) b
             ∙ ap limited (reads (drop from (take to s)))
-            ∙ sym (parse-limited (drop from (take to s)))
-            ∙ ap parse (drop-take from to s);
+            ∙ sym (parse_limited (drop from (take to s)))
+            ∙ ap parse (drop_take from to s);
       }
 
   module _ {v w : List ℕ} {free depth at : ℕ} (h : Wants s v start limit from to w free depth at) where
     -- no name
-    pub wants-out : {r : Symbol} → r ≡ symbol-at (take to s) at → OneOf (0 ∷ 1 ∷ 2 ∷ 4 ∷ 5 ∷ []) (tagOf the-type r) → parse (part s from (to - from)) ≡ nothing
-    wants-out f o = sym (h .reads) ∙ ap limited (not-name (take to s) at f (stack-at s w limit depth) o)
+    pub wants_out : {r : Symbol} → r ≡ symbol_at (take to s) at → ((f t : ℕ) → r ≡ Name f t → ⊥) → parse (part s from (to - from)) ≡ nothing
+    wants_out f o = sym h.reads ∙ ap limited (not_name (take to s) at f (stack_at s w limit depth) o)
 
-    module _ {a e : ℕ} (n : NameAt s to at a e) {r : Symbol} (f : r ≡ symbol-at (take to s) at) (g : r ≡ Name a e) where
-      read-name : limited (machine-reading (take to s) e (named (part s a (e - a)) (stack-at s w limit depth))) ≡ parse (part s from (to - from))
-      read-name =
-          ap (λ (m : Text). limited (machine-reading (take to s) e (named m (stack-at s w limit depth)))) (sym (n .bytes))
-          ∙ sym (ap limited (name-turn (take to s) at f a e (stack-at s w limit depth) g))
-          ∙ h .reads
+    module _ {a e : ℕ} (n : NameAt s to at a e) {r : Symbol} (f : r ≡ symbol_at (take to s) at) (g : r ≡ Name a e) where
+      read_name : limited (machine_reading (take to s) e (named (part s a (e - a)) (stack_at s w limit depth))) ≡ parse (part s from (to - from))
+      read_name =
+          ap (λ (m : Text). limited (machine_reading (take to s) e (named m (stack_at s w limit depth)))) (sym n.bytes)
+          ∙ sym (ap limited (name_turn (take to s) at f a e (stack_at s w limit depth) g))
+          ∙ h.reads
 
       -- a list is opened
-      pub wants-open : {u : List ℕ} {i : ℕ} {q : Symbol} → q ≡ symbol-at (take to s) e → q ≡ Begin i → Opened s w u free limit depth (part s a (e - a)) → Wants s v start limit from to u free (depth + 1) i
-      wants-open {u} {i} {q} j b x =
-          let st = h .stands in
-          let p = mark-past s e to (k .within) j i (Begin i) b refl in
-          let pa = n .past in
-          let so = n .some in
-          let ro = h .room in
-          let li = k .limit-is in
-          let de = st .deep in
-          let en : 4 * limit + 3 * depth + 4 ≤ stack-end start from to = omega (arith, st .after) in
-          let we : closing-room (stack-at s u limit (depth + 1)) ≡ 2 + closing-room (stack-at s w limit depth) = ap closing-room (x .stack) in
+      pub wants_open : {u : List ℕ} {i : ℕ} {q : Symbol} → q ≡ symbol_at (take to s) e → q ≡ Begin i → Opened s w u free limit depth (part s a (e - a)) → Wants s v start limit from to u free (depth + 1) i
+      wants_open {u} {i} {q} j b x =
+          let st = h.stands in
+          let p = mark_past s e to k.within j i (Begin i) b refl in
+          let pa = n.past in
+          let so = n.some in
+          let ro = h.room in
+          let li = k.limit_is in
+          let de = st.deep in
+          let en : 4 * limit + 3 * depth + 4 ≤ stack_end start from to = omega (arith, st.after) in
+          let we : closing_room (stack_at s u limit (depth + 1)) ≡ 2 + closing_room (stack_at s w limit depth) = ap closing_room x.stack in
           record {
             stands = record {
-              held = x .held;
-              outside = outside-on (omega (arith, st .starts)) en (st .outside) (x .outside);
-              starts = st .starts;
-              after = omega (arith, st .after);
-              within = p .1;
+              held = x.held;
+              outside = outside_on (omega (arith, st.starts)) en st.outside x.outside;
+              starts = st.starts;
+              after = omega (arith, st.after);
+              within = p.1;
               deep = omega arith;
             };
-            bare = rw (x .stack) (h .bare);
+            bare = rw x.stack h.bare;
             room = omega arith;
             reads =
-                ap (λ (y : Stack). limited (machine-reading (take to s) i (wants y))) (x .stack)
-                ∙ sym (ap limited (open-turn (take to s) e j i (part s a (e - a)) (stack-at s w limit depth) b))
-                ∙ read-name;
+                ap (λ (y : Stack). limited (machine_reading (take to s) i (wants y))) x.stack
+                ∙ sym (ap limited (open_turn (take to s) e j i (part s a (e - a)) (stack_at s w limit depth) b))
+                ∙ read_name;
           }
 
       -- a leaf is there
-      pub has-leaf : {u : List ℕ} {end : ℕ} {q : Symbol} → q ≡ symbol-at (take to s) e → OneOf (1 ∷ 2 ∷ 3 ∷ 4 ∷ 5 ∷ []) (tagOf the-type q) → end ≡ free + 1
+      pub has_leaf : {u : List ℕ} {end : ℕ} {q : Symbol} → q ≡ symbol_at (take to s) e → ((t : ℕ) → q ≡ Begin t → ⊥) → end ≡ free + 1
           → Added s w u free end limit depth (leaf (part s a (e - a))) → Has s u start limit from to e u end depth e
-      has-leaf {u} {end} {q} j o z x =
-          let st = h .stands in
-          let pa = n .past in
-          let so = n .some in
-          let ro = h .room in
-          let de = st .deep in
-          let we = ap closing-room (x .stack) in
+      has_leaf {u} {end} {q} j o z x =
+          let st = h.stands in
+          let pa = n.past in
+          let so = n.some in
+          let ro = h.room in
+          let de = st.deep in
+          let we = ap closing_room x.stack in
           record {
             stands = record {
-              held = x .held;
-              outside = outside-same u (4 * start) (stack-end start from to);
-              starts = omega (arith, st .starts);
-              after = omega (arith, st .after);
-              within = n .within;
+              held = x.held;
+              outside = outside_same u (4 * start) (stack_end start from to);
+              starts = omega (arith, st.starts);
+              after = omega (arith, st.after);
+              within = n.within;
               deep = omega arith;
             };
             past = omega arith;
-            one = rw (x .stack) (add-has (leaf (part s a (e - a))) (stack-at s w limit depth) (h .bare) (omega (arith, leaf-size (part s a (e - a)))));
-            room = omega (arith, add-weight (leaf (part s a (e - a))) (stack-at s w limit depth));
+            one = rw x.stack (add_has (leaf (part s a (e - a))) (stack_at s w limit depth) h.bare (omega (arith, leaf_size (part s a (e - a)))));
+            room = omega (arith, add_weight (leaf (part s a (e - a))) (stack_at s w limit depth));
             reads =
-                ap (λ (y : Stack). limited (machine-reading (take to s) e (has y))) (x .stack)
-                ∙ sym (ap limited (leaf-turn (take to s) e j (part s a (e - a)) (stack-at s w limit depth) o))
-                ∙ read-name;
+                ap (λ (y : Stack). limited (machine_reading (take to s) e (has y))) x.stack
+                ∙ sym (ap limited (leaf_turn (take to s) e j (part s a (e - a)) (stack_at s w limit depth) o))
+                ∙ read_name;
           }
 
-  module _ {v w : List ℕ} {v-at free depth at : ℕ} (h : Has s v start limit from to v-at w free depth at) {r : Symbol} (f : r ≡ symbol-at (take to s) at) where
+  module _ {v w : List ℕ} {v_at free depth at : ℕ} (h : Has s v start limit from to v_at w free depth at) {r : Symbol} (f : r ≡ symbol_at (take to s) at) where
     -- no delimiter
-    pub has-out : OneOf (0 ∷ 3 ∷ 5 ∷ []) (tagOf the-type r) → parse (part s from (to - from)) ≡ nothing
-    has-out o = sym (h .reads) ∙ ap limited (no-delimiter (take to s) at f (stack-at s w limit depth) o)
+    pub has_out : (r ≡ Stop → ⊥) → ((t : ℕ) → r ≡ Comma t → ⊥) → ((t : ℕ) → r ≡ Shut t → ⊥) → parse (part s from (to - from)) ≡ nothing
+    has_out no_stop no_comma no_shut = sym h.reads ∙ ap limited (no_delimiter (take to s) at f (stack_at s w limit depth) no_stop no_comma no_shut)
 
-    bare-bottom : depth ≡ 0 → stack-at s w limit depth ≡ bottom (trees-at s w (getD w (4 * limit) 0))
-    unfolding stack-at
-    bare-bottom e = ap (stack-at s w limit) e
+    bare_bottom : depth ≡ 0 → stack_at s w limit depth ≡ bottom (trees_at s w (get_or w (4 * limit) 0))
+    unfolding stack_at
+    bare_bottom e = ap (stack_at s w limit) e
 
-    pub comma-out : (t : ℕ) → depth ≡ 0 → r ≡ Comma t → parse (part s from (to - from)) ≡ nothing
-    comma-out t e g =
-        sym (h .reads) ∙ ap (λ (y : Stack). limited (machine-reading (take to s) at (has y))) (bare-bottom e) ∙ ap limited (comma-bare (take to s) at f t (trees-at s w (getD w (4 * limit) 0)) g)
+    pub comma_out : (t : ℕ) → depth ≡ 0 → r ≡ Comma t → parse (part s from (to - from)) ≡ nothing
+    comma_out t e g =
+        sym h.reads ∙ ap (λ (y : Stack). limited (machine_reading (take to s) at (has y))) (bare_bottom e) ∙ ap limited (comma_bare (take to s) at f t (trees_at s w (get_or w (4 * limit) 0)) g)
 
-    pub shut-alone : (t : ℕ) → depth ≡ 0 → r ≡ Shut t → parse (part s from (to - from)) ≡ nothing
-    shut-alone t e g =
-        sym (h .reads) ∙ ap (λ (y : Stack). limited (machine-reading (take to s) at (has y))) (bare-bottom e) ∙ ap limited (shut-bare (take to s) at f t (trees-at s w (getD w (4 * limit) 0)) g)
+    pub shut_alone : (t : ℕ) → depth ≡ 0 → r ≡ Shut t → parse (part s from (to - from)) ≡ nothing
+    shut_alone t e g =
+        sym h.reads ∙ ap (λ (y : Stack). limited (machine_reading (take to s) at (has y))) (bare_bottom e) ∙ ap limited (shut_bare (take to s) at f t (trees_at s w (get_or w (4 * limit) 0)) g)
 
     -- the end
-    pub stop-out : (depth ≡ 0 → ⊥) → r ≡ Stop → parse (part s from (to - from)) ≡ nothing
-    stop-out e g =
-        sym (h .reads) ∙ ap (λ (y : Stack). limited (machine-reading (take to s) at (has y))) (top-level s w limit depth e) ∙ ap limited (stop-turn (take to s) at f (has (level _ _ _)) g)
+    pub stop_out : (depth ≡ 0 → ⊥) → r ≡ Stop → parse (part s from (to - from)) ≡ nothing
+    stop_out e g =
+        sym h.reads ∙ ap (λ (y : Stack). limited (machine_reading (take to s) at (has y))) (top_level s w limit depth e) ∙ ap limited (stop_turn (take to s) at f (has (level _ _ _)) g)
 
-    pub stop-in : {x : List ℕ} {index : ℕ} → depth ≡ 0 → r ≡ Stop → index ≡ getD w (4 * limit) 0 → Outside x w (4 * start) (stack-end start from to) → Read s x w start from to index free
-    stop-in {x} {index} e g i o =
-        let st = h .stands in
-        let b = bare-bottom e in
-        let one = rw b at (h .one) in
-        let t = one .0 in
+    pub stop_in : {x : List ℕ} {index : ℕ} → depth ≡ 0 → r ≡ Stop → index ≡ get_or w (4 * limit) 0 → Outside x w (4 * start) (stack_end start from to) → Read s x w start from to index free
+    stop_in {x} {index} e g i o =
+        let st = h.stands in
+        let b = bare_bottom e in
+        let one = rw b at h.one in
+        let t = one.0 in
         let z : 4 * limit + 3 * depth ≡ 4 * limit = omega arith in
-        let q = rw z at (st .held .trees depth (omega arith)) in
-        let ts : trees-at s w index ≡ more t none = ap (trees-at s w) i ∙ one .1 in
-        let l = st .held .arena .links in
-        let p = some-cell index t ts in
-        let m = trees-more s l index p (omega arith) in
-        let tt : tree-at s w index ≡ t = (let y = sym m ∙ ts in cc) in
+        let q = rw z at (st.held.trees depth (omega arith)) in
+        let ts : trees_at s w index ≡ more t none = ap (trees_at s w) i ∙ one.1 in
+        let l = st.held.arena.links in
+        let p = some_cell index t ts in
+        let m = trees_more s l index p (omega arith) in
+        let tt : tree_at s w index ≡ t = (let y = sym m ∙ ts in cc) in
         record {
           reads =
-              sym (h .reads) ∙ ap (λ (y : Stack). limited (machine-reading (take to s) at (has y))) b ∙ ap limited (stop-turn (take to s) at f (has (bottom (trees-at s w (getD w (4 * limit) 0)))) g)
-              ∙ ap (λ (y : Trees). limited (single y)) (one .1) ∙ small-enough t (one .2) ∙ ap some (sym tt);
-          link = no-cell l (next-of w index) (omega (arith, l .next index p (omega arith))) (let y = sym m ∙ ts in cc);
+              sym h.reads ∙ ap (λ (y : Stack). limited (machine_reading (take to s) at (has y))) b ∙ ap limited (stop_turn (take to s) at f (has (bottom (trees_at s w (get_or w (4 * limit) 0)))) g)
+              ∙ ap (λ (y : Trees). limited (single y)) one.1 ∙ small_enough t one.2 ∙ ap some (sym tt);
+          link = no_cell l (next_of w index) (omega (arith, l.next index p (omega arith))) (let y = sym m ∙ ts in cc);
           placed = (p, omega arith);
-          arena = st .held .arena;
-          grew = st .starts;
-          room = omega (arith, st .held .below, k .limit-is);
+          arena = st.held.arena;
+          grew = st.starts;
+          room = omega (arith, st.held.below, k.limit_is);
           outside = o;
         }
       where
-        some-cell : (i : ℕ) (t : Tree) → trees-at s w i ≡ more t none → 0 < i
-        some-cell zero t e = (let y = sym (trees-none s w 0 refl) ∙ e in let z : _≡_ {A = ℕ} 0 1 = cc in absurd (omega arith))
-        some-cell (suc i) t e = omega arith
+        some_cell : (i : ℕ) (t : Tree) → trees_at s w i ≡ more t none → 0 < i
+        some_cell zero t e = (let y = sym (trees_none s w 0 refl) ∙ e in let z : ◌≡◌ {A = ℕ} 0 1 = cc in absurd (omega arith))
+        some_cell (suc i) t e = omega arith
 
-        no-cell : {n : ℕ} → Links w n → (i : ℕ) → i < n → trees-at s w i ≡ none → i ≡ 0
-        no-cell l zero p e = refl
-        no-cell l (suc i) p e = (let y = sym (trees-more s l (suc i) (omega arith) p) ∙ e in let z : _≡_ {A = ℕ} 0 1 = cc in absurd (omega arith))
+        no_cell : {n : ℕ} → Links w n → (i : ℕ) → i < n → trees_at s w i ≡ none → i ≡ 0
+        no_cell l zero p e = refl
+        no_cell l (suc i) p e = (let y = sym (trees_more s l (suc i) (omega arith) p) ∙ e in let z : ◌≡◌ {A = ℕ} 0 1 = cc in absurd (omega arith))
 
     -- a comma: a term is wanted again
-    pub has-comma : {x : List ℕ} (t : ℕ) → (depth ≡ 0 → ⊥) → r ≡ Comma t → Outside x w (4 * start) (stack-end start from to) → Wants s x start limit from to w free depth t
-    has-comma {x} t e g o =
-        let st = h .stands in
-        let lv = top-level s w limit depth e in
-        let p = mark-past s at to (k .within) f t (Comma t) g refl in
+    pub has_comma : {x : List ℕ} (t : ℕ) → (depth ≡ 0 → ⊥) → r ≡ Comma t → Outside x w (4 * start) (stack_end start from to) → Wants s x start limit from to w free depth t
+    has_comma {x} t e g o =
+        let st = h.stands in
+        let lv = top_level s w limit depth e in
+        let p = mark_past s at to k.within f t (Comma t) g refl in
         record {
           stands = record {
-            held = st .held;
+            held = st.held;
             outside = o;
-            starts = st .starts;
-            after = omega (arith, st .after);
-            within = p .1;
-            deep = omega (arith, st .deep);
+            starts = st.starts;
+            after = omega (arith, st.after);
+            within = p.1;
+            deep = omega (arith, st.deep);
           };
-          bare = subst Bare (sym lv) (subst HasOne lv (h .one));
-          room = omega (arith, h .room);
+          bare = subst Bare (sym lv) (subst HasOne lv h.one);
+          room = omega (arith, h.room);
           reads =
-              ap (λ (y : Stack). limited (machine-reading (take to s) t (wants y))) lv
-              ∙ sym (ap limited (comma-turn (take to s) at f t _ _ (stack-at s w limit (depth - 1)) g))
-              ∙ sym (ap (λ (y : Stack). limited (machine-reading (take to s) at (has y))) lv)
-              ∙ h .reads;
+              ap (λ (y : Stack). limited (machine_reading (take to s) t (wants y))) lv
+              ∙ sym (ap limited (comma_turn (take to s) at f t _ _ (stack_at s w limit (depth - 1)) g))
+              ∙ sym (ap (λ (y : Stack). limited (machine_reading (take to s) at (has y))) lv)
+              ∙ h.reads;
         }
 
     -- a list is closed
-    pub has-shut : {u : List ℕ} {m : ℕ} (t : ℕ) → (depth ≡ 0 → ⊥) → r ≡ Shut t → Popped s w u free m limit (depth - 1) → Has s v start limit from to v-at u m (depth - 1) t
-    has-shut {u} {m} t e g x =
-        let st = h .stands in
-        let lv = top-level s w limit depth e in
-        let p = mark-past s at to (k .within) f t (Shut t) g refl in
-        let y = x .added in
-        let ro = h .room in
-        let xr = x .room in
-        let gr = x .grows in
-        let af = st .after in
-        let de = st .deep in
-        let ss = st .starts in
-        let li = k .limit-is in
-        let wl = ap closing-room lv in
-        let wu = ap closing-room (y .stack) in
+    pub has_shut : {u : List ℕ} {m : ℕ} (t : ℕ) → (depth ≡ 0 → ⊥) → r ≡ Shut t → Popped s w u free m limit (depth - 1) → Has s v start limit from to v_at u m (depth - 1) t
+    has_shut {u} {m} t e g x =
+        let st = h.stands in
+        let lv = top_level s w limit depth e in
+        let p = mark_past s at to k.within f t (Shut t) g refl in
+        let y = x.added in
+        let ro = h.room in
+        let xr = x.room in
+        let gr = x.grows in
+        let af = st.after in
+        let de = st.deep in
+        let ss = st.starts in
+        let li = k.limit_is in
+        let wl = ap closing_room lv in
+        let wu = ap closing_room y.stack in
         record {
           stands = record {
-            held = y .held;
-            outside = outside-on (omega arith) (omega arith) (st .outside) (y .outside);
+            held = y.held;
+            outside = outside_on (omega arith) (omega arith) st.outside y.outside;
             starts = omega arith;
             after = omega arith;
-            within = p .1;
+            within = p.1;
             deep = omega arith;
           };
-          past = omega (arith, h .past);
-          one = rw (y .stack) (add-has (x .tree) (stack-at s w limit (depth - 1)) (subst HasOne lv (h .one)) (x .small));
-          room = omega (arith, add-weight (x .tree) (stack-at s w limit (depth - 1)));
+          past = omega (arith, h.past);
+          one = rw y.stack (add_has x.tree (stack_at s w limit (depth - 1)) (subst HasOne lv h.one) x.small);
+          room = omega (arith, add_weight x.tree (stack_at s w limit (depth - 1)));
           reads =
-              ap (λ (y : Stack). limited (machine-reading (take to s) t (has y))) (y .stack)
-              ∙ sym (ap limited (shut-turn (take to s) at f t _ _ (stack-at s w limit (depth - 1)) (x .tree) g (x .is)))
-              ∙ sym (ap (λ (y : Stack). limited (machine-reading (take to s) at (has y))) lv)
-              ∙ h .reads;
+              ap (λ (y : Stack). limited (machine_reading (take to s) t (has y))) y.stack
+              ∙ sym (ap limited (shut_turn (take to s) at f t _ _ (stack_at s w limit (depth - 1)) x.tree g x.is))
+              ∙ sym (ap (λ (y : Stack). limited (machine_reading (take to s) at (has y))) lv)
+              ∙ h.reads;
         }
 
-    pub shut-refused : (t : ℕ) → (depth ≡ 0 → ⊥) → r ≡ Shut t → NoTree (closed-level s w limit (depth - 1)) → parse (part s from (to - from)) ≡ nothing
-    shut-refused t e g x =
-        sym (h .reads) ∙ ap (λ (y : Stack). limited (machine-reading (take to s) at (has y))) (top-level s w limit depth e) ∙ shut-out (take to s) at f t _ _ (stack-at s w limit (depth - 1)) g x
+    pub shut_refused : (t : ℕ) → (depth ≡ 0 → ⊥) → r ≡ Shut t → NoTree (closed_level s w limit (depth - 1)) → parse (part s from (to - from)) ≡ nothing
+    shut_refused t e g x =
+        sym h.reads ∙ ap (λ (y : Stack). limited (machine_reading (take to s) at (has y))) (top_level s w limit depth e) ∙ shut_out (take to s) at f t _ _ (stack_at s w limit (depth - 1)) g x
 
     -- room to close the top level
-    pub shut-room : (t : ℕ) → (depth ≡ 0 → ⊥) → r ≡ Shut t → most s w free (getD w (4 * limit + 3 * (depth - 1) + 3) 0) ≤ limit
-    shut-room t e g =
-        let st = h .stands in
-        let p = mark-past s at to (k .within) f t (Shut t) g refl in
-        let wl = ap closing-room (top-level s w limit depth e) in
-        omega (arith, h .room, st .after, k .limit-is)
+    pub shut_room : (t : ℕ) → (depth ≡ 0 → ⊥) → r ≡ Shut t → most s w free (get_or w (4 * limit + 3 * (depth - 1) + 3) 0) ≤ limit
+    shut_room t e g =
+        let st = h.stands in
+        let p = mark_past s at to k.within f t (Shut t) g refl in
+        let wl = ap closing_room (top_level s w limit depth e) in
+        omega (arith, h.room, st.after, k.limit_is)
 
-pub task : (s : Text) {start limit from to : ℕ} → limit ≡ limit-of start from to → from ≤ to → to ≤ length s → length s ≤ 65536 → to < from + 65536 → Task s start limit from to
-task s a b c d e = record { limit-is = a; order = b; within = c; small = d; short = e }
+pub task : (s : Text) {start limit from to : ℕ} → limit ≡ limit_of start from to → from ≤ to → to ≤ length s → length s ≤ 65536 → to < from + 65536 → Task s start limit from to
+task s a b c d e = record { limit_is = a; order = b; within = c; small = d; short = e }
 
 -- what the inner round changed, and the outer before it
-pub outside-inner : {s : Text} {start limit from to : ℕ} {v w u x : List ℕ} {free depth at end : ℕ} {t : Tree} → Task s start limit from to → Wants s v start limit from to w free depth at
-    → Added s w u free end limit depth t → Outside u x (4 * start) (stack-end start from to) → Outside v x (4 * start) (stack-end start from to)
-outside-inner k h y o =
-    let st = h .stands in
-    outside-on (omega arith) (omega arith) (outside-on (omega (arith, st .starts)) (omega (arith, k .limit-is, st .deep, st .within, st .after)) (st .outside) (y .outside)) o
+pub outside_inner : {s : Text} {start limit from to : ℕ} {v w u x : List ℕ} {free depth at end : ℕ} {t : Tree} → Task s start limit from to → Wants s v start limit from to w free depth at
+    → Added s w u free end limit depth t → Outside u x (4 * start) (stack_end start from to) → Outside v x (4 * start) (stack_end start from to)
+outside_inner k h y o =
+    let st = h.stands in
+    outside_on (omega arith) (omega arith) (outside_on (omega (arith, st.starts)) (omega (arith, k.limit_is, st.deep, st.within, st.after)) st.outside y.outside) o
 
-pub pops-is : (s : Text) (w v : List ℕ) (n limit d : ℕ) {r q : Closed} → Pops s w v n limit d r → r ≡ q → Pops s w v n limit d q
-pops-is s w v n limit d h e = subst (Pops s w v n limit d) e h
+pub pops_is : (s : Text) (w v : List ℕ) (n limit d : ℕ) {r q : Closed} → Pops s w v n limit d r → r ≡ q → Pops s w v n limit d q
+pops_is s w v n limit d h e = subst (Pops s w v n limit d) e h
 
 -- The word of the bottom is set before the rounds
 
-module _ {s : Text} {w : List ℕ} {free : ℕ} (from to : ℕ) (a : Arena s w free) (room : stack-end free from to ≤ length w) where
-  pub bottom-arena : Arena s (set w (4 * limit-of free from to) 0) free
-  bottom-arena =
-      arena-frame s a (length-set w (4 * limit-of free from to) 0) (λ p q. sym (getD-set-other w (4 * limit-of free from to) p 0 0 (omega arith)))
+module _ {s : Text} {w : List ℕ} {free : ℕ} (from to : ℕ) (a : Arena s w free) (room : stack_end free from to ≤ length w) where
+  pub bottom_arena : Arena s (set w (4 * limit_of free from to) 0) free
+  bottom_arena =
+      arena_frame s a (length-set w (4 * limit_of free from to) 0) (λ p q. sym (get_or-set_other w (4 * limit_of free from to) p 0 0 (omega arith)))
 
-  pub bottom-word : getD (set w (4 * limit-of free from to) 0) (4 * limit-of free from to) 0 ≡ 0
-  bottom-word = getD-set-same w (4 * limit-of free from to) 0 0 (omega arith)
+  pub bottom_word : get_or (set w (4 * limit_of free from to) 0) (4 * limit_of free from to) 0 ≡ 0
+  bottom_word = get_or-set_same w (4 * limit_of free from to) 0 0 (omega arith)
 
-  pub bottom-outside : Outside w (set w (4 * limit-of free from to) 0) (4 * free) (stack-end free from to)
-  bottom-outside = record {
-    len = length-set w (4 * limit-of free from to) 0;
-    below = λ p q. getD-set-other w (4 * limit-of free from to) p 0 0 (omega arith);
-    above = λ p q. getD-set-other w (4 * limit-of free from to) p 0 0 (omega arith);
+  pub bottom_outside : Outside w (set w (4 * limit_of free from to) 0) (4 * free) (stack_end free from to)
+  bottom_outside = record {
+    len = length-set w (4 * limit_of free from to) 0;
+    below = λ p q. get_or-set_other w (4 * limit_of free from to) p 0 0 (omega arith);
+    above = λ p q. get_or-set_other w (4 * limit_of free from to) p 0 0 (omega arith);
   }
 
-pub parses-on : (s : Text) {w v : List ℕ} (u : List ℕ) (free from to : ℕ) (r : Parsed) → Outside w v (4 * free) (stack-end free from to) → Parses s v u free from to r → Parses s w u free from to r
-parses-on s u free from to (Parsed-tree index end) o h = record {
-  reads = h .reads;
-  link = h .link;
-  placed = h .placed;
-  arena = h .arena;
-  grew = h .grew;
-  room = h .room;
-  outside = outside-on (omega arith) (omega arith) o (h .outside);
+pub parses_on : (s : Text) {w v : List ℕ} (u : List ℕ) (free from to : ℕ) (r : Parsed) → Outside w v (4 * free) (stack_end free from to) → Parses s v u free from to r → Parses s w u free from to r
+parses_on s u free from to (parsed_tree index end) o h = record {
+  reads = h.reads;
+  link = h.link;
+  placed = h.placed;
+  arena = h.arena;
+  grew = h.grew;
+  room = h.room;
+  outside = outside_on (omega arith) (omega arith) o h.outside;
 }
-parses-on s u free from to Unreadable o h = (h .0, outside-on (omega arith) (omega arith) o (h .1))
+parses_on s u free from to Unreadable o h = (h.0, outside_on (omega arith) (omega arith) o h.1)
 
 -- at the end of the text
-pub stop-ends : {s : Text} {start limit from to : ℕ} → Task s start limit from to → {v w x : List ℕ} {v-at free at : ℕ} (depth : ℕ) → Has s v start limit from to v-at w free depth at
-    → {r : Symbol} → r ≡ symbol-at (take to s) at → r ≡ Stop → Outside x w (4 * start) (stack-end start from to) → (q : Parsed) → q ≡ ended-at w limit free depth → Parses s x w start from to q
-stop-ends {s} {start} {limit} {from} {to} k {v} {w} {x} zero h f g o q e = subst (Parses s x w start from to) (sym e) (stop-in k h f refl g refl o)
-stop-ends {s} {start} {limit} {from} {to} k {v} {w} {x} (suc d) h f g o q e = subst (Parses s x w start from to) (sym e) (stop-out k h f (λ z. (omega arith)) g, o)
+pub stop_ends : {s : Text} {start limit from to : ℕ} → Task s start limit from to → {v w x : List ℕ} {v_at free at : ℕ} (depth : ℕ) → Has s v start limit from to v_at w free depth at
+    → {r : Symbol} → r ≡ symbol_at (take to s) at → r ≡ Stop → Outside x w (4 * start) (stack_end start from to) → (q : Parsed) → q ≡ ended_at w limit free depth → Parses s x w start from to q
+stop_ends {s} {start} {limit} {from} {to} k {v} {w} {x} zero h f g o q e = subst (Parses s x w start from to) (sym e) (stop_in k h f refl g refl o)
+stop_ends {s} {start} {limit} {from} {to} k {v} {w} {x} (suc d) h f g o q e = subst (Parses s x w start from to) (sym e) (stop_out k h f (λ z. (omega arith)) g, o)
 
-pub ended-open : (w : List ℕ) (limit free depth : ℕ) → 0 < depth → Unreadable ≡ ended-at w limit free depth
-ended-open w limit free zero p = absurd (omega arith)
-ended-open w limit free (suc d) p = refl
+pub ended_open : (w : List ℕ) (limit free depth : ℕ) → 0 < depth → Unreadable ≡ ended_at w limit free depth
+ended_open w limit free zero p = absurd (omega arith)
+ended_open w limit free (suc d) p = refl
 
-pub ended-bottom : (w : List ℕ) (limit free depth : ℕ) {index : ℕ} → depth ≤ 0 → index ≡ getD w (4 * limit) 0 → Parsed-tree index free ≡ ended-at w limit free depth
-ended-bottom w limit free zero p e = cc
-ended-bottom w limit free (suc d) p e = absurd (omega arith)
+pub ended_bottom : (w : List ℕ) (limit free depth : ℕ) {index : ℕ} → depth ≤ 0 → index ≡ get_or w (4 * limit) 0 → parsed_tree index free ≡ ended_at w limit free depth
+ended_bottom w limit free zero p e = cc
+ended_bottom w limit free (suc d) p e = absurd (omega arith)

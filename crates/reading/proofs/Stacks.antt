@@ -1,144 +1,143 @@
 -- The stack in words: words that stay, a tree put on the top, a level opened.
-use Prim.Native.Nat.{ℕ, zero, suc, _+_, _*_, _<_, _≤_}
+use Prim.Native.Nat.{ℕ, zero, suc, ◌+◌, ◌*◌, ◌<◌, ◌≤◌}
 use native.Mathlib.Omega.{arith}
 use native.Mathlib.Numerals.{add-one}
-use native.Mathlib.Decide.{decLt, ℕ-discrete}
-use mathlib.Core.Path.{_≡_, refl, sym, ap, ap₂, _∙_, subst}
+use native.Mathlib.Decide.{dec_lt, ℕ_discrete}
+use mathlib.Core.Path.{◌≡◌, refl, sym, ap, ap₂, ◌∙◌, subst}
 use mathlib.Core.List.{List}
-use mathlib.Core.Option.{some}
-use lib.ListN.{length, getD, set, length-set}
-use lib.Seq.{getD-set-same, getD-set-other}
-use Rattle·rules.specs.Bytes.{Text}
-use Rattle·rules.specs.Tree.{Tree, Trees, none, more, size}
-use Rattle·rules.specs.Reading.{leaf, close}
-use Rattle·laws.proofs.Reading.Colons.{leaf-size}
-use Rattle·tree.specs.Cells.{named, part, variable-kind, made, trees-at}
-use Rattle·tree.specs.Arena.{Links, Arena, Grown, WroteCell, Linked}
-use Rattle·tree.proofs.Decoding.{Agree, frame-trees, trees-none}
-use Rattle·tree.proofs.Areas.{arena-frame, grown-same}
-use Rattle·closing.specs.Machine.{Stack, bottom, level, add, back}
-use Rattle·leaves.specs.Leaves.{leaf-kind}
-use Rattle·text.specs.Frames.{Outside}
-use Rattle·closing.specs.Words.{stack-at, NamePlaced, Held, LastCell, Added, Opened}
-use Rattle·closing.specs.Closing.{most, Done, NoTree, closed-level, Popped}
-use Rattle·leaves.proofs.LeafLaws.{leaf-made, leaf-sorted}
-use Rattle·closing.proofs.Making.{named-part, place-of, linked-at, made-on}
+use lib.ListN.{length, get_or, set, length-set}
+use lib.Seq.{get_or-set_same, get_or-set_other}
+use Rattle.rules.specs.Bytes.{Text}
+use Rattle.rules.specs.Tree.{Tree, Trees, none, more, size}
+use Rattle.rules.specs.Reading.{leaf, close}
+use Rattle.laws.proofs.Reading.Colons.{leaf_size}
+use Rattle.tree.specs.Cells.{named, part, variable_kind, made, trees_at}
+use Rattle.tree.specs.Arena.{Links, Arena, Grown, WroteCell, Linked}
+use Rattle.tree.proofs.Decoding.{Agree, frame_trees, trees_none}
+use Rattle.tree.proofs.Areas.{arena_frame, grown_same}
+use Rattle.closing.specs.Machine.{Stack, bottom, level, add, back}
+use Rattle.leaves.specs.Leaves.{leaf_kind}
+use Rattle.text.specs.Frames.{Outside}
+use Rattle.closing.specs.Words.{stack_at, NamePlaced, Held, LastCell, Added, Opened}
+use Rattle.closing.specs.Closing.{most, Done, NoTree, closed_level, Popped}
+use Rattle.leaves.proofs.LeafLaws.{leaf_made, leaf_sorted}
+use Rattle.closing.proofs.Making.{named_part, place_of, linked_at, made_on}
 
-level-path : {a b : Text} {ts us : Trees} {k l : Stack} → a ≡ b → ts ≡ us → k ≡ l → level a ts k ≡ level b us l
-level-path p q r = cc
+level_path : {a b : Text} {ts us : Trees} {k l : Stack} → a ≡ b → ts ≡ us → k ≡ l → level a ts k ≡ level b us l
+level_path p q r = cc
 
 -- a tree of the stack: the same number, and the same cells
 module _ (s : Text) {w : List ℕ} (v : List ℕ) {n : ℕ} (l : Links w n) (g : Agree w v n) where
-  at-word : (p : ℕ) → getD w p 0 ≡ getD v p 0 → getD w p 0 < n → trees-at s w (getD w p 0) ≡ trees-at s v (getD v p 0)
-  at-word p e q = frame-trees s v l g (getD w p 0) q ∙ ap (trees-at s v) e
+  at_word : (p : ℕ) → get_or w p 0 ≡ get_or v p 0 → get_or w p 0 < n → trees_at s w (get_or w p 0) ≡ trees_at s v (get_or v p 0)
+  at_word p e q = frame_trees s v l g (get_or w p 0) q ∙ ap (trees_at s v) e
 
   -- the stack stays where its words stay
-  pub stack-frame : (limit d : ℕ) → ((p : ℕ) → 4 * limit ≤ p → p ≤ 4 * limit + 3 * d → getD w p 0 ≡ getD v p 0) → ((i : ℕ) → i ≤ d → getD w (4 * limit + 3 * i) 0 < n)
-      → stack-at s w limit d ≡ stack-at s v limit d
-  unfolding stack-at
-  stack-frame limit zero e t =
+  pub stack_frame : (limit d : ℕ) → ((p : ℕ) → 4 * limit ≤ p → p ≤ 4 * limit + 3 * d → get_or w p 0 ≡ get_or v p 0) → ((i : ℕ) → i ≤ d → get_or w (4 * limit + 3 * i) 0 < n)
+      → stack_at s w limit d ≡ stack_at s v limit d
+  unfolding stack_at
+  stack_frame limit zero e t =
       let z : 4 * limit + 3 * 0 ≡ 4 * limit = omega arith in
-      ap bottom (at-word (4 * limit) (e (4 * limit) (omega arith) (omega arith)) (rw z at (t 0 (omega arith))))
-  stack-frame limit (suc d) e t =
+      ap bottom (at_word (4 * limit) (e (4 * limit) (omega arith) (omega arith)) (rw z at (t 0 (omega arith))))
+  stack_frame limit (suc d) e t =
       let z : 4 * limit + 3 * suc d ≡ 4 * limit + 3 * d + 3 = omega arith in
-      level-path
+      level_path
       (ap₂ (part s) (e (4 * limit + 3 * d + 1) (omega arith) (omega arith)) (e (4 * limit + 3 * d + 2) (omega arith) (omega arith)))
-      (at-word (4 * limit + 3 * d + 3) (e (4 * limit + 3 * d + 3) (omega arith) (omega arith)) (rw z at (t (suc d) (omega arith))))
-      (stack-frame limit d (λ p a b. e p a (omega arith)) (λ i q. t i (omega arith)))
+      (at_word (4 * limit + 3 * d + 3) (e (4 * limit + 3 * d + 3) (omega arith) (omega arith)) (rw z at (t (suc d) (omega arith))))
+      (stack_frame limit d (λ p a b. e p a (omega arith)) (λ i q. t i (omega arith)))
 
 -- a tree put on the level d: new cells up to m, and the last of them in the level's word
-abbrev top-set : List ℕ → ℕ → ℕ → ℕ → List ℕ
-top-set v limit d k = set v (4 * limit + 3 * d) k
+abbrev top_set : List ℕ → ℕ → ℕ → ℕ → List ℕ
+top_set v limit d k = set v (4 * limit + 3 * d) k
 
-module _ {s : Text} {w v : List ℕ} {n m limit d : ℕ} {t : Tree} (k : ℕ) (h : Held s w n limit d) (b : m ≤ limit) (x : LastCell s w v n m (getD w (4 * limit + 3 * d) 0) t) (e : k + 1 ≡ m) where
+module _ {s : Text} {w v : List ℕ} {n m limit d : ℕ} {t : Tree} (k : ℕ) (h : Held s w n limit d) (b : m ≤ limit) (x : LastCell s w v n m (get_or w (4 * limit + 3 * d) 0) t) (e : k + 1 ≡ m) where
   -- words of v other than the level's
-  kept : (p : ℕ) → (p ≡ 4 * limit + 3 * d → ⊥) → getD v p 0 ≡ getD (top-set v limit d k) p 0
-  kept p f = sym (getD-set-other v (4 * limit + 3 * d) p k 0 f)
+  kept : (p : ℕ) → (p ≡ 4 * limit + 3 * d → ⊥) → get_or v p 0 ≡ get_or (top_set v limit d k) p 0
+  kept p f = sym (get_or-set_other v (4 * limit + 3 * d) p k 0 f)
 
-  cells : Agree v (top-set v limit d k) m
+  cells : Agree v (top_set v limit d k) m
   cells p q = kept p (omega arith)
 
-  new : getD (top-set v limit d k) (4 * limit + 3 * d) 0 ≡ k
-  new = getD-set-same v (4 * limit + 3 * d) k 0 (omega (arith, h .room, x .grown .len))
+  new : get_or (top_set v limit d k) (4 * limit + 3 * d) 0 ≡ k
+  new = get_or-set_same v (4 * limit + 3 * d) k 0 (omega (arith, h.room, x.grown.len))
 
   -- words of w at the stack's levels below
-  lower : (p : ℕ) → 4 * limit ≤ p → p < 4 * limit + 3 * d → getD w p 0 ≡ getD (top-set v limit d k) p 0
-  lower p q r = x .grown .above p (omega arith) ∙ kept p (omega arith)
+  lower : (p : ℕ) → 4 * limit ≤ p → p < 4 * limit + 3 * d → get_or w p 0 ≡ get_or (top_set v limit d k) p 0
+  lower p q r = x.grown.above p (omega arith) ∙ kept p (omega arith)
 
-  old-cells : Agree w (top-set v limit d k) n
-  old-cells p q = let f = x .some in x .grown .below p q ∙ cells p (omega arith)
+  old_cells : Agree w (top_set v limit d k) n
+  old_cells p q = let f = x.some in x.grown.below p q ∙ cells p (omega arith)
 
-  top-trees : trees-at s (top-set v limit d k) (getD (top-set v limit d k) (4 * limit + 3 * d) 0) ≡ more t (trees-at s w (getD w (4 * limit + 3 * d) 0))
-  top-trees = ap (trees-at s (top-set v limit d k)) new ∙ sym (frame-trees s (top-set v limit d k) (x .arena .links) cells k (omega arith)) ∙ x .trees k e
+  top_trees : trees_at s (top_set v limit d k) (get_or (top_set v limit d k) (4 * limit + 3 * d) 0) ≡ more t (trees_at s w (get_or w (4 * limit + 3 * d) 0))
+  top_trees = ap (trees_at s (top_set v limit d k)) new ∙ sym (frame_trees s (top_set v limit d k) x.arena.links cells k (omega arith)) ∙ x.trees k e
 
-  added-stack : (f : ℕ) → f ≡ d → stack-at s (top-set v limit d k) limit f ≡ add t (stack-at s w limit f)
-  unfolding stack-at
-  added-stack zero f =
+  added_stack : (f : ℕ) → f ≡ d → stack_at s (top_set v limit d k) limit f ≡ add t (stack_at s w limit f)
+  unfolding stack_at
+  added_stack zero f =
       let z : 4 * limit + 3 * d ≡ 4 * limit = omega arith in
-      ap bottom (subst (λ (p : ℕ). trees-at s (top-set v limit d k) (getD (top-set v limit d k) p 0) ≡ more t (trees-at s w (getD w p 0))) z top-trees)
-  added-stack (suc c) f =
+      ap bottom (subst (λ (p : ℕ). trees_at s (top_set v limit d k) (get_or (top_set v limit d k) p 0) ≡ more t (trees_at s w (get_or w p 0))) z top_trees)
+  added_stack (suc c) f =
       let z : 4 * limit + 3 * d ≡ 4 * limit + 3 * c + 3 = omega arith in
-      level-path
+      level_path
       (sym (ap₂ (part s) (lower (4 * limit + 3 * c + 1) (omega arith) (omega arith)) (lower (4 * limit + 3 * c + 2) (omega arith) (omega arith))))
-      (subst (λ (p : ℕ). trees-at s (top-set v limit d k) (getD (top-set v limit d k) p 0) ≡ more t (trees-at s w (getD w p 0))) z top-trees)
-      (sym (stack-frame s (top-set v limit d k) (h .arena .links) old-cells limit c (λ p q r. lower p q (omega arith)) (λ i q. h .trees i (omega arith))))
+      (subst (λ (p : ℕ). trees_at s (top_set v limit d k) (get_or (top_set v limit d k) p 0) ≡ more t (trees_at s w (get_or w p 0))) z top_trees)
+      (sym (stack_frame s (top_set v limit d k) h.arena.links old_cells limit c (λ p q r. lower p q (omega arith)) (λ i q. h.trees i (omega arith))))
 
-  added-trees : (i : ℕ) → i ≤ d → getD (top-set v limit d k) (4 * limit + 3 * i) 0 < m
-  added-trees i q = elim (ℕ-discrete i d) [
+  added_trees : (i : ℕ) → i ≤ d → get_or (top_set v limit d k) (4 * limit + 3 * i) 0 < m
+  added_trees i q = elim (ℕ_discrete i d) [
     | yes f ↦ rw (f, new) (omega arith)
-    | no f ↦ (let l = h .trees i q in let g = lower (4 * limit + 3 * i) (omega arith) (omega arith) in let j = x .some in omega arith)
+    | no f ↦ (let l = h.trees i q in let g = lower (4 * limit + 3 * i) (omega arith) (omega arith) in let j = x.some in omega arith)
   ]
 
-  pub added : Added s w (top-set v limit d k) n m limit d t
+  pub added : Added s w (top_set v limit d k) n m limit d t
   added = record {
     held = record {
-      arena = arena-frame s (x .arena) (length-set v (4 * limit + 3 * d) k) cells;
+      arena = arena_frame s x.arena (length-set v (4 * limit + 3 * d) k) cells;
       below = b;
-      room = omega (arith, h .room, x .grown .len, length-set v (4 * limit + 3 * d) k);
-      trees = added-trees;
-      names = λ i q. rw (← lower (4 * limit + 3 * i + 1) (omega arith) (omega arith), ← lower (4 * limit + 3 * i + 2) (omega arith) (omega arith)) (h .names i q);
+      room = omega (arith, h.room, x.grown.len, length-set v (4 * limit + 3 * d) k);
+      trees = added_trees;
+      names = λ i q. rw (← lower (4 * limit + 3 * i + 1) (omega arith) (omega arith), ← lower (4 * limit + 3 * i + 2) (omega arith) (omega arith)) (h.names i q);
     };
-    stack = added-stack d refl;
+    stack = added_stack d refl;
     outside = record {
-      len = length-set v (4 * limit + 3 * d) k ∙ x .grown .len;
-      below = λ p q. sym (old-cells p q);
-      above = λ p q. sym (x .grown .above p (omega arith) ∙ kept p (omega arith));
+      len = length-set v (4 * limit + 3 * d) k ∙ x.grown.len;
+      below = λ p q. sym (old_cells p q);
+      above = λ p q. sym (x.grown.above p (omega arith) ∙ kept p (omega arith));
     };
   }
 
-pub held-below : {s : Text} {w : List ℕ} {n limit d : ℕ} → Held s w n limit (d + 1) → Held s w n limit d
-held-below h = record {
-  arena = h .arena;
-  below = h .below;
-  room = omega (arith, h .room);
-  trees = λ i q. h .trees i (omega arith);
-  names = λ i q. h .names i (omega arith);
+pub held_below : {s : Text} {w : List ℕ} {n limit d : ℕ} → Held s w n limit (d + 1) → Held s w n limit d
+held_below h = record {
+  arena = h.arena;
+  below = h.below;
+  room = omega (arith, h.room);
+  trees = λ i q. h.trees i (omega arith);
+  names = λ i q. h.names i (omega arith);
 }
 
 -- the level d + 1
-pub stack-top : (s : Text) (w : List ℕ) (limit d : ℕ)
-    → stack-at s w limit (d + 1)
-    ≡ level (part s (getD w (4 * limit + 3 * d + 1) 0) (getD w (4 * limit + 3 * d + 2) 0)) (trees-at s w (getD w (4 * limit + 3 * d + 3) 0)) (stack-at s w limit d)
-unfolding stack-at
-stack-top s w limit d = rw (add-one d)
+pub stack_top : (s : Text) (w : List ℕ) (limit d : ℕ)
+    → stack_at s w limit (d + 1)
+    ≡ level (part s (get_or w (4 * limit + 3 * d + 1) 0) (get_or w (4 * limit + 3 * d + 2) 0)) (trees_at s w (get_or w (4 * limit + 3 * d + 3) 0)) (stack_at s w limit d)
+unfolding stack_at
+stack_top s w limit d = rw (add-one d)
 
 -- a leaf's cell
-pub leaf-linked : {s : Text} {w v : List ℕ} {n a l kind next : ℕ} → WroteCell w v n a l kind 0 next 1 → Arena s w n → 4 * n + 4 ≤ length w → next < n → NamePlaced s a l → kind ≡ leaf-kind (part s a l) → kind < 7
+pub leaf_linked : {s : Text} {w v : List ℕ} {n a l kind next : ℕ} → WroteCell w v n a l kind 0 next 1 → Arena s w n → 4 * n + 4 ≤ length w → next < n → NamePlaced s a l → kind ≡ leaf_kind (part s a l) → kind < 7
     → Linked s w v n next (leaf (part s a l))
-leaf-linked {s} {w} {v} {n} {a} {l} {kind} {next} x h room q p e small =
-    let m = named-part p in
-    let t : made kind (named s a l) (trees-at s w 0) ≡ leaf (part s a l) = rw (e, m, trees-none s w 0 refl) (leaf-made (part s a l)) in
+leaf_linked {s} {w} {v} {n} {a} {l} {kind} {next} x h room q p e small =
+    let m = named_part p in
+    let t : made kind (named s a l) (trees_at s w 0) ≡ leaf (part s a l) = rw (e, m, trees_none s w 0 refl) (leaf_made (part s a l)) in
     subst (Linked s w v n next) t
-    (linked-at x s h room (h .links .some) q (place-of p) (omega arith) (λ f g. e ∙ leaf-sorted (part s a l) (omega arith) ∙ ap variable-kind (sym m))
-    (λ f g. p .plain (ap (λ (y : Text). getD y 1 0) (sym m) ∙ g)) (sym (ap size t ∙ leaf-size (part s a l))))
+    (linked_at x s h room h.links.some q (place_of p) (omega arith) (λ f g. e ∙ leaf_sorted (part s a l) (omega arith) ∙ ap variable_kind (sym m))
+    (λ f g. p.plain (ap (λ (y : Text). get_or y 1 0) (sym m) ∙ g)) (sym (ap size t ∙ leaf_size (part s a l))))
 
-pub leaf-added : {s : Text} {w v : List ℕ} {n limit d r a l kind next : ℕ} → Held s w n limit d → n < limit → NamePlaced s a l → next ≡ getD w (4 * limit + 3 * d) 0 → kind ≡ leaf-kind (part s a l) → kind < 7
+pub leaf_added : {s : Text} {w v : List ℕ} {n limit d r a l kind next : ℕ} → Held s w n limit d → n < limit → NamePlaced s a l → next ≡ get_or w (4 * limit + 3 * d) 0 → kind ≡ leaf_kind (part s a l) → kind < 7
     → r ≡ n + 1 → WroteCell w v n a l kind 0 next 1 → Added s w (set v (4 * limit + 3 * d) n) n r limit d (leaf (part s a l))
-leaf-added {s} {w} {v} {n} {limit} {d} {r} {a} {l} {kind} {next} h b p e f small g x =
-    let q = h .trees d (omega arith) in
-    let o = h .room in
-    let y = subst (λ (k : ℕ). Linked s w v n k (leaf (part s a l))) e (leaf-linked x (h .arena) (omega arith) (omega arith) p f small) in
-    added n h (omega arith) (made-on s (h .arena .links) q (omega arith) (grown-same w n n) g y) (sym g)
+leaf_added {s} {w} {v} {n} {limit} {d} {r} {a} {l} {kind} {next} h b p e f small g x =
+    let q = h.trees d (omega arith) in
+    let o = h.room in
+    let y = subst (λ (k : ℕ). Linked s w v n k (leaf (part s a l))) e (leaf_linked x h.arena (omega arith) (omega arith) p f small) in
+    added n h (omega arith) (made_on s h.arena.links q (omega arith) (grown_same w n n) g y) (sym g)
 
 -- a level opened
 module _ {s : Text} {w : List ℕ} {n limit d a l : ℕ} (h : Held s w n limit d) (room : 4 * limit + 3 * d + 3 < length w) (p : NamePlaced s a l) where
@@ -154,94 +153,94 @@ module _ {s : Text} {w : List ℕ} {n limit d a l : ℕ} (h : Held s w n limit d
   abbrev opening : List ℕ
   opening = set w₂ (4 * limit + 3 * d + 3) 0
 
-  opening-length : length opening ≡ length w
-  opening-length = simp length-set
+  opening_length : length opening ≡ length w
+  opening_length = simp length-set
 
-  other : (q : ℕ) → (q ≡ top + 1 → ⊥) → (q ≡ top + 2 → ⊥) → (q ≡ top + 3 → ⊥) → getD w q 0 ≡ getD opening q 0
-  other q e f g = sym (getD-set-other w₂ (top + 3) q 0 0 g ∙ getD-set-other w₁ (top + 2) q l 0 f ∙ getD-set-other w (top + 1) q a 0 e)
+  other : (q : ℕ) → (q ≡ top + 1 → ⊥) → (q ≡ top + 2 → ⊥) → (q ≡ top + 3 → ⊥) → get_or w q 0 ≡ get_or opening q 0
+  other q e f g = sym (get_or-set_other w₂ (top + 3) q 0 0 g ∙ get_or-set_other w₁ (top + 2) q l 0 f ∙ get_or-set_other w (top + 1) q a 0 e)
 
-  word-1 : getD opening (top + 1) 0 ≡ a
-  word-1 = getD-set-other w₂ (top + 3) (top + 1) 0 0 (omega arith) ∙ getD-set-other w₁ (top + 2) (top + 1) l 0 (omega arith) ∙ getD-set-same w (top + 1) a 0 (omega arith)
+  word_1 : get_or opening (top + 1) 0 ≡ a
+  word_1 = get_or-set_other w₂ (top + 3) (top + 1) 0 0 (omega arith) ∙ get_or-set_other w₁ (top + 2) (top + 1) l 0 (omega arith) ∙ get_or-set_same w (top + 1) a 0 (omega arith)
 
-  word-2 : getD opening (top + 2) 0 ≡ l
-  word-2 = getD-set-other w₂ (top + 3) (top + 2) 0 0 (omega arith) ∙ getD-set-same w₁ (top + 2) l 0 (simp length-set (omega arith))
+  word_2 : get_or opening (top + 2) 0 ≡ l
+  word_2 = get_or-set_other w₂ (top + 3) (top + 2) 0 0 (omega arith) ∙ get_or-set_same w₁ (top + 2) l 0 (simp length-set (omega arith))
 
-  word-3 : getD opening (top + 3) 0 ≡ 0
-  word-3 = getD-set-same w₂ (top + 3) 0 0 (simp length-set (omega arith))
+  word_3 : get_or opening (top + 3) 0 ≡ 0
+  word_3 = get_or-set_same w₂ (top + 3) 0 0 (simp length-set (omega arith))
 
-  lower-words : (q : ℕ) → q ≤ top → getD w q 0 ≡ getD opening q 0
-  lower-words q r = other q (omega arith) (omega arith) (omega arith)
+  lower_words : (q : ℕ) → q ≤ top → get_or w q 0 ≡ get_or opening q 0
+  lower_words q r = other q (omega arith) (omega arith) (omega arith)
 
-  opened-cells : Agree w opening n
-  opened-cells q r = let b = h .below in lower-words q (omega arith)
+  opened_cells : Agree w opening n
+  opened_cells q r = let b = h.below in lower_words q (omega arith)
 
-  opened-trees : (i : ℕ) → i ≤ d + 1 → getD opening (4 * limit + 3 * i) 0 < n
-  opened-trees i q = elim (decLt d i) [
-    | yes f ↦ (let z : 4 * limit + 3 * i ≡ top + 3 = omega arith in rw (z, word-3) (h .arena .links .some))
-    | no f ↦ (let t = h .trees i (omega arith) in let e = lower-words (4 * limit + 3 * i) (omega arith) in omega arith)
+  opened_trees : (i : ℕ) → i ≤ d + 1 → get_or opening (4 * limit + 3 * i) 0 < n
+  opened_trees i q = elim (dec_lt d i) [
+    | yes f ↦ (let z : 4 * limit + 3 * i ≡ top + 3 = omega arith in rw (z, word_3) h.arena.links.some)
+    | no f ↦ (let t = h.trees i (omega arith) in let e = lower_words (4 * limit + 3 * i) (omega arith) in omega arith)
   ]
 
-  opened-names : (i : ℕ) → i < d + 1 → NamePlaced s (getD opening (4 * limit + 3 * i + 1) 0) (getD opening (4 * limit + 3 * i + 2) 0)
-  opened-names i q = elim (ℕ-discrete i d) [
-    | yes f ↦ rw (f, word-1, word-2) p
-    | no f ↦ rw (← lower-words (4 * limit + 3 * i + 1) (omega arith), ← lower-words (4 * limit + 3 * i + 2) (omega arith)) (h .names i (omega arith))
+  opened_names : (i : ℕ) → i < d + 1 → NamePlaced s (get_or opening (4 * limit + 3 * i + 1) 0) (get_or opening (4 * limit + 3 * i + 2) 0)
+  opened_names i q = elim (ℕ_discrete i d) [
+    | yes f ↦ rw (f, word_1, word_2) p
+    | no f ↦ rw (← lower_words (4 * limit + 3 * i + 1) (omega arith), ← lower_words (4 * limit + 3 * i + 2) (omega arith)) (h.names i (omega arith))
   ]
 
   pub opened : Opened s w opening n limit d (part s a l)
   opened = record {
     held = record {
-      arena = arena-frame s (h .arena) opening-length opened-cells;
-      below = h .below;
-      room = omega (arith, opening-length);
-      trees = opened-trees;
-      names = opened-names;
+      arena = arena_frame s h.arena opening_length opened_cells;
+      below = h.below;
+      room = omega (arith, opening_length);
+      trees = opened_trees;
+      names = opened_names;
     };
     stack =
-        stack-top s opening limit d
-        ∙ level-path (ap₂ (part s) word-1 word-2) (trees-none s opening _ word-3)
-        (sym (stack-frame s opening (h .arena .links) opened-cells limit d (λ q b c. lower-words q c) (h .trees)));
+        stack_top s opening limit d
+        ∙ level_path (ap₂ (part s) word_1 word_2) (trees_none s opening _ word_3)
+        (sym (stack_frame s opening h.arena.links opened_cells limit d (λ q b c. lower_words q c) h.trees));
     outside = record {
-      len = opening-length;
-      below = λ q r. sym (opened-cells q r);
+      len = opening_length;
+      below = λ q r. sym (opened_cells q r);
       above = λ q r. sym (other q (omega arith) (omega arith) (omega arith));
     };
   }
 
 -- a list closed, at the numbers that the code holds
-module _ (s : Text) (w : List ℕ) (limit d : ℕ) {a l chain : ℕ} (e₁ : a ≡ getD w (4 * limit + 3 * d + 1) 0) (e₂ : l ≡ getD w (4 * limit + 3 * d + 2) 0) (e₃ : chain ≡ getD w (4 * limit + 3 * d + 3) 0) where
-  level-is : close (part s a l) (back (trees-at s w chain) none) ≡ closed-level s w limit d
-  level-is = rw (e₁, e₂, e₃)
+module _ (s : Text) (w : List ℕ) (limit d : ℕ) {a l chain : ℕ} (e₁ : a ≡ get_or w (4 * limit + 3 * d + 1) 0) (e₂ : l ≡ get_or w (4 * limit + 3 * d + 2) 0) (e₃ : chain ≡ get_or w (4 * limit + 3 * d + 3) 0) where
+  level_is : close (part s a l) (back (trees_at s w chain) none) ≡ closed_level s w limit d
+  level_is = rw (e₁, e₂, e₃)
 
-  pub not-popped : NoTree (close (part s a l) (back (trees-at s w chain) none)) → NoTree (closed-level s w limit d)
-  not-popped f t g = f t (level-is ∙ g)
+  pub not_popped : NoTree (close (part s a l) (back (trees_at s w chain) none)) → NoTree (closed_level s w limit d)
+  not_popped f t g = f t (level_is ∙ g)
 
-  pub popped : {v : List ℕ} {n m next : ℕ} (k : ℕ) → Held s w n limit (d + 1) → next ≡ getD w (4 * limit + 3 * d) 0 → most s w n (getD w (4 * limit + 3 * d + 3) 0) ≤ limit
-      → Done s w v n m (most s w n chain) next (close (part s a l) (back (trees-at s w chain) none)) → k + 1 ≡ m → Popped s w (set v (4 * limit + 3 * d) k) n m limit d
+  pub popped : {v : List ℕ} {n m next : ℕ} (k : ℕ) → Held s w n limit (d + 1) → next ≡ get_or w (4 * limit + 3 * d) 0 → most s w n (get_or w (4 * limit + 3 * d + 3) 0) ≤ limit
+      → Done s w v n m (most s w n chain) next (close (part s a l) (back (trees_at s w chain) none)) → k + 1 ≡ m → Popped s w (set v (4 * limit + 3 * d) k) n m limit d
   popped {v} {n} {m} {next} k h e₀ b x e =
-      let z : most s w n chain ≡ most s w n (getD w (4 * limit + 3 * d + 3) 0) = ap (most s w n) e₃ in
-      let r = x .room in
+      let z : most s w n chain ≡ most s w n (get_or w (4 * limit + 3 * d + 3) 0) = ap (most s w n) e₃ in
+      let r = x.room in
       record {
-        tree = x .tree;
-        is = sym level-is ∙ x .is;
-        small = x .small;
-        grows = x .made .some;
+        tree = x.tree;
+        is = sym level_is ∙ x.is;
+        small = x.small;
+        grows = x.made.some;
         room = omega arith;
-        added = added k (held-below h) (omega arith) (subst (λ (q : ℕ). LastCell s w v n m q (x .tree)) e₀ (x .made)) e;
+        added = added k (held_below h) (omega arith) (subst (λ (q : ℕ). LastCell s w v n m q x.tree) e₀ x.made) e;
       }
 
   -- the name of the level
-  pub placed-at : {n : ℕ} → Held s w n limit (d + 1) → NamePlaced s a l
-  placed-at h = rw (e₁, e₂) (h .names d (omega arith))
+  pub placed_at : {n : ℕ} → Held s w n limit (d + 1) → NamePlaced s a l
+  placed_at h = rw (e₁, e₂) (h.names d (omega arith))
 
-  pub most-is : (n : ℕ) → most s w n chain ≡ most s w n (getD w (4 * limit + 3 * d + 3) 0)
-  most-is n = ap (most s w n) e₃
+  pub most_is : (n : ℕ) → most s w n chain ≡ most s w n (get_or w (4 * limit + 3 * d + 3) 0)
+  most_is n = ap (most s w n) e₃
 
-  pub chain-below : {n : ℕ} → Held s w n limit (d + 1) → chain < n
-  chain-below h =
+  pub chain_below : {n : ℕ} → Held s w n limit (d + 1) → chain < n
+  chain_below h =
       let z : 4 * limit + 3 * (d + 1) ≡ 4 * limit + 3 * d + 3 = omega arith in
-      let q = rw z at (h .trees (d + 1) (omega arith)) in
+      let q = rw z at (h.trees (d + 1) (omega arith)) in
       omega arith
 
 -- new cells alone leave the stack's words
-pub outside-grown : {w v : List ℕ} {n m limit : ℕ} → m ≤ limit → Grown w v n m → Outside w v (4 * n) (4 * limit)
-outside-grown b g = record { len = g .len; below = λ p q. sym (g .below p q); above = λ p q. sym (g .above p (omega arith)) }
+pub outside_grown : {w v : List ℕ} {n m limit : ℕ} → m ≤ limit → Grown w v n m → Outside w v (4 * n) (4 * limit)
+outside_grown b g = record { len = g.len; below = λ p q. sym (g.below p q); above = λ p q. sym (g.above p (omega arith)) }

@@ -1,23 +1,20 @@
 // The stack of open lists, in words above the cells (specs/Words.antt): a leaf on its top, a list opened, a list closed.
-use closing::Closed;
-use closing::shut;
+ghost use Rattle.std.specs.Prelude.{◌≡◌, [], ◌∷◌, ◌+◌, ◌*◌, ◌-◌, ◌<◌, ◌≤◌, ◌^◌, length, get_or};
+ghost use Rattle.rules.specs.Tree.{none};
+ghost use Rattle.rules.specs.Reading.{leaf, close};
+ghost use Rattle.tree.specs.Cells.{part};
+ghost use Rattle.closing.specs.Words.{NamePlaced, Held, Added, Opened};
+ghost use Rattle.closing.specs.Closing.{most, Pops};
+
+use closing::{Closed, shut};
 use leaves::leaf_kind;
 use text::places::wide;
 use tree::cells::push_cell;
-ghost use mathlib.Core.Path.{_≡_};
-ghost use mathlib.Core.List.{[], _∷_};
-ghost use Prim.Native.Nat.{_+_, _*_, _-_, _<_, _≤_, _^_};
-ghost use lib.ListN.{length, getD};
-ghost use Rattle·rules.specs.Tree.{none};
-ghost use Rattle·rules.specs.Reading.{leaf, close};
-ghost use Rattle·tree.specs.Cells.{part};
-ghost use Rattle·closing.specs.Words.{NamePlaced, Held, Added, Opened};
-ghost use Rattle·closing.specs.Closing.{most, Pops};
 
 // The cell of the last tree of the bottom.
 pub(crate) fn top_of(work: &[u32], limit: usize) -> usize
-    requires { ⌜ 4 * limit < length (now work) ⌝ }
-    ensures { λ r. ⌜ r ≡ getD (now (work .entry)) (4 * limit) 0 ⌝ }
+    requires { 4 * limit < length work.now }
+    ensures { result ≡ get_or work.now (4 * limit) 0 }
 {
     wide(work[4 * limit])
 }
@@ -32,10 +29,10 @@ pub(crate) fn leaf(
     from: usize,
     to: usize,
 ) -> usize
-    requires { ⌜ Held (now sheet) (now work) free limit depth ⌝ }
-    requires { ⌜ (free < limit) × (limit < 2 ^ 32) ⌝ }
-    requires { ⌜ (from ≤ to) × NamePlaced (now sheet) from (to - from) × (length (now sheet) ≤ 65536) ⌝ }
-    ensures { λ r. ⌜ (r ≡ free + 1) × Added (now (sheet .entry)) (now (work .entry)) (now (work .exit)) free r limit depth (leaf (part (now (sheet .entry)) from (to - from))) ⌝ }
+    requires held { Held sheet.now work.old free limit depth }
+    requires free_lt_limit { (free < limit) × (limit < 2 ^ 32) }
+    requires from_le_to { (from ≤ to) × NamePlaced sheet.now from (to - from) × (length sheet.now ≤ 65536) }
+    ensures { (result ≡ free + 1) × Added sheet.now work.old work.new free result limit depth (leaf (part sheet.now from (to - from))) }
 {
     let top = 4 * limit + 3 * depth;
     let kind = leaf_kind(&sheet[from..to]);
@@ -55,10 +52,10 @@ pub(crate) fn begin(
     from: usize,
     to: usize,
 )
-    requires { ⌜ Held (now sheet) (now work) free limit depth ⌝ }
-    requires { ⌜ 4 * limit + 3 * depth + 3 < length (now work) ⌝ }
-    requires { ⌜ (from ≤ to) × NamePlaced (now sheet) from (to - from) × (length (now sheet) ≤ 65536) ⌝ }
-    ensures { λ _. ⌜ Opened (now (sheet .entry)) (now (work .entry)) (now (work .exit)) free limit depth (part (now (sheet .entry)) from (to - from)) ⌝ }
+    requires held { Held sheet.now work.old free limit depth }
+    requires depth_in_bounds { 4 * limit + 3 * depth + 3 < length work.old }
+    requires from_le_to { (from ≤ to) × NamePlaced sheet.now from (to - from) × (length sheet.now ≤ 65536) }
+    ensures { Opened sheet.now work.old work.new free limit depth (part sheet.now from (to - from)) }
 {
     let top = 4 * limit + 3 * depth;
     work[top + 1] = from as u32;
@@ -74,10 +71,10 @@ pub(crate) fn close(
     limit: usize,
     depth: usize,
 ) -> Closed
-    requires { ⌜ Held (now sheet) (now work) free limit (depth + 1) ⌝ }
-    requires { ⌜ (most (now sheet) (now work) free (getD (now work) (4 * limit + 3 * depth + 3) 0) ≤ limit) × (limit < 2 ^ 32) ⌝ }
-    requires { ⌜ length (now sheet) ≤ 65536 ⌝ }
-    ensures { λ r. ⌜ Pops (now (sheet .entry)) (now (work .entry)) (now (work .exit)) free limit depth r ⌝ }
+    requires held { Held sheet.now work.old free limit (depth + 1) }
+    requires depth_bound { (most sheet.now work.old free (get_or work.old (4 * limit + 3 * depth + 3) 0) ≤ limit) × (limit < 2 ^ 32) }
+    requires sheet_len_bound { length sheet.now ≤ 65536 }
+    ensures { Pops sheet.now work.old work.new free limit depth result }
 {
     let top = 4 * limit + 3 * depth;
     let next = wide(work[top]);

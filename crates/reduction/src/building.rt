@@ -1,29 +1,23 @@
 // What a node becomes, before the list of its later siblings: a fixed name, a tree that is there, or its name over its new children.
+ghost use Rattle.std.specs.Prelude.{◌≡◌, ◌+◌, ◌*◌, ◌<◌, ◌≤◌, ◌^◌, length};
+ghost use Rattle.rules.specs.Tree.{apply, sizes};
+ghost use Rattle.rules.specs.Maybe.{otherwise};
+ghost use Rattle.rules.specs.Reduction.{constant};
+ghost use Rattle.tree.specs.Cells.{kind_of, name_at, fixed_name, trees_at};
+ghost use Rattle.tree.specs.Arena.{Arena, Grown};
+ghost use Rattle.rewriting.specs.Building.{NewTree};
+ghost use Rattle.rewriting.specs.Held.{held};
+
 use substitution::bindings::Pushed;
 use substitution::instances::keep;
-use tree::cells::APPLICATION;
-use tree::cells::count_of;
-use tree::cells::first_of;
-use tree::cells::next_of;
-use tree::cells::push_cell;
-use tree::cells::push_like;
-ghost use mathlib.Core.Path.{_≡_};
-ghost use Prim.Native.Nat.{_+_, _*_, _<_, _≤_, _^_};
-ghost use lib.ListN.{length};
-ghost use Rattle·rules.specs.Tree.{apply, sizes};
-ghost use Rattle·rules.specs.Maybe.{otherwise};
-ghost use Rattle·rules.specs.Reduction.{constant};
-ghost use Rattle·tree.specs.Cells.{kind-of, name-at, fixed-name, trees-at};
-ghost use Rattle·tree.specs.Arena.{Arena, Grown};
-ghost use Rattle·rewriting.specs.Building.{NewTree};
-ghost use Rattle·rewriting.specs.Held.{held};
+use tree::cells::{APPLICATION, count_of, first_of, next_of, push_cell, push_like};
 
 // A fixed name without arguments, by its code.
 pub fn leaf(sheet: &[u8], work: &mut [u32], free: usize, code: usize, next: usize) -> Pushed
-    requires { ⌜ Arena (now sheet) (now work) free ⌝ }
-    requires { ⌜ (0 < code) × (code < 7) × (next < free) ⌝ }
-    requires { ⌜ (4 * free + 4 ≤ length (now work)) × (free < 2 ^ 32) ⌝ }
-    ensures { λ r. ⌜ NewTree (now (sheet .entry)) (now (work .entry)) (now (work .exit)) free 1 next (constant (fixed-name code)) (r .index) (r .free) × Grown (now (work .entry)) (now (work .exit)) free (r .free) ⌝ }
+    requires arena { Arena sheet.now work.old free }
+    requires code_nonzero { (0 < code) × (code < 7) × (next < free) }
+    requires free_in_bounds { (4 * free + 4 ≤ length work.old) × (free < 2 ^ 32) }
+    ensures { NewTree sheet.now work.old work.new free 1 next (constant (fixed_name code)) result.index result.free × Grown work.old work.new free result.free }
 {
     let end = push_cell(work, free, code, 0, APPLICATION, 0, next, 1);
     Pushed {
@@ -34,9 +28,9 @@ pub fn leaf(sheet: &[u8], work: &mut [u32], free: usize, code: usize, next: usiz
 
 // The number of nodes of the list from cell i on, by the counts of its cells.
 pub fn nodes_in(sheet: &[u8], work: &[u32], free: usize, i: usize) -> usize
-    requires { ⌜ Arena (now sheet) (now work) free ⌝ }
-    requires { ⌜ (i < free) × (sizes (trees-at (now sheet) (now work) i) < 2 ^ 32) ⌝ }
-    ensures { λ r. ⌜ r ≡ sizes (trees-at (now (sheet .entry)) (now (work .entry)) i) ⌝ }
+    requires arena { Arena sheet.now work.now free }
+    requires i_lt_free { (i < free) × (sizes (trees_at sheet.now work.now i) < 2 ^ 32) }
+    ensures { result ≡ sizes (trees_at sheet.now work.now i) }
 {
     let mut sum: usize = 0;
     let mut k = i;
@@ -56,11 +50,11 @@ pub fn stay(
     first: usize,
     next: usize,
 ) -> Pushed
-    requires { ⌜ Arena (now sheet) (now work) free ⌝ }
-    requires { ⌜ (0 < i) × (i < free) × (first < free) × (next < free) ⌝ }
-    requires { ⌜ (kind-of (now work) i ≡ 0) × (sizes (trees-at (now sheet) (now work) first) < 65535) ⌝ }
-    requires { ⌜ (4 * free + 4 ≤ length (now work)) × (free < 2 ^ 32) ⌝ }
-    ensures { λ r. ⌜ NewTree (now (sheet .entry)) (now (work .entry)) (now (work .exit)) free 1 next (apply (name-at (now (sheet .entry)) (now (work .entry)) i) (trees-at (now (sheet .entry)) (now (work .entry)) first)) (r .index) (r .free) × Grown (now (work .entry)) (now (work .exit)) free (r .free) ⌝ }
+    requires arena { Arena sheet.now work.old free }
+    requires i_nonzero { (0 < i) × (i < free) × (first < free) × (next < free) }
+    requires i_value { (kind_of work.old i ≡ 0) × (sizes (trees_at sheet.now work.old first) < 65535) }
+    requires free_in_bounds { (4 * free + 4 ≤ length work.old) × (free < 2 ^ 32) }
+    ensures { NewTree sheet.now work.old work.new free 1 next (apply (name_at sheet.now work.old i) (trees_at sheet.now work.old first)) result.index result.free × Grown work.old work.new free result.free }
 {
     if first_of(work, free, i) == first {
         return keep(sheet, work, free, i, next);
@@ -83,11 +77,11 @@ pub(crate) fn becomes(
     first: usize,
     next: usize,
 ) -> Pushed
-    requires { ⌜ Arena (now sheet) (now work) free ⌝ }
-    requires { ⌜ (0 < i) × (i < free) × (first < free) × (next < free) ⌝ }
-    requires { ⌜ (kind-of (now work) i ≡ 0) × (sizes (trees-at (now sheet) (now work) first) < 65535) ⌝ }
-    requires { ⌜ (4 * free + 4 ≤ length (now work)) × (free < 2 ^ 32) × (k < free) ⌝ }
-    ensures { λ r. ⌜ NewTree (now (sheet .entry)) (now (work .entry)) (now (work .exit)) free 1 next (otherwise (held (now (sheet .entry)) (now (work .entry)) k) (apply (name-at (now (sheet .entry)) (now (work .entry)) i) (trees-at (now (sheet .entry)) (now (work .entry)) first))) (r .index) (r .free) × Grown (now (work .entry)) (now (work .exit)) free (r .free) ⌝ }
+    requires arena { Arena sheet.now work.old free }
+    requires i_nonzero { (0 < i) × (i < free) × (first < free) × (next < free) }
+    requires i_value { (kind_of work.old i ≡ 0) × (sizes (trees_at sheet.now work.old first) < 65535) }
+    requires free_in_bounds { (4 * free + 4 ≤ length work.old) × (free < 2 ^ 32) × (k < free) }
+    ensures { NewTree sheet.now work.old work.new free 1 next (otherwise (held sheet.now work.old k) (apply (name_at sheet.now work.old i) (trees_at sheet.now work.old first))) result.index result.free × Grown work.old work.new free result.free }
 {
     if k == 0 {
         return stay(sheet, work, free, i, first, next);

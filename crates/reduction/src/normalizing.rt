@@ -1,33 +1,26 @@
 // Normalization: a list's later trees first, then a tree's children, then one step at its root.
-use crate::building::becomes;
-use crate::building::leaf;
-use rewriting::firing::flipped;
-use rewriting::firing::part_of;
+ghost use Rattle.std.specs.Prelude.{◌≡◌, ◌+◌, ◌*◌, ◌<◌, ◌≤◌, ◌^◌, length};
+ghost use Rattle.rules.specs.Tree.{size, sizes};
+ghost use Rattle.rules.specs.Reduction.{root, normalize, normalizes};
+ghost use Rattle.tree.specs.Cells.{kind_of, name_at, tree_at, trees_at};
+ghost use Rattle.tree.specs.Arena.{Arena};
+ghost use Rattle.rewriting.specs.Building.{NewTree, NewTrees, key_room};
+
+use crate::building::{becomes, leaf};
+use rewriting::firing::{flipped, part_of};
 use rewriting::keys::decrypted;
-use rewriting::naming::RuleName;
-use rewriting::naming::rule_named;
+use rewriting::naming::{RuleName, rule_named};
 use substitution::bindings::Pushed;
 use substitution::instances::keep;
-use tree::cells::APPLICATION;
-use tree::cells::first_of;
-use tree::cells::kind_of;
-use tree::cells::next_of;
-ghost use mathlib.Core.Path.{_≡_};
-ghost use Prim.Native.Nat.{_+_, _*_, _<_, _≤_, _^_};
-ghost use lib.ListN.{length};
-ghost use Rattle·rules.specs.Tree.{size, sizes};
-ghost use Rattle·rules.specs.Reduction.{root, normalize, normalizes};
-ghost use Rattle·tree.specs.Cells.{kind-of, name-at, tree-at, trees-at};
-ghost use Rattle·tree.specs.Arena.{Arena};
-ghost use Rattle·rewriting.specs.Building.{NewTree, NewTrees, key-room};
+use tree::cells::{APPLICATION, first_of, kind_of, next_of};
 
 // One step at the root: the name of cell i over the list from cell first on.
 fn root(sheet: &[u8], work: &mut [u32], free: usize, i: usize, first: usize, next: usize) -> Pushed
-    requires { ⌜ Arena (now sheet) (now work) free ⌝ }
-    requires { ⌜ (0 < i) × (i < free) × (first < free) × (next < free) ⌝ }
-    requires { ⌜ (kind-of (now work) i ≡ 0) × (sizes (trees-at (now sheet) (now work) first) ≤ 4096) ⌝ }
-    requires { ⌜ (4 * free + 4 + key-room ≤ length (now work)) × (free < 2 ^ 32) ⌝ }
-    ensures { λ r. ⌜ NewTree (now (sheet .entry)) (now (work .entry)) (now (work .exit)) free 1 next (root (name-at (now (sheet .entry)) (now (work .entry)) i) (trees-at (now (sheet .entry)) (now (work .entry)) first)) (r .index) (r .free) ⌝ }
+    requires arena { Arena sheet.now work.old free }
+    requires i_nonzero { (0 < i) × (i < free) × (first < free) × (next < free) }
+    requires i_value { (kind_of work.old i ≡ 0) × (sizes (trees_at sheet.now work.old first) ≤ 4096) }
+    requires key_room_in_bounds { (4 * free + 4 + key_room ≤ length work.old) × (free < 2 ^ 32) }
+    ensures { NewTree sheet.now work.old work.new free 1 next (root (name_at sheet.now work.old i) (trees_at sheet.now work.old first)) result.index result.free }
 {
     let rule = rule_named(sheet, work, free, i);
     match rule {
@@ -60,10 +53,10 @@ fn root(sheet: &[u8], work: &mut [u32], free: usize, i: usize, first: usize, nex
 
 // The normal forms of the trees of the list from cell i on. One frame for each node: a term may be 4,096 deep.
 fn normalize_list(sheet: &[u8], work: &mut [u32], free: usize, i: usize) -> Pushed
-    requires { ⌜ Arena (now sheet) (now work) free ⌝ }
-    requires { ⌜ (i < free) × (sizes (trees-at (now sheet) (now work) i) ≤ 4096) ⌝ }
-    requires { ⌜ (4 * (free + sizes (trees-at (now sheet) (now work) i)) + key-room ≤ length (now work)) × (free + sizes (trees-at (now sheet) (now work) i) ≤ 2 ^ 32) ⌝ }
-    ensures { λ r. ⌜ NewTrees (now (sheet .entry)) (now (work .entry)) (now (work .exit)) free (sizes (trees-at (now (sheet .entry)) (now (work .entry)) i)) (normalizes (trees-at (now (sheet .entry)) (now (work .entry)) i)) (r .index) (r .free) ⌝ }
+    requires arena { Arena sheet.now work.old free }
+    requires i_lt_free { (i < free) × (sizes (trees_at sheet.now work.old i) ≤ 4096) }
+    requires key_room_in_bounds { (4 * (free + sizes (trees_at sheet.now work.old i)) + key_room ≤ length work.old) × (free + sizes (trees_at sheet.now work.old i) ≤ 2 ^ 32) }
+    ensures { NewTrees sheet.now work.old work.new free (sizes (trees_at sheet.now work.old i)) (normalizes (trees_at sheet.now work.old i)) result.index result.free }
 {
     if i == 0 {
         return Pushed {
@@ -85,10 +78,10 @@ fn normalize_list(sheet: &[u8], work: &mut [u32], free: usize, i: usize) -> Push
 
 // The normal form of the tree of cell i, before the list from cell next on.
 pub fn normalize(sheet: &[u8], work: &mut [u32], free: usize, i: usize, next: usize) -> Pushed
-    requires { ⌜ Arena (now sheet) (now work) free ⌝ }
-    requires { ⌜ (0 < i) × (i < free) × (next < free) × (size (tree-at (now sheet) (now work) i) ≤ 4096) ⌝ }
-    requires { ⌜ (4 * (free + size (tree-at (now sheet) (now work) i)) + key-room ≤ length (now work)) × (free + size (tree-at (now sheet) (now work) i) ≤ 2 ^ 32) ⌝ }
-    ensures { λ r. ⌜ NewTree (now (sheet .entry)) (now (work .entry)) (now (work .exit)) free (size (tree-at (now (sheet .entry)) (now (work .entry)) i)) next (normalize (tree-at (now (sheet .entry)) (now (work .entry)) i)) (r .index) (r .free) ⌝ }
+    requires arena { Arena sheet.now work.old free }
+    requires i_nonzero { (0 < i) × (i < free) × (next < free) × (size (tree_at sheet.now work.old i) ≤ 4096) }
+    requires key_room_in_bounds { (4 * (free + size (tree_at sheet.now work.old i)) + key_room ≤ length work.old) × (free + size (tree_at sheet.now work.old i) ≤ 2 ^ 32) }
+    ensures { NewTree sheet.now work.old work.new free (size (tree_at sheet.now work.old i)) next (normalize (tree_at sheet.now work.old i)) result.index result.free }
 {
     let kind = kind_of(work, i);
     if APPLICATION < kind {

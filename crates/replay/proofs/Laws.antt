@@ -1,77 +1,69 @@
 -- What the call wrote, compared with the answer stored, and a record's replay.
-use mathlib.Core.Path.{_≡_, refl, sym, ap, _∙_}
-use mathlib.Core.Bool.{Bool, true, false, _&&_}
-use mathlib.Core.List.{List, [], _++_}
-use Prim.Native.Nat.{ℕ, _-_, _≤_}
-use native.Mathlib.Omega.{arith}
-use lib.Dec.{eqb, leb}
-use lib.ListN.{length, take, drop, length-append, length-drop}
-use lib.Seq.{take-all, take-at, length-take-le}
-use borrow.Author.Tests.{le-leb, leb-true}
-use Rattle·rules.specs.Bytes.{Text, same}
-use Rattle·laws.proofs.Basics.Tests.{and-left, and-right}
-use Rattle·rules.specs.Call.{Reply, refused, passed, call, refusal-number, written, overwritten}
-use Rattle·yukhtsami.specs.Answering.{Calls}
-use Rattle·replay·specs.specs.Replaying.{agreeing, Compares, Replays, lends, outcome, sheet-in, answer-in}
-use Rattle·replay·specs.specs.declared.call.Record.{Record}
-use Rattle·replay·specs.specs.declared.call.Outcome.the-variants.{Skipped}
+use Rattle.std.proofs.Common.{◌≡◌, ℕ, ◌-◌, ◌≤◌, Bool, true, false, ◌&&◌, eqb, leb, List, [], ◌++◌, length, take, drop, sym, refl, ap, ◌∙◌, arith, length-append, length-drop, length-take-le, take_all, take_at, le-leb, leb-true}
+use Rattle.rules.specs.Bytes.{Text, same}
+use Rattle.laws.proofs.Basics.Tests.{and_left, and_right}
+use Rattle.rules.specs.Call.{Reply, refused, passed, call, refusal_number, written, overwritten}
+use Rattle.yukhtsami.specs.Answering.{Calls}
+use Rattle.replay.specs.Replaying.{agreeing, Compares, Replays, lends, outcome, sheet_in, answer_in}
+use Rattle.replay.specs.declared.call.Record.{Record}
+use Rattle.replay.specs.declared.call.Outcome.TheVariants.{Skipped}
 
 -- a test of several parts, by the part that decides it
-pub and-no : (a b r : Bool) → r ≡ a → r ≡ false → r ≡ a && b
-and-no a b r e t =
+pub and_no : (a b r : Bool) → r ≡ a → r ≡ false → r ≡ a && b
+and_no a b r e t =
     let h : a ≡ false = sym e ∙ t in
     rw h t
 
-pub and-next : (a b r : Bool) → a ≡ true → r ≡ b → r ≡ a && b
-and-next a b r e f = rw e f
+pub and_next : (a b r : Bool) → a ≡ true → r ≡ b → r ≡ a && b
+and_next a b r e f = rw e f
 
-pub rest-of-list : (s : Text) (i : ℕ) → take (length s - i) (drop i s) ≡ drop i s
-rest-of-list s i = take-all (length s - i) (drop i s) (simp length-drop (omega arith))
+pub rest_of_list : (s : Text) (i : ℕ) → take (length s - i) (drop i s) ≡ drop i s
+rest_of_list s i = take_all (length s - i) (drop i s) (simp length-drop (omega arith))
 
 -- the bytes written are the reply's
-reply-agrees : (p : Reply Text) (out : Text) (refusal : ℕ) (answer : Text)
-    → eqb (refusal-number p) refusal && (leb (written p) (length (overwritten p out)) && same (take (written p) (overwritten p out)) answer) ≡ agreeing p refusal answer
+reply_agrees : (p : Reply Text) (out : Text) (refusal : ℕ) (answer : Text)
+    → eqb (refusal_number p) refusal && (leb (written p) (length (overwritten p out)) && same (take (written p) (overwritten p out)) answer) ≡ agreeing p refusal answer
 unfolding agreeing
-reply-agrees (refused n) out refusal answer = ap (λ (b : Bool). eqb n refusal && (b && same [] answer)) (le-leb 0 (length out) (omega arith))
-reply-agrees (passed t) out refusal answer =
+reply_agrees (refused n) out refusal answer = ap (λ (b : Bool). eqb n refusal && (b && same [] answer)) (le-leb 0 (length out) (omega arith))
+reply_agrees (passed t) out refusal answer =
     let h : length t ≤ length (t ++ drop (length t) out) = simp length-append (omega arith) in
     ap (λ (b : Bool). eqb 0 refusal && (b && same (take (length t) (t ++ drop (length t) out)) answer)) (le-leb (length t) (length (t ++ drop (length t) out)) h)
-    ∙ ap (λ (l : Text). eqb 0 refusal && same l answer) (take-at t (drop (length t) out) (length t) refl)
+    ∙ ap (λ (l : Text). eqb 0 refusal && same l answer) (take_at t (drop (length t) out) (length t) refl)
 
 module _ (s : Text) (w v : List ℕ) (out after : Text) (number count : ℕ) (refusal : ℕ) (answer : Text) (called : Calls s w v out after number count) where
   pub compares : (r : Bool) → r ≡ eqb number refusal && (leb count (length after) && same (take count after) answer) → Compares s w v out after refusal answer r
   compares r e = record {
-    agrees = e ∙ go number count after (called .number) (called .written-is) (called .output);
-    work = called .work;
-    output = called .output;
+    agrees = e ∙ go number count after called.number called.written_is called.output;
+    work = called.work;
+    output = called.output;
   }
     where
-      go : (n m : ℕ) (a : Text) → n ≡ refusal-number (call s (length w) (length out)) → m ≡ written (call s (length w) (length out))
+      go : (n m : ℕ) (a : Text) → n ≡ refusal_number (call s (length w) (length out)) → m ≡ written (call s (length w) (length out))
           → a ≡ overwritten (call s (length w) (length out)) out
           → eqb n refusal && (leb m (length a) && same (take m a) answer) ≡ agreeing (call s (length w) (length out)) refusal answer
-      go n m a p q o = rw (p, q, o) (reply-agrees (call s (length w) (length out)) out refusal answer)
+      go n m a p q o = rw (p, q, o) (reply_agrees (call s (length w) (length out)) out refusal answer)
 
 module _ (list : Text) (stored : Record) (w : List ℕ) (out : Text) where
   pub skipped : lends (length w) (length out) stored ≡ false → Replays list stored w w out out Skipped
   skipped e = record { says = rw e; work = rw e; output = rw e }
 
-  pub lends-words : (b : Bool) → b ≡ lends (length w) (length out) stored → b ≡ true → stored .words ≤ length w
+  pub lends_words : (b : Bool) → b ≡ lends (length w) (length out) stored → b ≡ true → stored.words ≤ length w
   unfolding lends
-  lends-words b e t = leb-true (stored .words) (length w) (and-left (leb (stored .words) (length w)) (leb (stored .room) (length out)) (sym e ∙ t))
+  lends_words b e t = leb-true stored.words (length w) (and_left (leb stored.words (length w)) (leb stored.room (length out)) (sym e ∙ t))
 
-  pub lends-room : (b : Bool) → b ≡ lends (length w) (length out) stored → b ≡ true → stored .room ≤ length out
+  pub lends_room : (b : Bool) → b ≡ lends (length w) (length out) stored → b ≡ true → stored.room ≤ length out
   unfolding lends
-  lends-room b e t = leb-true (stored .room) (length out) (and-right (leb (stored .words) (length w)) (leb (stored .room) (length out)) (sym e ∙ t))
+  lends_room b e t = leb-true stored.room (length out) (and_right (leb stored.words (length w)) (leb stored.room (length out)) (sym e ∙ t))
 
   pub replayed : (v' : List ℕ) (after' : Text) (b q r : Bool) → b ≡ q → r ≡ lends (length w) (length out) stored → r ≡ true
-      → Compares (sheet-in list stored) (take (stored .words) w) v' (take (stored .room) out) after' (stored .refusal) (answer-in list stored) b
-      → Replays list stored w (v' ++ drop (stored .words) w) out (after' ++ drop (stored .room) out) (outcome true q)
+      → Compares (sheet_in list stored) (take stored.words w) v' (take stored.room out) after' stored.refusal (answer_in list stored) b
+      → Replays list stored w (v' ++ drop stored.words w) out (after' ++ drop stored.room out) (outcome true q)
   replayed v' after' b q r h l t c =
       let e : lends (length w) (length out) stored ≡ true = sym l ∙ t in
-      let m : length (take (stored .words) w) ≡ stored .words = length-take-le (stored .words) w (lends-words r l t) in
-      let n : length (take (stored .room) out) ≡ stored .room = length-take-le (stored .room) out (lends-room r l t) in
+      let m : length (take stored.words w) ≡ stored.words = length-take-le stored.words w (lends_words r l t) in
+      let n : length (take stored.room out) ≡ stored.room = length-take-le stored.room out (lends_room r l t) in
       record {
-        says = rw e (ap (outcome true) (sym h ∙ (rw (m, n) at (c .agrees))));
-        work = rw e (ap (λ (x : List ℕ). x ++ drop (stored .words) w) (c .work));
-        output = rw e (ap (λ (x : List ℕ). x ++ drop (stored .room) out) (rw (m, n) at (c .output)));
+        says = rw e (ap (outcome true) (sym h ∙ (rw (m, n) at c.agrees)));
+        work = rw e (ap (λ (x : List ℕ). x ++ drop stored.words w) c.work);
+        output = rw e (ap (λ (x : List ℕ). x ++ drop stored.room out) (rw (m, n) at c.output));
       }

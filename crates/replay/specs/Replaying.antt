@@ -1,42 +1,37 @@
 -- What a record in form is, when a record is replayed and what its replay gives. Definitions only.
-use Prim.Native.Nat.{ℕ, _-_}
-use mathlib.Core.Path.{_≡_}
-use mathlib.Core.Bool.{Bool, true, false, cond, _&&_}
-use mathlib.Core.List.{List, [], _++_}
-use lib.Dec.{eqb, leb}
-use lib.ListN.{length, getD, take, drop}
-use Rattle·rules.specs.Bytes.{Text, same}
-use Rattle·rules.specs.Text.{bytes}
-use Rattle·rules.specs.Call.{Reply, refused, passed, call, overwritten, work-after}
-use Rattle·text.specs.Prefix.{begins-with}
-use Rattle·replay·specs.specs.declared.call.Record.{Record}
-use Rattle·replay·specs.specs.declared.call.Outcome.{Outcome}
-use Rattle·replay·specs.specs.declared.call.Outcome.the-variants.{Agrees, Differs, Skipped}
+use Rattle.std.specs.Prelude.{◌≡◌, ℕ, ◌-◌, Bool, true, false, cond, ◌&&◌, List, [], ◌++◌, length, take, drop, ◌==◌, nat_le, slice_index}
+use Rattle.rules.specs.Bytes.{Text, same}
+use Rattle.rules.specs.Text.{bytes}
+use Rattle.rules.specs.Call.{Reply, refused, passed, call, overwritten, work_after}
+use Rattle.text.specs.Prefix.{begins_with}
+use Rattle.replay.specs.declared.call.Record.{Record}
+use Rattle.replay.specs.declared.call.Outcome.{Outcome}
+use Rattle.replay.specs.declared.call.Outcome.TheVariants.{Agrees, Differs, Skipped}
 
 -- it starts with its word and ends with byte 10
-abbrev pub closed-at : Text → ℕ → ℕ → Bool
-closed-at list at end = begins-with (bytes "sheet ") (drop at list) && eqb (getD list end 0) 10
+abbrev pub closed_at : Text → ℕ → ℕ → Bool
+closed_at list at end = begins_with (bytes "sheet ") (drop at list) && slice_index list end == 10
 
-abbrev pub sheet-in : Text → Record → Text
-sheet-in list stored = take (stored .answer - stored .sheet) (drop (stored .sheet) list)
+abbrev pub sheet_in : Text → Record → Text
+sheet_in list stored = take (stored.answer - stored.sheet) (drop stored.sheet list)
 
-abbrev pub answer-in : Text → Record → Text
-answer-in list stored = take (stored .end - stored .answer) (drop (stored .answer) list)
+abbrev pub answer_in : Text → Record → Text
+answer_in list stored = take (stored.end - stored.answer) (drop stored.answer list)
 
 -- there are the words and the room that the record lends
 unfoldable pub lends : ℕ → ℕ → Record → Bool
-lends words room stored = leb (stored .words) words && leb (stored .room) room
+lends words room stored = nat_le stored.words words && nat_le stored.room room
 
 -- the reply is the one stored: its number and its bytes
 unfoldable pub agreeing : Reply Text → ℕ → Text → Bool
 unfolding same
-agreeing (refused n) refusal answer = eqb n refusal && same [] answer
-agreeing (passed text) refusal answer = eqb 0 refusal && same text answer
+agreeing (refused n) refusal answer = n == refusal && same [] answer
+agreeing (passed text) refusal answer = 0 == refusal && same text answer
 
 -- r says whether the call's reply is the one stored; every word and byte after it is the call's
 pub record Compares (s : Text) (w v : List ℕ) (out after : Text) (refusal : ℕ) (answer : Text) (r : Bool) : Type 0 where
   pub agrees : r ≡ agreeing (call s (length w) (length out)) refusal answer
-  pub work : v ≡ work-after s w
+  pub work : v ≡ work_after s w
   pub output : after ≡ overwritten (call s (length w) (length out)) out
 
 -- what is said of a record, replayed or not, that agrees or not
@@ -47,6 +42,6 @@ outcome true false = Differs
 
 -- r is what the record's replay gives, with the words and the bytes that the record lends; the others are kept
 pub record Replays (list : Text) (stored : Record) (w v : List ℕ) (out after : Text) (r : Outcome) : Type 0 where
-  pub says : r ≡ outcome (lends (length w) (length out) stored) (agreeing (call (sheet-in list stored) (stored .words) (stored .room)) (stored .refusal) (answer-in list stored))
-  pub work : v ≡ cond (lends (length w) (length out) stored) (work-after (sheet-in list stored) (take (stored .words) w) ++ drop (stored .words) w) w
-  pub output : after ≡ cond (lends (length w) (length out) stored) (overwritten (call (sheet-in list stored) (stored .words) (stored .room)) (take (stored .room) out) ++ drop (stored .room) out) out
+  pub says : r ≡ outcome (lends (length w) (length out) stored) (agreeing (call (sheet_in list stored) stored.words stored.room) stored.refusal (answer_in list stored))
+  pub work : v ≡ cond (lends (length w) (length out) stored) (work_after (sheet_in list stored) (take stored.words w) ++ drop stored.words w) w
+  pub output : after ≡ cond (lends (length w) (length out) stored) (overwritten (call (sheet_in list stored) stored.words stored.room) (take stored.room out) ++ drop stored.room out) out

@@ -1,17 +1,16 @@
 // One record of the list through the call.
+ghost use Rattle.std.specs.Prelude.{◌≡◌, ◌&&◌, length, take, ◌==◌, nat_le};
+ghost use Rattle.rules.specs.Bytes.{same};
+ghost use Rattle.replay.specs.Inside.{RecordInside};
+ghost use Rattle.replay.specs.Replaying.{lends, Compares, Replays};
+
 use text::places::wide;
 use text::same;
 use yukhtsami::yukhtsami_answer;
-ghost use mathlib.Core.Path.{_≡_};
-ghost use mathlib.Core.Bool.{_&&_};
-ghost use lib.Dec.{eqb, leb};
-ghost use lib.ListN.{length, take};
-ghost use Rattle·rules.specs.Bytes.{same};
-ghost use Rattle·replay·specs.specs.Inside.{RecordInside};
-ghost use Rattle·replay·specs.specs.Replaying.{lends, Compares, Replays};
 
 // A record: the words and bytes of output lent, the refusal, where its label, its sheet and its
 // answer start, and where its answer ends.
+#[derive(Clone, Copy)]
 pub(crate) struct Record {
     pub words: usize,
     pub room: usize,
@@ -22,6 +21,7 @@ pub(crate) struct Record {
     pub end: usize,
 }
 
+#[derive(Clone, Copy)]
 pub(crate) enum Outcome {
     Agrees,
     Differs,
@@ -29,27 +29,27 @@ pub(crate) enum Outcome {
 }
 
 fn equals(a: usize, b: usize) -> bool
-    ensures { λ r. ⌜ r ≡ eqb a b ⌝ }
+    ensures { result ≡ (a == b) }
 {
     a == b
 }
 
 fn reaches(room: usize, count: usize) -> bool
-    ensures { λ r. ⌜ r ≡ leb count room ⌝ }
+    ensures { result ≡ nat_le count room }
 {
     count <= room
 }
 
 // Whether there are the words and the room that a record lends.
 fn lends(words: usize, room: usize, stored: Record) -> bool
-    ensures { λ r. ⌜ r ≡ lends words room stored ⌝ }
+    ensures { result ≡ lends words room stored }
 {
     reaches(words, stored.words) && reaches(room, stored.room)
 }
 
 // Whether so many bytes of the output are the answer.
 fn holds(output: &[u8], written: usize, answer: &[u8]) -> bool
-    ensures { λ r. ⌜ r ≡ leb written (length (now (output .entry))) && same (take written (now (output .entry))) (now (answer .entry)) ⌝ }
+    ensures { result ≡ nat_le written (length output.now) && same (take written output.now) answer.now }
 {
     if output.len() < written {
         return false;
@@ -59,7 +59,7 @@ fn holds(output: &[u8], written: usize, answer: &[u8]) -> bool
 
 // Whether the call gives the reply stored.
 fn agrees(sheet: &[u8], work: &mut [u32], output: &mut [u8], refusal: usize, answer: &[u8]) -> bool
-    ensures { λ r. ⌜ Compares (now (sheet .entry)) (now (work .entry)) (now (work .exit)) (now (output .entry)) (now (output .exit)) refusal (now (answer .entry)) r ⌝ }
+    ensures { Compares sheet.now work.old work.new output.old output.new refusal answer.now result }
 {
     let called = yukhtsami_answer(sheet, work, output);
     let given = called.refusal;
@@ -70,8 +70,8 @@ fn agrees(sheet: &[u8], work: &mut [u32], output: &mut [u8], refusal: usize, ans
 
 // Replays a record, if it lends what is there.
 pub(crate) fn replay(list: &[u8], work: &mut [u32], output: &mut [u8], stored: Record) -> Outcome
-    requires { ⌜ RecordInside (now list) stored ⌝ }
-    ensures { λ r. ⌜ Replays (now (list .entry)) stored (now (work .entry)) (now (work .exit)) (now (output .entry)) (now (output .exit)) r ⌝ }
+    requires { RecordInside list.now stored }
+    ensures { Replays list.now stored work.old work.new output.old output.new result }
 {
     let from = stored.sheet;
     let middle = stored.answer;

@@ -3,23 +3,21 @@
 //
 // The list: lines that start with `#`, then records `sheet WORDS ROOM REFUSAL SHEETBYTES ANSWERBYTES LABEL`, byte 10, the sheet, the
 // answer, byte 10.
+#![tactic(auto)]
+
 mod call; // call.rt: one record through the call
 
-use call::Outcome;
-use call::Record;
-use call::replay;
-use libc::STDIN_FILENO;
-use libc::STDOUT_FILENO;
-use text::begins;
-use text::is_digit;
-ghost use mathlib.Core.Path.{_≡_};
-ghost use Prim.Native.Nat.{_<_, _≤_};
-ghost use lib.Dec.{eqb};
-ghost use lib.ListN.{length};
-ghost use Rattle·replay·specs.specs.Inside.{RecordInside};
-ghost use Rattle·replay·specs.specs.Replaying.{closed-at};
+ghost use Rattle.std.specs.Prelude.{◌≡◌, ◌<◌, ◌≤◌, length, ◌==◌, IfOk};
+ghost use Rattle.replay.specs.Inside.{RecordInside};
+ghost use Rattle.replay.specs.Replaying.{closed_at};
+
+use call::{Outcome, Record, replay};
+use std::io;
+use std::io::{Read, Write};
+use text::{begins, is_digit};
 
 // A number, and the place after the byte that ends it.
+#[derive(Clone, Copy)]
 struct Numeral {
     value: usize,
     next: usize,
@@ -27,8 +25,8 @@ struct Numeral {
 
 // The place after the next byte 10, or the end of the list.
 fn after_line(list: &[u8], at: usize) -> usize
-    requires { ⌜ at ≤ length (now list) ⌝ }
-    ensures { λ r. ⌜ (at ≤ r) × (r ≤ length (now (list .entry))) ⌝ }
+    requires { at ≤ length list.now }
+    ensures { (at ≤ result) × (result ≤ length list.now) }
 {
     let mut i = at;
     while i < list.len() {
@@ -42,7 +40,7 @@ fn after_line(list: &[u8], at: usize) -> usize
 
 // The place after the lines that start with `#`.
 fn after_head(list: &[u8]) -> usize
-    ensures { λ r. ⌜ r ≤ length (now (list .entry)) ⌝ }
+    ensures { result ≤ length list.now }
 {
     let mut at: usize = 0;
     while at < list.len() {
@@ -57,8 +55,8 @@ fn after_head(list: &[u8]) -> usize
 
 // The place so many bytes on, or the end of the list.
 fn ahead(list: &[u8], at: usize, count: usize) -> usize
-    requires { ⌜ at ≤ length (now list) ⌝ }
-    ensures { λ r. ⌜ (at ≤ r) × (r ≤ length (now (list .entry))) ⌝ }
+    requires { at ≤ length list.now }
+    ensures { (at ≤ result) × (result ≤ length list.now) }
 {
     if list.len() - at < count {
         return list.len();
@@ -77,8 +75,8 @@ fn with_digit(value: usize, digit: u8) -> usize {
 
 // The number that starts at a place.
 fn number(list: &[u8], at: usize) -> Numeral
-    requires { ⌜ at ≤ length (now list) ⌝ }
-    ensures { λ r. ⌜ (at ≤ r .next) × (r .next ≤ length (now (list .entry))) ⌝ }
+    requires { at ≤ length list.now }
+    ensures { (at ≤ result.next) × (result.next ≤ length list.now) }
 {
     let mut value: usize = 0;
     let mut i = at;
@@ -94,8 +92,8 @@ fn number(list: &[u8], at: usize) -> Numeral
 
 // The record that starts at a place.
 fn record_at(list: &[u8], at: usize) -> Record
-    requires { ⌜ at ≤ length (now list) ⌝ }
-    ensures { λ r. ⌜ RecordInside (now (list .entry)) r × (at ≤ r .end) ⌝ }
+    requires { at ≤ length list.now }
+    ensures { RecordInside list.now result × (at ≤ result.end) }
 {
     let words = number(list, ahead(list, at, 6));
     let room = number(list, words.next);
@@ -118,20 +116,21 @@ fn record_at(list: &[u8], at: usize) -> Record
 }
 
 fn ends_line(b: u8) -> bool
-    ensures { λ r. ⌜ r ≡ eqb b 10 ⌝ }
+    ensures { result ≡ (b == 10) }
 {
     b == b'\n'
 }
 
 // Whether a record starts with its word and ends with byte 10.
 fn closed(list: &[u8], at: usize, end: usize) -> bool
-    requires { ⌜ (at ≤ length (now list)) × (end < length (now list)) ⌝ }
-    ensures { λ r. ⌜ r ≡ closed-at (now (list .entry)) at end ⌝ }
+    requires { (at ≤ length list.now) × (end < length list.now) }
+    ensures { result ≡ closed_at list.now at end }
 {
     begins(&list[at..], b"sheet ") && ends_line(list[end])
 }
 
 // How many records were replayed and agree, differ, or were not replayed.
+#[derive(Clone, Copy)]
 struct Tally {
     agreeing: u64,
     different: u64,
@@ -165,41 +164,68 @@ impl Tally {
 
 // The words to lend, small enough for a stack of 8 MB. A record that lends more is skipped.
 fn words() -> [u32; 1441792]
-    ensures { λ r. ⌜ 1441792 ≡ length r ⌝ }
+    ensures { 1441792 ≡ length result }
 {
     [0u32; 1441792]
 }
 
 // Room for the list, and at least one byte more.
 fn room() -> [u8; 600000]
-    ensures { λ r. ⌜ 600000 ≡ length r ⌝ }
+    ensures { 600000 ≡ length result }
 {
     [0u8; 600000]
 }
 
+// Room for the output of a call.
+fn output_room() -> [u8; 65536]
+    ensures { 65536 ≡ length result }
+{
+    [0u8; 65536]
+}
+
+// Reads until the room is full or the input ends, and gives how many bytes it put at the start.
+fn read_full<R: Read>(input: &mut R, room: &mut [u8]) -> io::Result<usize>
+    ensures { IfOk result (λ n. n ≤ length room.new) }
+{
+    let mut done: usize = 0;
+    while done < room.len() {
+        let count = input.read(&mut room[done..])?;
+        if count == 0 {
+            break;
+        }
+        done += count;
+    }
+    Ok(done)
+}
+
 // Writes the label of a record that differs.
-fn report(list: &[u8], stored: Record, outcome: Outcome)
-    requires { ⌜ RecordInside (now list) stored ⌝ }
+fn report<W: Write>(out: &mut W, list: &[u8], stored: Record, outcome: Outcome) -> io::Result<()>
+    requires { RecordInside list.now stored }
 {
     let from = stored.label;
     let to = stored.sheet;
     match outcome {
         Outcome::Differs => {
-            io::write_all(STDOUT_FILENO, b"different: ");
-            io::write_all(STDOUT_FILENO, &list[from..to]);
+            out.write_all(b"different: ")?;
+            out.write_all(&list[from..to])
         }
-        _ => {}
+        _ => Ok(()),
     }
 }
 
 // Says that a record of the list is not in form.
-fn left_off(tally: Tally) -> Tally {
-    io::write_all(STDOUT_FILENO, b"not a record: the rest is not replayed\n");
-    tally
+fn left_off<W: Write>(out: &mut W, tally: Tally) -> io::Result<Tally> {
+    out.write_all(b"not a record: the rest is not replayed\n")?;
+    Ok(tally)
 }
 
 // Replays every record.
-fn replay_all(list: &[u8], work: &mut [u32], output: &mut [u8]) -> Tally {
+fn replay_all<W: Write>(
+    out: &mut W,
+    list: &[u8],
+    work: &mut [u32],
+    output: &mut [u8],
+) -> io::Result<Tally> {
     let mut tally = Tally {
         agreeing: 0,
         different: 0,
@@ -210,42 +236,41 @@ fn replay_all(list: &[u8], work: &mut [u32], output: &mut [u8]) -> Tally {
         let stored = record_at(list, at);
         let end = stored.end;
         if end >= list.len() {
-            return left_off(tally);
+            return left_off(out, tally);
         }
         if !closed(list, at, end) {
-            return left_off(tally);
+            return left_off(out, tally);
         }
         let outcome = replay(list, work, output, stored);
-        report(list, stored, outcome);
+        report(out, list, stored, outcome)?;
         tally = tally.with(outcome);
         at = end + 1;
     }
-    tally
+    Ok(tally)
 }
 
-fn print_count(text: &[u8], count: u64) {
-    io::write_all(STDOUT_FILENO, text);
-    io::print_decimal(STDOUT_FILENO, count);
+fn print_count(rt: &HostRuntime, text: &str, count: u64) -> io::Result<()> {
+    print!(rt; "{text}{count}")
 }
 
-fn print_tally(tally: Tally) {
-    print_count(
-        b"replayed ",
-        std::num::wrapping_add_u64(tally.agreeing, tally.different),
-    );
-    print_count(b", skipped ", tally.skipped);
-    print_count(b", different ", tally.different);
-    io::write_all(STDOUT_FILENO, b"\n");
+fn print_tally(rt: &HostRuntime, tally: Tally) -> io::Result<()> {
+    let replayed = std::num::wrapping_add_u64(tally.agreeing, tally.different);
+    print_count(rt, "replayed ", replayed)?;
+    print_count(rt, ", skipped ", tally.skipped)?;
+    print_count(rt, ", different ", tally.different)?;
+    println!(rt; "")
 }
 
-fn main() {
+fn main(rt: HostRuntime) -> io::Result<()> {
     let mut list = room();
     let mut work = words();
-    let mut output = io::large_buffer();
-    let n = io::read_full(STDIN_FILENO, &mut list);
+    let mut output = output_room();
+    let mut input = rt.stdin();
+    let n = read_full(&mut input, &mut list)?;
     if n == list.len() {
-        io::write_all(STDOUT_FILENO, b"the list is too long\n");
-        return;
+        return println!(rt; "the list is too long");
     }
-    print_tally(replay_all(&list[..n], &mut work, &mut output));
+    let mut out = rt.stdout();
+    let tally = replay_all(&mut out, &list[..n], &mut work, &mut output)?;
+    print_tally(&rt, tally)
 }

@@ -1,136 +1,136 @@
 -- What the rules make of the children under their names, found one after the other.
-use Prim.Native.Nat.{ℕ, zero, suc, _+_, _<_, _≤_}
-use mathlib.Core.Path.{_≡_, refl, ap, _∙_}
-use mathlib.Core.Bool.{Bool, true, false, cond, _&&_}
+use Prim.Native.Nat.{ℕ, zero, suc, ◌+◌, ◌<◌, ◌≤◌}
+use mathlib.Core.Path.{◌≡◌, refl, ap, ◌∙◌}
+use mathlib.Core.Bool.{Bool, true, false, cond, ◌&&◌}
 use mathlib.Core.List.{List}
-use mathlib.Core.Option.{Option, some, none as nothing, Option·none-ne-some, Option·some-injective}
+use mathlib.Core.Option.{Option, some, none as nothing, none-ne-some, some-injective}
 use native.Mathlib.Omega.{arith}
-use Rattle·rules.specs.Bytes.{Text}
-use Rattle·rules.specs.Text.{bytes}
-use Rattle·rules.specs.Maybe.{_>>=_, guard}
-use Rattle·rules.specs.Tree.{Tree, Trees, none, more, size, sizes}
-use Rattle·rules.specs.Sorts.{message}
-use Rattle·rules.specs.Sums.{equivalent}
-use Rattle·rules.specs.Reduction.{flip, role-a, role-b, arguments1, arguments2, arguments-of, is-constant, is-one, is-two, opens, flipped, fire}
-use Rattle·laws.proofs.Basics.Options.{bound}
-use Rattle·laws.proofs.Reduction.Shapes.{named}
-use Rattle·tree.specs.Cells.{tree-at}
-use Rattle·rewriting·specs.specs.Held.{held, held-two, side, opener, sealed}
+use Rattle.rules.specs.Bytes.{Text}
+use Rattle.rules.specs.Text.{bytes}
+use Rattle.rules.specs.Maybe.{◌>>=◌, guard}
+use Rattle.rules.specs.Tree.{Tree, Trees, none, more, size, sizes}
+use Rattle.rules.specs.Sorts.{message}
+use Rattle.rules.specs.Sums.{equivalent}
+use Rattle.rules.specs.Reduction.{flip, role_a, role_b, arguments1, arguments2, arguments_of, is_constant, is_one, is_two, opens, flipped, fire}
+use Rattle.laws.proofs.Basics.Options.{bound}
+use Rattle.laws.proofs.Reduction.Shapes.{named}
+use Rattle.tree.specs.Cells.{tree_at}
+use Rattle.rewriting.specs.Held.{held, held_two, side, opener, sealed}
 
 -- the parts of a pair
 module _ (b : Bool) (ts : Trees) where
-  pub part-no-argument : arguments1 ts ≡ nothing → fire (side b) ts ≡ nothing
+  pub part_no_argument : arguments1 ts ≡ nothing → fire (side b) ts ≡ nothing
   unfolding fire
-  part-no-argument e = go b
+  part_no_argument e = go b
     where
       go : (b : Bool) → fire (side b) ts ≡ nothing
       go true = rw e
       go false = rw e
 
   module _ {t : Tree} (e : arguments1 ts ≡ some t) where
-    pub part-no-pair : is-two (bytes "tamXCpair") t ≡ nothing → fire (side b) ts ≡ nothing
+    pub part_no_pair : is_two (bytes "tamXCpair") t ≡ nothing → fire (side b) ts ≡ nothing
     unfolding fire
-    part-no-pair f = go b
+    part_no_pair f = go b
       where
         go : (b : Bool) → fire (side b) ts ≡ nothing
         go true = rw (e, f)
         go false = rw (e, f)
 
-    pub part-if : {x y : Tree} {m : Bool} → is-two (bytes "tamXCpair") t ≡ some (x, y) → (message x && message y) ≡ m
+    pub part_if : {x y : Tree} {m : Bool} → is_two (bytes "tamXCpair") t ≡ some (x, y) → (message x && message y) ≡ m
         → fire (side b) ts ≡ (guard m >>= λ _. some (cond b x y))
     unfolding fire
-    part-if {x} {y} {m} f g = go b
+    part_if {x} {y} {m} f g = go b
       where
         go : (b : Bool) → fire (side b) ts ≡ (guard m >>= λ _. some (cond b x y))
         go true = rw (e, f, g)
         go false = rw (e, f, g)
 
-pub chosen-first : {b : Bool} (x y : Tree) → b ≡ true → _≡_ {A = Option Tree} (some (cond b x y)) (some x)
-chosen-first x y e = rw e
+pub chosen_first : {b : Bool} (x y : Tree) → b ≡ true → ◌≡◌ {A = Option Tree} (some (cond b x y)) (some x)
+chosen_first x y e = rw e
 
-pub chosen-second : {b : Bool} (x y : Tree) → b ≡ false → _≡_ {A = Option Tree} (some (cond b x y)) (some y)
-chosen-second x y e = rw e
+pub chosen_second : {b : Bool} (x y : Tree) → b ≡ false → ◌≡◌ {A = Option Tree} (some (cond b x y)) (some y)
+chosen_second x y e = rw e
 
-pub and-first-false : {a : Bool} (b : Bool) → a ≡ false → a && b ≡ false
-and-first-false b e = rw e
+pub and_first_false : {a : Bool} (b : Bool) → a ≡ false → a && b ≡ false
+and_first_false b e = rw e
 
-pub and-second-false : {a b : Bool} → a ≡ true → b ≡ false → a && b ≡ false
-and-second-false e f = rw (e, f)
+pub and_second_false : {a b : Bool} → a ≡ true → b ≡ false → a && b ≡ false
+and_second_false e f = rw (e, f)
 
-pub and-true : {a b : Bool} → a ≡ true → b ≡ true → a && b ≡ true
-and-true e f = rw (e, f)
+pub and_true : {a b : Bool} → a ≡ true → b ≡ true → a && b ≡ true
+and_true e f = rw (e, f)
 
 -- roles
 module _ (ts : Trees) where
-  pub flip-no-argument : arguments1 ts ≡ nothing → fire flip ts ≡ nothing
+  pub flip_no_argument : arguments1 ts ≡ nothing → fire flip ts ≡ nothing
   unfolding fire
-  flip-no-argument e = rw e
+  flip_no_argument e = rw e
 
   module _ {t : Tree} (e : arguments1 ts ≡ some t) where
-    pub flip-a : is-constant (bytes "tamXCroleA") t ≡ guard true → fire flip ts ≡ some role-b
+    pub flip_a : is_constant (bytes "tamXCroleA") t ≡ guard true → fire flip ts ≡ some role_b
     unfolding fire flipped
-    flip-a f = rw (e, flipped, f)
+    flip_a f = rw (e, flipped, f)
 
-    pub flip-b : is-constant (bytes "tamXCroleA") t ≡ guard false → is-constant (bytes "tamXCroleB") t ≡ guard true → fire flip ts ≡ some role-a
+    pub flip_b : is_constant (bytes "tamXCroleA") t ≡ guard false → is_constant (bytes "tamXCroleB") t ≡ guard true → fire flip ts ≡ some role_a
     unfolding fire flipped
-    flip-b f g = rw (e, flipped, f, g)
+    flip_b f g = rw (e, flipped, f, g)
 
-    pub flip-not : is-constant (bytes "tamXCroleA") t ≡ guard false → is-constant (bytes "tamXCroleB") t ≡ guard false → fire flip ts ≡ nothing
+    pub flip_not : is_constant (bytes "tamXCroleA") t ≡ guard false → is_constant (bytes "tamXCroleB") t ≡ guard false → fire flip ts ≡ nothing
     unfolding fire flipped
-    flip-not f g = rw (e, flipped, f, g)
+    flip_not f g = rw (e, flipped, f, g)
 
 -- ciphers
-pub sealed-plain : {b : Bool} (t : Tree) → b ≡ false → sealed b t ≡ is-two (bytes "tamXCsenc") t
+pub sealed_plain : {b : Bool} (t : Tree) → b ≡ false → sealed b t ≡ is_two (bytes "tamXCsenc") t
 unfolding sealed
-sealed-plain t e = rw e
+sealed_plain t e = rw e
 
-pub sealed-not : {b : Bool} (t : Tree) → b ≡ true → is-two (bytes "tamXCkem") t ≡ nothing → sealed b t ≡ nothing
+pub sealed_not : {b : Bool} (t : Tree) → b ≡ true → is_two (bytes "tamXCkem") t ≡ nothing → sealed b t ≡ nothing
 unfolding sealed
-sealed-not t e f = rw (e, f)
+sealed_not t e f = rw (e, f)
 
-pub sealed-boxed : (s : Text) (w : List ℕ) {b : Bool} (t : Tree) (j k r : ℕ) → b ≡ true → is-two (bytes "tamXCkem") t ≡ some (tree-at s w j, tree-at s w k)
-    → is-one (bytes "tamXCpk") (tree-at s w k) ≡ held s w r → sealed b t ≡ held-two s w j r
+pub sealed_boxed : (s : Text) (w : List ℕ) {b : Bool} (t : Tree) (j k r : ℕ) → b ≡ true → is_two (bytes "tamXCkem") t ≡ some (tree_at s w j, tree_at s w k)
+    → is_one (bytes "tamXCpk") (tree_at s w k) ≡ held s w r → sealed b t ≡ held_two s w j r
 unfolding sealed
-sealed-boxed s w t j k zero e f g = rw (e, f, g)
-sealed-boxed s w t j k (suc r) e f g = rw (e, f, g)
+sealed_boxed s w t j k zero e f g = rw (e, f, g)
+sealed_boxed s w t j k (suc r) e f g = rw (e, f, g)
 
 -- one reading after two others, and after their pair
 abbrev both : Tree → Tree → Option (Tree × Tree)
 both a b = some (a, b)
 
 regroup : (o : Option (Tree × Tree)) (f : Tree → Option Tree) (g : Tree → Tree → Option Tree)
-    → (o >>= λ p. f (p .1) >>= λ key. g (p .0) key) ≡ ((o >>= λ p. f (p .1) >>= λ key. both (p .0) key) >>= λ q. g (q .0) (q .1))
+    → (o >>= λ p. f p.1 >>= λ key. g p.0 key) ≡ ((o >>= λ p. f p.1 >>= λ key. both p.0 key) >>= λ q. g q.0 q.1)
 regroup nothing f g = refl
-regroup (some p) f g = go (f (p .1))
+regroup (some p) f g = go (f p.1)
   where
-    go : (o : Option Tree) → (o >>= λ key. g (p .0) key) ≡ ((o >>= λ key. both (p .0) key) >>= λ q. g (q .0) (q .1))
+    go : (o : Option Tree) → (o >>= λ key. g p.0 key) ≡ ((o >>= λ key. both p.0 key) >>= λ q. g q.0 q.1)
     go nothing = refl
     go (some key) = refl
 
 -- the rules with keys
 module _ (b : Bool) (ts : Trees) where
-  pub open-no-arguments : arguments2 ts ≡ nothing → fire (opener b) ts ≡ nothing
+  pub open_no_arguments : arguments2 ts ≡ nothing → fire (opener b) ts ≡ nothing
   unfolding fire
-  open-no-arguments e = go b
+  open_no_arguments e = go b
     where
       go : (b : Bool) → fire (opener b) ts ≡ nothing
       go true = rw e
       go false = rw e
 
   module _ {t o : Tree} (e : arguments2 ts ≡ some (t, o)) where
-    open-by : fire (opener b) ts ≡ (sealed b t >>= λ q. guard (opens (q .0) (q .1) o) >>= λ _. some (q .0))
+    open_by : fire (opener b) ts ≡ (sealed b t >>= λ q. guard (opens q.0 q.1 o) >>= λ _. some q.0)
     unfolding fire sealed
-    open-by = go b
+    open_by = go b
       where
-        go : (b : Bool) → fire (opener b) ts ≡ (sealed b t >>= λ q. guard (opens (q .0) (q .1) o) >>= λ _. some (q .0))
-        go true = rw e (regroup (is-two (bytes "tamXCkem") t) (is-one (bytes "tamXCpk")) (λ p key. guard (opens p key o) >>= λ _. some p))
+        go : (b : Bool) → fire (opener b) ts ≡ (sealed b t >>= λ q. guard (opens q.0 q.1 o) >>= λ _. some q.0)
+        go true = rw e (regroup (is_two (bytes "tamXCkem") t) (is_one (bytes "tamXCpk")) (λ p key. guard (opens p key o) >>= λ _. some p))
         go false = rw e
 
-    pub open-no-cipher : sealed b t ≡ nothing → fire (opener b) ts ≡ nothing
-    open-no-cipher f = open-by ∙ rw f
+    pub open_no_cipher : sealed b t ≡ nothing → fire (opener b) ts ≡ nothing
+    open_no_cipher f = open_by ∙ rw f
 
-    pub open-if : {p k : Tree} {m : Bool} → sealed b t ≡ some (p, k) → m ≡ opens p k o → fire (opener b) ts ≡ (guard m >>= λ _. some p)
-    open-if f g = open-by ∙ rw (f, g)
+    pub open_if : {p k : Tree} {m : Bool} → sealed b t ≡ some (p, k) → m ≡ opens p k o → fire (opener b) ts ≡ (guard m >>= λ _. some p)
+    open_if f g = open_by ∙ rw (f, g)
 
 pub opened : {m : Bool} {p : Tree} → m ≡ true → (guard m >>= λ _. some p) ≡ some p
 opened e = rw e
@@ -139,68 +139,68 @@ pub unopened : {m : Bool} (p : Tree) → m ≡ false → (guard m >>= λ _. some
 unopened p e = rw e
 
 -- a key is smaller than its cipher
-two-less : (f : Text) (t : Tree) (p : Tree × Tree) → is-two f t ≡ some p → size (p .1) < size t
-unfolding is-two size
-two-less f t p e =
-    let (ts, g, h) = bound (arguments-of f t) arguments2 p e in
+two_less : (f : Text) (t : Tree) (p : Tree × Tree) → is_two f t ≡ some p → size p.1 < size t
+unfolding is_two size
+two_less f t p e =
+    let (ts, g, h) = bound (arguments_of f t) arguments2 p e in
     let k = go ts h in
     rw (named f t ts g) (omega arith)
   where
-    go : (ts : Trees) → arguments2 ts ≡ some p → size (p .1) < 1 + sizes ts
-    go none h = absurd (Option·none-ne-some p h)
-    go (more a none) h = absurd (Option·none-ne-some p h)
-    go (more a (more b none)) h = let e : size b ≡ size (p .1) = ap (λ (q : Tree × Tree). size (q .1)) (Option·some-injective (a, b) p h) in omega arith
-    go (more a (more b (more c ts))) h = absurd (Option·none-ne-some p h)
+    go : (ts : Trees) → arguments2 ts ≡ some p → size p.1 < 1 + sizes ts
+    go none h = absurd (none-ne-some p h)
+    go (more a none) h = absurd (none-ne-some p h)
+    go (more a (more b none)) h = let e : size b ≡ size p.1 = ap (λ (q : Tree × Tree). size q.1) (some-injective (a, b) p h) in omega arith
+    go (more a (more b (more c ts))) h = absurd (none-ne-some p h)
 
-one-less : (f : Text) (t u : Tree) → is-one f t ≡ some u → size u < size t
-unfolding is-one size
-one-less f t u e =
-    let (ts, g, h) = bound (arguments-of f t) arguments1 u e in
+one_less : (f : Text) (t u : Tree) → is_one f t ≡ some u → size u < size t
+unfolding is_one size
+one_less f t u e =
+    let (ts, g, h) = bound (arguments_of f t) arguments1 u e in
     let k = go ts h in
     rw (named f t ts g) (omega arith)
   where
     go : (ts : Trees) → arguments1 ts ≡ some u → size u < 1 + sizes ts
-    go none h = absurd (Option·none-ne-some u h)
-    go (more a none) h = let e : size a ≡ size u = ap size (Option·some-injective a u h) in omega arith
-    go (more a (more b ts)) h = absurd (Option·none-ne-some u h)
+    go none h = absurd (none-ne-some u h)
+    go (more a none) h = let e : size a ≡ size u = ap size (some-injective a u h) in omega arith
+    go (more a (more b ts)) h = absurd (none-ne-some u h)
 
-pub key-less : (b : Bool) (t : Tree) (p : Tree × Tree) → sealed b t ≡ some p → size (p .1) < size t
+pub key_less : (b : Bool) (t : Tree) (p : Tree × Tree) → sealed b t ≡ some p → size p.1 < size t
 unfolding sealed
-key-less false t p e = two-less (bytes "tamXCsenc") t p e
-key-less true t p e =
-    let (q, f, g) = bound (is-two (bytes "tamXCkem") t) (λ p. is-one (bytes "tamXCpk") (p .1) >>= λ key. some (p .0, key)) p e in
-    let (key, h, k) = bound (is-one (bytes "tamXCpk") (q .1)) (λ key. some (q .0, key)) p g in
-    let x = two-less (bytes "tamXCkem") t q f in
-    let y = one-less (bytes "tamXCpk") (q .1) key h in
-    let z : size key ≡ size (p .1) = ap (λ (r : Tree × Tree). size (r .1)) (Option·some-injective (q .0, key) p k) in
+key_less false t p e = two_less (bytes "tamXCsenc") t p e
+key_less true t p e =
+    let (q, f, g) = bound (is_two (bytes "tamXCkem") t) (λ p. is_one (bytes "tamXCpk") p.1 >>= λ key. some (p.0, key)) p e in
+    let (key, h, k) = bound (is_one (bytes "tamXCpk") q.1) (λ key. some (q.0, key)) p g in
+    let x = two_less (bytes "tamXCkem") t q f in
+    let y = one_less (bytes "tamXCpk") q.1 key h in
+    let z : size key ≡ size p.1 = ap (λ (r : Tree × Tree). size r.1) (some-injective (q.0, key) p k) in
     omega arith
 
 -- the key of the cipher and the other key together have no more nodes than the two children
-pub cells-less : (b : Bool) (ts : Trees) {t o p k : Tree} → arguments2 ts ≡ some (t, o) → sealed b t ≡ some (p, k) → size k + size o ≤ sizes ts
+pub cells_less : (b : Bool) (ts : Trees) {t o p k : Tree} → arguments2 ts ≡ some (t, o) → sealed b t ≡ some (p, k) → size k + size o ≤ sizes ts
 unfolding size
-cells-less b ts {t} {o} {p} {k} e f = go ts e
+cells_less b ts {t} {o} {p} {k} e f = go ts e
   where
     go : (ts : Trees) → arguments2 ts ≡ some (t, o) → size k + size o ≤ sizes ts
-    go none h = absurd (Option·none-ne-some (t, o) h)
-    go (more x none) h = absurd (Option·none-ne-some (t, o) h)
+    go none h = absurd (none-ne-some (t, o) h)
+    go (more x none) h = absurd (none-ne-some (t, o) h)
     go (more x (more y none)) h =
-        let less = key-less b t (p, k) f in
-        let g = Option·some-injective (x, y) (t, o) h in
-        let e₁ : size x ≡ size t = ap (λ (q : Tree × Tree). size (q .0)) g in
-        let e₂ : size y ≡ size o = ap (λ (q : Tree × Tree). size (q .1)) g in
+        let less = key_less b t (p, k) f in
+        let g = some-injective (x, y) (t, o) h in
+        let e₁ : size x ≡ size t = ap (λ (q : Tree × Tree). size q.0) g in
+        let e₂ : size y ≡ size o = ap (λ (q : Tree × Tree). size q.1) g in
         omega arith
-    go (more x (more y (more z us))) h = absurd (Option·none-ne-some (t, o) h)
+    go (more x (more y (more z us))) h = absurd (none-ne-some (t, o) h)
 
 -- the test of a cipher, one part after the other
 module _ (p k o : Tree) where
-  pub opens-not : message p ≡ false → opens p k o ≡ false
+  pub opens_not : message p ≡ false → opens p k o ≡ false
   unfolding opens
-  opens-not e = rw e
+  opens_not e = rw e
 
-  pub opens-no-key : message p ≡ true → message k ≡ false → opens p k o ≡ false
+  pub opens_no_key : message p ≡ true → message k ≡ false → opens p k o ≡ false
   unfolding opens
-  opens-no-key e f = rw (e, f)
+  opens_no_key e f = rw (e, f)
 
-  pub opens-by : {b : Bool} → message p ≡ true → message k ≡ true → b ≡ equivalent k o → b ≡ opens p k o
+  pub opens_by : {b : Bool} → message p ≡ true → message k ≡ true → b ≡ equivalent k o → b ≡ opens p k o
   unfolding opens
-  opens-by e f g = rw (e, f) g
+  opens_by e f g = rw (e, f) g

@@ -1,15 +1,13 @@
 -- What the functions that write trees at the free end answer, and the scratch words that they need above it. Definitions only.
-use Prim.Native.Nat.{ℕ, _+_, _<_, _≤_}
-use mathlib.Core.Path.{_≡_}
-use mathlib.Core.List.{List}
-use Rattle·rules.specs.Bytes.{Text}
-use Rattle·rules.specs.Tree.{Tree, Trees, more}
-use Rattle·tree.specs.Cells.{tree-at, trees-at}
-use Rattle·tree.specs.Arena.{Arena, Below}
+use Rattle.std.specs.Prelude.{ℕ, ◌+◌, ◌<◌, ◌≤◌, ◌≡◌, List}
+use Rattle.rules.specs.Bytes.{Text}
+use Rattle.rules.specs.Tree.{Tree, Trees, more}
+use Rattle.tree.specs.Cells.{tree_at, trees_at}
+use Rattle.tree.specs.Arena.{Arena, Below}
 
 -- the words that the comparison of two keys of together at most 4,096 nodes needs, fifteen for each node
-abbrev pub key-room : ℕ
-key-room = 61440
+abbrev pub key_room : ℕ
+key_room = 61440
 
 -- from w, with the free end n, to v, with the free end m, by at most b cells: cell i is t, before the list from cell next on
 pub record NewTree (s : Text) (w v : List ℕ) (n b next : ℕ) (t : Tree) (i m : ℕ) : Type 0 where
@@ -17,10 +15,10 @@ pub record NewTree (s : Text) (w v : List ℕ) (n b next : ℕ) (t : Tree) (i m 
   pub kept : Below w v n
   pub grew : n ≤ m
   pub used : m ≤ n + b
-  pub some-cell : 0 < i
+  pub some_cell : 0 < i
   pub inside : i < m
-  pub tree : tree-at s v i ≡ t
-  pub trees : trees-at s v i ≡ more t (trees-at s w next)
+  pub tree : tree_at s v i ≡ t
+  pub trees : trees_at s v i ≡ more t (trees_at s w next)
 
 -- the same, where the list from cell i on is ts
 pub record NewTrees (s : Text) (w v : List ℕ) (n b : ℕ) (ts : Trees) (i m : ℕ) : Type 0 where
@@ -29,4 +27,4 @@ pub record NewTrees (s : Text) (w v : List ℕ) (n b : ℕ) (ts : Trees) (i m : 
   pub grew : n ≤ m
   pub used : m ≤ n + b
   pub inside : i < m
-  pub trees : trees-at s v i ≡ ts
+  pub trees : trees_at s v i ≡ ts

@@ -1,22 +1,19 @@
 // What the rules without keys make of the children under their names, and the keys of ciphers.
-use crate::naming::is_constant;
-use crate::naming::is_one;
-use crate::naming::is_two;
-use crate::naming::one_argument;
+ghost use Rattle.std.specs.Prelude.{◌≡◌, ◌<◌};
+ghost use Rattle.rules.specs.Reduction.{fire, flip};
+ghost use Rattle.tree.specs.Cells.{first_of, tree_at, trees_at};
+ghost use Rattle.tree.specs.Arena.{Arena};
+ghost use Rattle.rewriting.specs.Held.{held, held_two, fixed, side, sealed};
+
+use crate::naming::{is_constant, is_one, is_two, one_argument};
 use sorts::message;
 use tree::cells::first_of;
-ghost use mathlib.Core.Path.{_≡_};
-ghost use Prim.Native.Nat.{_<_};
-ghost use Rattle·rules.specs.Reduction.{fire, flip};
-ghost use Rattle·tree.specs.Cells.{first-of, tree-at, trees-at};
-ghost use Rattle·tree.specs.Arena.{Arena};
-ghost use Rattle·rewriting·specs.specs.Held.{held, held-two, fixed, side, sealed};
 
 // The first or the second of the pair, the one child from cell i on: its cell, 0 where the rule does not fire.
 pub fn part_of(sheet: &[u8], work: &[u32], free: usize, i: usize, first: bool) -> usize
-    requires { ⌜ Arena (now sheet) (now work) free ⌝ }
-    requires { ⌜ i < free ⌝ }
-    ensures { λ r. ⌜ (r < free) × (fire (side first) (trees-at (now (sheet .entry)) (now (work .entry)) i) ≡ held (now (sheet .entry)) (now (work .entry)) r) ⌝ }
+    requires arena { Arena sheet.now work.now free }
+    requires i_lt_free { i < free }
+    ensures { (result < free) × (fire (side first) (trees_at sheet.now work.now i) ≡ held sheet.now work.now result) }
 {
     let pair = one_argument(sheet, work, free, i);
     if pair == 0 {
@@ -41,9 +38,9 @@ pub fn part_of(sheet: &[u8], work: &[u32], free: usize, i: usize, first: bool) -
 
 // The other role than the one child from cell i on: the code of its name, 0 where the rule does not fire.
 pub fn flipped(sheet: &[u8], work: &[u32], free: usize, i: usize) -> usize
-    requires { ⌜ Arena (now sheet) (now work) free ⌝ }
-    requires { ⌜ i < free ⌝ }
-    ensures { λ r. ⌜ (r < 3) × (fire flip (trees-at (now (sheet .entry)) (now (work .entry)) i) ≡ fixed r) ⌝ }
+    requires arena { Arena sheet.now work.now free }
+    requires i_lt_free { i < free }
+    ensures { (result < 3) × (fire flip (trees_at sheet.now work.now i) ≡ fixed result) }
 {
     let role = one_argument(sheet, work, free, i);
     if role == 0 {
@@ -60,9 +57,9 @@ pub fn flipped(sheet: &[u8], work: &[u32], free: usize, i: usize) -> usize
 
 // The cell of the key that the cipher of cell k is sealed by, boxed or not, 0 if it is no such cipher. The payload is its first child.
 pub(crate) fn key_of(sheet: &[u8], work: &[u32], free: usize, k: usize, boxed: bool) -> usize
-    requires { ⌜ Arena (now sheet) (now work) free ⌝ }
-    requires { ⌜ (0 < k) × (k < free) ⌝ }
-    ensures { λ r. ⌜ (r < free) × (0 < r → 0 < first-of (now (work .entry)) k) × (sealed boxed (tree-at (now (sheet .entry)) (now (work .entry)) k) ≡ held-two (now (sheet .entry)) (now (work .entry)) (first-of (now (work .entry)) k) r) ⌝ }
+    requires arena { Arena sheet.now work.now free }
+    requires k_nonzero { (0 < k) × (k < free) }
+    ensures { (result < free) × (0 < result → 0 < first_of work.now k) × (sealed boxed (tree_at sheet.now work.now k) ≡ held_two sheet.now work.now (first_of work.now k) result) }
 {
     if boxed {
         let container = is_two(sheet, work, free, k, b"tamXCkem");

@@ -1,18 +1,16 @@
 // The rule of a name, and the children of a tree where they are as many as a rule asks for.
-use tree::cells::APPLICATION;
-use tree::cells::first_of;
-use tree::cells::kind_of;
-use tree::cells::next_of;
+ghost use Rattle.std.specs.Prelude.{◌≡◌, ◌<◌};
+ghost use Rattle.rules.specs.Reduction.{rule_named, arguments1, arguments2, arguments_of, is_constant, is_one, is_two};
+ghost use Rattle.rules.specs.Maybe.{guard};
+ghost use Rattle.tree.specs.Cells.{first_of, name_at, tree_at, trees_at};
+ghost use Rattle.tree.specs.Arena.{Arena};
+ghost use Rattle.rewriting.specs.Held.{coded_rule, given_if, held, held_two};
+
+use tree::cells::{APPLICATION, first_of, kind_of, next_of};
 use tree::names::name_is;
-ghost use mathlib.Core.Path.{_≡_};
-ghost use Prim.Native.Nat.{_<_};
-ghost use Rattle·rules.specs.Reduction.{rule-named, arguments1, arguments2, arguments-of, is-constant, is-one, is-two};
-ghost use Rattle·rules.specs.Maybe.{guard};
-ghost use Rattle·tree.specs.Cells.{first-of, name-at, tree-at, trees-at};
-ghost use Rattle·tree.specs.Arena.{Arena};
-ghost use Rattle·rewriting·specs.specs.Held.{coded-rule, given-if, held, held-two};
 
 // The rule of a name.
+#[derive(Clone, Copy)]
 pub enum RuleName {
     Fst,
     Snd,
@@ -24,9 +22,9 @@ pub enum RuleName {
 
 // The rule of the name of cell k.
 pub fn rule_named(sheet: &[u8], work: &[u32], free: usize, k: usize) -> RuleName
-    requires { ⌜ Arena (now sheet) (now work) free ⌝ }
-    requires { ⌜ (0 < k) × (k < free) ⌝ }
-    ensures { λ r. ⌜ r ≡ coded-rule (rule-named (name-at (now (sheet .entry)) (now (work .entry)) k)) ⌝ }
+    requires arena { Arena sheet.now work.now free }
+    requires k_nonzero { (0 < k) × (k < free) }
+    ensures { result ≡ coded_rule (rule_named (name_at sheet.now work.now k)) }
 {
     if name_is(sheet, work, free, k, b"tamXCfst") {
         return RuleName::Fst;
@@ -48,9 +46,9 @@ pub fn rule_named(sheet: &[u8], work: &[u32], free: usize, k: usize) -> RuleName
 
 // The only cell of the list from cell i on, 0 if there is none or another.
 pub fn one_argument(sheet: &[u8], work: &[u32], free: usize, i: usize) -> usize
-    requires { ⌜ Arena (now sheet) (now work) free ⌝ }
-    requires { ⌜ i < free ⌝ }
-    ensures { λ r. ⌜ (r < free) × (arguments1 (trees-at (now (sheet .entry)) (now (work .entry)) i) ≡ held (now (sheet .entry)) (now (work .entry)) r) ⌝ }
+    requires arena { Arena sheet.now work.now free }
+    requires i_lt_free { i < free }
+    ensures { (result < free) × (arguments1 (trees_at sheet.now work.now i) ≡ held sheet.now work.now result) }
 {
     if i == 0 {
         return 0;
@@ -63,9 +61,9 @@ pub fn one_argument(sheet: &[u8], work: &[u32], free: usize, i: usize) -> usize
 
 // The second of the two cells of the list from cell i on, 0 if there are more or fewer.
 pub fn two_arguments(sheet: &[u8], work: &[u32], free: usize, i: usize) -> usize
-    requires { ⌜ Arena (now sheet) (now work) free ⌝ }
-    requires { ⌜ i < free ⌝ }
-    ensures { λ r. ⌜ (r < free) × (0 < r → 0 < i) × (arguments2 (trees-at (now (sheet .entry)) (now (work .entry)) i) ≡ held-two (now (sheet .entry)) (now (work .entry)) i r) ⌝ }
+    requires arena { Arena sheet.now work.now free }
+    requires i_lt_free { i < free }
+    ensures { (result < free) × (0 < result → 0 < i) × (arguments2 (trees_at sheet.now work.now i) ≡ held_two sheet.now work.now i result) }
 {
     if i == 0 {
         return 0;
@@ -82,9 +80,9 @@ pub fn two_arguments(sheet: &[u8], work: &[u32], free: usize, i: usize) -> usize
 
 // Whether cell k is an application with a name.
 fn applies(sheet: &[u8], work: &[u32], free: usize, k: usize, text: &[u8]) -> bool
-    requires { ⌜ Arena (now sheet) (now work) free ⌝ }
-    requires { ⌜ (0 < k) × (k < free) ⌝ }
-    ensures { λ r. ⌜ arguments-of (now (text .entry)) (tree-at (now (sheet .entry)) (now (work .entry)) k) ≡ given-if r (trees-at (now (sheet .entry)) (now (work .entry)) (first-of (now (work .entry)) k)) ⌝ }
+    requires arena { Arena sheet.now work.now free }
+    requires k_nonzero { (0 < k) × (k < free) }
+    ensures { arguments_of text.now (tree_at sheet.now work.now k) ≡ given_if result (trees_at sheet.now work.now (first_of work.now k)) }
 {
     if APPLICATION < kind_of(work, k) {
         return false;
@@ -94,9 +92,9 @@ fn applies(sheet: &[u8], work: &[u32], free: usize, k: usize, text: &[u8]) -> bo
 
 // Whether the tree of cell k is a name without arguments.
 pub(crate) fn is_constant(sheet: &[u8], work: &[u32], free: usize, k: usize, text: &[u8]) -> bool
-    requires { ⌜ Arena (now sheet) (now work) free ⌝ }
-    requires { ⌜ (0 < k) × (k < free) ⌝ }
-    ensures { λ r. ⌜ is-constant (now (text .entry)) (tree-at (now (sheet .entry)) (now (work .entry)) k) ≡ guard r ⌝ }
+    requires arena { Arena sheet.now work.now free }
+    requires k_nonzero { (0 < k) × (k < free) }
+    ensures { is_constant text.now (tree_at sheet.now work.now k) ≡ guard result }
 {
     if applies(sheet, work, free, k, text) {
         return first_of(work, free, k) == 0;
@@ -106,9 +104,9 @@ pub(crate) fn is_constant(sheet: &[u8], work: &[u32], free: usize, k: usize, tex
 
 // The cell of the one argument under a name at cell k, 0 for none.
 pub(crate) fn is_one(sheet: &[u8], work: &[u32], free: usize, k: usize, text: &[u8]) -> usize
-    requires { ⌜ Arena (now sheet) (now work) free ⌝ }
-    requires { ⌜ (0 < k) × (k < free) ⌝ }
-    ensures { λ r. ⌜ (r < free) × (is-one (now (text .entry)) (tree-at (now (sheet .entry)) (now (work .entry)) k) ≡ held (now (sheet .entry)) (now (work .entry)) r) ⌝ }
+    requires arena { Arena sheet.now work.now free }
+    requires k_nonzero { (0 < k) × (k < free) }
+    ensures { (result < free) × (is_one text.now (tree_at sheet.now work.now k) ≡ held sheet.now work.now result) }
 {
     if applies(sheet, work, free, k, text) {
         return one_argument(sheet, work, free, first_of(work, free, k));
@@ -118,9 +116,9 @@ pub(crate) fn is_one(sheet: &[u8], work: &[u32], free: usize, k: usize, text: &[
 
 // The cell of the second of the two arguments under a name at cell k, 0 for none.
 pub(crate) fn is_two(sheet: &[u8], work: &[u32], free: usize, k: usize, text: &[u8]) -> usize
-    requires { ⌜ Arena (now sheet) (now work) free ⌝ }
-    requires { ⌜ (0 < k) × (k < free) ⌝ }
-    ensures { λ r. ⌜ (r < free) × (0 < r → 0 < first-of (now (work .entry)) k) × (is-two (now (text .entry)) (tree-at (now (sheet .entry)) (now (work .entry)) k) ≡ held-two (now (sheet .entry)) (now (work .entry)) (first-of (now (work .entry)) k) r) ⌝ }
+    requires arena { Arena sheet.now work.now free }
+    requires k_nonzero { (0 < k) × (k < free) }
+    ensures { (result < free) × (0 < result → 0 < first_of work.now k) × (is_two text.now (tree_at sheet.now work.now k) ≡ held_two sheet.now work.now (first_of work.now k) result) }
 {
     if applies(sheet, work, free, k, text) {
         return two_arguments(sheet, work, free, first_of(work, free, k));

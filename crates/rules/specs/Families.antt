@@ -1,23 +1,21 @@
 -- What the answers of `sound`, `cover` and `complete` mean (01, "The answer goes out", "Solving", the last paragraph, and "Reduction
 -- and variants").
-use mathlib.Core.Path.{_≡_}
-use mathlib.Core.Bool.{Bool, true, false}
-use mathlib.Core.List.{List, [], _∷_, _++_, map, List·Memᴰ}
-use mathlib.Core.Option.{Option, some, none as nothing}
-use Prim.Native.Nat.{ℕ, _≤_, _<_}
-use Rattle·rules·specs.specs.Bytes.{Text}
-use Rattle·rules·specs.specs.Maybe.{every}
-use Rattle·rules·specs.specs.Tree.{Tree, size, variable-names}
-use Rattle·rules·specs.specs.Substitution.{Binding, Pair, lookup, instantiate}
-use Rattle·rules·specs.specs.Equality.{AC}
-use Rattle·rules·specs.specs.Reading.{parse}
-use Rattle·rules·specs.specs.Sheet.{Member, member-texts}
-use Rattle·rules·specs.specs.Solving.{solved, failed, unsupported, unify}
-use Rattle·rules·specs.specs.Matching.{matcher}
-use Rattle·rules·specs.specs.Reduction.{normalize}
-use Rattle·rules·specs.specs.Rewriting.{NormalModulo}
-use Rattle·rules·specs.specs.Cover.{variables, variables-of, entry-at, general}
-use Rattle·rules·specs.specs.Variants.{Variant, read-member, index-of, fresh-base, fresh-from, Scheme, schemes-from, scheme-count, system}
+use Rattle.std.specs.Prelude.{◌≡◌, Bool, true, false, ℕ, ◌≤◌, ◌<◌}
+use mathlib.Core.List.{List, [], ◌∷◌, ◌++◌, map, Memᴰ}
+use Rattle.std.proofs.Math.Option.{Option, some, none as nothing}
+use Rattle.rules.specs.Bytes.{Text}
+use Rattle.rules.specs.Maybe.{every}
+use Rattle.rules.specs.Tree.{Tree, size, variable_names}
+use Rattle.rules.specs.Substitution.{Binding, Pair, lookup, instantiate}
+use Rattle.rules.specs.Equality.{Ac}
+use Rattle.rules.specs.Reading.{parse}
+use Rattle.rules.specs.Sheet.{Member, member_texts}
+use Rattle.rules.specs.Solving.{solved, failed, unsupported, unify}
+use Rattle.rules.specs.Matching.{matcher}
+use Rattle.rules.specs.Reduction.{normalize}
+use Rattle.rules.specs.Rewriting.{NormalModulo}
+use Rattle.rules.specs.Cover.{variables, variables_of, entry_at, general}
+use Rattle.rules.specs.Variants.{Variant, read_member, index_of, fresh_base, fresh_from, Scheme, schemes_from, scheme_count, system}
 
 -- some text does not read
 pub data Unreadable : List Text → Type 0 where
@@ -26,13 +24,13 @@ pub data Unreadable : List Text → Type 0 where
 
 -- Sound
 
--- the member's term is AC equal to the reduced instance; none where a text does not read or the instance is over the limit
+-- the member's term is Ac equal to the reduced instance; none where a text does not read or the instance is over the limit
 pub data SoundMeans (term : Tree) (m : Member) : Option Bool → Type 0 where
-  text-unreadable : Unreadable (member-texts (m ∷ [])) → SoundMeans term m nothing
-  instance-over : {v : Variant} → read-member m ≡ some v → 4096 < size (instantiate (v .1) term) → SoundMeans term m nothing
-  is-variant : {v : Variant} → read-member m ≡ some v → size (instantiate (v .1) term) ≤ 4096 → AC (normalize (instantiate (v .1) term)) (v .0)
+  text_unreadable : Unreadable (member_texts (m ∷ [])) → SoundMeans term m nothing
+  instance_over : {v : Variant} → read_member m ≡ some v → 4096 < size (instantiate v.1 term) → SoundMeans term m nothing
+  is_variant : {v : Variant} → read_member m ≡ some v → size (instantiate v.1 term) ≤ 4096 → Ac (normalize (instantiate v.1 term)) v.0
       → SoundMeans term m (some true)
-  is-other : {v : Variant} → read-member m ≡ some v → size (instantiate (v .1) term) ≤ 4096 → ¬ AC (normalize (instantiate (v .1) term)) (v .0)
+  is_other : {v : Variant} → read_member m ≡ some v → size (instantiate v.1 term) ≤ 4096 → ¬ Ac (normalize (instantiate v.1 term)) v.0
       → SoundMeans term m (some false)
 
 -- Cover
@@ -45,15 +43,15 @@ pub data Against (bs : List Binding) (m : Member) : List Text → List Pair → 
 
 -- a member covers where its text at one of the variables does not read, or its trees there are not found to differ
 pub data Covers (xs : List Text) (bs : List Binding) (m : Member) : Type 0 where
-  at-unreadable : {x s : Text} → List·Memᴰ x xs → entry-at (m .1) x ≡ some s → parse s ≡ nothing → Covers xs bs m
-  not-failed : {ps : List Pair} → Against bs m xs ps → ¬ (matcher 65536 ps .0 ≡ failed) → Covers xs bs m
+  at_unreadable : {x s : Text} → Memᴰ x xs → entry_at m.1 x ≡ some s → parse s ≡ nothing → Covers xs bs m
+  not_failed : {ps : List Pair} → Against bs m xs ps → ¬ ((matcher 65536 ps).0 ≡ failed) → Covers xs bs m
 
 -- some member covers the solved pairs; none where they are not solved
 pub data CoveredMeans (ps : List Pair) (ms : List Member) : Option Bool → Type 0 where
-  not-solved : ((bs : List Binding) → ¬ (unify 65536 ps .0 ≡ solved bs)) → CoveredMeans ps ms nothing
-  some-covers : {bs : List Binding} {m : Member} → unify 65536 ps .0 ≡ solved bs → List·Memᴰ m ms → Covers (variables-of ps) bs m
+  not_solved : ((bs : List Binding) → ¬ ((unify 65536 ps).0 ≡ solved bs)) → CoveredMeans ps ms nothing
+  some_covers : {bs : List Binding} {m : Member} → (unify 65536 ps).0 ≡ solved bs → Memᴰ m ms → Covers (variables_of ps) bs m
       → CoveredMeans ps ms (some true)
-  none-covers : {bs : List Binding} → unify 65536 ps .0 ≡ solved bs → ((m : Member) → List·Memᴰ m ms → ¬ Covers (variables-of ps) bs m)
+  none_covers : {bs : List Binding} → (unify 65536 ps).0 ≡ solved bs → ((m : Member) → Memᴰ m ms → ¬ Covers (variables_of ps) bs m)
       → CoveredMeans ps ms (some false)
 
 -- Complete
@@ -61,36 +59,36 @@ pub data CoveredMeans (ps : List Pair) (ms : List Member) : Option Bool → Type
 -- why there is no claim: a text does not read, a variable has no index below 2^63, there are over 4,096 schemes, or one is
 -- unsupported
 pub data Unclaimed (term : Tree) (members : List Member) : Type 0 where
-  member-unreadable : Unreadable (member-texts members) → Unclaimed term members
-  index-missing : {x : Text} → List·Memᴰ x (variable-names term) → index-of x ≡ nothing → Unclaimed term members
-  schemes-over : 4096 < scheme-count term → Unclaimed term members
-  scheme-unsupported : {base : ℕ} {s : Scheme} → fresh-base term 0 ≡ some base → List·Memᴰ s (schemes-from (fresh-from base) term 0)
-      → unify 65536 (system term s) .0 ≡ unsupported → Unclaimed term members
+  member_unreadable : Unreadable (member_texts members) → Unclaimed term members
+  index_missing : {x : Text} → Memᴰ x (variable_names term) → index_of x ≡ nothing → Unclaimed term members
+  schemes_over : 4096 < scheme_count term → Unclaimed term members
+  scheme_unsupported : {base : ℕ} {s : Scheme} → fresh_base term 0 ≡ some base → Memᴰ s (schemes_from (fresh_from base) term 0)
+      → (unify 65536 (system term s)).0 ≡ unsupported → Unclaimed term members
 
 -- what a claim is about: the members as read, and the schemes from a base on, all decided
 pub record Claim (term : Tree) (members : List Member) : Type 0 where
   pub variants : List Variant
   pub base : ℕ
-  pub read : every (map read-member members) ≡ some variants
-  pub indexed : fresh-base term 0 ≡ some base
-  pub limited : scheme-count term ≤ 4096
-  pub decided : (s : Scheme) → List·Memᴰ s (schemes-from (fresh-from base) term 0) → ¬ (unify 65536 (system term s) .0 ≡ unsupported)
+  pub read : every (map read_member members) ≡ some variants
+  pub indexed : fresh_base term 0 ≡ some base
+  pub limited : scheme_count term ≤ 4096
+  pub decided : (s : Scheme) → Memᴰ s (schemes_from (fresh_from base) term 0) → ¬ ((unify 65536 (system term s)).0 ≡ unsupported)
 
 -- a solved scheme whose value is normal under its bindings
 pub record Target (term : Tree) (base : ℕ) (s : Scheme) (bs : List Binding) : Type 0 where
-  pub listed : List·Memᴰ s (schemes-from (fresh-from base) term 0)
-  pub solution : unify 65536 (system term s) .0 ≡ solved bs
-  pub normal : NormalModulo (instantiate bs (s .value))
+  pub listed : Memᴰ s (schemes_from (fresh_from base) term 0)
+  pub solution : (unify 65536 (system term s)).0 ≡ solved bs
+  pub normal : NormalModulo (instantiate bs s.value)
 
 -- the variant's trees at the term's variables, and its term, are not found to differ from the scheme's
 abbrev pub Generalizes : Tree → Variant → Scheme → List Binding → Type 0
 Generalizes term m s bs =
-    ¬ (matcher 65536 (map (λ x. (lookup (m .1) x, lookup bs x)) (variables term []) ++ ((m .0, instantiate bs (s .value)) ∷ [])) .0 ≡ failed)
+    ¬ ((matcher 65536 (map (λ x. (lookup m.1 x, lookup bs x)) (variables term []) ++ ((m.0, instantiate bs s.value) ∷ []))).0 ≡ failed)
 
 pub data CompleteMeans (term : Tree) (members : List Member) : Option Bool → Type 0 where
-  no-claim : Unclaimed term members → CompleteMeans term members nothing
-  is-complete : (c : Claim term members)
-      → ((s : Scheme) (bs : List Binding) → Target term (c .base) s bs → (m : Variant) × List·Memᴰ m (c .variants) × Generalizes term m s bs)
+  no_claim : Unclaimed term members → CompleteMeans term members nothing
+  is_complete : (c : Claim term members)
+      → ((s : Scheme) (bs : List Binding) → Target term c.base s bs → (m : Variant) × Memᴰ m c.variants × Generalizes term m s bs)
       → CompleteMeans term members (some true)
-  is-missing : (c : Claim term members) {s : Scheme} {bs : List Binding} → Target term (c .base) s bs
-      → ((m : Variant) → List·Memᴰ m (c .variants) → ¬ Generalizes term m s bs) → CompleteMeans term members (some false)
+  is_missing : (c : Claim term members) {s : Scheme} {bs : List Binding} → Target term c.base s bs
+      → ((m : Variant) → Memᴰ m c.variants → ¬ Generalizes term m s bs) → CompleteMeans term members (some false)

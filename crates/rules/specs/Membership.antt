@@ -1,20 +1,18 @@
 -- Which trees have which sorts, as a Maude module declares it: subsorts, and for each operator its arguments' sorts and its own
 -- (01, "Sorts", after the Maude manual).
-use mathlib.Core.Path.{_≡_}
-use mathlib.Core.Bool.{true}
-use mathlib.Core.List.{List, [], _∷_}
-use mathlib.Core.Option.{some}
-use Rattle·rules·specs.specs.Bytes.{Text}
-use Rattle·rules·specs.specs.Text.{bytes}
-use Rattle·rules·specs.specs.Names.{letter}
-use Rattle·rules·specs.specs.Tree.{Tree, variable, atom, apply, Trees, none, more, count, tamtplus, plus}
-use Rattle·rules·specs.specs.Sorts.{Sort, Pub, Fresh, Msg, TamNat, Node, variable-sort, tone}
+use Rattle.std.specs.Prelude.{◌≡◌, true, List, [], ◌∷◌}
+use Rattle.std.proofs.Math.Option.{some}
+use Rattle.rules.specs.Bytes.{Text}
+use Rattle.rules.specs.Text.{bytes}
+use Rattle.rules.specs.Names.{letter}
+use Rattle.rules.specs.Tree.{Tree, variable, atom, apply, Trees, none, more, count, tamtplus, plus}
+use Rattle.rules.specs.Sorts.{Sort, Pub, Fresh, Msg, TamNat, Node, variable_sort, tone}
 
 -- subsorts Pub Fresh TamNat < Msg .
 pub data Subsort : Sort → Sort → Type 0 where
-  pub-msg : Subsort Pub Msg
-  fresh-msg : Subsort Fresh Msg
-  tamnat-msg : Subsort TamNat Msg
+  pub_msg : Subsort Pub Msg
+  fresh_msg : Subsort Fresh Msg
+  tamnat_msg : Subsort TamNat Msg
 
 -- the names that are no operator on messages: two are operators on naturals, three have none of the sorts
 abbrev pub reserved : List Text
@@ -27,19 +25,19 @@ NoneOf (g ∷ gs) f = (f ≡ g → ⊥) × NoneOf gs f
 mutual
   pub data HasSort : Sort → Tree → Type 0 where
     -- var x : s .
-    of-variable : {s : Sort} {x : Text} → variable-sort x ≡ some s → HasSort s (variable x)
+    of_variable : {s : Sort} {x : Text} → variable_sort x ≡ some s → HasSort s (variable x)
     -- op p : Nat -> Pub .  op f : Nat -> Fresh .  op c : Nat -> Msg .  op t : Nat -> TamNat .  op n : Nat -> Node .
-    of-p : {d : Text} → HasSort Pub (atom 112 d)
-    of-f : {d : Text} → HasSort Fresh (atom 102 d)
-    of-c : {d : Text} → HasSort Msg (atom 99 d)
-    of-t : {d : Text} → HasSort TamNat (atom 116 d)
-    of-n : {d : Text} → HasSort Node (atom 110 d)
+    of_p : {d : Text} → HasSort Pub (atom 112 d)
+    of_f : {d : Text} → HasSort Fresh (atom 102 d)
+    of_c : {d : Text} → HasSort Msg (atom 99 d)
+    of_t : {d : Text} → HasSort TamNat (atom 116 d)
+    of_n : {d : Text} → HasSort Node (atom 110 d)
     -- op tamXCtone : -> TamNat .  op tamtplus : TamNat TamNat -> TamNat .
-    of-tone : HasSort TamNat (apply tone none)
-    of-sum : {a b : Tree} → HasSort TamNat a → HasSort TamNat b → HasSort TamNat (plus a b)
+    of_tone : HasSort TamNat (apply tone none)
+    of_sum : {a b : Tree} → HasSort TamNat a → HasSort TamNat b → HasSort TamNat (plus a b)
     -- op g : Msg ... Msg -> Msg .  for every other name g and every number of arguments
-    of-other : {g : Text} {ts : Trees} → NoneOf reserved g → HaveSort Msg ts → HasSort Msg (apply g ts)
-    of-subsort : {r s : Sort} {t : Tree} → Subsort r s → HasSort r t → HasSort s t
+    of_other : {g : Text} {ts : Trees} → NoneOf reserved g → HaveSort Msg ts → HasSort Msg (apply g ts)
+    of_subsort : {r s : Sort} {t : Tree} → Subsort r s → HasSort r t → HasSort s t
 
   pub data HaveSort : Sort → Trees → Type 0 where
     nil : {s : Sort} → HaveSort s none

@@ -1,13 +1,13 @@
 -- The refusals and their numbers (01, "A sheet comes in": "From the input", "From the state").
-use Prim.Native.Nat.{ℕ}
+use Rattle.std.specs.Prelude.{ℕ}
 
 pub data Refusal : Type 0 where
   TooLong ForeignByte LineOutOfPlace UnreadableTerm ShortWorkArea ShortOutput : Refusal
 
-abbrev pub number-for : Refusal → ℕ
-number-for TooLong = 1
-number-for ForeignByte = 2
-number-for LineOutOfPlace = 3
-number-for UnreadableTerm = 4
-number-for ShortWorkArea = 11
-number-for ShortOutput = 12
+abbrev pub number_for : Refusal → ℕ
+number_for TooLong = 1
+number_for ForeignByte = 2
+number_for LineOutOfPlace = 3
+number_for UnreadableTerm = 4
+number_for ShortWorkArea = 11
+number_for ShortOutput = 12

@@ -1,21 +1,19 @@
 -- Sheets that are refused, with the refusal's number, and the sheets beside them that are not (01, "From the input", "From the state").
-use Prim.Native.Nat.{ℕ}
+use Rattle.std.specs.Prelude.{ℕ, List, [], ◌∷◌, ◌++◌, replicate}
 use Prim.Native.String.{String}
-use mathlib.Core.List.{List, [], _∷_, _++_}
-use lib.ListN.{replicate}
-use Rattle·rules·specs.specs.Bytes.{Text}
-use Rattle·rules·specs.specs.Text.{bytes}
-use Rattle·rules·specs.specs.RefusalNumbers.{Refusal, number-for, ForeignByte, LineOutOfPlace, UnreadableTerm, ShortWorkArea, ShortOutput}
-use Rattle·rules·specs.specs.Call.{refused}
-use Rattle·rules·specs.specs.Table.{Row, text, row}
+use Rattle.rules.specs.Bytes.{Text}
+use Rattle.rules.specs.Text.{bytes}
+use Rattle.rules.specs.RefusalNumbers.{Refusal, number_for, ForeignByte, LineOutOfPlace, UnreadableTerm, ShortWorkArea, ShortOutput}
+use Rattle.rules.specs.Call.{refused}
+use Rattle.rules.specs.Table.{Row, text, row}
 
 -- lines that are refused with words and room enough
 abbrev pub refuses : List String → Refusal → Row
-refuses sheet r = record { sheet = text sheet; words = 2000000; room = 1000; reply = refused (number-for r) }
+refuses sheet r = record { sheet = text sheet; words = 2000000; room = 1000; reply = refused (number_for r) }
 
 -- with no words and no room
-abbrev pub at-once : Text → Refusal → Row
-at-once sheet r = record { sheet = sheet; words = 0; room = 0; reply = refused (number-for r) }
+abbrev pub at_once : Text → Refusal → Row
+at_once sheet r = record { sheet = sheet; words = 0; room = 0; reply = refused (number_for r) }
 
 -- so many blanks
 abbrev pub blanks : ℕ → Text
@@ -24,40 +22,40 @@ blanks n = replicate n 32
 abbrev pub refusals : List Row
 refusals =
     -- 2: bytes 9, 31, 127 and 128, also where the lines are wrong
-    at-once (bytes "kind=reduce\nterm=a\tb\n") ForeignByte
-    ∷ at-once (bytes "kind=reduce\nterm=a" ++ (31 ∷ 10 ∷ [])) ForeignByte
-    ∷ at-once (bytes "kind=reduce\nterm=a" ++ (127 ∷ 10 ∷ [])) ForeignByte
-    ∷ at-once (128 ∷ []) ForeignByte
+    at_once (bytes "kind=reduce\nterm=a\tb\n") ForeignByte
+    ∷ at_once (bytes "kind=reduce\nterm=a" ++ (31 ∷ 10 ∷ [])) ForeignByte
+    ∷ at_once (bytes "kind=reduce\nterm=a" ++ (127 ∷ 10 ∷ [])) ForeignByte
+    ∷ at_once (128 ∷ []) ForeignByte
     -- 3: the empty sheet, the last line without byte 10, an empty line, an unknown kind, a kind with a blank
-    ∷ at-once [] LineOutOfPlace
-    ∷ at-once (bytes "kind=reduce\nterm=a") LineOutOfPlace
-    ∷ at-once (bytes "kind=reduce\nterm=a\n\n") LineOutOfPlace
-    ∷ at-once (bytes "kind=solve\n") LineOutOfPlace
-    ∷ at-once (bytes "kind=unify \nfuel=1\n") LineOutOfPlace
+    ∷ at_once [] LineOutOfPlace
+    ∷ at_once (bytes "kind=reduce\nterm=a") LineOutOfPlace
+    ∷ at_once (bytes "kind=reduce\nterm=a\n\n") LineOutOfPlace
+    ∷ at_once (bytes "kind=solve\n") LineOutOfPlace
+    ∷ at_once (bytes "kind=unify \nfuel=1\n") LineOutOfPlace
     -- 3: lines that are missing, out of order or too many
-    ∷ at-once (bytes "kind=equal\nleft=a\n") LineOutOfPlace
-    ∷ at-once (bytes "kind=equal\nright=a\nleft=a\n") LineOutOfPlace
-    ∷ at-once (bytes "kind=reduce\nterm=a\nterm=a\n") LineOutOfPlace
-    ∷ at-once (bytes "kind=unify\nleft=a\nright=a\n") LineOutOfPlace
-    ∷ at-once (bytes "kind=unify\nfuel=1\nleft=a\n") LineOutOfPlace
-    ∷ at-once (bytes "kind=cover\nmember=\nleft=a\nright=a\n") LineOutOfPlace
-    ∷ at-once (bytes "kind=sound\nterm=a\n") LineOutOfPlace
-    ∷ at-once (bytes "kind=sound\nterm=a\nmember=a\nmember=a\n") LineOutOfPlace
+    ∷ at_once (bytes "kind=equal\nleft=a\n") LineOutOfPlace
+    ∷ at_once (bytes "kind=equal\nright=a\nleft=a\n") LineOutOfPlace
+    ∷ at_once (bytes "kind=reduce\nterm=a\nterm=a\n") LineOutOfPlace
+    ∷ at_once (bytes "kind=unify\nleft=a\nright=a\n") LineOutOfPlace
+    ∷ at_once (bytes "kind=unify\nfuel=1\nleft=a\n") LineOutOfPlace
+    ∷ at_once (bytes "kind=cover\nmember=\nleft=a\nright=a\n") LineOutOfPlace
+    ∷ at_once (bytes "kind=sound\nterm=a\n") LineOutOfPlace
+    ∷ at_once (bytes "kind=sound\nterm=a\nmember=a\nmember=a\n") LineOutOfPlace
     -- 3: fuel
-    ∷ at-once (bytes "kind=unify\nfuel=\n") LineOutOfPlace
-    ∷ at-once (bytes "kind=unify\nfuel=01\n") LineOutOfPlace
-    ∷ at-once (bytes "kind=unify\nfuel=+1\n") LineOutOfPlace
-    ∷ at-once (bytes "kind=unify\nfuel=65537\n") LineOutOfPlace
+    ∷ at_once (bytes "kind=unify\nfuel=\n") LineOutOfPlace
+    ∷ at_once (bytes "kind=unify\nfuel=01\n") LineOutOfPlace
+    ∷ at_once (bytes "kind=unify\nfuel=+1\n") LineOutOfPlace
+    ∷ at_once (bytes "kind=unify\nfuel=65537\n") LineOutOfPlace
     ∷ row ("kind=unify" ∷ "fuel=65536" ∷ []) ("verdict=solved" ∷ "spent=0" ∷ [])
     ∷ row ("kind=unify" ∷ "fuel=0" ∷ []) ("verdict=unsupported" ∷ "spent=0" ∷ [])
     -- 3: a key before any member, and a member that repeats a key; another member may have it
-    ∷ at-once (bytes "kind=complete\nterm=a\nkey=b\nvalue=c\n") LineOutOfPlace
-    ∷ at-once (bytes "kind=complete\nterm=a\nmember=a\nkey=b\nvalue=c\nkey=b\nvalue=c\n") LineOutOfPlace
+    ∷ at_once (bytes "kind=complete\nterm=a\nkey=b\nvalue=c\n") LineOutOfPlace
+    ∷ at_once (bytes "kind=complete\nterm=a\nmember=a\nkey=b\nvalue=c\nkey=b\nvalue=c\n") LineOutOfPlace
     ∷ row ("kind=complete" ∷ "term=a" ∷ "member=a" ∷ "key=b" ∷ "value=c" ∷ "member=a" ∷ "key=b" ∷ "value=c" ∷ []) ("complete=yes" ∷ [])
     -- 11 before 4, and 4 before 12
-    ∷ at-once (bytes "kind=reduce\nterm=(\n") ShortWorkArea
-    ∷ record { sheet = bytes "kind=reduce\nterm=(\n"; words = 2000000; room = 0; reply = refused (number-for UnreadableTerm) }
-    ∷ record { sheet = bytes "kind=reduce\nterm=a\n"; words = 2000000; room = 0; reply = refused (number-for ShortOutput) }
+    ∷ at_once (bytes "kind=reduce\nterm=(\n") ShortWorkArea
+    ∷ record { sheet = bytes "kind=reduce\nterm=(\n"; words = 2000000; room = 0; reply = refused (number_for UnreadableTerm) }
+    ∷ record { sheet = bytes "kind=reduce\nterm=a\n"; words = 2000000; room = 0; reply = refused (number_for ShortOutput) }
     -- 4 in each kind; the text of a member gives none
     ∷ refuses ("kind=equal" ∷ "left=a" ∷ "right=a(" ∷ []) UnreadableTerm
     ∷ row ("kind=equal" ∷ "left=p(a)" ∷ "right=p(a)" ∷ []) ("equal=yes" ∷ [])

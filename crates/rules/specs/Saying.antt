@@ -1,23 +1,19 @@
 -- What the answers of `equal`, `reduce`, `cover`, `sound` and `complete` say, byte for byte (01, "The answer goes out").
-use mathlib.Core.Path.{_≡_}
-use mathlib.Core.Bool.{Bool, true, false}
-use mathlib.Core.List.{_++_}
-use mathlib.Core.Logic.{_↔_, _⊎_}
-use mathlib.Core.Option.{Option, some, none as nothing}
-use Prim.Native.Nat.{_≤_}
-use Rattle·rules·specs.specs.Bytes.{Text}
-use Rattle·rules·specs.specs.Text.{bytes}
-use Rattle·rules·specs.specs.Tree.{Tree, size}
-use Rattle·rules·specs.specs.Writing.{render}
-use Rattle·rules·specs.specs.Reading.{parse}
-use Rattle·rules·specs.specs.Rewriting.{Reduced}
+use Rattle.std.specs.Prelude.{◌≡◌, Bool, true, false, ◌++◌, ◌↔◌, ◌⊎◌, ◌≤◌}
+use Rattle.std.proofs.Math.Option.{Option, some, none as nothing}
+use Rattle.rules.specs.Bytes.{Text}
+use Rattle.rules.specs.Text.{bytes}
+use Rattle.rules.specs.Tree.{Tree, size}
+use Rattle.rules.specs.Writing.{render}
+use Rattle.rules.specs.Reading.{parse}
+use Rattle.rules.specs.Rewriting.{Reduced}
 
 -- the answer is one line with this key: `yes`, `no` or `none`, each exactly where that is meant
 pub record Says (key : Text) (Means : Option Bool → Type 0) (answer : Text) : Type 0 where
-  pub says-yes : (answer ≡ key ++ bytes "yes\n") ↔ Means (some true)
-  pub says-no : (answer ≡ key ++ bytes "no\n") ↔ Means (some false)
-  pub says-none : (answer ≡ key ++ bytes "none\n") ↔ Means nothing
-  pub says-one : (answer ≡ key ++ bytes "yes\n") ⊎ (answer ≡ key ++ bytes "no\n") ⊎ (answer ≡ key ++ bytes "none\n")
+  pub says_yes : (answer ≡ key ++ bytes "yes\n") ↔ Means (some true)
+  pub says_no : (answer ≡ key ++ bytes "no\n") ↔ Means (some false)
+  pub says_none : (answer ≡ key ++ bytes "none\n") ↔ Means nothing
+  pub says_one : (answer ≡ key ++ bytes "yes\n") ⊎ (answer ≡ key ++ bytes "no\n") ⊎ (answer ≡ key ++ bytes "none\n")
 
 -- yes where it holds, no where it does not, and never none
 pub data Decides (P : Type 0) : Option Bool → Type 0 where

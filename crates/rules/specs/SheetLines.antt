@@ -1,12 +1,10 @@
 -- The lines of a sheet as document 01 says, as relations: what a text's lines are, and for each kind its keys in order (01, "A sheet
 -- comes in", up to "From the input").
-use mathlib.Core.Path.{_≡_}
-use mathlib.Core.List.{List, [], _∷_, _++_}
-use Prim.Native.Nat.{ℕ, _≤_}
-use Rattle·rules·specs.specs.Bytes.{Text}
-use Rattle·rules·specs.specs.Text.{bytes}
-use Rattle·rules·specs.specs.Decimal.{decimal}
-use Rattle·rules·specs.specs.Sheet.{Entry, Member, Sheet, asks-equal, asks-unify, asks-match, asks-reduce, asks-cover, asks-sound, asks-complete}
+use Rattle.std.specs.Prelude.{◌≡◌, List, [], ◌∷◌, ◌++◌, ℕ, ◌≤◌}
+use Rattle.rules.specs.Bytes.{Text}
+use Rattle.rules.specs.Text.{bytes}
+use Rattle.rules.specs.Decimal.{decimal}
+use Rattle.rules.specs.Sheet.{Entry, Member, Sheet, asks_equal, asks_unify, asks_match, asks_reduce, asks_cover, asks_sound, asks_complete}
 
 -- the lines one after the other, each ended by byte 10
 unfoldable pub ended : List Text → Text
@@ -28,23 +26,23 @@ pub record HasLines (s : Text) (ls : List Text) : Type 0 where
 
 -- pairs of lines `left`, `right`, any number of them, and the lines after them
 pub data PairLines : List Text → List Entry → List Text → Type 0 where
-  no-more : {ls : List Text} → PairLines ls [] ls
+  no_more : {ls : List Text} → PairLines ls [] ls
   pair : {l r v w : Text} {ls ms : List Text} {es : List Entry} → l ≡ bytes "left=" ++ v → r ≡ bytes "right=" ++ w → PairLines ls es ms
       → PairLines (l ∷ r ∷ ls) ((v, w) ∷ es) ms
 
 -- no key twice in one member
 abbrev pub NoSuchKey : Text → List Entry → Type 0
 NoSuchKey k [] = Unit {0}
-NoSuchKey k (e ∷ es) = ¬ (e .0 ≡ k) × NoSuchKey k es
+NoSuchKey k (e ∷ es) = ¬ (e.0 ≡ k) × NoSuchKey k es
 
 abbrev pub DistinctKeys : List Entry → Type 0
 DistinctKeys [] = Unit {0}
-DistinctKeys (e ∷ es) = NoSuchKey (e .0) es × DistinctKeys es
+DistinctKeys (e ∷ es) = NoSuchKey e.0 es × DistinctKeys es
 
 -- `key`, `value` pairs, which belong to the `member` line before them, and then members
 pub data MemberLines : List Text → List Entry → List Member → Type 0 where
-  no-more : MemberLines [] [] []
-  key-value : {l r k v : Text} {ls : List Text} {es : List Entry} {ms : List Member} → l ≡ bytes "key=" ++ k → r ≡ bytes "value=" ++ v → MemberLines ls es ms
+  no_more : MemberLines [] [] []
+  key_value : {l r k v : Text} {ls : List Text} {es : List Entry} {ms : List Member} → l ≡ bytes "key=" ++ k → r ≡ bytes "value=" ++ v → MemberLines ls es ms
       → MemberLines (l ∷ r ∷ ls) ((k, v) ∷ es) ms
   member : {l v : Text} {ls : List Text} {es : List Entry} {ms : List Member} → l ≡ bytes "member=" ++ v → DistinctKeys es → MemberLines ls es ms
       → MemberLines (l ∷ ls) [] ((v, es) ∷ ms)
@@ -57,18 +55,18 @@ pub record FuelLine (l : Text) (fuel : ℕ) : Type 0 where
 -- the lines of each kind
 pub data KindLines : List Text → Sheet → Type 0 where
   equal : {k l r left right : Text} → k ≡ bytes "kind=equal" → l ≡ bytes "left=" ++ left → r ≡ bytes "right=" ++ right
-      → KindLines (k ∷ l ∷ r ∷ []) (asks-equal left right)
+      → KindLines (k ∷ l ∷ r ∷ []) (asks_equal left right)
   unify : {k f : Text} {fuel : ℕ} {ls : List Text} {es : List Entry} → k ≡ bytes "kind=unify" → FuelLine f fuel → PairLines ls es []
-      → KindLines (k ∷ f ∷ ls) (asks-unify fuel es)
+      → KindLines (k ∷ f ∷ ls) (asks_unify fuel es)
   match : {k f : Text} {fuel : ℕ} {ls : List Text} {es : List Entry} → k ≡ bytes "kind=match" → FuelLine f fuel → PairLines ls es []
-      → KindLines (k ∷ f ∷ ls) (asks-match fuel es)
-  reduce : {k t term : Text} → k ≡ bytes "kind=reduce" → t ≡ bytes "term=" ++ term → KindLines (k ∷ t ∷ []) (asks-reduce term)
+      → KindLines (k ∷ f ∷ ls) (asks_match fuel es)
+  reduce : {k t term : Text} → k ≡ bytes "kind=reduce" → t ≡ bytes "term=" ++ term → KindLines (k ∷ t ∷ []) (asks_reduce term)
   cover : {k : Text} {ls ks : List Text} {es : List Entry} {ms : List Member} → k ≡ bytes "kind=cover" → PairLines ls es ks → MemberLines ks [] ms
-      → KindLines (k ∷ ls) (asks-cover es ms)
+      → KindLines (k ∷ ls) (asks_cover es ms)
   sound : {k t term : Text} {ls : List Text} {m : Member} → k ≡ bytes "kind=sound" → t ≡ bytes "term=" ++ term → MemberLines ls [] (m ∷ [])
-      → KindLines (k ∷ t ∷ ls) (asks-sound term m)
+      → KindLines (k ∷ t ∷ ls) (asks_sound term m)
   complete : {k t term : Text} {ls : List Text} {ms : List Member} → k ≡ bytes "kind=complete" → t ≡ bytes "term=" ++ term → MemberLines ls [] ms
-      → KindLines (k ∷ t ∷ ls) (asks-complete term ms)
+      → KindLines (k ∷ t ∷ ls) (asks_complete term ms)
 
 -- the lines of the text are those of this sheet
 pub record IsSheet (s : Text) (sheet : Sheet) : Type 0 where

@@ -1,37 +1,36 @@
 -- The pairs that a run takes from the stack, first to last (01, "The answer goes out": `spent`).
-use mathlib.Core.List.{List, [], _∷_}
-use Prim.Native.Nat.{ℕ, zero, suc}
-use Rattle·rules·specs.specs.Substitution.{Binding, Pair}
-use Rattle·rules·specs.specs.Solving.{Step, goes-on, bind, fails, unknown, step}
-use Rattle·rules·specs.specs.Matching.{Move, onward, clash, beyond, move}
+use Rattle.std.specs.Prelude.{List, [], ◌∷◌, ℕ, zero, suc}
+use Rattle.rules.specs.Substitution.{Binding, Pair}
+use Rattle.rules.specs.Solving.{Step, goes_on, bind, fails, unknown, step}
+use Rattle.rules.specs.Matching.{Move, onward, clash, beyond, move}
 
 -- those taken after a step, or none where it ends the run
-abbrev pub taken-after : Step → (List Pair → List Pair) → List Pair
-taken-after (goes-on qs) go = go qs
-taken-after (bind x v qs) go = go qs
-taken-after fails go = []
-taken-after unknown go = []
+abbrev pub taken_after : Step → (List Pair → List Pair) → List Pair
+taken_after (goes_on qs) go = go qs
+taken_after (bind x v qs) go = go qs
+taken_after fails go = []
+taken_after unknown go = []
 
 -- by unify, with that fuel: until the stack is empty, a pair ends the run, or there is no fuel
 unfoldable pub taken : ℕ → List Pair → List Pair
 unfolding step
 taken zero ps = []
 taken (suc k) [] = []
-taken (suc k) (p ∷ ps) = p ∷ taken-after (step (p .0) (p .1) ps) (λ qs. taken k qs)
+taken (suc k) (p ∷ ps) = p ∷ taken_after (step p.0 p.1 ps) (λ qs. taken k qs)
 
 -- those taken after a move
-abbrev pub taken-after-move : Move → (List Pair → List Binding → List Pair) → List Pair
-taken-after-move (onward qs cs) go = go qs cs
-taken-after-move clash go = []
-taken-after-move beyond go = []
+abbrev pub taken_after_move : Move → (List Pair → List Binding → List Pair) → List Pair
+taken_after_move (onward qs cs) go = go qs cs
+taken_after_move clash go = []
+taken_after_move beyond go = []
 
 -- by match, with bindings made before
-unfoldable pub taken-matching : ℕ → List Pair → List Binding → List Pair
+unfoldable pub taken_matching : ℕ → List Pair → List Binding → List Pair
 unfolding move
-taken-matching zero ps bs = []
-taken-matching (suc k) [] bs = []
-taken-matching (suc k) (p ∷ ps) bs = p ∷ taken-after-move (move (p .0) (p .1) ps bs) (λ qs cs. taken-matching k qs cs)
+taken_matching zero ps bs = []
+taken_matching (suc k) [] bs = []
+taken_matching (suc k) (p ∷ ps) bs = p ∷ taken_after_move (move p.0 p.1 ps bs) (λ qs cs. taken_matching k qs cs)
 
-unfoldable pub taken-by-match : ℕ → List Pair → List Pair
-unfolding taken-matching
-taken-by-match fuel ps = taken-matching fuel ps []
+unfoldable pub taken_by_match : ℕ → List Pair → List Pair
+unfolding taken_matching
+taken_by_match fuel ps = taken_matching fuel ps []

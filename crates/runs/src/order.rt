@@ -1,14 +1,13 @@
 // Texts as runs of words, and their order by bytes.
-ghost use mathlib.Core.Path.{_≡_};
-ghost use Prim.Native.Nat.{_+_, _<_, _≤_};
-ghost use lib.ListN.{length, getD};
-ghost use lib.Seq.{slice};
-ghost use Rattle·runs·specs.specs.Texts.{code-name, code-text, code-width, Token, Tokens, width-of, word-text, texts, next-spot, lex, zeros-of, more-zeros};
+ghost use Rattle.std.specs.Prelude.{◌≡◌, ◌+◌, ◌<◌, ◌≤◌, length, get_or};
+ghost use Rattle.std.proofs.Math.Seq.{slice};
+ghost use Rattle.runs.specs.Texts.{code_name, code_text, code_width, Token, Tokens, width_of, word_text, texts, next_spot, lex, zeros_of, more_zeros};
+
 use text::places;
-use tree::fixed::fixed_byte;
-use tree::fixed::fixed_len;
+use tree::fixed::{fixed_byte, fixed_len};
 
 // How a text stands to another by their bytes.
+#[derive(Clone, Copy)]
 pub enum Order {
     Less,
     Equal,
@@ -16,6 +15,7 @@ pub enum Order {
 }
 
 // A word of a run, and a byte of its text.
+#[derive(Clone, Copy)]
 struct Spot {
     pub word: usize,
     pub byte: usize,
@@ -37,8 +37,8 @@ const SUM: [u8; 8] = [116, 97, 109, 116, 112, 108, 117, 115];
 
 // How many bytes the name of sums has, for n = 0, or the fixed name of code n.
 fn name_width(n: usize) -> usize
-    requires { ⌜ n < 65536 ⌝ }
-    ensures { λ r. ⌜ r ≡ length (code-name n) ⌝ }
+    requires { n < 65536 }
+    ensures { result ≡ length (code_name n) }
 {
     if n == 0 {
         return 8;
@@ -48,8 +48,8 @@ fn name_width(n: usize) -> usize
 
 // A byte of that name.
 fn name_byte(n: usize, a: usize) -> u8
-    requires { ⌜ (n < 65536) × (a < length (code-name n)) ⌝ }
-    ensures { λ r. ⌜ r ≡ getD (code-name n) a 0 ⌝ }
+    requires { (n < 65536) × (a < length (code_name n)) }
+    ensures { result ≡ get_or (code_name n) a 0 }
 {
     if n == 0 {
         return SUM[a];
@@ -59,7 +59,7 @@ fn name_byte(n: usize, a: usize) -> u8
 
 // How many bytes the text of a code has.
 fn code_width(code: usize) -> usize
-    ensures { λ r. ⌜ r ≡ code-width code ⌝ }
+    ensures { result ≡ code_width code }
 {
     if code < NAMES {
         return 1;
@@ -72,8 +72,8 @@ fn code_width(code: usize) -> usize
 
 // A byte of the text of a code.
 fn code_byte(code: usize, a: usize) -> u8
-    requires { ⌜ a < code-width code ⌝ }
-    ensures { λ r. ⌜ r ≡ getD (code-text code) a 0 ⌝ }
+    requires { a < code_width code }
+    ensures { result ≡ get_or (code_text code) a 0 }
 {
     if code < NAMES {
         return code as u8;
@@ -86,7 +86,7 @@ fn code_byte(code: usize, a: usize) -> u8
 
 // How many bytes the text of a word has.
 pub fn width_of(x: usize) -> usize
-    ensures { λ r. ⌜ r ≡ width-of x ⌝ }
+    ensures { result ≡ width_of x }
 {
     let n = x % 65536;
     if n == 0 {
@@ -97,9 +97,9 @@ pub fn width_of(x: usize) -> usize
 
 // A byte of the text of a word.
 pub fn byte_of(sheet: &[u8], x: usize, a: usize) -> u8
-    requires { ⌜ Token (now sheet) x ⌝ }
-    requires { ⌜ a < width-of x ⌝ }
-    ensures { λ r. ⌜ r ≡ getD (word-text (now (sheet .entry)) x) a 0 ⌝ }
+    requires token { Token sheet.now x }
+    requires a_bound { a < width_of x }
+    ensures { result ≡ get_or (word_text sheet.now x) a 0 }
 {
     if x % 65536 == 0 {
         return code_byte(x / 65536, a);
@@ -109,8 +109,8 @@ pub fn byte_of(sheet: &[u8], x: usize, a: usize) -> u8
 
 // The spot after a spot, where x is the spot's word.
 fn after(x: usize, at: Spot) -> Spot
-    requires { ⌜ (at .word) + (at .byte) < 9223372036854775808 ⌝ }
-    ensures { λ r. ⌜ r ≡ next-spot x at ⌝ }
+    requires { at.word + at.byte < 9223372036854775808 }
+    ensures { result ≡ next_spot x at }
 {
     let word = at.word;
     let byte = at.byte + 1;
@@ -128,7 +128,7 @@ fn after(x: usize, at: Spot) -> Spot
 
 // How many zeros the word x has if its name is one that no sheet spells, and 0 for any other word.
 pub fn zeros_of(x: usize) -> usize
-    ensures { λ r. ⌜ r ≡ zeros-of x ⌝ }
+    ensures { result ≡ zeros_of x }
 {
     let code = x / 65536;
     if x % 65536 == 0 {
@@ -143,7 +143,7 @@ pub fn zeros_of(x: usize) -> usize
 
 // Whether the words x and y, from their bytes a and b on, are two such whole words, and x has more zeros: then x is less.
 fn more_zeros(x: usize, y: usize, a: usize, b: usize) -> bool
-    ensures { λ r. ⌜ r ≡ more-zeros x y a b ⌝ }
+    ensures { result ≡ more_zeros x y a b }
 {
     if 0 < a {
         return false;
@@ -167,11 +167,11 @@ pub fn compare(
     start: usize,
     end: usize,
 ) -> Order
-    requires { ⌜ (from ≤ to) × (to ≤ length (now work)) ⌝ }
-    requires { ⌜ (start ≤ end) × (end ≤ length (now work)) ⌝ }
-    requires { ⌜ Tokens (now sheet) (now work) from to ⌝ }
-    requires { ⌜ Tokens (now sheet) (now work) start end ⌝ }
-    ensures { λ r. ⌜ r ≡ lex (texts (now (sheet .entry)) (slice from to (now (work .entry)))) (texts (now (sheet .entry)) (slice start end (now (work .entry)))) ⌝ }
+    requires from_le_to { (from ≤ to) × (to ≤ length work.now) }
+    requires start_le_end { (start ≤ end) × (end ≤ length work.now) }
+    requires tokens { Tokens sheet.now work.now from to }
+    requires tokens_2 { Tokens sheet.now work.now start end }
+    ensures { result ≡ lex (texts sheet.now (slice from to work.now)) (texts sheet.now (slice start end work.now)) }
 {
     let mut left = Spot {
         word: from,

@@ -1,351 +1,351 @@
 -- The choices for a list of cells: for the first tree's children, for its root, for the later trees.
-use Prim.Native.Nat.{ℕ, _+_, _*_, _/_, _%_, _<_, _≤_, _^_}
-use native.Mathlib.Nat.{div-one, mod-eq-of-lt}
+use Prim.Native.Nat.{ℕ, ◌+◌, ◌*◌, ◌/◌, ◌%◌, ◌<◌, ◌≤◌, ◌^◌}
+use native.Mathlib.Nat.{div-one, mod-eq_of_lt}
 use native.Mathlib.Omega.{arith}
-use mathlib.Core.Path.{_≡_, refl, sym, ap, ap₂, _∙_, subst}
-use mathlib.Core.List.{List, _++_}
-use mathlib.Core.Logic.{_⊎_, inl, inr}
+use mathlib.Core.Path.{◌≡◌, refl, sym, ap, ap₂, ◌∙◌, subst}
+use mathlib.Core.List.{List, ◌++◌}
+use mathlib.Core.Logic.{◌⊎◌, inl, inr}
 use lib.ListN.{length}
-use Rattle·rules.specs.Bytes.{Text}
-use Rattle·rules.specs.Tree.{Tree, Trees, none, more, children, count, size, sizes}
-use Rattle·rules.specs.Substitution.{Pair, flatten}
-use Rattle·rules.specs.Variants.{Scheme, Joined, scheme-count, scheme-counts}
-use Rattle·laws.specs.Schemes.{scheme-at, joined-at}
-use Rattle·laws.specs.Memory.{site, sites, sites-in}
-use Rattle·tree.specs.Cells.{next-of, tree-at, trees-at}
-use Rattle·tree.specs.Arena.{Arena}
-use Rattle·tree.proofs.Decoding.{same-next, trees-none, trees-more, frame-tree, frame-trees, size-pos}
-use Rattle·schemes·specs.specs.Choices.{over, appended, ways-of, root-of, Shared}
-use Rattle·schemes·specs.specs.Building.{Fresh, WrittenCells, Holds, HoldsList, ChoicesReady, RootReady, Roots, Follows, Chooses, joined-as}
-use Rattle·schemes·specs.specs.declared.choosing.Chosen.{Chosen}
-use Rattle·schemes·proofs.proofs.Dividing.{Split}
-use Rattle·schemes·proofs.proofs.ByChildren.{count-children, scheme-children, sites-children, size-children, over-children, over-ways, over-root, joined-count, a-site, tree-split, child-split}
-use Rattle·schemes·proofs.proofs.Bounds.{scheme-fits, joined-fits}
-use Rattle·schemes·proofs.proofs.Writing.{fresh-later, named-later, written-same, written-then, holds-later, lists-later, flatten-append, count-flatten, shared-as}
+use Rattle.rules.specs.Bytes.{Text}
+use Rattle.rules.specs.Tree.{Tree, Trees, none, more, children, count, size, sizes}
+use Rattle.rules.specs.Substitution.{Pair, flatten}
+use Rattle.rules.specs.Variants.{Scheme, Joined, scheme_count, scheme_counts}
+use Rattle.laws.specs.Schemes.{scheme_at, joined_at}
+use Rattle.laws.specs.Memory.{site, sites, sites_in}
+use Rattle.tree.specs.Cells.{next_of, tree_at, trees_at}
+use Rattle.tree.specs.Arena.{Arena}
+use Rattle.tree.proofs.Decoding.{same_next, trees_none, trees_more, frame_tree, frame_trees, size_pos}
+use Rattle.schemes.specs.Choices.{over, appended, ways_of, root_of, Shared}
+use Rattle.schemes.specs.Building.{Fresh, WrittenCells, Holds, HoldsList, ChoicesReady, RootReady, Roots, Follows, Chooses, joined_as}
+use Rattle.schemes.specs.declared.choosing.Chosen.{Chosen}
+use Rattle.schemes.proofs.Dividing.{Split}
+use Rattle.schemes.proofs.ByChildren.{count_children, scheme_children, sites_children, size_children, over_children, over_ways, over_root, joined_count, a_site, tree_split, child_split}
+use Rattle.schemes.proofs.Bounds.{scheme_fits, joined_fits}
+use Rattle.schemes.proofs.Writing.{fresh_later, named_later, written_same, written_then, holds_later, lists_later, flatten_append, count_flatten, shared_as}
 
 -- the choices for one tree, before it is put into its list, for which a cell is left
 pub record Picks (s : Text) (w v : List ℕ) (n : ℕ) (name : ℕ → Text) (k i c : ℕ) (t : Tree) (r : Chosen) : Type 0 where
-  pub written : WrittenCells s w v n (r .free) (2 * size t + 64 * sites t)
-  pub room : r .free + 1 ≤ n + 2 * size t + 64 * sites t
-  pub spare : (r .equations ≡ 0) ⊎ (r .free + 49 ≤ n + 2 * size t + 64 * sites t)
-  pub value : Holds s v (r .free) (r .values) (scheme-at name t k (i / (c / scheme-count t)) .value)
-  pub equations : HoldsList s v (r .free) (r .equations) (flatten (scheme-at name t k (i / (c / scheme-count t)) .equations))
-  pub next : r .next ≡ scheme-at name t k (i / (c / scheme-count t)) .next
-  pub ways : r .ways ≡ c / scheme-count t
-  pub index : r .index ≡ i % (c / scheme-count t)
+  pub written : WrittenCells s w v n r.free (2 * size t + 64 * sites t)
+  pub room : r.free + 1 ≤ n + 2 * size t + 64 * sites t
+  pub spare : (r.equations ≡ 0) ⊎ (r.free + 49 ≤ n + 2 * size t + 64 * sites t)
+  pub value : Holds s v r.free r.values (scheme_at name t k (i / (c / scheme_count t))).value
+  pub equations : HoldsList s v r.free r.equations (flatten (scheme_at name t k (i / (c / scheme_count t))).equations)
+  pub next : r.next ≡ (scheme_at name t k (i / (c / scheme_count t))).next
+  pub ways : r.ways ≡ c / scheme_count t
+  pub index : r.index ≡ i % (c / scheme_count t)
 
-sizes-of : {ts us : Trees} {t : Tree} → ts ≡ more t us → sizes ts ≡ size t + sizes us
+sizes_of : {ts us : Trees} {t : Tree} → ts ≡ more t us → sizes ts ≡ size t + sizes us
 unfolding size
-sizes-of e = ap sizes e
+sizes_of e = ap sizes e
 
-sites-of : {ts us : Trees} {t : Tree} → ts ≡ more t us → sites-in ts ≡ sites t + sites-in us
+sites_of : {ts us : Trees} {t : Tree} → ts ≡ more t us → sites_in ts ≡ sites t + sites_in us
 unfolding sites
-sites-of e = ap sites-in e
+sites_of e = ap sites_in e
 
 module _ {s : Text} {w : List ℕ} {n fresh next index ways : ℕ} (i first : ℕ) (d : ChoicesReady s w n fresh next index ways i) (p : 0 < i) (q : first < i)
-    (f : trees-at s w first ≡ children (tree-at s w i)) where
-  parts : trees-at s w i ≡ more (tree-at s w i) (trees-at s w (next-of w i))
-  parts = trees-more s (d .arena .links) i p (d .inside)
+    (f : trees_at s w first ≡ children (tree_at s w i)) where
+  parts : trees_at s w i ≡ more (tree_at s w i) (trees_at s w (next_of w i))
+  parts = trees_more s d.arena.links i p d.inside
 
-  all-shared : Shared (scheme-counts (more (tree-at s w i) (trees-at s w (next-of w i)))) ways index
-  all-shared = subst (λ (ts : Trees). Shared (scheme-counts ts) ways index) parts (d .shared)
+  all_shared : Shared (scheme_counts (more (tree_at s w i) (trees_at s w (next_of w i)))) ways index
+  all_shared = subst (λ (ts : Trees). Shared (scheme_counts ts) ways index) parts d.shared
 
-  pub first-falls : sizes (trees-at s w first) < sizes (trees-at s w i)
-  first-falls = omega (arith, ap sizes f, size-children (tree-at s w i), sizes-of parts)
+  pub first_falls : sizes (trees_at s w first) < sizes (trees_at s w i)
+  first_falls = omega (arith, ap sizes f, size_children (tree_at s w i), sizes_of parts)
 
-  pub ready-children : ChoicesReady s w n fresh next index ways first
-  ready-children =
-      let t = tree-at s w i in
-      let z = sizes-of parts in
-      let y = sites-of parts in
-      let a = size-children t in
-      let b = sites-children t in
+  pub ready_children : ChoicesReady s w n fresh next index ways first
+  ready_children =
+      let t = tree_at s w i in
+      let z = sizes_of parts in
+      let y = sites_of parts in
+      let a = size_children t in
+      let b = sites_children t in
       let g = ap sizes f in
-      let h = ap sites-in f in
+      let h = ap sites_in f in
       record {
-        arena = d .arena;
-        named = d .named;
-        inside = omega (arith, d .inside);
-        small = omega (arith, d .small, z, a, g);
-        shared = subst (λ (ts : Trees). Shared (scheme-counts ts) ways index) (sym f) (child-split t (trees-at s w (next-of w i)) all-shared .first);
-        names = omega (arith, d .names, y, b, h);
-        room = omega (arith, d .room, z, a, g, y, b, h);
-        bits = omega (arith, d .bits, z, a, g, y, b, h);
+        arena = d.arena;
+        named = d.named;
+        inside = omega (arith, d.inside);
+        small = omega (arith, d.small, z, a, g);
+        shared = subst (λ (ts : Trees). Shared (scheme_counts ts) ways index) (sym f) (child_split t (trees_at s w (next_of w i)) all_shared).first;
+        names = omega (arith, d.names, y, b, h);
+        room = omega (arith, d.room, z, a, g, y, b, h);
+        bits = omega (arith, d.bits, z, a, g, y, b, h);
       }
 
   -- after the children
   module _ {v : List ℕ} (name : ℕ → Text) (k : Fresh s w n fresh name) (below : Chosen)
-      (b : (name : ℕ → Text) → Fresh s w n fresh name → Chooses s w v n name next index ways (trees-at s w first) below) where
+      (b : (name : ℕ → Text) → Fresh s w n fresh name → Chooses s w v n name next index ways (trees_at s w first) below) where
     abbrev t₀ : Tree
-    t₀ = tree-at s w i
+    t₀ = tree_at s w i
 
     chosen : Chooses s w v n name next index ways (children t₀) below
     chosen = subst (λ (ts : Trees). Chooses s w v n name next index ways ts below) f (b name k)
 
-    abbrev child-index : ℕ
-    child-index = index / (ways / scheme-counts (children t₀))
+    abbrev child_index : ℕ
+    child_index = index / (ways / scheme_counts (children t₀))
 
-    abbrev new-children : Joined
-    new-children = joined-at name (children t₀) next child-index
+    abbrev new_children : Joined
+    new_children = joined_at name (children t₀) next child_index
 
-    kept-count : count (new-children .values) ≡ count (children t₀)
-    kept-count = joined-count name (children t₀) next child-index
+    kept_count : count new_children.values ≡ count (children t₀)
+    kept_count = joined_count name (children t₀) next child_index
 
-    same-tree : tree-at s v i ≡ t₀
-    same-tree = sym (frame-tree s v (d .arena .links) (chosen .written .kept .words) i p (d .inside))
+    same_tree : tree_at s v i ≡ t₀
+    same_tree = sym (frame_tree s v d.arena.links chosen.written.kept.words i p d.inside)
 
     -- the tree with its new children
-    abbrev new-tree : Tree
-    new-tree = over (tree-at s v i) (trees-at s v (below .values))
+    abbrev new_tree : Tree
+    new_tree = over (tree_at s v i) (trees_at s v below.values)
 
-    new-is : new-tree ≡ over t₀ (new-children .values)
-    new-is = ap₂ over same-tree (chosen .values .trees)
+    new_is : new_tree ≡ over t₀ new_children.values
+    new_is = ap₂ over same_tree chosen.values.trees
 
-    ways-are : ways-of new-tree ≡ ways-of t₀
-    ways-are = ap ways-of new-is ∙ over-ways t₀ (new-children .values) kept-count
+    ways_are : ways_of new_tree ≡ ways_of t₀
+    ways_are = ap ways_of new_is ∙ over_ways t₀ new_children.values kept_count
 
-    splits : Split (scheme-counts (children t₀)) (ways-of t₀) ways index
-    splits = child-split t₀ (trees-at s w (next-of w i)) all-shared
+    splits : Split (scheme_counts (children t₀)) (ways_of t₀) ways index
+    splits = child_split t₀ (trees_at s w (next_of w i)) all_shared
 
-    pub ready-root : RootReady s v fresh below i
-    ready-root =
-        let z = sizes-of parts in
-        let y = sites-of parts in
-        let g = size-children t₀ in
-        let h = sites-children t₀ in
-        let x = joined-fits name (children t₀) next child-index in
-        let u = chosen .written .used in
-        let l = chosen .written .kept .len in
+    pub ready_root : RootReady s v fresh below i
+    ready_root =
+        let z = sizes_of parts in
+        let y = sites_of parts in
+        let g = size_children t₀ in
+        let h = sites_children t₀ in
+        let x = joined_fits name (children t₀) next child_index in
+        let u = chosen.written.used in
+        let l = chosen.written.kept.len in
         record {
-          arena = chosen .written .arena;
-          named = named-later (d .arena) (chosen .written .kept) (chosen .written .grew) (d .named);
-          some-cell = p;
-          inside = omega (arith, d .inside, chosen .written .grew);
-          values = chosen .values .inside;
-          equations = chosen .equations .inside;
-          small = omega (arith, ap sizes (chosen .values .trees), x .nodes, g, z, d .small);
-          shared = shared-as ways-are (chosen .ways) (chosen .index) (splits .rest);
-          names = omega (arith, chosen .next, x .names, ap site ways-are, h, y, d .names);
-          room = omega (arith, u, l, g, h, z, y, d .room);
-          bits = omega (arith, u, g, h, z, y, d .bits);
-          pairs = record { pairs = new-children .equations; list = chosen .equations .trees };
+          arena = chosen.written.arena;
+          named = named_later d.arena chosen.written.kept chosen.written.grew d.named;
+          some_cell = p;
+          inside = omega (arith, d.inside, chosen.written.grew);
+          values = chosen.values.inside;
+          equations = chosen.equations.inside;
+          small = omega (arith, ap sizes chosen.values.trees, x.nodes, g, z, d.small);
+          shared = shared_as ways_are chosen.ways chosen.index splits.rest;
+          names = omega (arith, chosen.next, x.names, ap site ways_are, h, y, d.names);
+          room = omega (arith, u, l, g, h, z, y, d.room);
+          bits = omega (arith, u, g, h, z, y, d.bits);
+          pairs = record { pairs = new_children.equations; list = chosen.equations.trees };
         }
 
     -- the root's choice
-    module _ {u : List ℕ} (here : Chosen) (made : (name : ℕ → Text) → Fresh s v (below .free) fresh name → (es : List Pair) → trees-at s v (below .equations) ≡ flatten es → Roots s v u name below new-tree es here) where
-      x : Roots s v u name below new-tree (new-children .equations) here
-      x = made name (fresh-later (d .arena) (chosen .written .kept) (chosen .written .grew) k) (new-children .equations) (chosen .equations .trees)
+    module _ {u : List ℕ} (here : Chosen) (made : (name : ℕ → Text) → Fresh s v below.free fresh name → (es : List Pair) → trees_at s v below.equations ≡ flatten es → Roots s v u name below new_tree es here) where
+      x : Roots s v u name below new_tree new_children.equations here
+      x = made name (fresh_later d.arena chosen.written.kept chosen.written.grew k) new_children.equations chosen.equations.trees
 
-      left-is : ways / scheme-counts (children t₀) / ways-of t₀ ≡ ways / scheme-count t₀
-      left-is = splits .ways-left ∙ ap (λ (c : ℕ). ways / c) (sym (count-children t₀))
+      left_is : ways / scheme_counts (children t₀) / ways_of t₀ ≡ ways / scheme_count t₀
+      left_is = splits.ways_left ∙ ap (λ (c : ℕ). ways / c) (sym (count_children t₀))
 
-      here-ways : below .ways / ways-of new-tree ≡ ways / scheme-count t₀
-      here-ways = ap₂ _/_ (chosen .ways) ways-are ∙ left-is
+      here_ways : below.ways / ways_of new_tree ≡ ways / scheme_count t₀
+      here_ways = ap₂ ◌/◌ chosen.ways ways_are ∙ left_is
 
-      by-count : (g : ℕ → ℕ) → g (ways / (scheme-counts (children t₀) * ways-of t₀)) ≡ g (ways / scheme-count t₀)
-      by-count g = ap (λ (c : ℕ). g (ways / c)) (sym (count-children t₀))
+      by_count : (g : ℕ → ℕ) → g (ways / (scheme_counts (children t₀) * ways_of t₀)) ≡ g (ways / scheme_count t₀)
+      by_count g = ap (λ (c : ℕ). g (ways / c)) (sym (count_children t₀))
 
-      choice-is : below .index / (below .ways / ways-of new-tree) ≡ index / (ways / scheme-count t₀) % ways-of t₀
-      choice-is =
-          ap₂ _/_ (chosen .index) here-ways
-          ∙ sym (by-count (λ q. index % (ways / scheme-counts (children t₀)) / q))
-          ∙ splits .choice
-          ∙ by-count (λ q. index / q % ways-of t₀)
+      choice_is : below.index / (below.ways / ways_of new_tree) ≡ index / (ways / scheme_count t₀) % ways_of t₀
+      choice_is =
+          ap₂ ◌/◌ chosen.index here_ways
+          ∙ sym (by_count (λ q. index % (ways / scheme_counts (children t₀)) / q))
+          ∙ splits.choice
+          ∙ by_count (λ q. index / q % ways_of t₀)
 
-      joined-is : joined-as (children new-tree) (new-children .equations) (below .next) ≡ joined-at name (children t₀) next (index / (ways / scheme-count t₀) / ways-of t₀)
-      joined-is =
-          ap₂ (λ (ts : Trees) (m : ℕ). joined-as ts (new-children .equations) m) (ap children new-is ∙ over-children t₀ (new-children .values) kept-count) (chosen .next)
-          ∙ ap (joined-at name (children t₀) next) (splits .quotient ∙ by-count (λ q. index / q / ways-of t₀))
+      joined_is : joined_as (children new_tree) new_children.equations below.next ≡ joined_at name (children t₀) next (index / (ways / scheme_count t₀) / ways_of t₀)
+      joined_is =
+          ap₂ (λ (ts : Trees) (m : ℕ). joined_as ts new_children.equations m) (ap children new_is ∙ over_children t₀ new_children.values kept_count) chosen.next
+          ∙ ap (joined_at name (children t₀) next) (splits.quotient ∙ by_count (λ q. index / q / ways_of t₀))
 
-      scheme-is : root-of name new-tree (joined-as (children new-tree) (new-children .equations) (below .next)) (below .index / (below .ways / ways-of new-tree)) ≡ scheme-at name t₀ next (index / (ways / scheme-count t₀))
-      scheme-is =
-          ap₂ (root-of name new-tree) joined-is choice-is
-          ∙ ap (λ (t : Tree). root-of name t (joined-at name (children t₀) next (index / (ways / scheme-count t₀) / ways-of t₀)) (index / (ways / scheme-count t₀) % ways-of t₀)) new-is
-          ∙ over-root name t₀ (new-children .values) _ _
-          ∙ sym (scheme-children name t₀ next (index / (ways / scheme-count t₀)))
+      scheme_is : root_of name new_tree (joined_as (children new_tree) new_children.equations below.next) (below.index / (below.ways / ways_of new_tree)) ≡ scheme_at name t₀ next (index / (ways / scheme_count t₀))
+      scheme_is =
+          ap₂ (root_of name new_tree) joined_is choice_is
+          ∙ ap (λ (t : Tree). root_of name t (joined_at name (children t₀) next (index / (ways / scheme_count t₀) / ways_of t₀)) (index / (ways / scheme_count t₀) % ways_of t₀)) new_is
+          ∙ over_root name t₀ new_children.values _ _
+          ∙ sym (scheme_children name t₀ next (index / (ways / scheme_count t₀)))
 
-      room-is : here .free + 1 ≤ n + 2 * size t₀ + 64 * sites t₀
-      room-is = go (x .cells)
+      room_is : here.free + 1 ≤ n + 2 * size t₀ + 64 * sites t₀
+      room_is = go x.cells
         where
-          go : ((here .free ≤ below .free + 1) × (here .equations ≡ below .equations)) ⊎ (1 < ways-of new-tree) → here .free + 1 ≤ n + 2 * size t₀ + 64 * sites t₀
-          go (inl h) = omega (arith, h .0, chosen .written .used, size-children t₀, sites-children t₀)
-          go (inr h) = omega (arith, x .written .used, chosen .written .used, size-children t₀, sites-children t₀, a-site (ways-of t₀) (omega (arith, ways-are)))
+          go : ((here.free ≤ below.free + 1) × (here.equations ≡ below.equations)) ⊎ (1 < ways_of new_tree) → here.free + 1 ≤ n + 2 * size t₀ + 64 * sites t₀
+          go (inl h) = omega (arith, h.0, chosen.written.used, size_children t₀, sites_children t₀)
+          go (inr h) = omega (arith, x.written.used, chosen.written.used, size_children t₀, sites_children t₀, a_site (ways_of t₀) (omega (arith, ways_are)))
 
       pub picks : Picks s w u n name next index ways t₀ here
       picks = record {
-        written = written-then (2 * size t₀ + 64 * sites t₀) (chosen .written) (x .written) (omega (arith, room-is));
-        room = room-is;
-        spare = go (x .cells) (chosen .spare);
-        value = subst (λ (y : Scheme). Holds s u (here .free) (here .values) (y .value)) scheme-is (x .value);
-        equations = subst (λ (y : Scheme). HoldsList s u (here .free) (here .equations) (flatten (y .equations))) scheme-is (x .equations);
-        next = x .next ∙ ap (λ (y : Scheme). y .next) scheme-is;
-        ways = x .ways ∙ here-ways;
-        index = x .index ∙ ap₂ _%_ (chosen .index) here-ways ∙ sym (by-count (λ q. index % (ways / scheme-counts (children t₀)) % q)) ∙ splits .left ∙ by-count (λ q. index % q);
+        written = written_then (2 * size t₀ + 64 * sites t₀) chosen.written x.written (omega (arith, room_is));
+        room = room_is;
+        spare = go x.cells chosen.spare;
+        value = subst (λ (y : Scheme). Holds s u here.free here.values y.value) scheme_is x.value;
+        equations = subst (λ (y : Scheme). HoldsList s u here.free here.equations (flatten y.equations)) scheme_is x.equations;
+        next = x.next ∙ ap (λ (y : Scheme). y.next) scheme_is;
+        ways = x.ways ∙ here_ways;
+        index = x.index ∙ ap₂ ◌%◌ chosen.index here_ways ∙ sym (by_count (λ q. index % (ways / scheme_counts (children t₀)) % q)) ∙ splits.left ∙ by_count (λ q. index % q);
       }
         where
-          go : ((here .free ≤ below .free + 1) × (here .equations ≡ below .equations)) ⊎ (1 < ways-of new-tree)
-              → (below .equations ≡ 0) ⊎ (below .free + 48 ≤ n + 2 * sizes (children t₀) + 64 * sites-in (children t₀))
-              → (here .equations ≡ 0) ⊎ (here .free + 49 ≤ n + 2 * size t₀ + 64 * sites t₀)
-          go (inl h) (inl k) = inl (h .1 ∙ k)
-          go (inl h) (inr k) = inr (omega (arith, h .0, k, size-children t₀, sites-children t₀))
-          go (inr h) k = inr (omega (arith, x .written .used, chosen .written .used, size-children t₀, sites-children t₀, a-site (ways-of t₀) (omega (arith, ways-are))))
+          go : ((here.free ≤ below.free + 1) × (here.equations ≡ below.equations)) ⊎ (1 < ways_of new_tree)
+              → (below.equations ≡ 0) ⊎ (below.free + 48 ≤ n + 2 * sizes (children t₀) + 64 * sites_in (children t₀))
+              → (here.equations ≡ 0) ⊎ (here.free + 49 ≤ n + 2 * size t₀ + 64 * sites t₀)
+          go (inl h) (inl k) = inl (h.1 ∙ k)
+          go (inl h) (inr k) = inr (omega (arith, h.0, k, size_children t₀, sites_children t₀))
+          go (inr h) k = inr (omega (arith, x.written.used, chosen.written.used, size_children t₀, sites_children t₀, a_site (ways_of t₀) (omega (arith, ways_are))))
 
 -- after the first tree
 module _ {s : Text} {w u : List ℕ} {n fresh next index ways : ℕ} (i : ℕ) (d : ChoicesReady s w n fresh next index ways i) (p : 0 < i) (name : ℕ → Text) (k : Fresh s w n fresh name) (here : Chosen)
-    (h : Picks s w u n name next index ways (tree-at s w i) here) where
-  abbrev first-tree : Tree
-  first-tree = tree-at s w i
+    (h : Picks s w u n name next index ways (tree_at s w i) here) where
+  abbrev first_tree : Tree
+  first_tree = tree_at s w i
 
-  abbrev later-trees : Trees
-  later-trees = trees-at s w (next-of w i)
+  abbrev later_trees : Trees
+  later_trees = trees_at s w (next_of w i)
 
-  list-is : trees-at s w i ≡ more first-tree later-trees
-  list-is = trees-more s (d .arena .links) i p (d .inside)
+  list_is : trees_at s w i ≡ more first_tree later_trees
+  list_is = trees_more s d.arena.links i p d.inside
 
-  first-split : Split (scheme-count first-tree) (scheme-counts later-trees) ways index
-  first-split = tree-split first-tree later-trees (subst (λ (ts : Trees). Shared (scheme-counts ts) ways index) list-is (d .shared))
+  first_split : Split (scheme_count first_tree) (scheme_counts later_trees) ways index
+  first_split = tree_split first_tree later_trees (subst (λ (ts : Trees). Shared (scheme_counts ts) ways index) list_is d.shared)
 
-  later-is : {later : ℕ} → later ≡ next-of u i → trees-at s u later ≡ later-trees
-  later-is e =
-      let k = h .written .kept .words in
-      let g = d .arena .links .next i p (d .inside) in
-      ap (trees-at s u) (e ∙ sym (same-next w u k i (d .inside))) ∙ sym (frame-trees s u (d .arena .links) k (next-of w i) (omega (arith, g, d .inside)))
+  later_is : {later : ℕ} → later ≡ next_of u i → trees_at s u later ≡ later_trees
+  later_is e =
+      let k = h.written.kept.words in
+      let g = d.arena.links.next i p d.inside in
+      ap (trees_at s u) (e ∙ sym (same_next w u k i d.inside)) ∙ sym (frame_trees s u d.arena.links k (next_of w i) (omega (arith, g, d.inside)))
 
-  pub later-falls : {later : ℕ} → later ≡ next-of u i → sizes (trees-at s u later) < sizes (trees-at s w i)
-  later-falls e = omega (arith, ap sizes (later-is e), sizes-of list-is, size-pos first-tree)
+  pub later_falls : {later : ℕ} → later ≡ next_of u i → sizes (trees_at s u later) < sizes (trees_at s w i)
+  later_falls e = omega (arith, ap sizes (later_is e), sizes_of list_is, size_pos first_tree)
 
-  pub ready-later : {later : ℕ} → later ≡ next-of u i → later < i → ChoicesReady s u (here .free) fresh (here .next) (here .index) (here .ways) later
-  ready-later {later} e l =
-      let z = sizes-of list-is in
-      let y = sites-of list-is in
-      let g = later-is e in
-      let x = scheme-fits name first-tree next (index / (ways / scheme-count first-tree)) in
+  pub ready_later : {later : ℕ} → later ≡ next_of u i → later < i → ChoicesReady s u here.free fresh here.next here.index here.ways later
+  ready_later {later} e l =
+      let z = sizes_of list_is in
+      let y = sites_of list_is in
+      let g = later_is e in
+      let x = scheme_fits name first_tree next (index / (ways / scheme_count first_tree)) in
       record {
-        arena = h .written .arena;
-        named = named-later (d .arena) (h .written .kept) (h .written .grew) (d .named);
-        inside = omega (arith, l, d .inside, h .written .grew);
-        small = omega (arith, ap sizes g, z, d .small);
-        shared = shared-as (ap scheme-counts g) (h .ways) (h .index) (first-split .rest);
-        names = omega (arith, h .next, x .names, ap sites-in g, y, d .names);
-        room = omega (arith, h .written .used, h .written .kept .len, ap sites-in g, ap sizes g, z, y, d .room);
-        bits = omega (arith, h .written .used, ap sites-in g, ap sizes g, z, y, d .bits);
+        arena = h.written.arena;
+        named = named_later d.arena h.written.kept h.written.grew d.named;
+        inside = omega (arith, l, d.inside, h.written.grew);
+        small = omega (arith, ap sizes g, z, d.small);
+        shared = shared_as (ap scheme_counts g) h.ways h.index first_split.rest;
+        names = omega (arith, h.next, x.names, ap sites_in g, y, d.names);
+        room = omega (arith, h.written.used, h.written.kept.len, ap sites_in g, ap sizes g, z, y, d.room);
+        bits = omega (arith, h.written.used, ap sites_in g, ap sizes g, z, y, d.bits);
       }
 
-  module _ {v : List ℕ} (later : ℕ) (e : later ≡ next-of u i) (rest : Chosen)
-      (b : (name : ℕ → Text) → Fresh s u (here .free) fresh name → Chooses s u v (here .free) name (here .next) (here .index) (here .ways) (trees-at s u later) rest) where
-    rest-chosen : Chooses s u v (here .free) name (here .next) (here .index) (here .ways) later-trees rest
-    rest-chosen = subst (λ (ts : Trees). Chooses s u v (here .free) name (here .next) (here .index) (here .ways) ts rest) (later-is e) (b name (fresh-later (d .arena) (h .written .kept) (h .written .grew) k))
+  module _ {v : List ℕ} (later : ℕ) (e : later ≡ next_of u i) (rest : Chosen)
+      (b : (name : ℕ → Text) → Fresh s u here.free fresh name → Chooses s u v here.free name here.next here.index here.ways (trees_at s u later) rest) where
+    rest_chosen : Chooses s u v here.free name here.next here.index here.ways later_trees rest
+    rest_chosen = subst (λ (ts : Trees). Chooses s u v here.free name here.next here.index here.ways ts rest) (later_is e) (b name (fresh_later d.arena h.written.kept h.written.grew k))
 
-    value-later : Holds s v (rest .free) (here .values) (scheme-at name first-tree next (index / (ways / scheme-count first-tree)) .value)
-    value-later = holds-later (h .written .arena) (rest-chosen .written .kept) (rest-chosen .written .grew) (h .value)
+    value_later : Holds s v rest.free here.values (scheme_at name first_tree next (index / (ways / scheme_count first_tree))).value
+    value_later = holds_later h.written.arena rest_chosen.written.kept rest_chosen.written.grew h.value
 
-    equations-later : HoldsList s v (rest .free) (here .equations) (flatten (scheme-at name first-tree next (index / (ways / scheme-count first-tree)) .equations))
-    equations-later = lists-later (h .written .arena) (rest-chosen .written .kept) (rest-chosen .written .grew) (h .equations)
+    equations_later : HoldsList s v rest.free here.equations (flatten (scheme_at name first_tree next (index / (ways / scheme_count first_tree))).equations)
+    equations_later = lists_later h.written.arena rest_chosen.written.kept rest_chosen.written.grew h.equations
 
-    few : count (trees-at s v (here .equations)) ≤ 48
+    few : count (trees_at s v here.equations) ≤ 48
     few =
-        let x = scheme-fits name first-tree next (index / (ways / scheme-count first-tree)) in
-        omega (arith, ap count (equations-later .trees), count-flatten (scheme-at name first-tree next (index / (ways / scheme-count first-tree)) .equations), x .equations, d .names, sites-of list-is)
+        let x = scheme_fits name first_tree next (index / (ways / scheme_count first_tree)) in
+        omega (arith, ap count equations_later.trees, count_flatten (scheme_at name first_tree next (index / (ways / scheme_count first_tree))).equations, x.equations, d.names, sites_of list_is)
 
-    pub ready-join : Arena s v (rest .free)
-        × (((0 < here .values) × (here .values < rest .free) × (here .equations < rest .free) × (rest .values < rest .free) × (rest .equations < rest .free))
-        × ((4 * (rest .free + 1 + count (trees-at s v (here .equations))) ≤ length v) × (rest .free + 1 + count (trees-at s v (here .equations)) < 2 ^ 32)))
-    ready-join =
-        let l = rest-chosen .written .kept .len in
-        let o = rest-chosen .written .used in (
-          rest-chosen .written .arena,
+    pub ready_join : Arena s v rest.free
+        × (((0 < here.values) × (here.values < rest.free) × (here.equations < rest.free) × (rest.values < rest.free) × (rest.equations < rest.free))
+        × ((4 * (rest.free + 1 + count (trees_at s v here.equations)) ≤ length v) × (rest.free + 1 + count (trees_at s v here.equations) < 2 ^ 32)))
+    ready_join =
+        let l = rest_chosen.written.kept.len in
+        let o = rest_chosen.written.used in (
+          rest_chosen.written.arena,
           (
-            (h .value .some-cell, value-later .inside, equations-later .inside, rest-chosen .values .inside, rest-chosen .equations .inside),
+            (h.value.some_cell, value_later.inside, equations_later.inside, rest_chosen.values.inside, rest_chosen.equations.inside),
             (
-              omega (arith, few, o, l, h .room, h .written .kept .len, sizes-of list-is, sites-of list-is, d .room),
-              omega (arith, few, o, h .room, sizes-of list-is, sites-of list-is, d .bits),
+              omega (arith, few, o, l, h.room, h.written.kept.len, sizes_of list_is, sites_of list_is, d.room),
+              omega (arith, few, o, h.room, sizes_of list_is, sites_of list_is, d.bits),
             ),
           ),
         )
 
-    module _ {x : List ℕ} (r : Chosen) (z : Follows s v x (here .values) (here .equations) rest r) where
-      all-left : ways / scheme-count first-tree / scheme-counts later-trees ≡ ways / (scheme-count first-tree * scheme-counts later-trees)
-      all-left = first-split .ways-left
+    module _ {x : List ℕ} (r : Chosen) (z : Follows s v x here.values here.equations rest r) where
+      all_left : ways / scheme_count first_tree / scheme_counts later_trees ≡ ways / (scheme_count first_tree * scheme_counts later_trees)
+      all_left = first_split.ways_left
 
-      rest-ways : here .ways / scheme-counts later-trees ≡ ways / (scheme-count first-tree * scheme-counts later-trees)
-      rest-ways = ap (λ (m : ℕ). m / scheme-counts later-trees) (h .ways) ∙ all-left
+      rest_ways : here.ways / scheme_counts later_trees ≡ ways / (scheme_count first_tree * scheme_counts later_trees)
+      rest_ways = ap (λ (m : ℕ). m / scheme_counts later_trees) h.ways ∙ all_left
 
-      rest-index : here .index / (here .ways / scheme-counts later-trees) ≡ index / (ways / (scheme-count first-tree * scheme-counts later-trees)) % scheme-counts later-trees
-      rest-index = ap₂ _/_ (h .index) rest-ways ∙ first-split .choice
+      rest_index : here.index / (here.ways / scheme_counts later_trees) ≡ index / (ways / (scheme_count first_tree * scheme_counts later_trees)) % scheme_counts later_trees
+      rest_index = ap₂ ◌/◌ h.index rest_ways ∙ first_split.choice
 
-      abbrev first-scheme : Scheme
-      first-scheme = scheme-at name first-tree next (index / (ways / (scheme-count first-tree * scheme-counts later-trees)) / scheme-counts later-trees)
+      abbrev first_scheme : Scheme
+      first_scheme = scheme_at name first_tree next (index / (ways / (scheme_count first_tree * scheme_counts later_trees)) / scheme_counts later_trees)
 
-      first-is : scheme-at name first-tree next (index / (ways / scheme-count first-tree)) ≡ first-scheme
-      first-is = ap (scheme-at name first-tree next) (first-split .quotient)
+      first_is : scheme_at name first_tree next (index / (ways / scheme_count first_tree)) ≡ first_scheme
+      first_is = ap (scheme_at name first_tree next) first_split.quotient
 
-      abbrev rest-joined : Joined
-      rest-joined = joined-at name later-trees (first-scheme .next) (index / (ways / (scheme-count first-tree * scheme-counts later-trees)) % scheme-counts later-trees)
+      abbrev rest_joined : Joined
+      rest_joined = joined_at name later_trees first_scheme.next (index / (ways / (scheme_count first_tree * scheme_counts later_trees)) % scheme_counts later_trees)
 
-      rest-is : joined-at name later-trees (here .next) (here .index / (here .ways / scheme-counts later-trees)) ≡ rest-joined
-      rest-is = ap₂ (joined-at name later-trees) (h .next ∙ ap (λ (y : Scheme). y .next) first-is) rest-index
+      rest_is : joined_at name later_trees here.next (here.index / (here.ways / scheme_counts later_trees)) ≡ rest_joined
+      rest_is = ap₂ (joined_at name later_trees) (h.next ∙ ap (λ (y : Scheme). y.next) first_is) rest_index
 
-      values-are : trees-at s x (r .values) ≡ more (first-scheme .value) (rest-joined .values)
-      values-are =
-          z .values .trees
-          ∙ ap₂ more (value-later .tree ∙ ap (λ (y : Scheme). y .value) first-is) (rest-chosen .values .trees ∙ ap (λ (y : Joined). y .values) rest-is)
+      values_are : trees_at s x r.values ≡ more first_scheme.value rest_joined.values
+      values_are =
+          z.values.trees
+          ∙ ap₂ more (value_later.tree ∙ ap (λ (y : Scheme). y.value) first_is) (rest_chosen.values.trees ∙ ap (λ (y : Joined). y.values) rest_is)
 
-      equations-are : trees-at s x (r .equations) ≡ flatten (first-scheme .equations ++ rest-joined .equations)
-      equations-are =
-          z .list .trees
-          ∙ ap₂ appended (equations-later .trees ∙ ap (λ (y : Scheme). flatten (y .equations)) first-is) (rest-chosen .equations .trees ∙ ap (λ (y : Joined). flatten (y .equations)) rest-is)
-          ∙ sym (flatten-append (first-scheme .equations) (rest-joined .equations))
+      equations_are : trees_at s x r.equations ≡ flatten (first_scheme.equations ++ rest_joined.equations)
+      equations_are =
+          z.list.trees
+          ∙ ap₂ appended (equations_later.trees ∙ ap (λ (y : Scheme). flatten y.equations) first_is) (rest_chosen.equations.trees ∙ ap (λ (y : Joined). flatten y.equations) rest_is)
+          ∙ sym (flatten_append first_scheme.equations rest_joined.equations)
 
-      spares : (r .equations ≡ 0) ⊎ (r .free + 48 ≤ n + 2 * (size first-tree + sizes later-trees) + 64 * (sites first-tree + sites-in later-trees))
-      spares = go (h .spare) (rest-chosen .spare)
+      spares : (r.equations ≡ 0) ⊎ (r.free + 48 ≤ n + 2 * (size first_tree + sizes later_trees) + 64 * (sites first_tree + sites_in later_trees))
+      spares = go h.spare rest_chosen.spare
         where
-          go : (here .equations ≡ 0) ⊎ (here .free + 49 ≤ n + 2 * size first-tree + 64 * sites first-tree)
-              → (rest .equations ≡ 0) ⊎ (rest .free + 48 ≤ here .free + 2 * sizes later-trees + 64 * sites-in later-trees)
-              → (r .equations ≡ 0) ⊎ (r .free + 48 ≤ n + 2 * (size first-tree + sizes later-trees) + 64 * (sites first-tree + sites-in later-trees))
-          go (inl k) (inl l) = inl (z .first-none k .1 ∙ l)
-          go (inl k) (inr l) = inr (omega (arith, z .first-none k .0, l, h .room))
-          go (inr k) (inl l) = inr (omega (arith, z .second-none l .0, k, rest-chosen .written .used))
-          go (inr k) (inr l) = inr (omega (arith, z .written .used, few, k, l))
+          go : (here.equations ≡ 0) ⊎ (here.free + 49 ≤ n + 2 * size first_tree + 64 * sites first_tree)
+              → (rest.equations ≡ 0) ⊎ (rest.free + 48 ≤ here.free + 2 * sizes later_trees + 64 * sites_in later_trees)
+              → (r.equations ≡ 0) ⊎ (r.free + 48 ≤ n + 2 * (size first_tree + sizes later_trees) + 64 * (sites first_tree + sites_in later_trees))
+          go (inl k) (inl l) = inl ((z.first_none k).1 ∙ l)
+          go (inl k) (inr l) = inr (omega (arith, (z.first_none k).0, l, h.room))
+          go (inr k) (inl l) = inr (omega (arith, (z.second_none l).0, k, rest_chosen.written.used))
+          go (inr k) (inr l) = inr (omega (arith, z.written.used, few, k, l))
 
-      cells-used : r .free ≤ n + 2 * (size first-tree + sizes later-trees) + 64 * (sites first-tree + sites-in later-trees)
-      cells-used = go (h .spare) spares
+      cells_used : r.free ≤ n + 2 * (size first_tree + sizes later_trees) + 64 * (sites first_tree + sites_in later_trees)
+      cells_used = go h.spare spares
         where
-          go : (here .equations ≡ 0) ⊎ (here .free + 49 ≤ n + 2 * size first-tree + 64 * sites first-tree)
-              → (r .equations ≡ 0) ⊎ (r .free + 48 ≤ n + 2 * (size first-tree + sizes later-trees) + 64 * (sites first-tree + sites-in later-trees))
-              → r .free ≤ n + 2 * (size first-tree + sizes later-trees) + 64 * (sites first-tree + sites-in later-trees)
-          go (inl k) l = omega (arith, z .first-none k .0, rest-chosen .written .used, h .room)
-          go (inr k) l = omega (arith, z .written .used, few, rest-chosen .written .used, k)
+          go : (here.equations ≡ 0) ⊎ (here.free + 49 ≤ n + 2 * size first_tree + 64 * sites first_tree)
+              → (r.equations ≡ 0) ⊎ (r.free + 48 ≤ n + 2 * (size first_tree + sizes later_trees) + 64 * (sites first_tree + sites_in later_trees))
+              → r.free ≤ n + 2 * (size first_tree + sizes later_trees) + 64 * (sites first_tree + sites_in later_trees)
+          go (inl k) l = omega (arith, (z.first_none k).0, rest_chosen.written.used, h.room)
+          go (inr k) l = omega (arith, z.written.used, few, rest_chosen.written.used, k)
 
-      chosen-more : Chooses s w x n name next index ways (more first-tree later-trees) r
-      unfolding joined-at scheme-counts size sites
-      chosen-more = record {
-        written = written-then (2 * (size first-tree + sizes later-trees) + 64 * (sites first-tree + sites-in later-trees)) (written-then (2 * (size first-tree + sizes later-trees) + 64 * (sites first-tree + sites-in later-trees)) (h .written) (rest-chosen .written) (omega (arith, rest-chosen .written .used, h .written .used))) (z .written) (omega (arith, cells-used));
+      chosen_more : Chooses s w x n name next index ways (more first_tree later_trees) r
+      unfolding joined_at scheme_counts size sites
+      chosen_more = record {
+        written = written_then (2 * (size first_tree + sizes later_trees) + 64 * (sites first_tree + sites_in later_trees)) (written_then (2 * (size first_tree + sizes later_trees) + 64 * (sites first_tree + sites_in later_trees)) h.written rest_chosen.written (omega (arith, rest_chosen.written.used, h.written.used))) z.written (omega (arith, cells_used));
         spare = spares;
-        values = record { inside = z .values .inside; trees = values-are };
-        equations = record { inside = z .list .inside; trees = equations-are };
-        next = z .next ∙ rest-chosen .next ∙ ap (λ (y : Joined). y .next) rest-is;
-        ways = z .ways ∙ rest-chosen .ways ∙ rest-ways;
-        index = z .index ∙ rest-chosen .index ∙ ap₂ _%_ (h .index) rest-ways ∙ first-split .left;
+        values = record { inside = z.values.inside; trees = values_are };
+        equations = record { inside = z.list.inside; trees = equations_are };
+        next = z.next ∙ rest_chosen.next ∙ ap (λ (y : Joined). y.next) rest_is;
+        ways = z.ways ∙ rest_chosen.ways ∙ rest_ways;
+        index = z.index ∙ rest_chosen.index ∙ ap₂ ◌%◌ h.index rest_ways ∙ first_split.left;
       }
 
-      pub chosen-list : Chooses s w x n name next index ways (trees-at s w i) r
-      chosen-list = subst (λ (ts : Trees). Chooses s w x n name next index ways ts r) (sym list-is) chosen-more
+      pub chosen_list : Chooses s w x n name next index ways (trees_at s w i) r
+      chosen_list = subst (λ (ts : Trees). Chooses s w x n name next index ways ts r) (sym list_is) chosen_more
 
 -- no tree
-chosen-nothing : {s : Text} {w : List ℕ} {n next index ways : ℕ} (name : ℕ → Text) → Arena s w n → index < ways
+chosen_nothing : {s : Text} {w : List ℕ} {n next index ways : ℕ} (name : ℕ → Text) → Arena s w n → index < ways
     → Chooses s w w n name next index ways none (record { values = 0; equations = 0; next = next; index = index; ways = ways; free = n })
-unfolding joined-at scheme-counts size sites flatten
-chosen-nothing {s} {w} {n} {next} {index} {ways} name a l = record {
-  written = written-same _ a;
+unfolding joined_at scheme_counts size sites flatten
+chosen_nothing {s} {w} {n} {next} {index} {ways} name a l = record {
+  written = written_same _ a;
   spare = inl refl;
-  values = record { inside = a .links .some; trees = trees-none s w 0 refl };
-  equations = record { inside = a .links .some; trees = trees-none s w 0 refl };
+  values = record { inside = a.links.some; trees = trees_none s w 0 refl };
+  equations = record { inside = a.links.some; trees = trees_none s w 0 refl };
   next = refl;
   ways = sym (div-one ways);
-  index = sym (ap (λ (m : ℕ). index % m) (div-one ways) ∙ mod-eq-of-lt l);
+  index = sym (ap (λ (m : ℕ). index % m) (div-one ways) ∙ mod-eq_of_lt l);
 }
 
-pub chosen-none : {s : Text} {w : List ℕ} {n fresh next index ways i : ℕ} → ChoicesReady s w n fresh next index ways i → i ≡ 0 → (name : ℕ → Text)
-    → Chooses s w w n name next index ways (trees-at s w i) (record { values = 0; equations = 0; next = next; index = index; ways = ways; free = n })
-chosen-none {s} {w} {n} {next = next} {index = index} {ways = ways} {i = i} d e name =
-    subst (λ (ts : Trees). Chooses s w w n name next index ways ts (record { values = 0; equations = 0; next = next; index = index; ways = ways; free = n })) (sym (trees-none s w i e)) (chosen-nothing name (d .arena) (d .shared .below))
+pub chosen_none : {s : Text} {w : List ℕ} {n fresh next index ways i : ℕ} → ChoicesReady s w n fresh next index ways i → i ≡ 0 → (name : ℕ → Text)
+    → Chooses s w w n name next index ways (trees_at s w i) (record { values = 0; equations = 0; next = next; index = index; ways = ways; free = n })
+chosen_none {s} {w} {n} {next = next} {index = index} {ways = ways} {i = i} d e name =
+    subst (λ (ts : Trees). Chooses s w w n name next index ways ts (record { values = 0; equations = 0; next = next; index = index; ways = ways; free = n })) (sym (trees_none s w i e)) (chosen_nothing name d.arena d.shared.below)

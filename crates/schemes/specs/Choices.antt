@@ -1,13 +1,11 @@
 -- The choices of a scheme in the order in which they are made: the children's, left to right, then the root's. The first choice varies
 -- slowest. Definitions only.
-use Prim.Native.Nat.{ℕ, _*_, _/_, _<_}
-use mathlib.Core.Path.{_≡_}
-use mathlib.Core.Bool.{Bool, true, false}
-use Rattle·rules.specs.Bytes.{Text}
-use Rattle·rules.specs.Tree.{Tree, variable, atom, apply, Trees, none, more}
-use Rattle·rules.specs.Reduction.{senc, kem}
-use Rattle·rules.specs.Variants.{Scheme, scheme, Joined}
-use Rattle·laws.specs.Schemes.{root-count, root-at}
+use Rattle.std.specs.Prelude.{ℕ, ◌*◌, ◌/◌, ◌<◌, ◌≡◌, Bool, true, false}
+use Rattle.rules.specs.Bytes.{Text}
+use Rattle.rules.specs.Tree.{Tree, variable, atom, apply, Trees, none, more}
+use Rattle.rules.specs.Reduction.{senc, kem}
+use Rattle.rules.specs.Variants.{Scheme, scheme, Joined}
+use Rattle.laws.specs.Schemes.{root_count, root_at}
 
 -- a tree with other children
 abbrev pub over : Tree → Trees → Tree
@@ -26,18 +24,18 @@ cipher true payload key = kem payload key
 cipher false payload key = senc payload key
 
 -- how many choices there are at the root of a tree
-unfoldable pub ways-of : Tree → ℕ
-unfolding root-count
-ways-of (variable x) = 1
-ways-of (atom c d) = 1
-ways-of (apply f ts) = root-count f ts
+unfoldable pub ways_of : Tree → ℕ
+unfolding root_count
+ways_of (variable x) = 1
+ways_of (atom c d) = 1
+ways_of (apply f ts) = root_count f ts
 
 -- a choice at the root, after those of the children, by the names of the fresh variables
-unfoldable pub root-of : (ℕ → Text) → Tree → Joined → ℕ → Scheme
-unfolding root-at
-root-of name (variable x) j c = scheme (variable x) (j .equations) (j .next)
-root-of name (atom a d) j c = scheme (atom a d) (j .equations) (j .next)
-root-of name (apply f ts) j c = root-at name f j c
+unfoldable pub root_of : (ℕ → Text) → Tree → Joined → ℕ → Scheme
+unfolding root_at
+root_of name (variable x) j c = scheme (variable x) j.equations j.next
+root_of name (atom a d) j c = scheme (atom a d) j.equations j.next
+root_of name (apply f ts) j c = root_at name f j c
 
 -- an index below a number of ways that c divides
 pub record Shared (c ways index : ℕ) : Type 0 where

@@ -1,27 +1,23 @@
 // The choices for a list of trees, by an index: the first choice varies slowest. Cells of what does not change are used again.
+ghost use Rattle.std.specs.Prelude.{◌≡◌, List, ℕ, ◌+◌, ◌*◌, ◌<◌, ◌≤◌, ◌^◌, length};
+ghost use Rattle.rules.specs.Bytes.{Text};
+ghost use Rattle.rules.specs.Tree.{sizes, count};
+ghost use Rattle.rules.specs.Substitution.{Pair, flatten};
+ghost use Rattle.tree.specs.Cells.{tree_at, trees_at};
+ghost use Rattle.tree.specs.Arena.{Arena};
+ghost use Rattle.schemes.specs.Choices.{over};
+ghost use Rattle.schemes.specs.Building.{Fresh, Appends, KeptAs, RootReady, Roots, Follows, ChoicesReady, Chooses};
+
 use crate::counting::ways_of;
 use crate::firing::fire;
 use reduction::building::stay;
 use substitution::bindings::Pushed;
 use substitution::instances::keep;
-use tree::cells::APPLICATION;
-use tree::cells::kind_of;
-use tree::cells::next_of;
-use tree::cells::share;
+use tree::cells::{APPLICATION, kind_of, next_of, share};
 use tree::children::child_of;
-ghost use mathlib.Core.Path.{_≡_};
-ghost use mathlib.Core.List.{List};
-ghost use Prim.Native.Nat.{ℕ, _+_, _*_, _<_, _≤_, _^_};
-ghost use lib.ListN.{length};
-ghost use Rattle·rules.specs.Bytes.{Text};
-ghost use Rattle·rules.specs.Tree.{sizes, count};
-ghost use Rattle·rules.specs.Substitution.{Pair, flatten};
-ghost use Rattle·tree.specs.Cells.{tree-at, trees-at};
-ghost use Rattle·tree.specs.Arena.{Arena};
-ghost use Rattle·schemes·specs.specs.Choices.{over};
-ghost use Rattle·schemes·specs.specs.Building.{Fresh, Appends, KeptAs, RootReady, Roots, Follows, ChoicesReady, Chooses};
 
 // Values, equations, the next fresh variable, what is left of the index and of the number of ways, and the free end.
+#[derive(Clone, Copy)]
 pub(crate) struct Chosen {
     pub values: usize,
     pub equations: usize,
@@ -33,10 +29,10 @@ pub(crate) struct Chosen {
 
 // The list from cell a on before the list from cell b on.
 pub(crate) fn append(sheet: &[u8], work: &mut [u32], free: usize, a: usize, b: usize) -> Pushed
-    requires { ⌜ Arena (now sheet) (now work) free ⌝ }
-    requires { ⌜ (a < free) × (b < free) ⌝ }
-    requires { ⌜ (4 * (free + count (trees-at (now sheet) (now work) a)) ≤ length (now work)) × (free + count (trees-at (now sheet) (now work) a) < 2 ^ 32) ⌝ }
-    ensures { λ r. ⌜ Appends (now (sheet .entry)) (now (work .entry)) (now (work .exit)) free a b (r .index) (r .free) ⌝ }
+    requires arena { Arena sheet.now work.old free }
+    requires a_lt_free { (a < free) × (b < free) }
+    requires a_in_bounds { (4 * (free + count (trees_at sheet.now work.old a)) ≤ length work.old) × (free + count (trees_at sheet.now work.old a) < 2 ^ 32) }
+    ensures { Appends sheet.now work.old work.new free a b result.index result.free }
 {
     if a == 0 {
         return Pushed {
@@ -60,11 +56,11 @@ pub(crate) fn append(sheet: &[u8], work: &mut [u32], free: usize, a: usize, b: u
 
 // The tree of cell i with the children from cell first on.
 fn unchanged(sheet: &[u8], work: &mut [u32], free: usize, i: usize, first: usize) -> Pushed
-    requires { ⌜ Arena (now sheet) (now work) free ⌝ }
-    requires { ⌜ (0 < i) × (i < free) × (first < free) ⌝ }
-    requires { ⌜ sizes (trees-at (now sheet) (now work) first) < 65535 ⌝ }
-    requires { ⌜ (4 * free + 4 ≤ length (now work)) × (free < 2 ^ 32) ⌝ }
-    ensures { λ r. ⌜ KeptAs (now (sheet .entry)) (now (work .entry)) (now (work .exit)) free (over (tree-at (now (sheet .entry)) (now (work .entry)) i) (trees-at (now (sheet .entry)) (now (work .entry)) first)) (r .index) (r .free) ⌝ }
+    requires arena { Arena sheet.now work.old free }
+    requires i_nonzero { (0 < i) × (i < free) × (first < free) }
+    requires first_bound { sizes (trees_at sheet.now work.old first) < 65535 }
+    requires free_in_bounds { (4 * free + 4 ≤ length work.old) × (free < 2 ^ 32) }
+    ensures { KeptAs sheet.now work.old work.new free (over (tree_at sheet.now work.old i) (trees_at sheet.now work.old first)) result.index result.free }
 {
     if APPLICATION < kind_of(work, i) {
         return Pushed {
@@ -78,8 +74,8 @@ fn unchanged(sheet: &[u8], work: &mut [u32], free: usize, i: usize, first: usize
 
 // The choice at the root of cell i, after those of its children.
 fn root(sheet: &[u8], work: &mut [u32], i: usize, fresh: usize, below: Chosen) -> Chosen
-    requires { ⌜ RootReady (now sheet) (now work) fresh below i ⌝ }
-    ensures { λ r. ⌜ ((name : ℕ → Text) → Fresh (now (sheet .entry)) (now (work .entry)) (below .free) fresh name → (es : List Pair) → trees-at (now (sheet .entry)) (now (work .entry)) (below .equations) ≡ flatten es → Roots (now (sheet .entry)) (now (work .entry)) (now (work .exit)) name below (over (tree-at (now (sheet .entry)) (now (work .entry)) i) (trees-at (now (sheet .entry)) (now (work .entry)) (below .values))) es r) ⌝ }
+    requires { RootReady sheet.now work.old fresh below i }
+    ensures { (name : ℕ → Text) → Fresh sheet.now work.old below.free fresh name → (es : List Pair) → trees_at sheet.now work.old below.equations ≡ flatten es → Roots sheet.now work.old work.new name below (over (tree_at sheet.now work.old i) (trees_at sheet.now work.old below.values)) es result }
 {
     let ways = below.ways / ways_of(sheet, work, below.free, i, below.values);
     let choice = below.index / ways;
@@ -118,10 +114,10 @@ fn root(sheet: &[u8], work: &mut [u32], i: usize, fresh: usize, below: Chosen) -
 
 // The value of cell value, with its equations, before the choices for the later trees.
 fn join(sheet: &[u8], work: &mut [u32], value: usize, equations: usize, rest: Chosen) -> Chosen
-    requires { ⌜ Arena (now sheet) (now work) (rest .free) ⌝ }
-    requires { ⌜ (0 < value) × (value < rest .free) × (equations < rest .free) × (rest .values < rest .free) × (rest .equations < rest .free) ⌝ }
-    requires { ⌜ (4 * (rest .free + 1 + count (trees-at (now sheet) (now work) equations)) ≤ length (now work)) × (rest .free + 1 + count (trees-at (now sheet) (now work) equations) < 2 ^ 32) ⌝ }
-    ensures { λ r. ⌜ Follows (now (sheet .entry)) (now (work .entry)) (now (work .exit)) value equations rest r ⌝ }
+    requires arena { Arena sheet.now work.old rest.free }
+    requires value_nonzero { (0 < value) × (value < rest.free) × (equations < rest.free) × (rest.values < rest.free) × (rest.equations < rest.free) }
+    requires equations_in_bounds { (4 * (rest.free + 1 + count (trees_at sheet.now work.old equations)) ≤ length work.old) × (rest.free + 1 + count (trees_at sheet.now work.old equations) < 2 ^ 32) }
+    ensures { Follows sheet.now work.old work.new value equations rest result }
 {
     let kept = keep(sheet, work, rest.free, value, rest.values);
     let chain = append(sheet, work, kept.free, equations, rest.equations);
@@ -146,8 +142,8 @@ pub(crate) fn choose(
     index: usize,
     ways: usize,
 ) -> Chosen
-    requires { ⌜ ChoicesReady (now sheet) (now work) free fresh next index ways i ⌝ }
-    ensures { λ r. ⌜ ((name : ℕ → Text) → Fresh (now (sheet .entry)) (now (work .entry)) free fresh name → Chooses (now (sheet .entry)) (now (work .entry)) (now (work .exit)) free name next index ways (trees-at (now (sheet .entry)) (now (work .entry)) i) r) ⌝ }
+    requires { ChoicesReady sheet.now work.old free fresh next index ways i }
+    ensures { (name : ℕ → Text) → Fresh sheet.now work.old free fresh name → Chooses sheet.now work.old work.new free name next index ways (trees_at sheet.now work.old i) result }
 {
     if i == 0 {
         return Chosen {
@@ -164,14 +160,7 @@ pub(crate) fn choose(
     let here = root(sheet, work, i, fresh, below);
     let later = next_of(work, here.free, i);
     let rest = choose(
-        sheet,
-        work,
-        here.free,
-        later,
-        fresh,
-        here.next,
-        here.index,
-        here.ways,
+        sheet, work, here.free, later, fresh, here.next, here.index, here.ways,
     );
     join(sheet, work, here.values, here.equations, rest)
 }

@@ -1,26 +1,21 @@
 // The choices at a root, and the count of schemes.
-use rewriting::naming::RuleName;
-use rewriting::naming::one_argument;
-use rewriting::naming::rule_named;
-use rewriting::naming::two_arguments;
-use tree::cells::APPLICATION;
-use tree::cells::kind_of;
-use tree::cells::next_of;
+ghost use Rattle.std.specs.Prelude.{◌≡◌, ◌+◌, ◌*◌, ◌<◌, ◌≤◌};
+ghost use Rattle.rules.specs.Variants.{with_one, with_two, scheme_count, scheme_counts};
+ghost use Rattle.laws.specs.Schemes.{root_count};
+ghost use Rattle.tree.specs.Cells.{name_at, tree_at, trees_at};
+ghost use Rattle.tree.specs.Arena.{Arena};
+ghost use Rattle.schemes.specs.Choices.{over, ways_of};
+ghost use Rattle.schemes.specs.Counting.{capped, counted_schemes};
+
+use rewriting::naming::{RuleName, one_argument, rule_named, two_arguments};
+use tree::cells::{APPLICATION, kind_of, next_of};
 use tree::children::child_of;
-ghost use mathlib.Core.Path.{_≡_};
-ghost use Prim.Native.Nat.{_+_, _*_, _<_, _≤_};
-ghost use Rattle·rules.specs.Variants.{with-one, with-two, scheme-count, scheme-counts};
-ghost use Rattle·laws.specs.Schemes.{root-count};
-ghost use Rattle·tree.specs.Cells.{name-at, tree-at, trees-at};
-ghost use Rattle·tree.specs.Arena.{Arena};
-ghost use Rattle·schemes·specs.specs.Choices.{over, ways-of};
-ghost use Rattle·schemes·specs.specs.Counting.{capped, counted-schemes};
 
 // One choice more than k where the list from cell first on has one tree, else one.
 fn one_ways(sheet: &[u8], work: &[u32], free: usize, first: usize, k: usize) -> usize
-    requires { ⌜ Arena (now sheet) (now work) free ⌝ }
-    requires { ⌜ (first < free) × (k < 3) ⌝ }
-    ensures { λ r. ⌜ r ≡ 1 + with-one k (trees-at (now (sheet .entry)) (now (work .entry)) first) ⌝ }
+    requires arena { Arena sheet.now work.now free }
+    requires first_lt_free { (first < free) × (k < 3) }
+    ensures { result ≡ 1 + with_one k (trees_at sheet.now work.now first) }
 {
     if one_argument(sheet, work, free, first) == 0 {
         return 1;
@@ -30,9 +25,9 @@ fn one_ways(sheet: &[u8], work: &[u32], free: usize, first: usize, k: usize) -> 
 
 // Two choices where the list from cell first on has two trees, else one.
 fn two_ways(sheet: &[u8], work: &[u32], free: usize, first: usize) -> usize
-    requires { ⌜ Arena (now sheet) (now work) free ⌝ }
-    requires { ⌜ first < free ⌝ }
-    ensures { λ r. ⌜ r ≡ 1 + with-two 1 (trees-at (now (sheet .entry)) (now (work .entry)) first) ⌝ }
+    requires arena { Arena sheet.now work.now free }
+    requires first_lt_free { first < free }
+    ensures { result ≡ 1 + with_two 1 (trees_at sheet.now work.now first) }
 {
     if two_arguments(sheet, work, free, first) == 0 {
         return 1;
@@ -42,9 +37,9 @@ fn two_ways(sheet: &[u8], work: &[u32], free: usize, first: usize) -> usize
 
 // How many choices there are under the name of cell i over the list from cell first on.
 fn name_ways(sheet: &[u8], work: &[u32], free: usize, i: usize, first: usize) -> usize
-    requires { ⌜ Arena (now sheet) (now work) free ⌝ }
-    requires { ⌜ (0 < i) × (i < free) × (first < free) ⌝ }
-    ensures { λ r. ⌜ r ≡ root-count (name-at (now (sheet .entry)) (now (work .entry)) i) (trees-at (now (sheet .entry)) (now (work .entry)) first) ⌝ }
+    requires arena { Arena sheet.now work.now free }
+    requires i_nonzero { (0 < i) × (i < free) × (first < free) }
+    ensures { result ≡ root_count (name_at sheet.now work.now i) (trees_at sheet.now work.now first) }
 {
     let rule = rule_named(sheet, work, free, i);
     match rule {
@@ -59,9 +54,9 @@ fn name_ways(sheet: &[u8], work: &[u32], free: usize, i: usize, first: usize) ->
 
 // How many choices there are at the root of cell i with the children from cell first on.
 pub(crate) fn ways_of(sheet: &[u8], work: &[u32], free: usize, i: usize, first: usize) -> usize
-    requires { ⌜ Arena (now sheet) (now work) free ⌝ }
-    requires { ⌜ (0 < i) × (i < free) × (first < free) ⌝ }
-    ensures { λ r. ⌜ r ≡ ways-of (over (tree-at (now (sheet .entry)) (now (work .entry)) i) (trees-at (now (sheet .entry)) (now (work .entry)) first)) ⌝ }
+    requires arena { Arena sheet.now work.now free }
+    requires i_nonzero { (0 < i) × (i < free) × (first < free) }
+    ensures { result ≡ ways_of (over (tree_at sheet.now work.now i) (trees_at sheet.now work.now first)) }
 {
     if APPLICATION < kind_of(work, i) {
         return 1;
@@ -71,8 +66,8 @@ pub(crate) fn ways_of(sheet: &[u8], work: &[u32], free: usize, i: usize, first: 
 
 // A product, 4,097 where it is over 4,096.
 fn times(count: usize, ways: usize) -> usize
-    requires { ⌜ (count ≤ 4097) × (ways < 4) ⌝ }
-    ensures { λ r. ⌜ r ≡ capped (count * ways) ⌝ }
+    requires { (count ≤ 4097) × (ways < 4) }
+    ensures { result ≡ capped (count * ways) }
 {
     let product = count * ways;
     if product <= 4096 {
@@ -83,9 +78,9 @@ fn times(count: usize, ways: usize) -> usize
 
 // The count of schemes of the trees of the list from cell i on, times another count. One frame for each node: a term may be 4,096 deep.
 fn count_list(sheet: &[u8], work: &[u32], free: usize, i: usize, count: usize) -> usize
-    requires { ⌜ Arena (now sheet) (now work) free ⌝ }
-    requires { ⌜ (i < free) × (count ≤ 4097) ⌝ }
-    ensures { λ r. ⌜ r ≡ capped (count * scheme-counts (trees-at (now (sheet .entry)) (now (work .entry)) i)) ⌝ }
+    requires arena { Arena sheet.now work.now free }
+    requires i_lt_free { (i < free) × (count ≤ 4097) }
+    ensures { result ≡ capped (count * scheme_counts (trees_at sheet.now work.now i)) }
 {
     if i == 0 {
         return count;
@@ -97,6 +92,7 @@ fn count_list(sheet: &[u8], work: &[u32], free: usize, i: usize, count: usize) -
 }
 
 // The count of schemes, or more than 4,096.
+#[derive(Clone, Copy)]
 pub enum Counted {
     Schemes(usize),
     Over,
@@ -104,9 +100,9 @@ pub enum Counted {
 
 // The count of schemes of the tree of cell i.
 pub fn count_schemes(sheet: &[u8], work: &[u32], free: usize, i: usize) -> Counted
-    requires { ⌜ Arena (now sheet) (now work) free ⌝ }
-    requires { ⌜ (0 < i) × (i < free) ⌝ }
-    ensures { λ r. ⌜ r ≡ counted-schemes (scheme-count (tree-at (now (sheet .entry)) (now (work .entry)) i)) ⌝ }
+    requires arena { Arena sheet.now work.now free }
+    requires i_nonzero { (0 < i) × (i < free) }
+    ensures { result ≡ counted_schemes (scheme_count (tree_at sheet.now work.now i)) }
 {
     let first = child_of(work, free, i);
     let below = count_list(sheet, work, free, first, 1);

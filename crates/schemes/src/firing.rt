@@ -1,29 +1,24 @@
 // A rule that fires: its pattern over fresh variables, its value and its equations.
+ghost use Rattle.std.specs.Prelude.{◌≡◌, List, ◌∷◌, ℕ, ◌+◌, ◌-◌, ◌*◌, ◌<◌, ◌≤◌, ◌^◌, length};
+ghost use Rattle.rules.specs.Bytes.{Text};
+ghost use Rattle.rules.specs.Tree.{apply, sizes};
+ghost use Rattle.rules.specs.Substitution.{Pair, pick, flatten};
+ghost use Rattle.rules.specs.Reduction.{two, kem, constant};
+ghost use Rattle.rules.specs.Variants.{scheme};
+ghost use Rattle.laws.specs.Schemes.{root_count, root_at};
+ghost use Rattle.tree.specs.Cells.{name_at, fixed_name, tree_at, trees_at};
+ghost use Rattle.tree.specs.Arena.{Arena, Linked};
+ghost use Rattle.substitution.specs.Composing.{SomePairs};
+ghost use Rattle.schemes.specs.Choices.{cipher};
+ghost use Rattle.schemes.specs.Building.{Fresh, SomeFresh, Single, Opens, FiredIs, joined_as};
+
 use reduction::building::leaf;
-use rewriting::naming::RuleName;
-use rewriting::naming::rule_named;
+use rewriting::naming::{RuleName, rule_named};
 use substitution::bindings::push_pair;
-use tree::cells::APPLICATION;
-use tree::cells::next_of;
-use tree::cells::push_cell;
-use tree::cells::share;
-ghost use mathlib.Core.Path.{_≡_};
-ghost use mathlib.Core.List.{List, _∷_};
-ghost use Prim.Native.Nat.{ℕ, _+_, _-_, _*_, _<_, _≤_, _^_};
-ghost use lib.ListN.{length};
-ghost use Rattle·rules.specs.Bytes.{Text};
-ghost use Rattle·rules.specs.Tree.{apply, sizes};
-ghost use Rattle·rules.specs.Substitution.{Pair, pick, flatten};
-ghost use Rattle·rules.specs.Reduction.{two, kem, constant};
-ghost use Rattle·rules.specs.Variants.{scheme};
-ghost use Rattle·laws.specs.Schemes.{root-count, root-at};
-ghost use Rattle·tree.specs.Cells.{name-at, fixed-name, tree-at, trees-at};
-ghost use Rattle·tree.specs.Arena.{Arena, Linked};
-ghost use Rattle·substitution.specs.Composing.{SomePairs};
-ghost use Rattle·schemes·specs.specs.Choices.{cipher};
-ghost use Rattle·schemes·specs.specs.Building.{Fresh, SomeFresh, Single, Opens, FiredIs, joined-as};
+use tree::cells::{APPLICATION, next_of, push_cell, share};
 
 // A tree over two fresh variables, and their cells.
+#[derive(Clone, Copy)]
 struct Pattern {
     pub tree: usize,
     pub left: usize,
@@ -41,21 +36,21 @@ fn named(
     next: usize,
     count: usize,
 ) -> usize
-    requires { ⌜ Arena (now sheet) (now work) free ⌝ }
-    requires { ⌜ (0 < code) × (code < 7) × (first < free) × (next < free) ⌝ }
-    requires { ⌜ (count ≡ sizes (trees-at (now sheet) (now work) first)) × (count < 65535) ⌝ }
-    requires { ⌜ (4 * free + 4 ≤ length (now work)) × (free < 2 ^ 32) ⌝ }
-    ensures { λ r. ⌜ (r ≡ free + 1) × Linked (now (sheet .entry)) (now (work .entry)) (now (work .exit)) free next (apply (fixed-name code) (trees-at (now (sheet .entry)) (now (work .entry)) first)) ⌝ }
+    requires arena { Arena sheet.now work.old free }
+    requires code_nonzero { (0 < code) × (code < 7) × (first < free) × (next < free) }
+    requires count_value { (count ≡ sizes (trees_at sheet.now work.old first)) × (count < 65535) }
+    requires free_in_bounds { (4 * free + 4 ≤ length work.old) × (free < 2 ^ 32) }
+    ensures { (result ≡ free + 1) × Linked sheet.now work.old work.new free next (apply (fixed_name code) (trees_at sheet.now work.old first)) }
 {
     push_cell(work, free, code, 0, APPLICATION, first, next, 1 + count)
 }
 
 // The name of a code over the variables of cells x and y.
 fn plain(sheet: &[u8], work: &mut [u32], free: usize, code: usize, x: usize, y: usize) -> Pattern
-    requires { ⌜ Arena (now sheet) (now work) free ⌝ }
-    requires { ⌜ (0 < code) × (code < 7) × Single (now sheet) (now work) free x × Single (now sheet) (now work) free y ⌝ }
-    requires { ⌜ (4 * (free + 4) ≤ length (now work)) × (free + 4 < 2 ^ 32) ⌝ }
-    ensures { λ r. ⌜ Opens (now (sheet .entry)) (now (work .entry)) (now (work .exit)) free (two (fixed-name code) (tree-at (now (sheet .entry)) (now (work .entry)) x) (tree-at (now (sheet .entry)) (now (work .entry)) y)) (tree-at (now (sheet .entry)) (now (work .entry)) x) (tree-at (now (sheet .entry)) (now (work .entry)) y) r ⌝ }
+    requires arena { Arena sheet.now work.old free }
+    requires code_nonzero { (0 < code) × (code < 7) × Single sheet.now work.old free x × Single sheet.now work.old free y }
+    requires free_in_bounds { (4 * (free + 4) ≤ length work.old) × (free + 4 < 2 ^ 32) }
+    ensures { Opens sheet.now work.old work.new free (two (fixed_name code) (tree_at sheet.now work.old x) (tree_at sheet.now work.old y)) (tree_at sheet.now work.old x) (tree_at sheet.now work.old y) result }
 {
     let left = share(sheet, work, free, y, 0);
     let top = share(sheet, work, left, x, free);
@@ -70,10 +65,10 @@ fn plain(sheet: &[u8], work: &mut [u32], free: usize, code: usize, x: usize, y: 
 
 // `tamXCkem` over the variable of cell x and `tamXCpk` of that of cell y.
 fn boxed(sheet: &[u8], work: &mut [u32], free: usize, x: usize, y: usize) -> Pattern
-    requires { ⌜ Arena (now sheet) (now work) free ⌝ }
-    requires { ⌜ Single (now sheet) (now work) free x × Single (now sheet) (now work) free y ⌝ }
-    requires { ⌜ (4 * (free + 4) ≤ length (now work)) × (free + 4 < 2 ^ 32) ⌝ }
-    ensures { λ r. ⌜ Opens (now (sheet .entry)) (now (work .entry)) (now (work .exit)) free (kem (tree-at (now (sheet .entry)) (now (work .entry)) x) (tree-at (now (sheet .entry)) (now (work .entry)) y)) (tree-at (now (sheet .entry)) (now (work .entry)) x) (tree-at (now (sheet .entry)) (now (work .entry)) y) r ⌝ }
+    requires arena { Arena sheet.now work.old free }
+    requires single { Single sheet.now work.old free x × Single sheet.now work.old free y }
+    requires free_in_bounds { (4 * (free + 4) ≤ length work.old) × (free + 4 < 2 ^ 32) }
+    ensures { Opens sheet.now work.old work.new free (kem (tree_at sheet.now work.old x) (tree_at sheet.now work.old y)) (tree_at sheet.now work.old x) (tree_at sheet.now work.old y) result }
 {
     let key = share(sheet, work, free, y, 0);
     let left = named(sheet, work, key, 6, free, 0, 1);
@@ -88,6 +83,7 @@ fn boxed(sheet: &[u8], work: &mut [u32], free: usize, x: usize, y: usize) -> Pat
 }
 
 // What a rule makes of a root: the value, the equations and the next fresh variable.
+#[derive(Clone, Copy)]
 pub(crate) struct Fired {
     pub value: usize,
     pub equations: usize,
@@ -106,11 +102,11 @@ fn take_part(
     list: usize,
     first: bool,
 ) -> Fired
-    requires { ⌜ Arena (now sheet) (now work) free × SomeFresh (now sheet) (now work) free fresh ⌝ }
-    requires { ⌜ (0 < i) × (i < free) × (list < free) × (n + 1 < 24) ⌝ }
-    requires { ⌜ (4 * (free + 10) ≤ length (now work)) × (free + 10 < 2 ^ 32) ⌝ }
-    requires { ⌜ SomePairs (now sheet) (now work) list ⌝ }
-    ensures { λ r. ⌜ ((es : List Pair) → trees-at (now (sheet .entry)) (now (work .entry)) list ≡ flatten es → FiredIs (now (sheet .entry)) (now (work .entry)) (now (work .exit)) free (scheme (pick first (tree-at (now (sheet .entry)) (now (work .entry)) (fresh + n)) (tree-at (now (sheet .entry)) (now (work .entry)) (fresh + (n + 1)))) ((tree-at (now (sheet .entry)) (now (work .entry)) i, two (fixed-name 3) (tree-at (now (sheet .entry)) (now (work .entry)) (fresh + n)) (tree-at (now (sheet .entry)) (now (work .entry)) (fresh + (n + 1)))) ∷ es) (n + 2)) r) ⌝ }
+    requires arena { Arena sheet.now work.old free × SomeFresh sheet.now work.old free fresh }
+    requires i_nonzero { (0 < i) × (i < free) × (list < free) × (n + 1 < 24) }
+    requires free_in_bounds { (4 * (free + 10) ≤ length work.old) × (free + 10 < 2 ^ 32) }
+    requires some_pairs { SomePairs sheet.now work.old list }
+    ensures { (es : List Pair) → trees_at sheet.now work.old list ≡ flatten es → FiredIs sheet.now work.old work.new free (scheme (pick first (tree_at sheet.now work.old (fresh + n)) (tree_at sheet.now work.old (fresh + (n + 1)))) ((tree_at sheet.now work.old i, two (fixed_name 3) (tree_at sheet.now work.old (fresh + n)) (tree_at sheet.now work.old (fresh + (n + 1)))) ∷ es) (n + 2)) result }
 {
     let pair = plain(sheet, work, free, 3, fresh + n, fresh + (n + 1));
     let pushed = push_pair(sheet, work, pair.free, i, pair.tree, list);
@@ -140,11 +136,11 @@ fn take_role(
     n: usize,
     list: usize,
 ) -> Fired
-    requires { ⌜ Arena (now sheet) (now work) free ⌝ }
-    requires { ⌜ (0 < i) × (i < free) × (list < free) × (0 < code) × (code < 3) ⌝ }
-    requires { ⌜ (4 * (free + 10) ≤ length (now work)) × (free + 10 < 2 ^ 32) ⌝ }
-    requires { ⌜ SomePairs (now sheet) (now work) list ⌝ }
-    ensures { λ r. ⌜ ((es : List Pair) → trees-at (now (sheet .entry)) (now (work .entry)) list ≡ flatten es → FiredIs (now (sheet .entry)) (now (work .entry)) (now (work .exit)) free (scheme (constant (fixed-name (3 - code))) ((tree-at (now (sheet .entry)) (now (work .entry)) i, constant (fixed-name code)) ∷ es) n) r) ⌝ }
+    requires arena { Arena sheet.now work.old free }
+    requires i_nonzero { (0 < i) × (i < free) × (list < free) × (0 < code) × (code < 3) }
+    requires free_in_bounds { (4 * (free + 10) ≤ length work.old) × (free + 10 < 2 ^ 32) }
+    requires some_pairs { SomePairs sheet.now work.old list }
+    ensures { (es : List Pair) → trees_at sheet.now work.old list ≡ flatten es → FiredIs sheet.now work.old work.new free (scheme (constant (fixed_name (3 - code))) ((tree_at sheet.now work.old i, constant (fixed_name code)) ∷ es) n) result }
 {
     let value = leaf(sheet, work, free, 3 - code, 0);
     let role = leaf(sheet, work, value.free, code, 0);
@@ -159,10 +155,10 @@ fn take_role(
 
 // The pattern of a cipher, boxed or not.
 fn sealing(sheet: &[u8], work: &mut [u32], free: usize, x: usize, y: usize, kem: bool) -> Pattern
-    requires { ⌜ Arena (now sheet) (now work) free ⌝ }
-    requires { ⌜ Single (now sheet) (now work) free x × Single (now sheet) (now work) free y ⌝ }
-    requires { ⌜ (4 * (free + 4) ≤ length (now work)) × (free + 4 < 2 ^ 32) ⌝ }
-    ensures { λ r. ⌜ Opens (now (sheet .entry)) (now (work .entry)) (now (work .exit)) free (cipher kem (tree-at (now (sheet .entry)) (now (work .entry)) x) (tree-at (now (sheet .entry)) (now (work .entry)) y)) (tree-at (now (sheet .entry)) (now (work .entry)) x) (tree-at (now (sheet .entry)) (now (work .entry)) y) r ⌝ }
+    requires arena { Arena sheet.now work.old free }
+    requires single { Single sheet.now work.old free x × Single sheet.now work.old free y }
+    requires free_in_bounds { (4 * (free + 4) ≤ length work.old) × (free + 4 < 2 ^ 32) }
+    ensures { Opens sheet.now work.old work.new free (cipher kem (tree_at sheet.now work.old x) (tree_at sheet.now work.old y)) (tree_at sheet.now work.old x) (tree_at sheet.now work.old y) result }
 {
     if kem {
         return boxed(sheet, work, free, x, y);
@@ -182,11 +178,11 @@ fn take_payload(
     list: usize,
     kem: bool,
 ) -> Fired
-    requires { ⌜ Arena (now sheet) (now work) free × SomeFresh (now sheet) (now work) free fresh ⌝ }
-    requires { ⌜ (0 < i) × (i < free) × (0 < j) × (j < free) × (list < free) × (n + 1 < 24) ⌝ }
-    requires { ⌜ (4 * (free + 10) ≤ length (now work)) × (free + 10 < 2 ^ 32) ⌝ }
-    requires { ⌜ SomePairs (now sheet) (now work) list ⌝ }
-    ensures { λ r. ⌜ ((es : List Pair) → trees-at (now (sheet .entry)) (now (work .entry)) list ≡ flatten es → FiredIs (now (sheet .entry)) (now (work .entry)) (now (work .exit)) free (scheme (tree-at (now (sheet .entry)) (now (work .entry)) (fresh + n)) ((tree-at (now (sheet .entry)) (now (work .entry)) i, cipher kem (tree-at (now (sheet .entry)) (now (work .entry)) (fresh + n)) (tree-at (now (sheet .entry)) (now (work .entry)) (fresh + (n + 1)))) ∷ (tree-at (now (sheet .entry)) (now (work .entry)) j, tree-at (now (sheet .entry)) (now (work .entry)) (fresh + (n + 1))) ∷ es) (n + 2)) r) ⌝ }
+    requires arena { Arena sheet.now work.old free × SomeFresh sheet.now work.old free fresh }
+    requires i_nonzero { (0 < i) × (i < free) × (0 < j) × (j < free) × (list < free) × (n + 1 < 24) }
+    requires free_in_bounds { (4 * (free + 10) ≤ length work.old) × (free + 10 < 2 ^ 32) }
+    requires some_pairs { SomePairs sheet.now work.old list }
+    ensures { (es : List Pair) → trees_at sheet.now work.old list ≡ flatten es → FiredIs sheet.now work.old work.new free (scheme (tree_at sheet.now work.old (fresh + n)) ((tree_at sheet.now work.old i, cipher kem (tree_at sheet.now work.old (fresh + n)) (tree_at sheet.now work.old (fresh + (n + 1)))) ∷ (tree_at sheet.now work.old j, tree_at sheet.now work.old (fresh + (n + 1))) ∷ es) (n + 2)) result }
 {
     let sealed = sealing(sheet, work, free, fresh + n, fresh + (n + 1), kem);
     let key = push_pair(sheet, work, sealed.free, j, sealed.right, list);
@@ -211,12 +207,12 @@ pub(crate) fn fire(
     list: usize,
     choice: usize,
 ) -> Fired
-    requires { ⌜ Arena (now sheet) (now work) free × SomeFresh (now sheet) (now work) free fresh ⌝ }
-    requires { ⌜ (0 < i) × (i < free) × (first < free) × (list < free) × (n + 1 < 24) ⌝ }
-    requires { ⌜ (0 < choice) × (choice < root-count (name-at (now sheet) (now work) i) (trees-at (now sheet) (now work) first)) ⌝ }
-    requires { ⌜ (4 * (free + 10) ≤ length (now work)) × (free + 10 < 2 ^ 32) ⌝ }
-    requires { ⌜ SomePairs (now sheet) (now work) list ⌝ }
-    ensures { λ r. ⌜ ((name : ℕ → Text) → Fresh (now (sheet .entry)) (now (work .entry)) free fresh name → (es : List Pair) → trees-at (now (sheet .entry)) (now (work .entry)) list ≡ flatten es → FiredIs (now (sheet .entry)) (now (work .entry)) (now (work .exit)) free (root-at name (name-at (now (sheet .entry)) (now (work .entry)) i) (joined-as (trees-at (now (sheet .entry)) (now (work .entry)) first) es n) choice) r) ⌝ }
+    requires arena { Arena sheet.now work.old free × SomeFresh sheet.now work.old free fresh }
+    requires i_nonzero { (0 < i) × (i < free) × (first < free) × (list < free) × (n + 1 < 24) }
+    requires choice_nonzero { (0 < choice) × (choice < root_count (name_at sheet.now work.old i) (trees_at sheet.now work.old first)) }
+    requires free_in_bounds { (4 * (free + 10) ≤ length work.old) × (free + 10 < 2 ^ 32) }
+    requires some_pairs { SomePairs sheet.now work.old list }
+    ensures { (name : ℕ → Text) → Fresh sheet.now work.old free fresh name → (es : List Pair) → trees_at sheet.now work.old list ≡ flatten es → FiredIs sheet.now work.old work.new free (root_at name (name_at sheet.now work.old i) (joined_as (trees_at sheet.now work.old first) es n) choice) result }
 {
     let rule = rule_named(sheet, work, free, i);
     match rule {

@@ -1,4 +1,6 @@
 // The schemes of a term, one at a time (variants.rs, `schemes` and `system`).
+#![tactic(auto)]
+
 pub mod choosing; // choosing.rt: the choices for a list of trees, by an index
 pub mod counting; // counting.rt: the choices at a root, and the count of schemes
 pub mod firing; // firing.rt: a rule that fires, with its equations

@@ -1,19 +1,18 @@
 // The value and the system of a scheme.
-use crate::choosing::append;
-use crate::choosing::choose;
+ghost use Rattle.std.specs.Prelude.{◌≡◌, ℕ, ◌+◌, ◌*◌, ◌<◌, ◌≤◌, ◌^◌, length};
+ghost use Rattle.rules.specs.Bytes.{Text};
+ghost use Rattle.rules.specs.Tree.{size};
+ghost use Rattle.rules.specs.Variants.{scheme_count};
+ghost use Rattle.tree.specs.Cells.{tree_at};
+ghost use Rattle.tree.specs.Arena.{Arena};
+ghost use Rattle.schemes.specs.Building.{Fresh, SomeFresh, Systems};
+
+use crate::choosing::{append, choose};
 use substitution::bindings::push_pair;
 use tree::cells::share;
-ghost use mathlib.Core.Path.{_≡_};
-ghost use Prim.Native.Nat.{ℕ, _+_, _*_, _<_, _≤_, _^_};
-ghost use lib.ListN.{length};
-ghost use Rattle·rules.specs.Bytes.{Text};
-ghost use Rattle·rules.specs.Tree.{size};
-ghost use Rattle·rules.specs.Variants.{scheme-count};
-ghost use Rattle·tree.specs.Cells.{tree-at};
-ghost use Rattle·tree.specs.Arena.{Arena};
-ghost use Rattle·schemes·specs.specs.Building.{Fresh, SomeFresh, Systems};
 
 // The value of a scheme, its system as a list of cells (left, right, left, right, ..), and the free end.
+#[derive(Clone, Copy)]
 pub struct System {
     pub value: usize,
     pub stack: usize,
@@ -30,11 +29,11 @@ pub fn system_at(
     count: usize,
     index: usize,
 ) -> System
-    requires { ⌜ Arena (now sheet) (now work) free × SomeFresh (now sheet) (now work) free fresh ⌝ }
-    requires { ⌜ (0 < term) × (term < free) × (size (tree-at (now sheet) (now work) term) ≤ 4096) ⌝ }
-    requires { ⌜ (count ≡ scheme-count (tree-at (now sheet) (now work) term)) × (count ≤ 4096) × (index < count) ⌝ }
-    requires { ⌜ (4 * (free + 2 * size (tree-at (now sheet) (now work) term) + 1024) ≤ length (now work)) × (free + 2 * size (tree-at (now sheet) (now work) term) + 1024 < 2 ^ 32) ⌝ }
-    ensures { λ r. ⌜ ((name : ℕ → Text) → Fresh (now (sheet .entry)) (now (work .entry)) free fresh name → Systems (now (sheet .entry)) (now (work .entry)) (now (work .exit)) free name index (tree-at (now (sheet .entry)) (now (work .entry)) term) r) ⌝ }
+    requires arena { Arena sheet.now work.old free × SomeFresh sheet.now work.old free fresh }
+    requires term_nonzero { (0 < term) × (term < free) × (size (tree_at sheet.now work.old term) ≤ 4096) }
+    requires count_value { (count ≡ scheme_count (tree_at sheet.now work.old term)) × (count ≤ 4096) × (index < count) }
+    requires term_in_bounds { (4 * (free + 2 * size (tree_at sheet.now work.old term) + 1024) ≤ length work.old) × (free + 2 * size (tree_at sheet.now work.old term) + 1024 < 2 ^ 32) }
+    ensures { (name : ℕ → Text) → Fresh sheet.now work.old free fresh name → Systems sheet.now work.old work.new free name index (tree_at sheet.now work.old term) result }
 {
     let start = share(sheet, work, free, term, 0);
     let chosen = choose(sheet, work, start, free, fresh, 0, index, count);

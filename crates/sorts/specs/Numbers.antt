@@ -1,11 +1,10 @@
 -- Sorts by their numbers, and symbols as the code has them. Definitions only.
-use Prim.Native.Nat.{ℕ, zero, suc}
-use mathlib.Core.Path.{_≡_}
-use Rattle·rules.specs.Sorts.{Sort, Pub, Fresh, Msg, TamNat, Node}
-use Rattle·rules.specs.Sorts as rules
-use Rattle·rules.specs.Bytes.{Text}
-use Rattle·sorts·specs.specs.declared.Symbol.{Symbol}
-use Rattle·sorts·specs.specs.declared.Symbol.the-variants.{Addition, Unit, Frame, Free}
+use Rattle.std.specs.Prelude.{ℕ, zero, suc, ◌≡◌}
+use Rattle.rules.specs.Sorts.{Sort, Pub, Fresh, Msg, TamNat, Node}
+use Rattle.rules.specs.Sorts as rules
+use Rattle.rules.specs.Bytes.{Text}
+use Rattle.sorts.specs.declared.Symbol.{Symbol}
+use Rattle.sorts.specs.declared.Symbol.TheVariants.{Addition, Unit, Frame, Free}
 
 -- the sort of a number below five
 abbrev pub numbered : ℕ → Sort
@@ -15,11 +14,11 @@ numbered (suc (suc zero)) = Msg
 numbered (suc (suc (suc zero))) = TamNat
 numbered (suc (suc (suc (suc n)))) = Node
 
-abbrev pub coded-symbol : rules.Symbol → Symbol
-coded-symbol rules.addition = Addition
-coded-symbol rules.unit = Unit
-coded-symbol rules.frame = Frame
-coded-symbol rules.free = Free
+abbrev pub coded_symbol : rules.Symbol → Symbol
+coded_symbol rules.addition = Addition
+coded_symbol rules.unit = Unit
+coded_symbol rules.frame = Frame
+coded_symbol rules.free = Free
 
 -- a name that stands for itself
 abbrev pub Itself : Text → Type 0

@@ -1,21 +1,17 @@
 // The five sorts: which meet, which trees have them, and which trees may have an instance of them.
-use tree::cells::APPLICATION;
-use tree::cells::ATOMS;
-use tree::cells::VARIABLE_NODE;
-use tree::cells::VARIABLE_OTHER;
-use tree::cells::VARIABLE_TAM_NAT;
-use tree::cells::first_of;
-use tree::cells::kind_of;
-use tree::cells::length_of;
-use tree::cells::next_of;
+#![tactic(auto)]
+
+ghost use Rattle.std.specs.Prelude.{◌≡◌, true, ◌<◌};
+ghost use Rattle.rules.specs.Sorts.{intersects, symbol, natural, naturals, message, messages, basic, sorted, refinable, refinables};
+ghost use Rattle.tree.specs.Cells.{kind_of, name_at, tree_at, trees_at};
+ghost use Rattle.tree.specs.Arena.{Arena};
+ghost use Rattle.sorts.specs.Numbers.{numbered, coded_symbol, Itself};
+
+use tree::cells::{
+    APPLICATION, ATOMS, VARIABLE_NODE, VARIABLE_OTHER, VARIABLE_TAM_NAT, first_of, kind_of,
+    length_of, next_of,
+};
 use tree::names::name_is;
-ghost use mathlib.Core.Path.{_≡_};
-ghost use mathlib.Core.Bool.{true};
-ghost use Prim.Native.Nat.{_<_};
-ghost use Rattle·rules.specs.Sorts.{intersects, symbol, natural, naturals, message, messages, basic, sorted, refinable, refinables};
-ghost use Rattle·tree.specs.Cells.{kind-of, name-at, tree-at, trees-at};
-ghost use Rattle·tree.specs.Arena.{Arena};
-ghost use Rattle·sorts·specs.specs.Numbers.{numbered, coded-symbol, Itself};
 
 // Which sorts meet, by their numbers.
 const MEETS: [[bool; 5]; 5] = [
@@ -47,13 +43,14 @@ const LETTER_N: usize = 110;
 
 // Whether two sorts meet.
 fn meets(a: usize, b: usize) -> bool
-    requires { ⌜ (a < 5) × (b < 5) ⌝ }
-    ensures { λ r. ⌜ r ≡ intersects (numbered a) (numbered b) ⌝ }
+    requires { (a < 5) × (b < 5) }
+    ensures { result ≡ intersects (numbered a) (numbered b) }
 {
     MEETS[a][b]
 }
 
 // What a name stands for.
+#[derive(Clone, Copy)]
 enum Symbol {
     Addition,
     Unit,
@@ -63,9 +60,9 @@ enum Symbol {
 
 // What the name of cell k stands for, by comparing it.
 fn symbol_named(sheet: &[u8], work: &[u32], free: usize, k: usize) -> Symbol
-    requires { ⌜ Arena (now sheet) (now work) free ⌝ }
-    requires { ⌜ (0 < k) × (k < free) ⌝ }
-    ensures { λ r. ⌜ r ≡ coded-symbol (symbol (name-at (now (sheet .entry)) (now (work .entry)) k)) ⌝ }
+    requires arena { Arena sheet.now work.now free }
+    requires k_nonzero { (0 < k) × (k < free) }
+    ensures { result ≡ coded_symbol (symbol (name_at sheet.now work.now k)) }
 {
     if name_is(sheet, work, free, k, b"tamtplus") {
         return Symbol::Addition;
@@ -87,9 +84,9 @@ fn symbol_named(sheet: &[u8], work: &[u32], free: usize, k: usize) -> Symbol
 
 // Whether the name of cell k stands for itself, as its length tells.
 fn plain(sheet: &[u8], work: &[u32], free: usize, k: usize) -> bool
-    requires { ⌜ Arena (now sheet) (now work) free ⌝ }
-    requires { ⌜ (0 < k) × (k < free) ⌝ }
-    ensures { λ r. ⌜ (r ≡ true → Itself (name-at (now (sheet .entry)) (now (work .entry)) k)) ⌝ }
+    requires arena { Arena sheet.now work.now free }
+    requires k_nonzero { (0 < k) × (k < free) }
+    ensures { result ≡ true → Itself (name_at sheet.now work.now k) }
 {
     let len = length_of(work, k);
     match len {
@@ -100,9 +97,9 @@ fn plain(sheet: &[u8], work: &[u32], free: usize, k: usize) -> bool
 
 // What the name of cell k stands for. Most names are told apart by their length.
 fn symbol_of(sheet: &[u8], work: &[u32], free: usize, k: usize) -> Symbol
-    requires { ⌜ Arena (now sheet) (now work) free ⌝ }
-    requires { ⌜ (0 < k) × (k < free) ⌝ }
-    ensures { λ r. ⌜ r ≡ coded-symbol (symbol (name-at (now (sheet .entry)) (now (work .entry)) k)) ⌝ }
+    requires arena { Arena sheet.now work.now free }
+    requires k_nonzero { (0 < k) × (k < free) }
+    ensures { result ≡ coded_symbol (symbol (name_at sheet.now work.now k)) }
 {
     if plain(sheet, work, free, k) {
         return Symbol::Free;
@@ -112,10 +109,10 @@ fn symbol_of(sheet: &[u8], work: &[u32], free: usize, k: usize) -> Symbol
 
 // Whether the leaf of cell i, of that kind, is natural.
 fn leaf_natural(sheet: &[u8], work: &[u32], free: usize, i: usize, kind: usize) -> bool
-    requires { ⌜ Arena (now sheet) (now work) free ⌝ }
-    requires { ⌜ (0 < i) × (i < free) ⌝ }
-    requires { ⌜ (kind ≡ kind-of (now work) i) × (0 < kind) ⌝ }
-    ensures { λ r. ⌜ r ≡ natural (tree-at (now (sheet .entry)) (now (work .entry)) i) ⌝ }
+    requires arena { Arena sheet.now work.now free }
+    requires i_nonzero { (0 < i) × (i < free) }
+    requires kind_value { (kind ≡ kind_of work.now i) × (0 < kind) }
+    ensures { result ≡ natural (tree_at sheet.now work.now i) }
 {
     if ATOMS <= kind {
         return kind == LETTER_T;
@@ -125,9 +122,9 @@ fn leaf_natural(sheet: &[u8], work: &[u32], free: usize, i: usize, kind: usize) 
 
 // Whether every tree of the list from cell `list` on is natural. The summands of a list's last tree take the list's place.
 fn naturals(sheet: &[u8], work: &[u32], free: usize, list: usize) -> bool
-    requires { ⌜ Arena (now sheet) (now work) free ⌝ }
-    requires { ⌜ list < free ⌝ }
-    ensures { λ r. ⌜ r ≡ naturals (trees-at (now (sheet .entry)) (now (work .entry)) list) ⌝ }
+    requires arena { Arena sheet.now work.now free }
+    requires list_lt_free { list < free }
+    ensures { result ≡ naturals (trees_at sheet.now work.now list) }
 {
     let mut i = list;
     while i != 0 {
@@ -167,9 +164,9 @@ fn naturals(sheet: &[u8], work: &[u32], free: usize, list: usize) -> bool
 
 // Whether the tree of cell i is natural.
 pub fn natural(sheet: &[u8], work: &[u32], free: usize, i: usize) -> bool
-    requires { ⌜ Arena (now sheet) (now work) free ⌝ }
-    requires { ⌜ (0 < i) × (i < free) ⌝ }
-    ensures { λ r. ⌜ r ≡ natural (tree-at (now (sheet .entry)) (now (work .entry)) i) ⌝ }
+    requires arena { Arena sheet.now work.now free }
+    requires i_nonzero { (0 < i) × (i < free) }
+    ensures { result ≡ natural (tree_at sheet.now work.now i) }
 {
     let kind = kind_of(work, i);
     if APPLICATION < kind {
@@ -187,10 +184,10 @@ pub fn natural(sheet: &[u8], work: &[u32], free: usize, i: usize) -> bool
 
 // Whether the leaf of cell i, of that kind, is a message.
 fn leaf_message(sheet: &[u8], work: &[u32], free: usize, i: usize, kind: usize) -> bool
-    requires { ⌜ Arena (now sheet) (now work) free ⌝ }
-    requires { ⌜ (0 < i) × (i < free) ⌝ }
-    requires { ⌜ (kind ≡ kind-of (now work) i) × (0 < kind) ⌝ }
-    ensures { λ r. ⌜ r ≡ message (tree-at (now (sheet .entry)) (now (work .entry)) i) ⌝ }
+    requires arena { Arena sheet.now work.now free }
+    requires i_nonzero { (0 < i) × (i < free) }
+    requires kind_value { (kind ≡ kind_of work.now i) × (0 < kind) }
+    ensures { result ≡ message (tree_at sheet.now work.now i) }
 {
     if ATOMS <= kind {
         return kind != LETTER_N;
@@ -200,9 +197,9 @@ fn leaf_message(sheet: &[u8], work: &[u32], free: usize, i: usize, kind: usize) 
 
 // Whether every tree of the list from cell `list` on is a message. The children of a list's last tree take the list's place.
 fn messages(sheet: &[u8], work: &[u32], free: usize, list: usize) -> bool
-    requires { ⌜ Arena (now sheet) (now work) free ⌝ }
-    requires { ⌜ list < free ⌝ }
-    ensures { λ r. ⌜ r ≡ messages (trees-at (now (sheet .entry)) (now (work .entry)) list) ⌝ }
+    requires arena { Arena sheet.now work.now free }
+    requires list_lt_free { list < free }
+    ensures { result ≡ messages (trees_at sheet.now work.now list) }
 {
     let mut i = list;
     while i != 0 {
@@ -248,9 +245,9 @@ fn messages(sheet: &[u8], work: &[u32], free: usize, list: usize) -> bool
 
 // Whether the tree of cell i is a message.
 pub fn message(sheet: &[u8], work: &[u32], free: usize, i: usize) -> bool
-    requires { ⌜ Arena (now sheet) (now work) free ⌝ }
-    requires { ⌜ (0 < i) × (i < free) ⌝ }
-    ensures { λ r. ⌜ r ≡ message (tree-at (now (sheet .entry)) (now (work .entry)) i) ⌝ }
+    requires arena { Arena sheet.now work.now free }
+    requires i_nonzero { (0 < i) × (i < free) }
+    ensures { result ≡ message (tree_at sheet.now work.now i) }
 {
     let kind = kind_of(work, i);
     if APPLICATION < kind {
@@ -267,10 +264,10 @@ pub fn message(sheet: &[u8], work: &[u32], free: usize, i: usize) -> bool
 
 // Whether the tree of cell i is a variable of the sort or an atom of the letter.
 fn basic(sheet: &[u8], work: &[u32], free: usize, sort: usize, letter: usize, i: usize) -> bool
-    requires { ⌜ Arena (now sheet) (now work) free ⌝ }
-    requires { ⌜ (0 < i) × (i < free) ⌝ }
-    requires { ⌜ sort < 5 ⌝ }
-    ensures { λ r. ⌜ r ≡ basic (numbered sort) letter (tree-at (now (sheet .entry)) (now (work .entry)) i) ⌝ }
+    requires arena { Arena sheet.now work.now free }
+    requires i_nonzero { (0 < i) × (i < free) }
+    requires sort_bound { sort < 5 }
+    ensures { result ≡ basic (numbered sort) letter (tree_at sheet.now work.now i) }
 {
     let kind = kind_of(work, i);
     if ATOMS <= kind {
@@ -281,10 +278,10 @@ fn basic(sheet: &[u8], work: &[u32], free: usize, sort: usize, letter: usize, i:
 
 // Whether the tree of cell i has the sort.
 pub fn sorted(sheet: &[u8], work: &[u32], free: usize, sort: usize, i: usize) -> bool
-    requires { ⌜ Arena (now sheet) (now work) free ⌝ }
-    requires { ⌜ (0 < i) × (i < free) ⌝ }
-    requires { ⌜ sort < 5 ⌝ }
-    ensures { λ r. ⌜ r ≡ sorted (numbered sort) (tree-at (now (sheet .entry)) (now (work .entry)) i) ⌝ }
+    requires arena { Arena sheet.now work.now free }
+    requires i_nonzero { (0 < i) × (i < free) }
+    requires sort_bound { sort < 5 }
+    ensures { result ≡ sorted (numbered sort) (tree_at sheet.now work.now i) }
 {
     match sort {
         PUB => basic(sheet, work, free, PUB, LETTER_P, i),
@@ -296,11 +293,12 @@ pub fn sorted(sheet: &[u8], work: &[u32], free: usize, sort: usize, i: usize) ->
 }
 
 // Whether the tree of cell i may have an instance of the sort.
+#[cycle(refinable_refinables)]
 pub fn refinable(sheet: &[u8], work: &[u32], free: usize, sort: usize, i: usize) -> bool
-    requires { ⌜ Arena (now sheet) (now work) free ⌝ }
-    requires { ⌜ (0 < i) × (i < free) ⌝ }
-    requires { ⌜ sort < 5 ⌝ }
-    ensures { λ r. ⌜ r ≡ refinable (numbered sort) (tree-at (now (sheet .entry)) (now (work .entry)) i) ⌝ }
+    requires arena { Arena sheet.now work.now free }
+    requires i_nonzero { (0 < i) × (i < free) }
+    requires sort_bound { sort < 5 }
+    ensures { result ≡ refinable (numbered sort) (tree_at sheet.now work.now i) }
 {
     let kind = kind_of(work, i);
     if ATOMS <= kind {
@@ -338,11 +336,12 @@ pub fn refinable(sheet: &[u8], work: &[u32], free: usize, sort: usize, i: usize)
 }
 
 // Whether every tree of the list from cell i on may have an instance of the sort.
+#[cycle(refinable_refinables)]
 fn refinables(sheet: &[u8], work: &[u32], free: usize, sort: usize, i: usize) -> bool
-    requires { ⌜ Arena (now sheet) (now work) free ⌝ }
-    requires { ⌜ i < free ⌝ }
-    requires { ⌜ sort < 5 ⌝ }
-    ensures { λ r. ⌜ r ≡ refinables (numbered sort) (trees-at (now (sheet .entry)) (now (work .entry)) i) ⌝ }
+    requires arena { Arena sheet.now work.now free }
+    requires i_lt_free { i < free }
+    requires sort_bound { sort < 5 }
+    ensures { result ≡ refinables (numbered sort) (trees_at sheet.now work.now i) }
 {
     if i == 0 {
         return true;

@@ -1,43 +1,35 @@
 // One pair of `unify`, taken from the stack.
-use elimination::Taken;
-use elimination::eliminate;
-use sorts::natural;
-use sorts::refinable;
-use steps::pushing::paired;
-use steps::pushing::push_children;
-use steps::rest::Rest;
-use steps::rest::unify_rest;
+#![tactic(auto)]
+
+ghost use Rattle.std.specs.Prelude.{◌≡◌, true, false, ◌&&◌, ◌∷◌, ltb, length, ◌+◌, ◌*◌, ◌<◌, ◌≤◌};
+ghost use Rattle.rules.specs.Tree.{same_tree, tamtplus};
+ghost use Rattle.rules.specs.Sums.{equivalent};
+ghost use Rattle.rules.specs.Sorts.{sort_refuted};
+ghost use Rattle.rules.specs.Solving.{cancel_sums, sum_step, decompose, step};
+ghost use Rattle.laws.specs.Memory.{load, weight};
+ghost use Rattle.tree.specs.Cells.{kind_of, name_at, tree_at, trees_at};
+ghost use Rattle.tree.specs.Arena.{Arena};
+ghost use Rattle.elimination.specs.Stack.{Whole, pairs_at, Fit};
+ghost use Rattle.elimination.specs.Area.{Room};
+ghost use Rattle.elimination.specs.Differing.{Differing};
+ghost use Rattle.elimination.specs.Stepping.{TakenIs};
+
+use elimination::{Taken, eliminate};
+use sorts::{natural, refinable};
+use steps::pushing::{paired, push_children};
+use steps::rest::{Rest, unify_rest};
 use substitution::bindings::push_pair;
 use sums::is_sum;
-use tree::cells::APPLICATION;
-use tree::cells::ATOMS;
-use tree::cells::kind_of;
+use tree::cells::{APPLICATION, ATOMS, kind_of};
 use tree::children::child_of;
 use tree::equality::same_tree;
 use tree::names::same_head;
-ghost use mathlib.Core.Path.{_≡_};
-ghost use mathlib.Core.Bool.{true, false, _&&_};
-ghost use mathlib.Core.List.{_∷_};
-ghost use lib.Dec.{ltb};
-ghost use lib.ListN.{length};
-ghost use Prim.Native.Nat.{_+_, _*_, _<_, _≤_};
-ghost use Rattle·rules.specs.Tree.{same-tree, tamtplus};
-ghost use Rattle·rules.specs.Sums.{equivalent};
-ghost use Rattle·rules.specs.Sorts.{sort-refuted};
-ghost use Rattle·rules.specs.Solving.{cancel-sums, sum-step, decompose, step};
-ghost use Rattle·laws.specs.Memory.{load, weight};
-ghost use Rattle·tree.specs.Cells.{kind-of, name-at, tree-at, trees-at};
-ghost use Rattle·tree.specs.Arena.{Arena};
-ghost use Rattle·elimination.specs.Stack.{Whole, pairs-at, Fit};
-ghost use Rattle·elimination.specs.Area.{Room};
-ghost use Rattle·elimination.specs.Differing.{Differing};
-ghost use Rattle·elimination.specs.Stepping.{TakenIs};
 
 // Whether one of the trees of cells left and right is always natural and the other can never be.
 fn refuted(sheet: &[u8], work: &[u32], free: usize, left: usize, right: usize) -> bool
-    requires { ⌜ Arena (now sheet) (now work) free ⌝ }
-    requires { ⌜ (0 < left) × (left < free) × (0 < right) × (right < free) ⌝ }
-    ensures { λ r. ⌜ r ≡ sort-refuted (tree-at (now (sheet .entry)) (now (work .entry)) left) (tree-at (now (sheet .entry)) (now (work .entry)) right) ⌝ }
+    requires arena { Arena sheet.now work.now free }
+    requires left_nonzero { (0 < left) × (left < free) × (0 < right) × (right < free) }
+    ensures { result ≡ sort_refuted (tree_at sheet.now work.now left) (tree_at sheet.now work.now right) }
 {
     if !refinable(sheet, work, free, 3, left) {
         if natural(sheet, work, free, right) {
@@ -59,12 +51,12 @@ fn sum_step(
     right: usize,
     rest: usize,
 ) -> Taken
-    requires { ⌜ Arena (now sheet) (now work) free ⌝ }
-    requires { ⌜ (0 < left) × (left < free) × (0 < right) × (right < free) × (rest < free) ⌝ }
-    requires { ⌜ (kind-of (now work) left ≡ 0) × (name-at (now sheet) (now work) left ≡ tamtplus) × (kind-of (now work) right ≡ 0) × (name-at (now sheet) (now work) right ≡ tamtplus) ⌝ }
-    requires { ⌜ Whole (trees-at (now sheet) (now work) rest) × Fit (tree-at (now sheet) (now work) left) × Fit (tree-at (now sheet) (now work) right) ⌝ }
-    requires { ⌜ Room (now work) (free + load (tree-at (now sheet) (now work) left) (tree-at (now sheet) (now work) right) + 2) ⌝ }
-    ensures { λ r. ⌜ TakenIs (now (sheet .entry)) (now (work .entry)) (now (work .exit)) free (load (tree-at (now (sheet .entry)) (now (work .entry)) left) (tree-at (now (sheet .entry)) (now (work .entry)) right) + weight (pairs-at (now (sheet .entry)) (now (work .entry)) rest)) (sum-step (cancel-sums true equivalent (tree-at (now (sheet .entry)) (now (work .entry)) left) (tree-at (now (sheet .entry)) (now (work .entry)) right)) (tree-at (now (sheet .entry)) (now (work .entry)) left) (tree-at (now (sheet .entry)) (now (work .entry)) right) (pairs-at (now (sheet .entry)) (now (work .entry)) rest)) r ⌝ }
+    requires arena { Arena sheet.now work.old free }
+    requires left_nonzero { (0 < left) × (left < free) × (0 < right) × (right < free) × (rest < free) }
+    requires left_value { (kind_of work.old left ≡ 0) × (name_at sheet.now work.old left ≡ tamtplus) × (kind_of work.old right ≡ 0) × (name_at sheet.now work.old right ≡ tamtplus) }
+    requires whole { Whole (trees_at sheet.now work.old rest) × Fit (tree_at sheet.now work.old left) × Fit (tree_at sheet.now work.old right) }
+    requires room { Room work.old (free + load (tree_at sheet.now work.old left) (tree_at sheet.now work.old right) + 2) }
+    ensures { TakenIs sheet.now work.old work.new free (load (tree_at sheet.now work.old left) (tree_at sheet.now work.old right) + weight (pairs_at sheet.now work.old rest)) (sum_step (cancel_sums true equivalent (tree_at sheet.now work.old left) (tree_at sheet.now work.old right)) (tree_at sheet.now work.old left) (tree_at sheet.now work.old right) (pairs_at sheet.now work.old rest)) result }
 {
     let found = unify_rest(sheet, work, free, left, right);
     match found {
@@ -106,12 +98,12 @@ fn decompose(
     right: usize,
     rest: usize,
 ) -> Taken
-    requires { ⌜ Arena (now sheet) (now work) free ⌝ }
-    requires { ⌜ (0 < left) × (left < free) × (0 < right) × (right < free) × (rest < free) ⌝ }
-    requires { ⌜ Whole (trees-at (now sheet) (now work) rest) × Fit (tree-at (now sheet) (now work) left) × Fit (tree-at (now sheet) (now work) right) ⌝ }
-    requires { ⌜ Room (now work) (free + load (tree-at (now sheet) (now work) left) (tree-at (now sheet) (now work) right) + 2) ⌝ }
-    requires { ⌜ same-tree (tree-at (now sheet) (now work) left) (tree-at (now sheet) (now work) right) ≡ false ⌝ }
-    ensures { λ r. ⌜ TakenIs (now (sheet .entry)) (now (work .entry)) (now (work .exit)) free (load (tree-at (now (sheet .entry)) (now (work .entry)) left) (tree-at (now (sheet .entry)) (now (work .entry)) right) + weight (pairs-at (now (sheet .entry)) (now (work .entry)) rest)) (decompose (tree-at (now (sheet .entry)) (now (work .entry)) left) (tree-at (now (sheet .entry)) (now (work .entry)) right) (pairs-at (now (sheet .entry)) (now (work .entry)) rest)) r ⌝ }
+    requires arena { Arena sheet.now work.old free }
+    requires left_nonzero { (0 < left) × (left < free) × (0 < right) × (right < free) × (rest < free) }
+    requires whole { Whole (trees_at sheet.now work.old rest) × Fit (tree_at sheet.now work.old left) × Fit (tree_at sheet.now work.old right) }
+    requires room { Room work.old (free + load (tree_at sheet.now work.old left) (tree_at sheet.now work.old right) + 2) }
+    requires right_value { same_tree (tree_at sheet.now work.old left) (tree_at sheet.now work.old right) ≡ false }
+    ensures { TakenIs sheet.now work.old work.new free (load (tree_at sheet.now work.old left) (tree_at sheet.now work.old right) + weight (pairs_at sheet.now work.old rest)) (decompose (tree_at sheet.now work.old left) (tree_at sheet.now work.old right) (pairs_at sheet.now work.old rest)) result }
 {
     let a = child_of(work, free, left);
     let b = child_of(work, free, right);
@@ -134,8 +126,8 @@ fn decompose(
 
 // Whether the tree of cell k is a variable.
 fn is_variable(work: &[u32], k: usize) -> bool
-    requires { ⌜ 4 * k + 4 ≤ length (now work) ⌝ }
-    ensures { λ r. ⌜ r ≡ ltb 0 (kind-of (now (work .entry)) k) && ltb (kind-of (now (work .entry)) k) 7 ⌝ }
+    requires { 4 * k + 4 ≤ length work.now }
+    ensures { result ≡ ltb 0 (kind_of work.now k) && ltb (kind_of work.now k) 7 }
 {
     let kind = kind_of(work, k);
     if kind == APPLICATION {
@@ -153,10 +145,10 @@ fn same_pair(
     right: usize,
     apart: usize,
 ) -> bool
-    requires { ⌜ Arena (now sheet) (now work) free ⌝ }
-    requires { ⌜ (0 < left) × (left < free) × (0 < right) × (right < free) ⌝ }
-    requires { ⌜ (apart ≡ 1 → same-tree (tree-at (now sheet) (now work) left) (tree-at (now sheet) (now work) right) ≡ false) ⌝ }
-    ensures { λ r. ⌜ r ≡ same-tree (tree-at (now (sheet .entry)) (now (work .entry)) left) (tree-at (now (sheet .entry)) (now (work .entry)) right) ⌝ }
+    requires arena { Arena sheet.now work.now free }
+    requires left_nonzero { (0 < left) × (left < free) × (0 < right) × (right < free) }
+    requires right_value { apart ≡ 1 → same_tree (tree_at sheet.now work.now left) (tree_at sheet.now work.now right) ≡ false }
+    ensures { result ≡ same_tree (tree_at sheet.now work.now left) (tree_at sheet.now work.now right) }
 {
     if apart == 1 {
         return false;
@@ -175,12 +167,12 @@ pub fn step(
     rest: usize,
     apart: usize,
 ) -> Taken
-    requires { ⌜ Arena (now sheet) (now work) free ⌝ }
-    requires { ⌜ (0 < left) × (left < free) × (0 < right) × (right < free) × (rest < free) ⌝ }
-    requires { ⌜ Whole (trees-at (now sheet) (now work) rest) × Fit (tree-at (now sheet) (now work) left) × Fit (tree-at (now sheet) (now work) right) ⌝ }
-    requires { ⌜ Room (now work) (free + load (tree-at (now sheet) (now work) left) (tree-at (now sheet) (now work) right) + 2) ⌝ }
-    requires { ⌜ Differing apart ((tree-at (now sheet) (now work) left, tree-at (now sheet) (now work) right) ∷ pairs-at (now sheet) (now work) rest) ⌝ }
-    ensures { λ r. ⌜ TakenIs (now (sheet .entry)) (now (work .entry)) (now (work .exit)) free (load (tree-at (now (sheet .entry)) (now (work .entry)) left) (tree-at (now (sheet .entry)) (now (work .entry)) right) + weight (pairs-at (now (sheet .entry)) (now (work .entry)) rest)) (step (tree-at (now (sheet .entry)) (now (work .entry)) left) (tree-at (now (sheet .entry)) (now (work .entry)) right) (pairs-at (now (sheet .entry)) (now (work .entry)) rest)) r ⌝ }
+    requires arena { Arena sheet.now work.old free }
+    requires left_nonzero { (0 < left) × (left < free) × (0 < right) × (right < free) × (rest < free) }
+    requires whole { Whole (trees_at sheet.now work.old rest) × Fit (tree_at sheet.now work.old left) × Fit (tree_at sheet.now work.old right) }
+    requires room { Room work.old (free + load (tree_at sheet.now work.old left) (tree_at sheet.now work.old right) + 2) }
+    requires differing { Differing apart ((tree_at sheet.now work.old left, tree_at sheet.now work.old right) ∷ pairs_at sheet.now work.old rest) }
+    ensures { TakenIs sheet.now work.old work.new free (load (tree_at sheet.now work.old left) (tree_at sheet.now work.old right) + weight (pairs_at sheet.now work.old rest)) (step (tree_at sheet.now work.old left) (tree_at sheet.now work.old right) (pairs_at sheet.now work.old rest)) result }
 {
     if same_pair(sheet, work, free, left, right, apart) {
         if apart == 0 {

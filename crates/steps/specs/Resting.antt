@@ -1,20 +1,16 @@
 -- What is left of two sums, as the code answers it. Definitions only.
-use Prim.Native.Nat.{ℕ, _+_, _-_, _*_, _<_, _≤_, _^_}
-use mathlib.Core.Path.{_≡_}
-use mathlib.Core.Bool.{Bool}
-use mathlib.Core.List.{List, [], _∷_}
-use lib.ListN.{length, getD}
-use lib.Seq.{slice}
-use Rattle·rules.specs.Bytes.{Text}
-use Rattle·rules.specs.Tree.{Tree}
-use Rattle·rules.specs.Solving as rules
-use Rattle·tree.specs.Cells.{tree-at}
-use Rattle·tree.specs.Arena.{Arena, Below}
-use Rattle·sums.specs.Sums.{remaining, heavy}
-use Rattle·steps·specs.specs.declared.rest.Left.{Left}
-use Rattle·steps·specs.specs.declared.rest.Left.the-variants as left
-use Rattle·steps·specs.specs.declared.rest.Rest.{Rest}
-use Rattle·steps·specs.specs.declared.rest.Rest.the-variants as rest
+use Rattle.std.specs.Prelude.{ℕ, ◌+◌, ◌-◌, ◌*◌, ◌<◌, ◌≤◌, ◌^◌, ◌≡◌, Bool, List, [], ◌∷◌, length, get_or}
+use Rattle.std.proofs.Math.Seq.{slice}
+use Rattle.rules.specs.Bytes.{Text}
+use Rattle.rules.specs.Tree.{Tree}
+use Rattle.rules.specs.Solving as rules
+use Rattle.tree.specs.Cells.{tree_at}
+use Rattle.tree.specs.Arena.{Arena, Below}
+use Rattle.sums.specs.Sums.{remaining, heavy}
+use Rattle.steps.specs.declared.rest.Left.{Left}
+use Rattle.steps.specs.declared.rest.Left.TheVariants as left
+use Rattle.steps.specs.declared.rest.Rest.{Rest}
+use Rattle.steps.specs.declared.rest.Rest.TheVariants as rest
 
 -- two trees or more
 abbrev pub Several : List Tree → Type 0
@@ -23,7 +19,7 @@ Several ts = (t : Tree) × (u : Tree) × (us : List Tree) × (ts ≡ t ∷ u ∷
 -- what is left of the cells from a to e: none, one, which is one of them, or more
 abbrev pub LeftIs : Text → List ℕ → ℕ → ℕ → Left → Type 0
 LeftIs s w a e left.Nothing = remaining s w (slice a e w) ≡ []
-LeftIs s w a e (left.One k) = (remaining s w (slice a e w) ≡ tree-at s w k ∷ []) × (0 < k) × ((p : ℕ) × (a ≤ p) × (p < e) × (getD w p 0 ≡ k))
+LeftIs s w a e (left.One k) = (remaining s w (slice a e w) ≡ tree_at s w k ∷ []) × (0 < k) × ((p : ℕ) × (a ≤ p) × (p < e) × (get_or w p 0 ≡ k))
 LeftIs s w a e left.Several = Several (remaining s w (slice a e w))
 
 -- the words from a to e are cells below n or 0, and there is room for the sum of what is left of them from cell n on
@@ -32,17 +28,17 @@ pub record Summable (s : Text) (w : List ℕ) (n a e : ℕ) : Type 0 where
   pub inside : e ≤ length w
   pub room : 4 * (n + 2 * (e - a)) ≤ a
   pub small : n + 2 * (e - a) < 2 ^ 32
-  pub cells : (p : ℕ) → a ≤ p → p < e → getD w p 0 < n
+  pub cells : (p : ℕ) → a ≤ p → p < e → get_or w p 0 < n
   pub light : heavy (remaining s w (slice a e w)) ≤ 65535
 
 -- the trees of cells i and j are to be paired; `kept` summands were left in all
 pub record EquationIs (s : Text) (w v : List ℕ) (n kept : ℕ) (d : rules.Rest) (i j m : ℕ) : Type 0 where
-  pub is : d ≡ rules.equation (tree-at s v i) (tree-at s v j)
+  pub is : d ≡ rules.equation (tree_at s v i) (tree_at s v j)
   pub arena : Arena s v m
   pub below : Below w v n
   pub grew : n ≤ m
-  pub left-inside : (0 < i) × (i < m)
-  pub right-inside : (0 < j) × (j < m)
+  pub left_inside : (0 < i) × (i < m)
+  pub right_inside : (0 < j) × (j < m)
   pub used : m + 2 ≤ n + 2 * kept
 
 abbrev pub RestIs : Text → List ℕ → List ℕ → ℕ → ℕ → rules.Rest → Rest → Type 0

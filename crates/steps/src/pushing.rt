@@ -1,23 +1,21 @@
 // The children of two trees, pairwise on the stack, and their number.
-use substitution::bindings::Pushed;
-use substitution::bindings::push_pair;
+ghost use Rattle.std.specs.Prelude.{◌≡◌, ◌+◌, ◌*◌, ◌<◌, ◌≤◌, ◌^◌, length};
+ghost use Rattle.rules.specs.Bytes.{Text};
+ghost use Rattle.laws.specs.Memory.{pushed};
+ghost use Rattle.tree.specs.Cells.{trees_at};
+ghost use Rattle.tree.specs.Arena.{Links, Arena};
+ghost use Rattle.substitution.specs.Building.{Made};
+ghost use Rattle.elimination.specs.Stack.{pushes};
+ghost use Rattle.elimination.specs.Differing.{common_count};
+
+use substitution::bindings::{Pushed, push_pair};
 use tree::cells::next_of;
-ghost use mathlib.Core.Path.{_≡_};
-ghost use Prim.Native.Nat.{_+_, _*_, _<_, _≤_, _^_};
-ghost use lib.ListN.{length};
-ghost use Rattle·rules.specs.Bytes.{Text};
-ghost use Rattle·laws.specs.Memory.{pushed};
-ghost use Rattle·tree.specs.Cells.{trees-at};
-ghost use Rattle·tree.specs.Arena.{Links, Arena};
-ghost use Rattle·substitution.specs.Building.{Made};
-ghost use Rattle·elimination.specs.Stack.{pushes};
-ghost use Rattle·elimination.specs.Differing.{common-count};
 
 // How many pairs the lists from cells left and right on make, if both are of one length; else 0.
 pub fn paired(work: &[u32], free: usize, left: usize, right: usize) -> usize
-    requires { ⌜ Links (now work) free ⌝ }
-    requires { ⌜ (left < free) × (right < free) ⌝ }
-    ensures { λ r. ⌜ ((s : Text) → r ≡ common-count (trees-at s (now (work .entry)) left) (trees-at s (now (work .entry)) right)) ⌝ }
+    requires links { Links work.now free }
+    requires left_lt_free { (left < free) × (right < free) }
+    ensures { (s : Text) → result ≡ common_count (trees_at s work.now left) (trees_at s work.now right) }
 {
     let mut a = left;
     let mut b = right;
@@ -45,10 +43,10 @@ pub fn push_children(
     right: usize,
     stack: usize,
 ) -> Pushed
-    requires { ⌜ Arena (now sheet) (now work) free ⌝ }
-    requires { ⌜ (left < free) × (right < free) × (stack < free) ⌝ }
-    requires { ⌜ (4 * (free + 2 * pushed (trees-at (now sheet) (now work) left) (trees-at (now sheet) (now work) right)) ≤ length (now work)) × (free + 2 * pushed (trees-at (now sheet) (now work) left) (trees-at (now sheet) (now work) right) < 2 ^ 32) ⌝ }
-    ensures { λ r. ⌜ Made (now (sheet .entry)) (now (work .entry)) (now (work .exit)) free (r .free) (r .index) (pushes (trees-at (now (sheet .entry)) (now (work .entry)) left) (trees-at (now (sheet .entry)) (now (work .entry)) right) (trees-at (now (sheet .entry)) (now (work .entry)) stack)) × (r .free ≡ free + 2 * pushed (trees-at (now (sheet .entry)) (now (work .entry)) left) (trees-at (now (sheet .entry)) (now (work .entry)) right)) ⌝ }
+    requires arena { Arena sheet.now work.old free }
+    requires left_lt_free { (left < free) × (right < free) × (stack < free) }
+    requires right_in_bounds { (4 * (free + 2 * pushed (trees_at sheet.now work.old left) (trees_at sheet.now work.old right)) ≤ length work.old) × (free + 2 * pushed (trees_at sheet.now work.old left) (trees_at sheet.now work.old right) < 2 ^ 32) }
+    ensures { Made sheet.now work.old work.new free result.free result.index (pushes (trees_at sheet.now work.old left) (trees_at sheet.now work.old right) (trees_at sheet.now work.old stack)) × (result.free ≡ free + 2 * pushed (trees_at sheet.now work.old left) (trees_at sheet.now work.old right)) }
 {
     if left == 0 {
         return Pushed {

@@ -1,29 +1,26 @@
 // What is left of two sums when their summands have cancelled (unifier.rs, `cancel_sums`). The `cancels` closure is two functions over
 // shared parts.
-use sums::prepare;
-use sums::rebuild;
+ghost use Rattle.std.specs.Prelude.{◌≡◌, Bool, true, false, [], ◌∷◌, ℕ, ◌<◌, ◌≤◌, length};
+ghost use Rattle.std.proofs.Math.Seq.{slice};
+ghost use Rattle.rules.specs.Bytes.{Text};
+ghost use Rattle.rules.specs.Tree.{tamtplus};
+ghost use Rattle.rules.specs.Sums.{equivalent};
+ghost use Rattle.rules.specs.Solving.{cancel_sums};
+ghost use Rattle.rules.specs.Matching.{ground_eq};
+ghost use Rattle.laws.specs.Memory.{kept_summands};
+ghost use Rattle.tree.specs.Cells.{kind_of, name_at, tree_at};
+ghost use Rattle.tree.specs.Arena.{Arena};
+ghost use Rattle.sums.specs.Sums.{test, remaining};
+ghost use Rattle.elimination.specs.Stack.{Fit};
+ghost use Rattle.elimination.specs.Area.{Room};
+ghost use Rattle.steps.specs.Resting.{Several, LeftIs, Summable, RestIs, RemainderIs};
+
+use sums::{prepare, rebuild};
 use text::places::wide;
 use tree::cells::count_of;
-ghost use mathlib.Core.Path.{_≡_};
-ghost use mathlib.Core.Bool.{Bool, true, false};
-ghost use mathlib.Core.List.{[], _∷_};
-ghost use Prim.Native.Nat.{ℕ, _<_, _≤_};
-ghost use lib.ListN.{length};
-ghost use lib.Seq.{slice};
-ghost use Rattle·rules.specs.Bytes.{Text};
-ghost use Rattle·rules.specs.Tree.{tamtplus};
-ghost use Rattle·rules.specs.Sums.{equivalent};
-ghost use Rattle·rules.specs.Solving.{cancel-sums};
-ghost use Rattle·rules.specs.Matching.{ground-eq};
-ghost use Rattle·laws.specs.Memory.{kept-summands};
-ghost use Rattle·tree.specs.Cells.{kind-of, name-at, tree-at};
-ghost use Rattle·tree.specs.Arena.{Arena};
-ghost use Rattle·sums.specs.Sums.{test, remaining};
-ghost use Rattle·elimination.specs.Stack.{Fit};
-ghost use Rattle·elimination.specs.Area.{Room};
-ghost use Rattle·steps·specs.specs.Resting.{Several, LeftIs, Summable, RestIs, RemainderIs};
 
 // How many of the cells are not taken out: none, one, which it is, or more.
+#[derive(Clone, Copy)]
 enum Left {
     Nothing,
     One(usize),
@@ -32,8 +29,8 @@ enum Left {
 
 // What is left of the cells from `at` to `end`.
 fn left_of(work: &[u32], at: usize, end: usize) -> Left
-    requires { ⌜ (at ≤ end) × (end ≤ length (now work)) ⌝ }
-    ensures { λ r. ⌜ ((s : Text) → LeftIs s (now (work .entry)) at end r) ⌝ }
+    requires { (at ≤ end) × (end ≤ length work.now) }
+    ensures { (s : Text) → LeftIs s work.now at end result }
 {
     let mut found: usize = 0;
     let mut k = at;
@@ -55,6 +52,7 @@ fn left_of(work: &[u32], at: usize, end: usize) -> Left
 }
 
 // What is left of two sums: nothing, one side only, two trees to be paired, or more than the rules settle.
+#[derive(Clone, Copy)]
 pub enum Rest {
     Emptied,
     Mismatch,
@@ -68,8 +66,8 @@ pub enum Rest {
 
 // Nothing is left of the left sum; the cells from `at` to `end` are those of the right.
 fn rest_of_none(work: &[u32], at: usize, end: usize) -> Rest
-    requires { ⌜ (at ≤ end) × (end ≤ length (now work)) ⌝ }
-    ensures { λ r. ⌜ ((s : Text) (n : ℕ) (b : Bool) → RemainderIs s (now (work .entry)) (now (work .entry)) n b [] (remaining s (now (work .entry)) (slice at end (now (work .entry)))) r) ⌝ }
+    requires { (at ≤ end) × (end ≤ length work.now) }
+    ensures { (s : Text) (n : ℕ) (b : Bool) → RemainderIs s work.now work.now n b [] (remaining s work.now (slice at end work.now)) result }
 {
     let others = left_of(work, at, end);
     match others {
@@ -89,11 +87,11 @@ fn rest_of_one(
     at: usize,
     end: usize,
 ) -> Rest
-    requires { ⌜ Arena (now sheet) (now work) free ⌝ }
-    requires { ⌜ (0 < one) × (one < free) ⌝ }
-    requires { ⌜ (0 < like) × (like < free) × (kind-of (now work) like ≡ 0) × (name-at (now sheet) (now work) like ≡ tamtplus) ⌝ }
-    requires { ⌜ Summable (now sheet) (now work) free at end ⌝ }
-    ensures { λ r. ⌜ ((b : Bool) → RemainderIs (now (sheet .entry)) (now (work .entry)) (now (work .exit)) free b (tree-at (now (sheet .entry)) (now (work .entry)) one ∷ []) (remaining (now (sheet .entry)) (now (work .entry)) (slice at end (now (work .entry)))) r) ⌝ }
+    requires arena { Arena sheet.now work.old free }
+    requires one_nonzero { (0 < one) × (one < free) }
+    requires like_nonzero { (0 < like) × (like < free) × (kind_of work.old like ≡ 0) × (name_at sheet.now work.old like ≡ tamtplus) }
+    requires summable { Summable sheet.now work.old free at end }
+    ensures { (b : Bool) → RemainderIs sheet.now work.old work.new free b (tree_at sheet.now work.old one ∷ []) (remaining sheet.now work.old (slice at end work.old)) result }
 {
     let others = left_of(work, at, end);
     match others {
@@ -128,11 +126,11 @@ fn rest_of_several(
     end: usize,
     every: bool,
 ) -> Rest
-    requires { ⌜ Arena (now sheet) (now work) free ⌝ }
-    requires { ⌜ (0 < like) × (like < free) × (kind-of (now work) like ≡ 0) × (name-at (now sheet) (now work) like ≡ tamtplus) ⌝ }
-    requires { ⌜ Summable (now sheet) (now work) free at mid × Summable (now sheet) (now work) free mid end ⌝ }
-    requires { ⌜ Several (remaining (now sheet) (now work) (slice at mid (now work))) ⌝ }
-    ensures { λ r. ⌜ RemainderIs (now (sheet .entry)) (now (work .entry)) (now (work .exit)) free every (remaining (now (sheet .entry)) (now (work .entry)) (slice at mid (now (work .entry)))) (remaining (now (sheet .entry)) (now (work .entry)) (slice mid end (now (work .entry)))) r ⌝ }
+    requires arena { Arena sheet.now work.old free }
+    requires like_nonzero { (0 < like) × (like < free) × (kind_of work.old like ≡ 0) × (name_at sheet.now work.old like ≡ tamtplus) }
+    requires summable { Summable sheet.now work.old free at mid × Summable sheet.now work.old free mid end }
+    requires several { Several (remaining sheet.now work.old (slice at mid work.old)) }
+    ensures { RemainderIs sheet.now work.old work.new free every (remaining sheet.now work.old (slice at mid work.old)) (remaining sheet.now work.old (slice mid end work.old)) result }
 {
     let others = left_of(work, mid, end);
     match others {
@@ -164,12 +162,12 @@ fn rest_of(
     right: usize,
     every: bool,
 ) -> Rest
-    requires { ⌜ Arena (now sheet) (now work) free ⌝ }
-    requires { ⌜ (0 < left) × (left < free) × (0 < right) × (right < free) ⌝ }
-    requires { ⌜ (kind-of (now work) left ≡ 0) × (name-at (now sheet) (now work) left ≡ tamtplus) × (kind-of (now work) right ≡ 0) × (name-at (now sheet) (now work) right ≡ tamtplus) ⌝ }
-    requires { ⌜ Fit (tree-at (now sheet) (now work) left) × Fit (tree-at (now sheet) (now work) right) ⌝ }
-    requires { ⌜ Room (now work) free ⌝ }
-    ensures { λ r. ⌜ RestIs (now (sheet .entry)) (now (work .entry)) (now (work .exit)) free (kept-summands (test every) (tree-at (now (sheet .entry)) (now (work .entry)) left) (tree-at (now (sheet .entry)) (now (work .entry)) right)) (cancel-sums every (test every) (tree-at (now (sheet .entry)) (now (work .entry)) left) (tree-at (now (sheet .entry)) (now (work .entry)) right)) r ⌝ }
+    requires arena { Arena sheet.now work.old free }
+    requires left_nonzero { (0 < left) × (left < free) × (0 < right) × (right < free) }
+    requires left_value { (kind_of work.old left ≡ 0) × (name_at sheet.now work.old left ≡ tamtplus) × (kind_of work.old right ≡ 0) × (name_at sheet.now work.old right ≡ tamtplus) }
+    requires fit { Fit (tree_at sheet.now work.old left) × Fit (tree_at sheet.now work.old right) }
+    requires room { Room work.old free }
+    ensures { RestIs sheet.now work.old work.new free (kept_summands (test every) (tree_at sheet.now work.old left) (tree_at sheet.now work.old right)) (cancel_sums every (test every) (tree_at sheet.now work.old left) (tree_at sheet.now work.old right)) result }
 {
     let at = 4 * (free + 2 * (count_of(work, left) + count_of(work, right)));
     let split = prepare(sheet, work, free, left, right, at, every);
@@ -185,24 +183,24 @@ fn rest_of(
 
 // Of `unify`: summands that are equal up to order and grouping of sums cancel.
 pub fn unify_rest(sheet: &[u8], work: &mut [u32], free: usize, left: usize, right: usize) -> Rest
-    requires { ⌜ Arena (now sheet) (now work) free ⌝ }
-    requires { ⌜ (0 < left) × (left < free) × (0 < right) × (right < free) ⌝ }
-    requires { ⌜ (kind-of (now work) left ≡ 0) × (name-at (now sheet) (now work) left ≡ tamtplus) × (kind-of (now work) right ≡ 0) × (name-at (now sheet) (now work) right ≡ tamtplus) ⌝ }
-    requires { ⌜ Fit (tree-at (now sheet) (now work) left) × Fit (tree-at (now sheet) (now work) right) ⌝ }
-    requires { ⌜ Room (now work) free ⌝ }
-    ensures { λ r. ⌜ RestIs (now (sheet .entry)) (now (work .entry)) (now (work .exit)) free (kept-summands equivalent (tree-at (now (sheet .entry)) (now (work .entry)) left) (tree-at (now (sheet .entry)) (now (work .entry)) right)) (cancel-sums true equivalent (tree-at (now (sheet .entry)) (now (work .entry)) left) (tree-at (now (sheet .entry)) (now (work .entry)) right)) r ⌝ }
+    requires arena { Arena sheet.now work.old free }
+    requires left_nonzero { (0 < left) × (left < free) × (0 < right) × (right < free) }
+    requires left_value { (kind_of work.old left ≡ 0) × (name_at sheet.now work.old left ≡ tamtplus) × (kind_of work.old right ≡ 0) × (name_at sheet.now work.old right ≡ tamtplus) }
+    requires fit { Fit (tree_at sheet.now work.old left) × Fit (tree_at sheet.now work.old right) }
+    requires room { Room work.old free }
+    ensures { RestIs sheet.now work.old work.new free (kept_summands equivalent (tree_at sheet.now work.old left) (tree_at sheet.now work.old right)) (cancel_sums true equivalent (tree_at sheet.now work.old left) (tree_at sheet.now work.old right)) result }
 {
     rest_of(sheet, work, free, left, right, true)
 }
 
 // Of `match`: only pattern summands without variables cancel.
 pub fn match_rest(sheet: &[u8], work: &mut [u32], free: usize, left: usize, right: usize) -> Rest
-    requires { ⌜ Arena (now sheet) (now work) free ⌝ }
-    requires { ⌜ (0 < left) × (left < free) × (0 < right) × (right < free) ⌝ }
-    requires { ⌜ (kind-of (now work) left ≡ 0) × (name-at (now sheet) (now work) left ≡ tamtplus) × (kind-of (now work) right ≡ 0) × (name-at (now sheet) (now work) right ≡ tamtplus) ⌝ }
-    requires { ⌜ Fit (tree-at (now sheet) (now work) left) × Fit (tree-at (now sheet) (now work) right) ⌝ }
-    requires { ⌜ Room (now work) free ⌝ }
-    ensures { λ r. ⌜ RestIs (now (sheet .entry)) (now (work .entry)) (now (work .exit)) free (kept-summands ground-eq (tree-at (now (sheet .entry)) (now (work .entry)) left) (tree-at (now (sheet .entry)) (now (work .entry)) right)) (cancel-sums false ground-eq (tree-at (now (sheet .entry)) (now (work .entry)) left) (tree-at (now (sheet .entry)) (now (work .entry)) right)) r ⌝ }
+    requires arena { Arena sheet.now work.old free }
+    requires left_nonzero { (0 < left) × (left < free) × (0 < right) × (right < free) }
+    requires left_value { (kind_of work.old left ≡ 0) × (name_at sheet.now work.old left ≡ tamtplus) × (kind_of work.old right ≡ 0) × (name_at sheet.now work.old right ≡ tamtplus) }
+    requires fit { Fit (tree_at sheet.now work.old left) × Fit (tree_at sheet.now work.old right) }
+    requires room { Room work.old free }
+    ensures { RestIs sheet.now work.old work.new free (kept_summands ground_eq (tree_at sheet.now work.old left) (tree_at sheet.now work.old right)) (cancel_sums false ground_eq (tree_at sheet.now work.old left) (tree_at sheet.now work.old right)) result }
 {
     rest_of(sheet, work, free, left, right, false)
 }

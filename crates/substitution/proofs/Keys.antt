@@ -1,69 +1,69 @@
 -- Bindings, cell by cell, and what is looked up in them.
-use Prim.Native.Nat.{ℕ, _<_}
-use mathlib.Core.Path.{_≡_, refl, sym, ap, _∙_}
+use Prim.Native.Nat.{ℕ, ◌<◌}
+use mathlib.Core.Path.{◌≡◌, refl, sym, ap, ◌∙◌}
 use mathlib.Core.Bool.{Bool, true, false}
-use mathlib.Core.List.{List, [], _∷_}
+use mathlib.Core.List.{List, [], ◌∷◌}
 use mathlib.Core.Option.{Option, some, none as nothing}
-use Rattle·rules.specs.Bytes.{Text, same}
-use Rattle·rules.specs.Maybe.{otherwise}
-use Rattle·rules.specs.Tree.{Tree, variable, more}
-use Rattle·rules.specs.Substitution.{Binding, pick, lookup}
-use Rattle·rules.specs.Matching.{or-else, bound}
-use Rattle·tree.specs.Cells.{kind-of, name-at, next-of, tree-at, trees-at}
-use Rattle·tree.specs.Arena.{Links}
-use Rattle·tree.proofs.Decoding.{Kind, application, a-variable, an-atom, kind, tree-variable, tree-atom, tree-apply, trees-none, trees-more}
-use Rattle·substitution·specs.specs.Bindings.{key-of, bindings-of, bindings-at, FoundAt}
+use Rattle.rules.specs.Bytes.{Text, same}
+use Rattle.rules.specs.Maybe.{otherwise}
+use Rattle.rules.specs.Tree.{Tree, variable, more}
+use Rattle.rules.specs.Substitution.{Binding, pick, lookup}
+use Rattle.rules.specs.Matching.{or_else, bound}
+use Rattle.tree.specs.Cells.{kind_of, name_at, next_of, tree_at, trees_at}
+use Rattle.tree.specs.Arena.{Links}
+use Rattle.tree.proofs.Decoding.{Kind, application, a_variable, an_atom, kind, tree_variable, tree_atom, tree_apply, trees_none, trees_more}
+use Rattle.substitution.specs.Bindings.{key_of, bindings_of, bindings_at, FoundAt}
 
 -- a cell is a key by its name
-pub key-name : (s : Text) (w : List ℕ) (k : ℕ) → Kind (kind-of w k) → key-of (tree-at s w k) ≡ name-at s w k
-unfolding key-of
-key-name s w k (application e) = ap key-of (tree-apply s w k e)
-key-name s w k (a-variable p q) = ap key-of (tree-variable s w k p q)
-key-name s w k (an-atom p) = ap key-of (tree-atom s w k p)
+pub key_name : (s : Text) (w : List ℕ) (k : ℕ) → Kind (kind_of w k) → key_of (tree_at s w k) ≡ name_at s w k
+unfolding key_of
+key_name s w k (application e) = ap key_of (tree_apply s w k e)
+key_name s w k (a_variable p q) = ap key_of (tree_variable s w k p q)
+key_name s w k (an_atom p) = ap key_of (tree_atom s w k p)
 
-pub bindings-none : (s : Text) (w : List ℕ) (k : ℕ) → k ≡ 0 → bindings-at s w k ≡ []
-unfolding bindings-of
-bindings-none s w k e = ap bindings-of (trees-none s w k e)
+pub bindings_none : (s : Text) (w : List ℕ) (k : ℕ) → k ≡ 0 → bindings_at s w k ≡ []
+unfolding bindings_of
+bindings_none s w k e = ap bindings_of (trees_none s w k e)
 
-module _ {w : List ℕ} {n : ℕ} (s : Text) (l : Links w n) (k v : ℕ) (p : 0 < k) (q : k < n) (e : v ≡ next-of w k) where
+module _ {w : List ℕ} {n : ℕ} (s : Text) (l : Links w n) (k v : ℕ) (p : 0 < k) (q : k < n) (e : v ≡ next_of w k) where
   -- a key with no value
-  pub bindings-odd : v ≡ 0 → bindings-at s w k ≡ []
-  unfolding bindings-of
-  bindings-odd z = ap bindings-of (trees-more s l k p q ∙ ap (more (tree-at s w k)) (trees-none s w (next-of w k) (sym e ∙ z)))
+  pub bindings_odd : v ≡ 0 → bindings_at s w k ≡ []
+  unfolding bindings_of
+  bindings_odd z = ap bindings_of (trees_more s l k p q ∙ ap (more (tree_at s w k)) (trees_none s w (next_of w k) (sym e ∙ z)))
 
   -- a key, its value and the bindings after it
-  pub bindings-more : 0 < v → v < n → bindings-at s w k ≡ (name-at s w k, tree-at s w v) ∷ bindings-at s w (next-of w v)
-  unfolding bindings-of
-  bindings-more a b =
-      ap bindings-of (trees-more s l k p q ∙ ap (more (tree-at s w k)) (ap (trees-at s w) (sym e) ∙ trees-more s l v a b))
-      ∙ ap (λ (x : Text). (x, tree-at s w v) ∷ bindings-at s w (next-of w v)) (key-name s w k (kind (kind-of w k)))
+  pub bindings_more : 0 < v → v < n → bindings_at s w k ≡ (name_at s w k, tree_at s w v) ∷ bindings_at s w (next_of w v)
+  unfolding bindings_of
+  bindings_more a b =
+      ap bindings_of (trees_more s l k p q ∙ ap (more (tree_at s w k)) (ap (trees_at s w) (sym e) ∙ trees_more s l v a b))
+      ∙ ap (λ (x : Text). (x, tree_at s w v) ∷ bindings_at s w (next_of w v)) (key_name s w k (kind (kind_of w k)))
 
   module _ (x : Text) (a : 0 < v) (b : v < n) where
-    pub bound-here : same (name-at s w k) x ≡ true → bound x (bindings-at s w k) ≡ some (tree-at s w v)
+    pub bound_here : same (name_at s w k) x ≡ true → bound x (bindings_at s w k) ≡ some (tree_at s w v)
     unfolding bound
-    bound-here h = ap (bound x) (bindings-more a b) ∙ rw h
+    bound_here h = ap (bound x) (bindings_more a b) ∙ rw h
 
-    pub bound-on : (j : ℕ) → j ≡ next-of w v → same (name-at s w k) x ≡ false → bound x (bindings-at s w k) ≡ bound x (bindings-at s w j)
+    pub bound_on : (j : ℕ) → j ≡ next_of w v → same (name_at s w k) x ≡ false → bound x (bindings_at s w k) ≡ bound x (bindings_at s w j)
     unfolding bound
-    bound-on j f h = ap (bound x) (bindings-more a b) ∙ (rw (h, f))
+    bound_on j f h = ap (bound x) (bindings_more a b) ∙ (rw (h, f))
 
 -- what is looked up is the value that the variable is bound to, or the variable itself
-lookup-bound : (x : Text) (bs : List Binding) → lookup bs x ≡ otherwise (bound x bs) (variable x)
+lookup_bound : (x : Text) (bs : List Binding) → lookup bs x ≡ otherwise (bound x bs) (variable x)
 unfolding lookup bound
-lookup-bound x [] = refl
-lookup-bound x (b ∷ bs) = go (same (b .0) x) (lookup-bound x bs)
+lookup_bound x [] = refl
+lookup_bound x (b ∷ bs) = go (same b.0 x) (lookup_bound x bs)
   where
-    go : (c : Bool) → lookup bs x ≡ otherwise (bound x bs) (variable x) → pick c (b .1) (lookup bs x) ≡ otherwise (or-else c (b .1) (bound x bs)) (variable x)
+    go : (c : Bool) → lookup bs x ≡ otherwise (bound x bs) (variable x) → pick c b.1 (lookup bs x) ≡ otherwise (or_else c b.1 (bound x bs)) (variable x)
     go true h = refl
     go false h = h
 
-pub found-at : {s : Text} {w : List ℕ} {n : ℕ} {bs : List Binding} {x : Text} {k : ℕ} → 0 < k → k < n → bound x bs ≡ some (tree-at s w k) → FoundAt s w n bs x k
-found-at {bs = bs} {x = x} p q e = record {
-  some-cell = p;
+pub found_at : {s : Text} {w : List ℕ} {n : ℕ} {bs : List Binding} {x : Text} {k : ℕ} → 0 < k → k < n → bound x bs ≡ some (tree_at s w k) → FoundAt s w n bs x k
+found_at {bs = bs} {x = x} p q e = record {
+  some_cell = p;
   inside = q;
-  is-bound = e;
-  is-value = lookup-bound x bs ∙ ap (λ (o : Option Tree). otherwise o (variable x)) e;
+  is_bound = e;
+  is_value = lookup_bound x bs ∙ ap (λ (o : Option Tree). otherwise o (variable x)) e;
 }
 
-pub found-nothing : (x : Text) (bs : List Binding) → bound x bs ≡ nothing → (bound x bs ≡ nothing) × (lookup bs x ≡ variable x)
-found-nothing x bs e = (e, lookup-bound x bs ∙ ap (λ (o : Option Tree). otherwise o (variable x)) e)
+pub found_nothing : (x : Text) (bs : List Binding) → bound x bs ≡ nothing → (bound x bs ≡ nothing) × (lookup bs x ≡ variable x)
+found_nothing x bs e = (e, lookup_bound x bs ∙ ap (λ (o : Option Tree). otherwise o (variable x)) e)

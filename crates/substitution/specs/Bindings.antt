@@ -1,52 +1,50 @@
 -- Bindings in cells: one list of trees, the key and the value of each binding in turn. Definitions only.
-use Prim.Native.Nat.{ℕ, _<_}
-use mathlib.Core.Path.{_≡_}
-use mathlib.Core.List.{List, [], _∷_}
-use mathlib.Core.Option.{Option, some, none as nothing}
-use Rattle·rules.specs.Bytes.{Text}
-use Rattle·rules.specs.Tree.{Tree, variable, atom, apply, Trees, none, more}
-use Rattle·rules.specs.Substitution.{Binding, lookup}
-use Rattle·rules.specs.Matching.{bound}
-use Rattle·tree.specs.Cells.{tree-at, trees-at}
-use Rattle·substitution·specs.specs.declared.bindings.Found.{Found}
-use Rattle·substitution·specs.specs.declared.bindings.Found.the-variants.{At, Nothing}
+use Rattle.std.specs.Prelude.{ℕ, ◌<◌, ◌≡◌, List, [], ◌∷◌}
+use Rattle.std.proofs.Math.Option.{Option, some, none as nothing}
+use Rattle.rules.specs.Bytes.{Text}
+use Rattle.rules.specs.Tree.{Tree, variable, atom, apply, Trees, none, more}
+use Rattle.rules.specs.Substitution.{Binding, lookup}
+use Rattle.rules.specs.Matching.{bound}
+use Rattle.tree.specs.Cells.{tree_at, trees_at}
+use Rattle.substitution.specs.declared.bindings.Found.{Found}
+use Rattle.substitution.specs.declared.bindings.Found.TheVariants.{At, Nothing}
 
 -- the name that a tree is a key by
-unfoldable pub key-of : Tree → Text
-key-of (variable x) = x
-key-of (atom c d) = d
-key-of (apply f ts) = f
+unfoldable pub key_of : Tree → Text
+key_of (variable x) = x
+key_of (atom c d) = d
+key_of (apply f ts) = f
 
 -- the bindings of a list of trees, after a key that waits for its value
 unfoldable pub keyed : Trees → Option Text → List Binding
-unfolding key-of
+unfolding key_of
 keyed none o = []
-keyed (more t ts) nothing = keyed ts (some (key-of t))
+keyed (more t ts) nothing = keyed ts (some (key_of t))
 keyed (more t ts) (some x) = (x, t) ∷ keyed ts nothing
 
-unfoldable pub bindings-of : Trees → List Binding
+unfoldable pub bindings_of : Trees → List Binding
 unfolding keyed
-bindings-of ts = keyed ts nothing
+bindings_of ts = keyed ts nothing
 
 -- the list of bindings
-unfoldable pub flatten-bindings : List Binding → Trees
-flatten-bindings [] = none
-flatten-bindings (b ∷ bs) = more (variable (b .0)) (more (b .1) (flatten-bindings bs))
+unfoldable pub flatten_bindings : List Binding → Trees
+flatten_bindings [] = none
+flatten_bindings (b ∷ bs) = more (variable b.0) (more b.1 (flatten_bindings bs))
 
 -- a list of bindings and nothing else
 abbrev pub Chain : Trees → Type 0
-Chain ts = flatten-bindings (bindings-of ts) ≡ ts
+Chain ts = flatten_bindings (bindings_of ts) ≡ ts
 
 -- the bindings from cell b on
-abbrev pub bindings-at : Text → List ℕ → ℕ → List Binding
-bindings-at s w b = bindings-of (trees-at s w b)
+abbrev pub bindings_at : Text → List ℕ → ℕ → List Binding
+bindings_at s w b = bindings_of (trees_at s w b)
 
 -- the first binding of x has the tree of cell k for its value
 pub record FoundAt (s : Text) (w : List ℕ) (n : ℕ) (bs : List Binding) (x : Text) (k : ℕ) : Type 0 where
-  pub some-cell : 0 < k
+  pub some_cell : 0 < k
   pub inside : k < n
-  pub is-bound : bound x bs ≡ some (tree-at s w k)
-  pub is-value : lookup bs x ≡ tree-at s w k
+  pub is_bound : bound x bs ≡ some (tree_at s w k)
+  pub is_value : lookup bs x ≡ tree_at s w k
 
 abbrev pub Finds : Text → List ℕ → ℕ → List Binding → Text → Found → Type 0
 Finds s w n bs x (At k) = FoundAt s w n bs x k

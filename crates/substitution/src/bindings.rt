@@ -1,35 +1,34 @@
 // Bindings: one list of cells, the key and the value of each in turn.
-use tree::cells::next_of;
-use tree::cells::share;
+ghost use Rattle.std.specs.Prelude.{◌≡◌, ◌+◌, ◌*◌, ◌<◌, ◌≤◌, ◌^◌, length};
+ghost use Rattle.rules.specs.Tree.{more};
+ghost use Rattle.tree.specs.Cells.{next_of, name_at, tree_at, trees_at};
+ghost use Rattle.tree.specs.Arena.{Links, Arena};
+ghost use Rattle.substitution.specs.Bindings.{bindings_at, Finds};
+ghost use Rattle.substitution.specs.Building.{Made};
+
+use tree::cells::{next_of, share};
 use tree::names::same_name;
-ghost use mathlib.Core.Path.{_≡_};
-ghost use Prim.Native.Nat.{_+_, _*_, _<_, _≤_, _^_};
-ghost use lib.ListN.{length};
-ghost use Rattle·rules.specs.Tree.{more};
-ghost use Rattle·tree.specs.Cells.{next-of, name-at, tree-at, trees-at};
-ghost use Rattle·tree.specs.Arena.{Links, Arena};
-ghost use Rattle·substitution·specs.specs.Bindings.{bindings-at, Finds};
-ghost use Rattle·substitution·specs.specs.Building.{Made};
 
 // The value's cell of the binding whose key is cell b, 0 for none.
 pub fn value_of(work: &[u32], free: usize, b: usize) -> usize
-    requires { ⌜ Links (now work) free ⌝ }
-    requires { ⌜ (0 < b) × (b < free) ⌝ }
-    ensures { λ r. ⌜ (r ≡ next-of (now (work .entry)) b) × (r < b) ⌝ }
+    requires links { Links work.now free }
+    requires b_nonzero { (0 < b) × (b < free) }
+    ensures { (result ≡ next_of work.now b) × (result < b) }
 {
     next_of(work, free, b)
 }
 
 // The bindings after the one whose value is cell v, 0 for none.
 pub fn rest_of(work: &[u32], free: usize, v: usize) -> usize
-    requires { ⌜ Links (now work) free ⌝ }
-    requires { ⌜ (0 < v) × (v < free) ⌝ }
-    ensures { λ r. ⌜ (r ≡ next-of (now (work .entry)) v) × (r < v) ⌝ }
+    requires links { Links work.now free }
+    requires v_nonzero { (0 < v) × (v < free) }
+    ensures { (result ≡ next_of work.now v) × (result < v) }
 {
     next_of(work, free, v)
 }
 
 // Where the value of a variable is.
+#[derive(Clone, Copy)]
 pub enum Found {
     At(usize),
     Nothing,
@@ -37,10 +36,10 @@ pub enum Found {
 
 // The value in the first of the bindings from cell b on whose key has the name of cell x.
 pub fn lookup(sheet: &[u8], work: &[u32], free: usize, b: usize, x: usize) -> Found
-    requires { ⌜ Arena (now sheet) (now work) free ⌝ }
-    requires { ⌜ b < free ⌝ }
-    requires { ⌜ (0 < x) × (x < free) ⌝ }
-    ensures { λ r. ⌜ Finds (now (sheet .entry)) (now (work .entry)) free (bindings-at (now (sheet .entry)) (now (work .entry)) b) (name-at (now (sheet .entry)) (now (work .entry)) x) r ⌝ }
+    requires arena { Arena sheet.now work.now free }
+    requires b_lt_free { b < free }
+    requires x_nonzero { (0 < x) × (x < free) }
+    ensures { Finds sheet.now work.now free (bindings_at sheet.now work.now b) (name_at sheet.now work.now x) result }
 {
     let mut k = b;
     while k != 0 {
@@ -57,6 +56,7 @@ pub fn lookup(sheet: &[u8], work: &[u32], free: usize, b: usize, x: usize) -> Fo
 }
 
 // A list of trees, and the free end after it.
+#[derive(Clone, Copy)]
 pub struct Pushed {
     pub index: usize,
     pub free: usize,
@@ -71,10 +71,10 @@ pub fn push_pair(
     right: usize,
     list: usize,
 ) -> Pushed
-    requires { ⌜ Arena (now sheet) (now work) free ⌝ }
-    requires { ⌜ (0 < left) × (left < free) × (0 < right) × (right < free) × (list < free) ⌝ }
-    requires { ⌜ (4 * (free + 2) ≤ length (now work)) × (free + 2 < 2 ^ 32) ⌝ }
-    ensures { λ r. ⌜ Made (now (sheet .entry)) (now (work .entry)) (now (work .exit)) free (r .free) (r .index) (more (tree-at (now (sheet .entry)) (now (work .entry)) left) (more (tree-at (now (sheet .entry)) (now (work .entry)) right) (trees-at (now (sheet .entry)) (now (work .entry)) list))) × (r .free ≡ free + 2) ⌝ }
+    requires arena { Arena sheet.now work.old free }
+    requires left_nonzero { (0 < left) × (left < free) × (0 < right) × (right < free) × (list < free) }
+    requires free_in_bounds { (4 * (free + 2) ≤ length work.old) × (free + 2 < 2 ^ 32) }
+    ensures { Made sheet.now work.old work.new free result.free result.index (more (tree_at sheet.now work.old left) (more (tree_at sheet.now work.old right) (trees_at sheet.now work.old list))) × (result.free ≡ free + 2) }
 {
     let middle = share(sheet, work, free, right, list);
     let end = share(sheet, work, middle, left, free);

@@ -1,20 +1,17 @@
 // Whether any variable occurs in a tree.
-use tree::cells::APPLICATION;
-use tree::cells::ATOMS;
-use tree::cells::first_of;
-use tree::cells::kind_of;
-use tree::cells::next_of;
-ghost use mathlib.Core.Path.{_≡_};
-ghost use Prim.Native.Nat.{_<_};
-ghost use Rattle·rules.specs.Tree.{ground, grounds};
-ghost use Rattle·tree.specs.Cells.{tree-at, trees-at};
-ghost use Rattle·tree.specs.Arena.{Arena};
+ghost use Rattle.std.specs.Prelude.{◌≡◌, ◌<◌};
+ghost use Rattle.rules.specs.Tree.{ground, grounds};
+ghost use Rattle.tree.specs.Cells.{tree_at, trees_at};
+ghost use Rattle.tree.specs.Arena.{Arena};
+
+use tree::cells::{APPLICATION, ATOMS, first_of, kind_of, next_of};
 
 // Whether no variable occurs in the tree of cell i.
+#[cycle(ground_grounds)]
 pub fn ground(sheet: &[u8], work: &[u32], free: usize, i: usize) -> bool
-    requires { ⌜ Arena (now sheet) (now work) free ⌝ }
-    requires { ⌜ (0 < i) × (i < free) ⌝ }
-    ensures { λ r. ⌜ r ≡ ground (tree-at (now (sheet .entry)) (now (work .entry)) i) ⌝ }
+    requires arena { Arena sheet.now work.now free }
+    requires i_nonzero { (0 < i) × (i < free) }
+    ensures { result ≡ ground (tree_at sheet.now work.now i) }
 {
     let kind = kind_of(work, i);
     if APPLICATION < kind {
@@ -24,10 +21,11 @@ pub fn ground(sheet: &[u8], work: &[u32], free: usize, i: usize) -> bool
 }
 
 // Whether no variable occurs in the list from cell i on.
+#[cycle(ground_grounds)]
 fn grounds(sheet: &[u8], work: &[u32], free: usize, i: usize) -> bool
-    requires { ⌜ Arena (now sheet) (now work) free ⌝ }
-    requires { ⌜ i < free ⌝ }
-    ensures { λ r. ⌜ r ≡ grounds (trees-at (now (sheet .entry)) (now (work .entry)) i) ⌝ }
+    requires arena { Arena sheet.now work.now free }
+    requires i_lt_free { i < free }
+    ensures { result ≡ grounds (trees_at sheet.now work.now i) }
 {
     if i == 0 {
         return true;

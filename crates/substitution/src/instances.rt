@@ -1,28 +1,18 @@
 // Substitution within a budget of nodes. Cells of what does not change are used again.
-use crate::bindings::Found;
-use crate::bindings::Pushed;
-use crate::bindings::lookup;
-use tree::cells::APPLICATION;
-use tree::cells::ATOMS;
-use tree::cells::count_of;
-use tree::cells::first_of;
-use tree::cells::kind_of;
-use tree::cells::next_of;
-use tree::cells::push_like;
-use tree::cells::share;
-ghost use mathlib.Core.Path.{_≡_};
-ghost use Prim.Native.Nat.{_+_, _*_, _<_, _≤_, _^_};
-ghost use lib.ListN.{length};
-ghost use Rattle·tree.specs.Cells.{kind-of, tree-at};
-ghost use Rattle·tree.specs.Arena.{Arena};
-ghost use Rattle·substitution·specs.specs.Building.{Before, BuildsTree, BuildsList, instance-at, instances-at};
+ghost use Rattle.std.specs.Prelude.{◌≡◌, ◌+◌, ◌*◌, ◌<◌, ◌≤◌, ◌^◌, length};
+ghost use Rattle.tree.specs.Cells.{kind_of, tree_at};
+ghost use Rattle.tree.specs.Arena.{Arena};
+ghost use Rattle.substitution.specs.Building.{Before, BuildsTree, BuildsList, instance_at, instances_at};
+
+use crate::bindings::{Found, Pushed, lookup};
+use tree::cells::{APPLICATION, ATOMS, count_of, first_of, kind_of, next_of, push_like, share};
 
 // The cell of the instance of a leaf under the bindings from cell b on.
 fn image(sheet: &[u8], work: &[u32], free: usize, i: usize, b: usize) -> usize
-    requires { ⌜ Arena (now sheet) (now work) free ⌝ }
-    requires { ⌜ (0 < i) × (i < free) × (b < free) ⌝ }
-    requires { ⌜ 0 < kind-of (now work) i ⌝ }
-    ensures { λ r. ⌜ (0 < r) × (r < free) × (tree-at (now (sheet .entry)) (now (work .entry)) r ≡ instance-at (now (sheet .entry)) (now (work .entry)) b i) ⌝ }
+    requires arena { Arena sheet.now work.now free }
+    requires i_nonzero { (0 < i) × (i < free) × (b < free) }
+    requires i_nonzero_2 { 0 < kind_of work.now i }
+    ensures { (0 < result) × (result < free) × (tree_at sheet.now work.now result ≡ instance_at sheet.now work.now b i) }
 {
     if ATOMS <= kind_of(work, i) {
         return i;
@@ -36,10 +26,10 @@ fn image(sheet: &[u8], work: &[u32], free: usize, i: usize, b: usize) -> usize
 
 // The tree of cell i before the list from cell next on: cell i itself, if that is its link, or a new cell.
 pub fn keep(sheet: &[u8], work: &mut [u32], free: usize, i: usize, next: usize) -> Pushed
-    requires { ⌜ Arena (now sheet) (now work) free ⌝ }
-    requires { ⌜ (0 < i) × (i < free) × (next < free) ⌝ }
-    requires { ⌜ (4 * free + 4 ≤ length (now work)) × (free < 2 ^ 32) ⌝ }
-    ensures { λ r. ⌜ Before (now (sheet .entry)) (now (work .entry)) (now (work .exit)) free next (tree-at (now (sheet .entry)) (now (work .entry)) i) (r .index) (r .free) × (r .free ≤ free + 1) ⌝ }
+    requires arena { Arena sheet.now work.old free }
+    requires i_nonzero { (0 < i) × (i < free) × (next < free) }
+    requires free_in_bounds { (4 * free + 4 ≤ length work.old) × (free < 2 ^ 32) }
+    ensures { Before sheet.now work.old work.new free next (tree_at sheet.now work.old i) result.index result.free × (result.free ≤ free + 1) }
 {
     if next_of(work, free, i) == next {
         return Pushed {
@@ -55,6 +45,7 @@ pub fn keep(sheet: &[u8], work: &mut [u32], free: usize, i: usize, next: usize) 
 }
 
 // A tree or a list: its cell, the free end after it and what is left of the budget of nodes.
+#[derive(Clone, Copy)]
 pub enum Built {
     Done {
         index: usize,
@@ -66,10 +57,10 @@ pub enum Built {
 
 // The same within a budget of nodes.
 fn place(sheet: &[u8], work: &mut [u32], free: usize, i: usize, next: usize, budget: usize) -> Built
-    requires { ⌜ Arena (now sheet) (now work) free ⌝ }
-    requires { ⌜ (0 < i) × (i < free) × (next < free) ⌝ }
-    requires { ⌜ (4 * (free + budget) ≤ length (now work)) × (free + budget < 2 ^ 32) ⌝ }
-    ensures { λ r. ⌜ BuildsTree (now (sheet .entry)) (now (work .entry)) (now (work .exit)) free budget next (tree-at (now (sheet .entry)) (now (work .entry)) i) r ⌝ }
+    requires arena { Arena sheet.now work.old free }
+    requires i_nonzero { (0 < i) × (i < free) × (next < free) }
+    requires budget_in_bounds { (4 * (free + budget) ≤ length work.old) × (free + budget < 2 ^ 32) }
+    ensures { BuildsTree sheet.now work.old work.new free budget next (tree_at sheet.now work.old i) result }
 {
     let count = count_of(work, i);
     if budget < count {
@@ -84,6 +75,7 @@ fn place(sheet: &[u8], work: &mut [u32], free: usize, i: usize, next: usize, bud
 }
 
 // The instance of the tree of cell i under the bindings from cell b on, before the list from cell next on.
+#[cycle(substitute_substitute_list)]
 pub fn substitute(
     sheet: &[u8],
     work: &mut [u32],
@@ -93,10 +85,10 @@ pub fn substitute(
     next: usize,
     budget: usize,
 ) -> Built
-    requires { ⌜ Arena (now sheet) (now work) free ⌝ }
-    requires { ⌜ (0 < i) × (i < free) × (b < free) × (next < free) ⌝ }
-    requires { ⌜ (4 * (free + budget) ≤ length (now work)) × (free + budget < 2 ^ 32) × (budget < 65536) ⌝ }
-    ensures { λ r. ⌜ BuildsTree (now (sheet .entry)) (now (work .entry)) (now (work .exit)) free budget next (instance-at (now (sheet .entry)) (now (work .entry)) b i) r ⌝ }
+    requires arena { Arena sheet.now work.old free }
+    requires i_nonzero { (0 < i) × (i < free) × (b < free) × (next < free) }
+    requires budget_in_bounds { (4 * (free + budget) ≤ length work.old) × (free + budget < 2 ^ 32) × (budget < 65536) }
+    ensures { BuildsTree sheet.now work.old work.new free budget next (instance_at sheet.now work.old b i) result }
 {
     if APPLICATION < kind_of(work, i) {
         let k = image(sheet, work, free, i, b);
@@ -132,6 +124,7 @@ pub fn substitute(
 }
 
 // The instances of the trees of the list from cell i on. Each has a node, so the rest has one less.
+#[cycle(substitute_substitute_list)]
 pub(crate) fn substitute_list(
     sheet: &[u8],
     work: &mut [u32],
@@ -140,10 +133,10 @@ pub(crate) fn substitute_list(
     b: usize,
     budget: usize,
 ) -> Built
-    requires { ⌜ Arena (now sheet) (now work) free ⌝ }
-    requires { ⌜ (i < free) × (b < free) ⌝ }
-    requires { ⌜ (4 * (free + budget) ≤ length (now work)) × (free + budget < 2 ^ 32) × (budget < 65536) ⌝ }
-    ensures { λ r. ⌜ BuildsList (now (sheet .entry)) (now (work .entry)) (now (work .exit)) free budget (instances-at (now (sheet .entry)) (now (work .entry)) b i) r ⌝ }
+    requires arena { Arena sheet.now work.old free }
+    requires i_lt_free { (i < free) × (b < free) }
+    requires budget_in_bounds { (4 * (free + budget) ≤ length work.old) × (free + budget < 2 ^ 32) × (budget < 65536) }
+    ensures { BuildsList sheet.now work.old work.new free budget (instances_at sheet.now work.old b i) result }
 {
     if i == 0 {
         return Built::Done {

@@ -1,4 +1,6 @@
 // Occurrence of variables, bindings, and substitution over trees in a lent work area.
+#![tactic(auto)]
+
 pub mod bindings;
 pub mod ground;
 pub mod instances;

@@ -1,22 +1,19 @@
 // Whether a variable occurs in a tree.
-use tree::cells::APPLICATION;
-use tree::cells::ATOMS;
-use tree::cells::first_of;
-use tree::cells::kind_of;
-use tree::cells::next_of;
+ghost use Rattle.std.specs.Prelude.{◌≡◌, ◌<◌};
+ghost use Rattle.rules.specs.Tree.{occurs, occurs_in};
+ghost use Rattle.tree.specs.Cells.{name_at, tree_at, trees_at};
+ghost use Rattle.tree.specs.Arena.{Arena};
+
+use tree::cells::{APPLICATION, ATOMS, first_of, kind_of, next_of};
 use tree::names::same_name;
-ghost use mathlib.Core.Path.{_≡_};
-ghost use Prim.Native.Nat.{_<_};
-ghost use Rattle·rules.specs.Tree.{occurs, occurs-in};
-ghost use Rattle·tree.specs.Cells.{name-at, tree-at, trees-at};
-ghost use Rattle·tree.specs.Arena.{Arena};
 
 // Whether the variable with the name of cell key occurs in the tree of cell i.
+#[cycle(occurs_occurs_in)]
 pub fn occurs(sheet: &[u8], work: &[u32], free: usize, key: usize, i: usize) -> bool
-    requires { ⌜ Arena (now sheet) (now work) free ⌝ }
-    requires { ⌜ (0 < key) × (key < free) ⌝ }
-    requires { ⌜ (0 < i) × (i < free) ⌝ }
-    ensures { λ r. ⌜ r ≡ occurs (name-at (now (sheet .entry)) (now (work .entry)) key) (tree-at (now (sheet .entry)) (now (work .entry)) i) ⌝ }
+    requires arena { Arena sheet.now work.now free }
+    requires key_nonzero { (0 < key) × (key < free) }
+    requires i_nonzero { (0 < i) × (i < free) }
+    ensures { result ≡ occurs (name_at sheet.now work.now key) (tree_at sheet.now work.now i) }
 {
     let kind = kind_of(work, i);
     if ATOMS <= kind {
@@ -29,11 +26,12 @@ pub fn occurs(sheet: &[u8], work: &[u32], free: usize, key: usize, i: usize) -> 
 }
 
 // Whether it occurs in the list from cell i on.
+#[cycle(occurs_occurs_in)]
 fn occurs_in(sheet: &[u8], work: &[u32], free: usize, key: usize, i: usize) -> bool
-    requires { ⌜ Arena (now sheet) (now work) free ⌝ }
-    requires { ⌜ (0 < key) × (key < free) ⌝ }
-    requires { ⌜ i < free ⌝ }
-    ensures { λ r. ⌜ r ≡ occurs-in (name-at (now (sheet .entry)) (now (work .entry)) key) (trees-at (now (sheet .entry)) (now (work .entry)) i) ⌝ }
+    requires arena { Arena sheet.now work.now free }
+    requires key_nonzero { (0 < key) × (key < free) }
+    requires i_lt_free { i < free }
+    ensures { result ≡ occurs_in (name_at sheet.now work.now key) (trees_at sheet.now work.now i) }
 {
     if i == 0 {
         return false;

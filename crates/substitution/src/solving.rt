@@ -1,22 +1,17 @@
 // A binding put into the waiting pairs, and the bindings composed.
-use crate::bindings::push_pair;
-use crate::bindings::rest_of;
-use crate::bindings::value_of;
-use crate::instances::Built;
-use crate::instances::substitute;
-use crate::instances::substitute_list;
+ghost use Rattle.std.specs.Prelude.{◌≡◌, List, ◌+◌, ◌*◌, ◌<◌, ◌≤◌, ◌^◌, length};
+ghost use Rattle.rules.specs.Substitution.{Pair, flatten};
+ghost use Rattle.tree.specs.Cells.{name_at, tree_at, trees_at};
+ghost use Rattle.tree.specs.Arena.{Arena};
+ghost use Rattle.substitution.specs.Bindings.{bindings_at, Chain};
+ghost use Rattle.substitution.specs.Composing.{SomePairs, BindsInto, ComposesCells};
+
+use crate::bindings::{push_pair, rest_of, value_of};
+use crate::instances::{Built, substitute, substitute_list};
 use tree::cells::share;
-ghost use mathlib.Core.Path.{_≡_};
-ghost use mathlib.Core.List.{List};
-ghost use Prim.Native.Nat.{_+_, _*_, _<_, _≤_, _^_};
-ghost use lib.ListN.{length};
-ghost use Rattle·rules.specs.Substitution.{Pair, flatten};
-ghost use Rattle·tree.specs.Cells.{name-at, tree-at, trees-at};
-ghost use Rattle·tree.specs.Arena.{Arena};
-ghost use Rattle·substitution·specs.specs.Bindings.{bindings-at, Chain};
-ghost use Rattle·substitution·specs.specs.Composing.{SomePairs, BindsInto, ComposesCells};
 
 // The waiting pairs after a binding, or too many nodes in all.
+#[derive(Clone, Copy)]
 pub enum Waiting {
     Stack { index: usize, free: usize },
     Over,
@@ -32,11 +27,11 @@ pub fn bind_into(
     value: usize,
     stack: usize,
 ) -> Waiting
-    requires { ⌜ Arena (now sheet) (now work) free ⌝ }
-    requires { ⌜ (0 < key) × (key < free) × (0 < value) × (value < free) × (stack < free) ⌝ }
-    requires { ⌜ (4 * (free + 4098) ≤ length (now work)) × (free + 4098 < 2 ^ 32) ⌝ }
-    requires { ⌜ SomePairs (now sheet) (now work) stack ⌝ }
-    ensures { λ r. ⌜ ((ps : List Pair) → trees-at (now (sheet .entry)) (now (work .entry)) stack ≡ flatten ps → BindsInto (now (sheet .entry)) (now (work .entry)) (now (work .exit)) free (name-at (now (sheet .entry)) (now (work .entry)) key) (tree-at (now (sheet .entry)) (now (work .entry)) value) ps r) ⌝ }
+    requires arena { Arena sheet.now work.old free }
+    requires key_nonzero { (0 < key) × (key < free) × (0 < value) × (value < free) × (stack < free) }
+    requires free_in_bounds { (4 * (free + 4098) ≤ length work.old) × (free + 4098 < 2 ^ 32) }
+    requires some_pairs { SomePairs sheet.now work.old stack }
+    ensures { (ps : List Pair) → trees_at sheet.now work.old stack ≡ flatten ps → BindsInto sheet.now work.old work.new free (name_at sheet.now work.old key) (tree_at sheet.now work.old value) ps result }
 {
     let one = push_pair(sheet, work, free, key, value, 0);
     let built = substitute_list(sheet, work, one.free, stack, one.index, 4096);
@@ -55,6 +50,7 @@ pub fn bind_into(
 }
 
 // The composed bindings, or a value of too many nodes.
+#[derive(Clone, Copy)]
 pub enum Composition {
     Composed { bindings: usize, free: usize },
     Over,
@@ -63,10 +59,10 @@ pub enum Composition {
 // Composes the bindings from cell made on, the last made first: those composed so far are put into each value, 4,096 nodes, and it
 // goes before them.
 pub fn compose(sheet: &[u8], work: &mut [u32], free: usize, made: usize) -> Composition
-    requires { ⌜ Arena (now sheet) (now work) free ⌝ }
-    requires { ⌜ (made < free) × Chain (trees-at (now sheet) (now work) made) ⌝ }
-    requires { ⌜ (4 * (free + 4097 * length (bindings-at (now sheet) (now work) made)) ≤ length (now work)) × (free + 4097 * length (bindings-at (now sheet) (now work) made) < 2 ^ 32) ⌝ }
-    ensures { λ r. ⌜ ComposesCells (now (sheet .entry)) (now (work .entry)) (now (work .exit)) free (bindings-at (now (sheet .entry)) (now (work .entry)) made) r ⌝ }
+    requires arena { Arena sheet.now work.old free }
+    requires made_lt_free { (made < free) × Chain (trees_at sheet.now work.old made) }
+    requires made_in_bounds { (4 * (free + 4097 * length (bindings_at sheet.now work.old made)) ≤ length work.old) × (free + 4097 * length (bindings_at sheet.now work.old made) < 2 ^ 32) }
+    ensures { ComposesCells sheet.now work.old work.new free (bindings_at sheet.now work.old made) result }
 {
     let mut left = made;
     let mut end = free;

@@ -1,34 +1,27 @@
 // Sums: the cells of their summands, the canonical words of each, and cancelling. A cell that is taken out is 0.
+#![tactic(auto)]
+
+ghost use Rattle.std.specs.Prelude.{◌≡◌, ◌||◌, ◌&&◌, eqb, ℕ, ◌+◌, ◌-◌, ◌*◌, ◌<◌, ◌≤◌, ◌^◌, length, get_or};
+ghost use Rattle.rules.specs.Bytes.{same};
+ghost use Rattle.std.proofs.Math.Seq.{slice};
+ghost use Rattle.rules.specs.Tree.{size, sizes, ground, tamtplus, plus};
+ghost use Rattle.rules.specs.Sums.{summands, summands_of, equivalent};
+ghost use Rattle.tree.specs.Cells.{kind_of, next_of, name_at, tree_at, trees_at};
+ghost use Rattle.tree.specs.Arena.{Arena};
+ghost use Rattle.sums.specs.Sums.{SummandsGathered, Cells, Lasting, heft, Described, CellRun, index, TookOne, Cancelled, SumsCancelled, remaining, heavy, SummandAdded, Rebuilt};
+
 use equivalence::words::same_text;
 use fingerprints::marked_words;
 use substitution::ground::ground;
 use text::places::wide;
-use tree::cells::APPLICATION;
-use tree::cells::count_of;
-use tree::cells::first_of;
-use tree::cells::kind_of;
-use tree::cells::next_of;
-use tree::cells::push_like;
-use tree::cells::share;
+use tree::cells::{APPLICATION, count_of, first_of, kind_of, next_of, push_like, share};
 use tree::names::name_is;
-ghost use mathlib.Core.Path.{_≡_};
-ghost use mathlib.Core.Bool.{_||_, _&&_};
-ghost use lib.Dec.{eqb};
-ghost use Rattle·rules.specs.Bytes.{same};
-ghost use Prim.Native.Nat.{ℕ, _+_, _-_, _*_, _<_, _≤_, _^_};
-ghost use lib.ListN.{length, getD};
-ghost use lib.Seq.{slice};
-ghost use Rattle·rules.specs.Tree.{size, sizes, ground, tamtplus, plus};
-ghost use Rattle·rules.specs.Sums.{summands, summands-of, equivalent};
-ghost use Rattle·tree.specs.Cells.{kind-of, next-of, name-at, tree-at, trees-at};
-ghost use Rattle·tree.specs.Arena.{Arena};
-ghost use Rattle·sums·specs.specs.Sums.{SummandsGathered, Cells, Lasting, heft, Described, CellRun, index, TookOne, Cancelled, SumsCancelled, remaining, heavy, SummandAdded, Rebuilt};
 
 // Whether the tree of cell i is a sum.
 pub fn is_sum(sheet: &[u8], work: &[u32], free: usize, i: usize) -> bool
-    requires { ⌜ Arena (now sheet) (now work) free ⌝ }
-    requires { ⌜ (0 < i) × (i < free) ⌝ }
-    ensures { λ r. ⌜ r ≡ eqb (kind-of (now (work .entry)) i) 0 && same (name-at (now (sheet .entry)) (now (work .entry)) i) tamtplus ⌝ }
+    requires arena { Arena sheet.now work.now free }
+    requires i_nonzero { (0 < i) × (i < free) }
+    ensures { result ≡ eqb (kind_of work.now i) 0 && same (name_at sheet.now work.now i) tamtplus }
 {
     if kind_of(work, i) == APPLICATION {
         return name_is(sheet, work, free, i, b"tamtplus");
@@ -37,11 +30,12 @@ pub fn is_sum(sheet: &[u8], work: &[u32], free: usize, i: usize) -> bool
 }
 
 // Writes the cells of the summands of cell i from `at` on, and answers where they end.
+#[cycle(gather_gather_list)]
 fn gather(sheet: &[u8], work: &mut [u32], free: usize, i: usize, at: usize) -> usize
-    requires { ⌜ Arena (now sheet) (now work) free ⌝ }
-    requires { ⌜ (0 < i) × (i < free) × (free < 2 ^ 32) ⌝ }
-    requires { ⌜ (4 * free ≤ at) × (at + size (tree-at (now sheet) (now work) i) ≤ length (now work)) ⌝ }
-    ensures { λ r. ⌜ SummandsGathered (now (sheet .entry)) (now (work .entry)) (now (work .exit)) free at r (size (tree-at (now (sheet .entry)) (now (work .entry)) i)) (summands (tree-at (now (sheet .entry)) (now (work .entry)) i)) ⌝ }
+    requires arena { Arena sheet.now work.old free }
+    requires i_nonzero { (0 < i) × (i < free) × (free < 2 ^ 32) }
+    requires free_bound { (4 * free ≤ at) × (at + size (tree_at sheet.now work.old i) ≤ length work.old) }
+    ensures { SummandsGathered sheet.now work.old work.new free at result (size (tree_at sheet.now work.old i)) (summands (tree_at sheet.now work.old i)) }
 {
     if is_sum(sheet, work, free, i) {
         let first = first_of(work, free, i);
@@ -52,11 +46,12 @@ fn gather(sheet: &[u8], work: &mut [u32], free: usize, i: usize, at: usize) -> u
 }
 
 // The same of the trees of the list from cell i on.
+#[cycle(gather_gather_list)]
 fn gather_list(sheet: &[u8], work: &mut [u32], free: usize, i: usize, at: usize) -> usize
-    requires { ⌜ Arena (now sheet) (now work) free ⌝ }
-    requires { ⌜ (i < free) × (free < 2 ^ 32) ⌝ }
-    requires { ⌜ (4 * free ≤ at) × (at + sizes (trees-at (now sheet) (now work) i) ≤ length (now work)) ⌝ }
-    ensures { λ r. ⌜ SummandsGathered (now (sheet .entry)) (now (work .entry)) (now (work .exit)) free at r (sizes (trees-at (now (sheet .entry)) (now (work .entry)) i)) (summands-of (trees-at (now (sheet .entry)) (now (work .entry)) i)) ⌝ }
+    requires arena { Arena sheet.now work.old free }
+    requires i_lt_free { (i < free) × (free < 2 ^ 32) }
+    requires free_bound { (4 * free ≤ at) × (at + sizes (trees_at sheet.now work.old i) ≤ length work.old) }
+    ensures { SummandsGathered sheet.now work.old work.new free at result (sizes (trees_at sheet.now work.old i)) (summands_of (trees_at sheet.now work.old i)) }
 {
     if i == 0 {
         return at;
@@ -79,11 +74,11 @@ fn describe(
     d: usize,
     base: usize,
 )
-    requires { ⌜ Arena (now sheet) (now work) free ⌝ }
-    requires { ⌜ (4 * free ≤ at) × (at ≤ end) × (end ≤ at + d) × (end + 2 * d < base) ⌝ }
-    requires { ⌜ Cells (now work) free at end × (getD (now work) (at + d) 0 ≡ 0) ⌝ }
-    requires { ⌜ (5 * heft (now sheet) (now work) (slice at end (now work)) < 65536) × (base + 15 * heft (now sheet) (now work) (slice at end (now work)) + 1 ≤ length (now work) + (end - at)) ⌝ }
-    ensures { λ _. ⌜ Described (now (sheet .entry)) (now (work .entry)) (now (work .exit)) at end d base (base + 15 * heft (now (sheet .entry)) (now (work .entry)) (slice at end (now (work .entry))) + 1 - (end - at)) ⌝ }
+    requires arena { Arena sheet.now work.old free }
+    requires free_bound { (4 * free ≤ at) × (at ≤ end) × (end ≤ at + d) × (end + 2 * d < base) }
+    requires cells { Cells work.old free at end × (get_or work.old (at + d) 0 ≡ 0) }
+    requires work_bound { (5 * heft sheet.now work.old (slice at end work.old) < 65536) × (base + 15 * heft sheet.now work.old (slice at end work.old) + 1 ≤ length work.old + (end - at)) }
+    ensures { Described sheet.now work.old work.new at end d base (base + 15 * heft sheet.now work.old (slice at end work.old) + 1 - (end - at)) }
 {
     let gap = 2 * d + 1;
     let mut p = at;
@@ -98,8 +93,8 @@ fn describe(
 
 // Whether the trees of the cells at p and q are equal up to order and grouping of sums, by their words.
 fn alike(sheet: &[u8], work: &[u32], d: usize, base: usize, p: usize, q: usize) -> bool
-    requires { ⌜ CellRun (now sheet) (now work) d base (length (now work)) p × CellRun (now sheet) (now work) d base (length (now work)) q ⌝ }
-    ensures { λ r. ⌜ r ≡ equivalent (tree-at (now (sheet .entry)) (now (work .entry)) (getD (now (work .entry)) p 0)) (tree-at (now (sheet .entry)) (now (work .entry)) (getD (now (work .entry)) q 0)) ⌝ }
+    requires { CellRun sheet.now work.now d base (length work.now) p × CellRun sheet.now work.now d base (length work.now) q }
+    ensures { result ≡ equivalent (tree_at sheet.now work.now (get_or work.now p 0)) (tree_at sheet.now work.now (get_or work.now q 0)) }
 {
     same_text(
         sheet,
@@ -122,9 +117,9 @@ fn find(
     start: usize,
     end: usize,
 ) -> usize
-    requires { ⌜ CellRun (now sheet) (now work) d base (length (now work)) p × Lasting (now sheet) (now work) d base start end ⌝ }
-    requires { ⌜ (start ≤ end) × (end + 2 * d < length (now work)) ⌝ }
-    ensures { λ r. ⌜ r ≡ start + index (equivalent (tree-at (now (sheet .entry)) (now (work .entry)) (getD (now (work .entry)) p 0))) (now (sheet .entry)) (now (work .entry)) (slice start end (now (work .entry))) ⌝ }
+    requires cell_run { CellRun sheet.now work.now d base (length work.now) p × Lasting sheet.now work.now d base start end }
+    requires start_le_end { (start ≤ end) × (end + 2 * d < length work.now) }
+    ensures { result ≡ start + index (equivalent (tree_at sheet.now work.now (get_or work.now p 0))) sheet.now work.now (slice start end work.now) }
 {
     let gap = 2 * d + 1;
     let mark = work[p + gap];
@@ -148,9 +143,9 @@ fn find(
 
 // Whether the tree of cell i cancels: every one, or one without variables.
 fn cancels(sheet: &[u8], work: &[u32], free: usize, i: usize, every: bool) -> bool
-    requires { ⌜ Arena (now sheet) (now work) free ⌝ }
-    requires { ⌜ (0 < i) × (i < free) ⌝ }
-    ensures { λ r. ⌜ r ≡ every || ground (tree-at (now (sheet .entry)) (now (work .entry)) i) ⌝ }
+    requires arena { Arena sheet.now work.now free }
+    requires i_nonzero { (0 < i) × (i < free) }
+    ensures { result ≡ every || ground (tree_at sheet.now work.now i) }
 {
     if every {
         return true;
@@ -170,10 +165,10 @@ fn take_one(
     end: usize,
     every: bool,
 )
-    requires { ⌜ Arena (now sheet) (now work) free ⌝ }
-    requires { ⌜ (4 * free ≤ p) × (p < mid) × (mid ≤ end) × (end + 2 * d < length (now work)) ⌝ }
-    requires { ⌜ (0 < getD (now work) p 0) × (getD (now work) p 0 < free) × Lasting (now sheet) (now work) d base p end ⌝ }
-    ensures { λ _. ⌜ TookOne (now (sheet .entry)) (now (work .entry)) (now (work .exit)) p mid end every ⌝ }
+    requires arena { Arena sheet.now work.old free }
+    requires free_bound { (4 * free ≤ p) × (p < mid) × (mid ≤ end) × (end + 2 * d < length work.old) }
+    requires nonzero { (0 < get_or work.old p 0) × (get_or work.old p 0 < free) × Lasting sheet.now work.old d base p end }
+    ensures { TookOne sheet.now work.old work.new p mid end every }
 {
     let cell = wide(work[p]);
     if cancels(sheet, work, free, cell, every) {
@@ -199,10 +194,10 @@ fn cancel(
     end: usize,
     every: bool,
 )
-    requires { ⌜ Arena (now sheet) (now work) free ⌝ }
-    requires { ⌜ (4 * free ≤ at) × (at ≤ mid) × (mid ≤ end) × (end ≤ at + d) × (end + 2 * d < base) × (base ≤ length (now work)) ⌝ }
-    requires { ⌜ Cells (now work) free at end × Lasting (now sheet) (now work) d base at end ⌝ }
-    ensures { λ _. ⌜ Cancelled (now (sheet .entry)) (now (work .entry)) (now (work .exit)) at mid end every ⌝ }
+    requires arena { Arena sheet.now work.old free }
+    requires free_bound { (4 * free ≤ at) × (at ≤ mid) × (mid ≤ end) × (end ≤ at + d) × (end + 2 * d < base) × (base ≤ length work.old) }
+    requires cells { Cells work.old free at end × Lasting sheet.now work.old d base at end }
+    ensures { Cancelled sheet.now work.old work.new at mid end every }
 {
     let mut p = at;
     while p < mid {
@@ -212,6 +207,7 @@ fn cancel(
 }
 
 // Where the cells of the summands of two sums part, and where they end.
+#[derive(Clone, Copy)]
 pub struct Split {
     pub mid: usize,
     pub end: usize,
@@ -228,10 +224,10 @@ pub fn prepare(
     at: usize,
     every: bool,
 ) -> Split
-    requires { ⌜ Arena (now sheet) (now work) free ⌝ }
-    requires { ⌜ (0 < left) × (left < free) × (0 < right) × (right < free) × (free < 2 ^ 32) × (4 * free ≤ at) ⌝ }
-    requires { ⌜ (5 * (size (tree-at (now sheet) (now work) left) + size (tree-at (now sheet) (now work) right)) < 65536) × (at + 17 * (size (tree-at (now sheet) (now work) left) + size (tree-at (now sheet) (now work) right)) + 2 ≤ length (now work)) ⌝ }
-    ensures { λ r. ⌜ SumsCancelled (now (sheet .entry)) (now (work .entry)) (now (work .exit)) free at (r .mid) (r .end) (size (tree-at (now (sheet .entry)) (now (work .entry)) left) + size (tree-at (now (sheet .entry)) (now (work .entry)) right)) (tree-at (now (sheet .entry)) (now (work .entry)) left) (tree-at (now (sheet .entry)) (now (work .entry)) right) every ⌝ }
+    requires arena { Arena sheet.now work.old free }
+    requires left_nonzero { (0 < left) × (left < free) × (0 < right) × (right < free) × (free < 2 ^ 32) × (4 * free ≤ at) }
+    requires right_bound { (5 * (size (tree_at sheet.now work.old left) + size (tree_at sheet.now work.old right)) < 65536) × (at + 17 * (size (tree_at sheet.now work.old left) + size (tree_at sheet.now work.old right)) + 2 ≤ length work.old) }
+    ensures { SumsCancelled sheet.now work.old work.new free at result.mid result.end (size (tree_at sheet.now work.old left) + size (tree_at sheet.now work.old right)) (tree_at sheet.now work.old left) (tree_at sheet.now work.old right) every }
 {
     let mid = gather(sheet, work, free, left, at);
     let end = gather(sheet, work, free, right, mid);
@@ -246,11 +242,11 @@ pub fn prepare(
 // Writes the sum of the trees of cells a and b at the free end, and answers the free end after it. The cell like is a sum; b has no
 // next sibling.
 fn add(sheet: &[u8], work: &mut [u32], free: usize, like: usize, a: usize, b: usize) -> usize
-    requires { ⌜ Arena (now sheet) (now work) free ⌝ }
-    requires { ⌜ (0 < like) × (like < free) × (kind-of (now work) like ≡ 0) × (name-at (now sheet) (now work) like ≡ tamtplus) ⌝ }
-    requires { ⌜ (0 < a) × (a < free) × (0 < b) × (b < free) × (next-of (now work) b ≡ 0) ⌝ }
-    requires { ⌜ (4 * (free + 2) ≤ length (now work)) × (free + 2 < 2 ^ 32) × (size (tree-at (now sheet) (now work) a) + size (tree-at (now sheet) (now work) b) + 1 < 65536) ⌝ }
-    ensures { λ r. ⌜ (r ≡ free + 2) × SummandAdded (now (sheet .entry)) (now (work .entry)) (now (work .exit)) free (plus (tree-at (now (sheet .entry)) (now (work .entry)) a) (tree-at (now (sheet .entry)) (now (work .entry)) b)) ⌝ }
+    requires arena { Arena sheet.now work.old free }
+    requires like_nonzero { (0 < like) × (like < free) × (kind_of work.old like ≡ 0) × (name_at sheet.now work.old like ≡ tamtplus) }
+    requires a_nonzero { (0 < a) × (a < free) × (0 < b) × (b < free) × (next_of work.old b ≡ 0) }
+    requires free_in_bounds { (4 * (free + 2) ≤ length work.old) × (free + 2 < 2 ^ 32) × (size (tree_at sheet.now work.old a) + size (tree_at sheet.now work.old b) + 1 < 65536) }
+    ensures { (result ≡ free + 2) × SummandAdded sheet.now work.old work.new free (plus (tree_at sheet.now work.old a) (tree_at sheet.now work.old b)) }
 {
     let top = share(sheet, work, free, a, b);
     let nodes = count_of(work, free) + count_of(work, b) + 1;
@@ -258,6 +254,7 @@ fn add(sheet: &[u8], work: &mut [u32], free: usize, like: usize, a: usize, b: us
 }
 
 // A tree, and the free end after it.
+#[derive(Clone, Copy)]
 pub struct Summed {
     pub index: usize,
     pub free: usize,
@@ -272,11 +269,11 @@ pub fn rebuild(
     at: usize,
     end: usize,
 ) -> Summed
-    requires { ⌜ Arena (now sheet) (now work) free ⌝ }
-    requires { ⌜ (0 < like) × (like < free) × (kind-of (now work) like ≡ 0) × (name-at (now sheet) (now work) like ≡ tamtplus) ⌝ }
-    requires { ⌜ (at ≤ end) × (end ≤ length (now work)) × (4 * (free + 2 * (end - at)) ≤ at) × (free + 2 * (end - at) < 2 ^ 32) ⌝ }
-    requires { ⌜ ((p : ℕ) → at ≤ p → p < end → getD (now work) p 0 < free) × (heavy (remaining (now sheet) (now work) (slice at end (now work))) ≤ 65535) ⌝ }
-    ensures { λ r. ⌜ Rebuilt (now (sheet .entry)) (now (work .entry)) (now (work .exit)) free (r .free) (r .index) (remaining (now (sheet .entry)) (now (work .entry)) (slice at end (now (work .entry)))) ⌝ }
+    requires arena { Arena sheet.now work.old free }
+    requires like_nonzero { (0 < like) × (like < free) × (kind_of work.old like ≡ 0) × (name_at sheet.now work.old like ≡ tamtplus) }
+    requires at_le_end { (at ≤ end) × (end ≤ length work.old) × (4 * (free + 2 * (end - at)) ≤ at) × (free + 2 * (end - at) < 2 ^ 32) }
+    requires by_index { ((p : ℕ) → at ≤ p → p < end → get_or work.old p 0 < free) × (heavy (remaining sheet.now work.old (slice at end work.old)) ≤ 65535) }
+    ensures { Rebuilt sheet.now work.old work.new free result.free result.index (remaining sheet.now work.old (slice at end work.old)) }
 {
     let mut k = end;
     let mut index: usize = 0;

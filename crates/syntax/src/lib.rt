@@ -1,13 +1,13 @@
 // Tokens of a text (syntax.rs): where each starts and ends, and the symbol that it is.
-ghost use mathlib.Core.Path.{_≡_};
-ghost use Prim.Native.Nat.{_+_, _<_};
-ghost use lib.ListN.{length, getD, drop};
-ghost use lib.Dec.{eqb};
-ghost use Rattle·rules.specs.Tokens.{run-length, sigil, mark, sort-length, variable-rest, plain-rest, rest-length};
-ghost use Rattle·syntax·specs.specs.Next.{is-of, end-of, next-at};
-ghost use Rattle·syntax·specs.specs.Symbols.{symbol-at};
+#![tactic(auto)]
+
+ghost use Rattle.std.specs.Prelude.{◌≡◌, ◌+◌, ◌<◌, length, get_or, drop, eqb};
+ghost use Rattle.rules.specs.Tokens.{run_length, sigil, mark, sort_length, variable_rest, plain_rest, rest_length};
+ghost use Rattle.syntax.specs.Next.{is_of, end_of, next_at};
+ghost use Rattle.syntax.specs.Symbols.{symbol_at};
 
 // The classes of bytes that a run is made of.
+#[derive(Clone, Copy)]
 pub enum Class {
     Blank,
     Digit,
@@ -15,13 +15,13 @@ pub enum Class {
 }
 
 fn equals(a: u8, b: u8) -> bool
-    ensures { λ r. ⌜ r ≡ eqb a b ⌝ }
+    ensures { result ≡ eqb a b }
 {
     a == b
 }
 
 fn is_of(class: Class, b: u8) -> bool
-    ensures { λ r. ⌜ r ≡ is-of class b ⌝ }
+    ensures { result ≡ is_of class b }
 {
     match class {
         Class::Blank => equals(b, 32),
@@ -31,20 +31,20 @@ fn is_of(class: Class, b: u8) -> bool
 }
 
 fn is_sigil(b: u8) -> bool
-    ensures { λ r. ⌜ r ≡ sigil b ⌝ }
+    ensures { result ≡ sigil b }
 {
     equals(b, 120) || (equals(b, 35) || equals(b, 37))
 }
 
 fn is_mark(b: u8) -> bool
-    ensures { λ r. ⌜ r ≡ mark b ⌝ }
+    ensures { result ≡ mark b }
 {
     equals(b, 40) || (equals(b, 41) || equals(b, 44))
 }
 
 // Where the run of a class ends that starts at `at`.
 pub fn run_end(text: &[u8], at: usize, class: Class) -> usize
-    ensures { λ r. ⌜ r ≡ at + run-length (is-of class) (drop at (now (text .entry))) ⌝ }
+    ensures { result ≡ at + run_length (is_of class) (drop at text.now) }
 {
     let mut i = at;
     while i < text.len() {
@@ -58,12 +58,13 @@ pub fn run_end(text: &[u8], at: usize, class: Class) -> usize
 
 // The byte at a position, and 0 past the end.
 fn byte_at(text: &[u8], at: usize) -> u8
-    ensures { λ r. ⌜ r ≡ getD (now (text .entry)) at 0 ⌝ }
+    ensures { result ≡ get_or text.now at 0 }
 {
     if at < text.len() { text[at] } else { 0 }
 }
 
 // Where something ends, if it is there.
+#[derive(Clone, Copy)]
 enum Ends {
     At(usize),
     Nothing,
@@ -71,7 +72,7 @@ enum Ends {
 
 // Where a colon, a letter, and then letters and digits end.
 fn sort_end(text: &[u8], at: usize) -> Ends
-    ensures { λ r. ⌜ r ≡ end-of at (sort-length (drop at (now (text .entry)))) ⌝ }
+    ensures { result ≡ end_of at (sort_length (drop at text.now)) }
 {
     if byte_at(text, at) != 58 {
         return Ends::Nothing;
@@ -84,8 +85,8 @@ fn sort_end(text: &[u8], at: usize) -> Ends
 
 // Where a variable ends whose first byte stands at `at`.
 fn variable_end(text: &[u8], at: usize) -> Ends
-    requires { ⌜ at < length (now text) ⌝ }
-    ensures { λ r. ⌜ r ≡ end-of (at + 1) (variable-rest (getD (now (text .entry)) at 0) (drop (at + 1) (now (text .entry)))) ⌝ }
+    requires { at < length text.now }
+    ensures { result ≡ end_of (at + 1) (variable_rest (get_or text.now at 0) (drop (at + 1) text.now)) }
 {
     if !is_sigil(text[at]) {
         return Ends::Nothing;
@@ -99,8 +100,8 @@ fn variable_end(text: &[u8], at: usize) -> Ends
 
 // Where a name, a number or a mark ends that starts at `at`.
 fn plain_end(text: &[u8], at: usize) -> Ends
-    requires { ⌜ at < length (now text) ⌝ }
-    ensures { λ r. ⌜ r ≡ end-of (at + 1) (plain-rest (getD (now (text .entry)) at 0) (drop (at + 1) (now (text .entry)))) ⌝ }
+    requires { at < length text.now }
+    ensures { result ≡ end_of (at + 1) (plain_rest (get_or text.now at 0) (drop (at + 1) text.now)) }
 {
     let b = text[at];
     if text::is_alphabetic(b) {
@@ -117,8 +118,8 @@ fn plain_end(text: &[u8], at: usize) -> Ends
 
 // Where the token ends that starts at `at`.
 fn token_end(text: &[u8], at: usize) -> Ends
-    requires { ⌜ at < length (now text) ⌝ }
-    ensures { λ r. ⌜ r ≡ end-of (at + 1) (rest-length (getD (now (text .entry)) at 0) (drop (at + 1) (now (text .entry)))) ⌝ }
+    requires { at < length text.now }
+    ensures { result ≡ end_of (at + 1) (rest_length (get_or text.now at 0) (drop (at + 1) text.now)) }
 {
     let variable = variable_end(text, at);
     if let Ends::At(end) = variable {
@@ -128,6 +129,7 @@ fn token_end(text: &[u8], at: usize) -> Ends
 }
 
 // The next token of a text.
+#[derive(Clone, Copy)]
 pub enum Next {
     Token { from: usize, to: usize },
     End,
@@ -135,7 +137,7 @@ pub enum Next {
 }
 
 fn next_token(text: &[u8], at: usize) -> Next
-    ensures { λ r. ⌜ r ≡ next-at (now (text .entry)) at ⌝ }
+    ensures { result ≡ next_at text.now at }
 {
     let from = run_end(text, at, Class::Blank);
     if from < text.len() {
@@ -150,6 +152,7 @@ fn next_token(text: &[u8], at: usize) -> Next
 }
 
 // The next symbol of a text, and where it ends; a name's start too.
+#[derive(Clone, Copy)]
 pub enum Symbol {
     Begin(usize),
     Shut(usize),
@@ -160,7 +163,7 @@ pub enum Symbol {
 }
 
 pub fn next_symbol(text: &[u8], at: usize) -> Symbol
-    ensures { λ r. ⌜ r ≡ symbol-at (now (text .entry)) at ⌝ }
+    ensures { result ≡ symbol_at text.now at }
 {
     let token = next_token(text, at);
     match token {

@@ -1,40 +1,40 @@
 -- Decimal numbers at a position of a text, and the digits of a number one at a time from the last.
-use mathlib.Core.Path.{_≡_, refl, ap, sym, _∙_}
-use mathlib.Core.List.{List, [], _∷_, _++_, append-assoc}
-use mathlib.Core.Bool.{Bool, true, false, not, _&&_}
-use Prim.Native.Nat.{ℕ, zero, suc, _+_, _-_, _*_, _/_, _%_, _<_, _≤_}
+use mathlib.Core.Path.{◌≡◌, refl, ap, sym, ◌∙◌}
+use mathlib.Core.List.{List, [], ◌∷◌, ◌++◌, append_assoc}
+use mathlib.Core.Bool.{Bool, true, false, not, ◌&&◌}
+use Prim.Native.Nat.{ℕ, zero, suc, ◌+◌, ◌-◌, ◌*◌, ◌/◌, ◌%◌, ◌<◌, ◌≤◌}
 use native.Mathlib.Omega.{arith}
-use native.Mathlib.Decide.{decLt}
-use lib.ListN.{length, getD, take, drop, set, drop-of-length-le, length-append, take-append-drop}
-use lib.Seq.{drop-cons, getD-set-same, drop-set-lt, take-set-le, lt-length-set}
+use native.Mathlib.Decide.{dec_lt}
+use lib.ListN.{length, get_or, take, drop, set, drop_of_length-le, length-append, take-append-drop}
+use lib.Seq.{drop-cons, get_or-set_same, drop-set-lt, take-set-le, lt-length-set}
 use lib.Dec.{eqb, leb, ltb}
-use borrow.Author.Tests.{eq-eqb, ne-eqb, lt-ltb, le-ltb, lt-leb, le-leb}
-use Rattle·rules.specs.Names.{digit, all}
-use Rattle·rules.specs.Decimal.{value-from, proper, number-up-to, digits-in, decimal}
-use Rattle·laws.proofs.Basics.Tests.{and-left, and-right, leb-true}
-use Rattle·text·specs.specs.Numbers.{number-of}
-use Rattle·text·specs.specs.declared.decimal.Number.the-variants.{Is, Not}
-use Rattle·text·proofs.proofs.Loops.{drop-next}
-use Rattle·text·proofs.proofs.Sameness.{and-false}
+use borrow.Author.Tests.{eq-eqb, ne_eqb, lt-ltb, le-ltb, lt-leb, le-leb}
+use Rattle.rules.specs.Names.{digit, all}
+use Rattle.rules.specs.Decimal.{value_from, proper, number_up_to, digits_in, decimal}
+use Rattle.laws.proofs.Basics.Tests.{and_left, and_right, leb_true}
+use Rattle.text.specs.Numbers.{number_of}
+use Rattle.text.specs.declared.decimal.Number.TheVariants.{Is, Not}
+use Rattle.text.proofs.Loops.{drop_next}
+use Rattle.text.proofs.Sameness.{and_false}
 
 -- ---- reading
 
-pub value-grows : (n : ℕ) (s : List ℕ) → n ≤ value-from n s
-unfolding value-from
-value-grows n [] = omega arith
-value-grows n (b ∷ s) = omega (arith, value-grows (n * 10 + (b - 48)) s)
+pub value_grows : (n : ℕ) (s : List ℕ) → n ≤ value_from n s
+unfolding value_from
+value_grows n [] = omega arith
+value_grows n (b ∷ s) = omega (arith, value_grows (n * 10 + (b - 48)) s)
 
-pub value-next : (n : ℕ) (s : List ℕ) (i : ℕ) → i < length s → value-from n (drop i s) ≡ value-from (n * 10 + (getD s i 0 - 48)) (drop (i + 1) s)
-unfolding value-from
-value-next n s i h = rw (drop-next s i h)
+pub value_next : (n : ℕ) (s : List ℕ) (i : ℕ) → i < length s → value_from n (drop i s) ≡ value_from (n * 10 + (get_or s i 0 - 48)) (drop (i + 1) s)
+unfolding value_from
+value_next n s i h = rw (drop_next s i h)
 
-pub value-end : (n : ℕ) (s : List ℕ) (i : ℕ) → length s ≤ i → value-from n (drop i s) ≡ n
-unfolding value-from
-value-end n s i h = rw (drop-of-length-le s h)
+pub value_end : (n : ℕ) (s : List ℕ) (i : ℕ) → length s ≤ i → value_from n (drop i s) ≡ n
+unfolding value_from
+value_end n s i h = rw (drop_of_length-le s h)
 
-pub digit-bounds : (b : ℕ) → digit b ≡ true → (48 ≤ b) × (b ≤ 57)
+pub digit_bounds : (b : ℕ) → digit b ≡ true → (48 ≤ b) × (b ≤ 57)
 unfolding digit
-digit-bounds b e = (leb-true 48 b (and-left (leb 48 b) (leb b 57) e), leb-true b 57 (and-right (leb 48 b) (leb b 57) e))
+digit_bounds b e = (leb_true 48 b (and_left (leb 48 b) (leb b 57) e), leb_true b 57 (and_right (leb 48 b) (leb b 57) e))
 
 -- no digits, or a zero before others
 abbrev pub led : List ℕ → Bool
@@ -42,131 +42,131 @@ led [] = false
 led (b ∷ []) = true
 led (b ∷ c ∷ s) = not (eqb b 48)
 
-proper-is : (s : List ℕ) → proper s ≡ led s && all digit s
+proper_is : (s : List ℕ) → proper s ≡ led s && all digit s
 unfolding all
-proper-is [] = refl
-proper-is (b ∷ []) = go (digit b)
+proper_is [] = refl
+proper_is (b ∷ []) = go (digit b)
   where
     go : (t : Bool) → t ≡ t && true
     go true = refl
     go false = refl
-proper-is (b ∷ c ∷ s) = refl
+proper_is (b ∷ c ∷ s) = refl
 
-pub led-none : (s : List ℕ) → length s ≡ 0 → led s ≡ false
-led-none [] e = refl
-led-none (b ∷ s) e = absurd (omega arith)
+pub led_none : (s : List ℕ) → length s ≡ 0 → led s ≡ false
+led_none [] e = refl
+led_none (b ∷ s) e = absurd (omega arith)
 
-pub led-one : (s : List ℕ) → (length s ≡ 0 → ⊥) → length s ≤ 1 → led s ≡ true
-led-one [] e h = absurd (e refl)
-led-one (b ∷ []) e h = refl
-led-one (b ∷ c ∷ s) e h = absurd (omega arith)
+pub led_one : (s : List ℕ) → (length s ≡ 0 → ⊥) → length s ≤ 1 → led s ≡ true
+led_one [] e h = absurd (e refl)
+led_one (b ∷ []) e h = refl
+led_one (b ∷ c ∷ s) e h = absurd (omega arith)
 
-pub led-zero : (s : List ℕ) → 1 < length s → getD s 0 0 ≡ 48 → led s ≡ false
-led-zero [] h e = refl
-led-zero (b ∷ []) h e = absurd (omega arith)
-led-zero (b ∷ c ∷ s) h e = rw (eq-eqb b 48 e)
+pub led_zero : (s : List ℕ) → 1 < length s → get_or s 0 0 ≡ 48 → led s ≡ false
+led_zero [] h e = refl
+led_zero (b ∷ []) h e = absurd (omega arith)
+led_zero (b ∷ c ∷ s) h e = rw (eq-eqb b 48 e)
 
-pub led-more : (s : List ℕ) → 1 < length s → (getD s 0 0 ≡ 48 → ⊥) → led s ≡ true
-led-more [] h e = absurd (omega arith)
-led-more (b ∷ []) h e = refl
-led-more (b ∷ c ∷ s) h e = rw (ne-eqb b 48 e)
+pub led_more : (s : List ℕ) → 1 < length s → (get_or s 0 0 ≡ 48 → ⊥) → led s ≡ true
+led_more [] h e = absurd (omega arith)
+led_more (b ∷ []) h e = refl
+led_more (b ∷ c ∷ s) h e = rw (ne_eqb b 48 e)
 
 module _ (bound : ℕ) (s : List ℕ) where
-  pub number-unled : led s ≡ false → Not ≡ number-of (number-up-to bound s)
-  unfolding number-up-to
-  number-unled p = rw (proper-is s, p)
+  pub number_unled : led s ≡ false → Not ≡ number_of (number_up_to bound s)
+  unfolding number_up_to
+  number_unled p = rw (proper_is s, p)
 
-  pub number-foreign : all digit s ≡ false → Not ≡ number-of (number-up-to bound s)
-  unfolding number-up-to
-  number-foreign a = rw (proper-is s, a, and-false (led s))
+  pub number_foreign : all digit s ≡ false → Not ≡ number_of (number_up_to bound s)
+  unfolding number_up_to
+  number_foreign a = rw (proper_is s, a, and_false (led s))
 
-  pub number-large : bound < value-from 0 s → Not ≡ number-of (number-up-to bound s)
-  unfolding number-up-to
-  number-large h = rw (lt-leb _ _ h, and-false (proper s))
+  pub number_large : bound < value_from 0 s → Not ≡ number_of (number_up_to bound s)
+  unfolding number_up_to
+  number_large h = rw (lt-leb _ _ h, and_false (proper s))
 
-  pub number-is : {n : ℕ} → led s ≡ true → all digit s ≡ true → n ≡ value-from 0 s → n ≤ bound → Is n ≡ number-of (number-up-to bound s)
-  unfolding number-up-to
-  number-is p a e h = rw (proper-is s, p, a, ← e, le-leb _ _ h)
+  pub number_is : {n : ℕ} → led s ≡ true → all digit s ≡ true → n ≡ value_from 0 s → n ≤ bound → Is n ≡ number_of (number_up_to bound s)
+  unfolding number_up_to
+  number_is p a e h = rw (proper_is s, p, a, ← e, le-leb _ _ h)
 
 -- ---- printing
 
-abbrev last-digit : Bool → ℕ → List ℕ → List ℕ
-last-digit b n s = elim b [ true ↦ (48 + n) ∷ [] | false ↦ s ++ ((48 + n % 10) ∷ []) ]
+abbrev last_digit : Bool → ℕ → List ℕ → List ℕ
+last_digit b n s = elim b [ true ↦ (48 + n) ∷ [] | false ↦ s ++ ((48 + n % 10) ∷ []) ]
 
-digits-turn : (w n : ℕ) (b : Bool) → ltb n 10 ≡ b → digits-in (suc w) n ≡ last-digit b n (digits-in w (n / 10))
-unfolding digits-in
-digits-turn w n b e = ap (λ (b : Bool). last-digit b n (digits-in w (n / 10))) e
+digits_turn : (w n : ℕ) (b : Bool) → ltb n 10 ≡ b → digits_in (suc w) n ≡ last_digit b n (digits_in w (n / 10))
+unfolding digits_in
+digits_turn w n b e = ap (λ (b : Bool). last_digit b n (digits_in w (n / 10))) e
 
-digits-same : (w v n : ℕ) → n < w → n < v → digits-in w n ≡ digits-in v n
-digits-same zero v n p q = absurd (omega arith)
-digits-same (suc w) zero n p q = absurd (omega arith)
-digits-same (suc w) (suc v) n p q = go (decLt n 10) (λ h. digits-same w v (n / 10) (omega arith) (omega arith))
+digits_same : (w v n : ℕ) → n < w → n < v → digits_in w n ≡ digits_in v n
+digits_same zero v n p q = absurd (omega arith)
+digits_same (suc w) zero n p q = absurd (omega arith)
+digits_same (suc w) (suc v) n p q = go (dec_lt n 10) (λ h. digits_same w v (n / 10) (omega arith) (omega arith))
   where
-    go : Dec (n < 10) → (10 ≤ n → digits-in w (n / 10) ≡ digits-in v (n / 10)) → digits-in (suc w) n ≡ digits-in (suc v) n
-    go (yes l) h = let e = lt-ltb n 10 l in digits-turn w n true e ∙ sym (digits-turn v n true e)
+    go : Dec (n < 10) → (10 ≤ n → digits_in w (n / 10) ≡ digits_in v (n / 10)) → digits_in (suc w) n ≡ digits_in (suc v) n
+    go (yes l) h = let e = lt-ltb n 10 l in digits_turn w n true e ∙ sym (digits_turn v n true e)
     go (no l) h =
         let k : 10 ≤ n = omega arith in
         let e = le-ltb n 10 k in
-        digits-turn w n false e ∙ ap (last-digit false n) (h k) ∙ sym (digits-turn v n false e)
+        digits_turn w n false e ∙ ap (last_digit false n) (h k) ∙ sym (digits_turn v n false e)
 
-pub decimal-one : (n : ℕ) → n < 10 → decimal n ≡ (48 + n % 10) ∷ []
+pub decimal_one : (n : ℕ) → n < 10 → decimal n ≡ (48 + n % 10) ∷ []
 unfolding decimal
-decimal-one n h = let e : n ≡ n % 10 = omega arith in digits-turn n n true (lt-ltb n 10 h) ∙ ap (λ (d : ℕ). (48 + d) ∷ []) e
+decimal_one n h = let e : n ≡ n % 10 = omega arith in digits_turn n n true (lt-ltb n 10 h) ∙ ap (λ (d : ℕ). (48 + d) ∷ []) e
 
-pub decimal-more : (n : ℕ) → 10 ≤ n → decimal n ≡ decimal (n / 10) ++ ((48 + n % 10) ∷ [])
+pub decimal_more : (n : ℕ) → 10 ≤ n → decimal n ≡ decimal (n / 10) ++ ((48 + n % 10) ∷ [])
 unfolding decimal
-decimal-more n h = digits-turn n n false (le-ltb n 10 h) ∙ ap (last-digit false n) (digits-same n (suc (n / 10)) (n / 10) (omega arith) (omega arith))
+decimal_more n h = digits_turn n n false (le-ltb n 10 h) ∙ ap (last_digit false n) (digits_same n (suc (n / 10)) (n / 10) (omega arith) (omega arith))
 
-pub width-one : (n : ℕ) → n < 10 → length (decimal n) ≡ 1
-width-one n h = ap length (decimal-one n h)
+pub width_one : (n : ℕ) → n < 10 → length (decimal n) ≡ 1
+width_one n h = ap length (decimal_one n h)
 
-pub width-more : (n : ℕ) → 10 ≤ n → length (decimal n) ≡ suc (length (decimal (n / 10)))
-width-more n h = ap length (decimal-more n h) ∙ length-append (decimal (n / 10)) ((48 + n % 10) ∷ []) ∙ omega arith
+pub width_more : (n : ℕ) → 10 ≤ n → length (decimal n) ≡ suc (length (decimal (n / 10)))
+width_more n h = ap length (decimal_more n h) ∙ length-append (decimal (n / 10)) ((48 + n % 10) ∷ []) ∙ omega arith
 
 -- the last w digits of a number
 unfoldable pub padded : ℕ → ℕ → List ℕ
 padded zero n = []
 padded (suc w) n = padded w (n / 10) ++ ((48 + n % 10) ∷ [])
 
-padded-at : (j i m : ℕ) → i ≡ suc j → padded i m ≡ padded j (m / 10) ++ ((48 + m % 10) ∷ [])
+padded_at : (j i m : ℕ) → i ≡ suc j → padded i m ≡ padded j (m / 10) ++ ((48 + m % 10) ∷ [])
 unfolding padded
-padded-at j i m e = rw e
+padded_at j i m e = rw e
 
-padded-one : (i m : ℕ) → i ≡ 1 → padded i m ≡ (48 + m % 10) ∷ []
+padded_one : (i m : ℕ) → i ≡ 1 → padded i m ≡ (48 + m % 10) ∷ []
 unfolding padded
-padded-one i m e = rw e
+padded_one i m e = rw e
 
-decimal-padded-to : (k n : ℕ) → n ≤ k → decimal n ≡ padded (length (decimal n)) n
-decimal-padded-to zero n h = decimal-one n (omega arith) ∙ sym (padded-one (length (decimal n)) n (width-one n (omega arith)))
-decimal-padded-to (suc k) n h = go (decLt n 10) (λ i. decimal-padded-to k (n / 10) (omega arith))
+decimal_padded_to : (k n : ℕ) → n ≤ k → decimal n ≡ padded (length (decimal n)) n
+decimal_padded_to zero n h = decimal_one n (omega arith) ∙ sym (padded_one (length (decimal n)) n (width_one n (omega arith)))
+decimal_padded_to (suc k) n h = go (dec_lt n 10) (λ i. decimal_padded_to k (n / 10) (omega arith))
   where
     go : Dec (n < 10) → (10 ≤ n → decimal (n / 10) ≡ padded (length (decimal (n / 10))) (n / 10)) → decimal n ≡ padded (length (decimal n)) n
-    go (yes l) h = decimal-one n l ∙ sym (padded-one (length (decimal n)) n (width-one n l))
+    go (yes l) h = decimal_one n l ∙ sym (padded_one (length (decimal n)) n (width_one n l))
     go (no l) h =
         let i : 10 ≤ n = omega arith in
-        decimal-more n i ∙ ap (last-digit false n) (h i) ∙ sym (padded-at (length (decimal (n / 10))) (length (decimal n)) n (width-more n i))
+        decimal_more n i ∙ ap (last_digit false n) (h i) ∙ sym (padded_at (length (decimal (n / 10))) (length (decimal n)) n (width_more n i))
 
-pub decimal-padded : (n : ℕ) → decimal n ≡ padded (length (decimal n)) n
-decimal-padded n = decimal-padded-to n n (omega arith)
+pub decimal_padded : (n : ℕ) → decimal n ≡ padded (length (decimal n)) n
+decimal_padded n = decimal_padded_to n n (omega arith)
 
-drop-set : (l : List ℕ) (i v : ℕ) → i < length l → drop i (set l i v) ≡ v ∷ drop (suc i) l
-drop-set l i v h =
+drop_set : (l : List ℕ) (i v : ℕ) → i < length l → drop i (set l i v) ≡ v ∷ drop (suc i) l
+drop_set l i v h =
     drop-cons (set l i v) i 0 (lt-length-set l i v h)
-    ∙ rw (getD-set-same l i v 0 h, drop-set-lt (suc i) l i v (omega arith))
+    ∙ rw (get_or-set_same l i v 0 h, drop-set-lt (suc i) l i v (omega arith))
 
 -- a turn of the printer: the digit before i
-pub print-turn : (out rest : List ℕ) (at i m : ℕ) → at < i → i ≤ length out → take at out ++ (padded (i - at) m ++ drop i out) ≡ rest
+pub print_turn : (out rest : List ℕ) (at i m : ℕ) → at < i → i ≤ length out → take at out ++ (padded (i - at) m ++ drop i out) ≡ rest
     → take at (set out (i - 1) (48 + m % 10)) ++ (padded (i - 1 - at) (m / 10) ++ drop (i - 1) (set out (i - 1) (48 + m % 10))) ≡ rest
-print-turn out rest at i m h l inv =
+print_turn out rest at i m h l inv =
     let e : i ≡ suc (i - 1) = omega arith in
     let p : i - at ≡ suc (i - 1 - at) = omega arith in
-    let d : drop (i - 1) (set out (i - 1) (48 + m % 10)) ≡ (48 + m % 10) ∷ drop i out = drop-set out (i - 1) (48 + m % 10) (omega arith) ∙ ap (λ (n : ℕ). (48 + m % 10) ∷ drop n out) (sym e) in
+    let d : drop (i - 1) (set out (i - 1) (48 + m % 10)) ≡ (48 + m % 10) ∷ drop i out = drop_set out (i - 1) (48 + m % 10) (omega arith) ∙ ap (λ (n : ℕ). (48 + m % 10) ∷ drop n out) (sym e) in
     let k : take at (set out (i - 1) (48 + m % 10)) ≡ take at out = take-set-le at out (i - 1) (48 + m % 10) (omega arith) in
-    rw (k, d) (ap (take at out ++_) (sym (append-assoc (padded (i - 1 - at) (m / 10)) ((48 + m % 10) ∷ []) (drop i out)) ∙ ap (_++ drop i out) (sym (padded-at (i - 1 - at) (i - at) m p))) ∙ inv)
+    rw (k, d) (ap (take at out ++◌) (sym (append_assoc (padded (i - 1 - at) (m / 10)) ((48 + m % 10) ∷ []) (drop i out)) ∙ ap (◌++ drop i out) (sym (padded_at (i - 1 - at) (i - at) m p))) ∙ inv)
 
-pub print-end : (out rest : List ℕ) (at i m : ℕ) → at ≤ i → i ≤ at → take at out ++ (padded (i - at) m ++ drop i out) ≡ rest → out ≡ rest
+pub print_end : (out rest : List ℕ) (at i m : ℕ) → at ≤ i → i ≤ at → take at out ++ (padded (i - at) m ++ drop i out) ≡ rest → out ≡ rest
 unfolding padded
-print-end out rest at i m g h inv =
+print_end out rest at i m g h inv =
     let e : i ≡ at = omega arith in
     let z : at - at ≡ 0 = omega arith in
     sym (take-append-drop at out) ∙ (rw (e, z) at inv)

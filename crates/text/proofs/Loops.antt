@@ -1,40 +1,40 @@
 -- What a loop over a slice needs of the lists: the rest from i is the element at i and the rest from i + 1; so for tests of all
 -- elements and for counts.
-use mathlib.Core.Path.{_≡_}
-use mathlib.Core.List.{List, _∷_}
-use mathlib.Core.Bool.{Bool, true, false, _&&_, cond}
-use Prim.Native.Nat.{ℕ, _+_, _<_, _≤_}
+use mathlib.Core.Path.{◌≡◌}
+use mathlib.Core.List.{List, ◌∷◌}
+use mathlib.Core.Bool.{Bool, true, false, ◌&&◌, cond}
+use Prim.Native.Nat.{ℕ, ◌+◌, ◌<◌, ◌≤◌}
 use native.Mathlib.Numerals.{add-one}
-use lib.ListN.{length, getD, drop, drop-of-length-le}
+use lib.ListN.{length, get_or, drop, drop_of_length-le}
 use lib.Seq.{drop-cons}
 use lib.Dec.{eqb}
-use Rattle·rules.specs.Text.{count-of}
-use Rattle·rules.specs.Names.{all}
+use Rattle.rules.specs.Text.{count_of}
+use Rattle.rules.specs.Names.{all}
 
-pub drop-next : (s : List ℕ) (i : ℕ) → i < length s → drop i s ≡ getD s i 0 ∷ drop (i + 1) s
-drop-next s i h = rw (add-one, drop-cons s i 0)
+pub drop_next : (s : List ℕ) (i : ℕ) → i < length s → drop i s ≡ get_or s i 0 ∷ drop (i + 1) s
+drop_next s i h = rw (add-one, drop-cons s i 0)
 
-pub all-next : (p : ℕ → Bool) (s : List ℕ) (i : ℕ) → i < length s → all p (drop i s) ≡ p (getD s i 0) && all p (drop (i + 1) s)
+pub all_next : (p : ℕ → Bool) (s : List ℕ) (i : ℕ) → i < length s → all p (drop i s) ≡ p (get_or s i 0) && all p (drop (i + 1) s)
 unfolding all
-all-next p s i h = rw (drop-next s i h)
+all_next p s i h = rw (drop_next s i h)
 
-pub all-end : (p : ℕ → Bool) (s : List ℕ) (i : ℕ) → length s ≤ i → all p (drop i s) ≡ true
+pub all_end : (p : ℕ → Bool) (s : List ℕ) (i : ℕ) → length s ≤ i → all p (drop i s) ≡ true
 unfolding all
-all-end p s i h = rw (drop-of-length-le s h)
+all_end p s i h = rw (drop_of_length-le s h)
 
 -- a turn of a loop that tests each element: r is what the test said
-pub all-pass : (p : ℕ → Bool) (s : List ℕ) (i : ℕ) {r : Bool} → i < length s → r ≡ p (getD s i 0) → r ≡ true → all p (drop i s) ≡ all p s
+pub all_pass : (p : ℕ → Bool) (s : List ℕ) (i : ℕ) {r : Bool} → i < length s → r ≡ p (get_or s i 0) → r ≡ true → all p (drop i s) ≡ all p s
     → all p (drop (i + 1) s) ≡ all p s
-all-pass p s i h e t inv = cc (all-next p s i h)
+all_pass p s i h e t inv = cc (all_next p s i h)
 
-pub all-fail : (p : ℕ → Bool) (s : List ℕ) (i : ℕ) {r : Bool} → i < length s → r ≡ p (getD s i 0) → r ≡ false → all p (drop i s) ≡ all p s
+pub all_fail : (p : ℕ → Bool) (s : List ℕ) (i : ℕ) {r : Bool} → i < length s → r ≡ p (get_or s i 0) → r ≡ false → all p (drop i s) ≡ all p s
     → all p s ≡ false
-all-fail p s i h e t inv = cc (all-next p s i h)
+all_fail p s i h e t inv = cc (all_next p s i h)
 
-pub count-next : (b : ℕ) (s : List ℕ) (i : ℕ) → i < length s → count-of b (drop i s) ≡ cond (eqb (getD s i 0) b) 1 0 + count-of b (drop (i + 1) s)
-unfolding count-of
-count-next b s i h = rw (drop-next s i h)
+pub count_next : (b : ℕ) (s : List ℕ) (i : ℕ) → i < length s → count_of b (drop i s) ≡ cond (eqb (get_or s i 0) b) 1 0 + count_of b (drop (i + 1) s)
+unfolding count_of
+count_next b s i h = rw (drop_next s i h)
 
-pub count-end : (b : ℕ) (s : List ℕ) (i : ℕ) → length s ≤ i → count-of b (drop i s) ≡ 0
-unfolding count-of
-count-end b s i h = rw (drop-of-length-le s h)
+pub count_end : (b : ℕ) (s : List ℕ) (i : ℕ) → length s ≤ i → count_of b (drop i s) ≡ 0
+unfolding count_of
+count_end b s i h = rw (drop_of_length-le s h)

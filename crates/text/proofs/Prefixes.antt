@@ -1,48 +1,48 @@
--- The test whether a text begins with another, at a position of both; and that `after-key` makes this test.
-use mathlib.Core.Path.{_≡_, refl}
-use mathlib.Core.List.{List, [], _∷_}
+-- The test whether a text begins with another, at a position of both; and that `after_key` makes this test.
+use mathlib.Core.Path.{◌≡◌, refl}
+use mathlib.Core.List.{List, [], ◌∷◌}
 use mathlib.Core.Option.{some, none}
-use mathlib.Core.Bool.{Bool, true, false, cond, _&&_}
-use Prim.Native.Nat.{ℕ, _+_, _<_, _≤_}
-use lib.ListN.{length, getD, drop, drop-of-length-le}
+use mathlib.Core.Bool.{Bool, true, false, cond, ◌&&◌}
+use Prim.Native.Nat.{ℕ, ◌+◌, ◌<◌, ◌≤◌}
+use lib.ListN.{length, get_or, drop, drop_of_length-le}
 use lib.Dec.{eqb}
-use borrow.Author.Tests.{eq-eqb, ne-eqb, eqb-true, eqb-false}
-use Rattle·rules.specs.Bytes.{Text}
-use Rattle·rules.specs.Lines.{after-key}
-use Rattle·text·specs.specs.Prefix.{begins-with}
-use Rattle·text·proofs.proofs.Loops.{drop-next}
+use borrow.Author.Tests.{eq-eqb, ne_eqb, eqb-true, eqb-false}
+use Rattle.rules.specs.Bytes.{Text}
+use Rattle.rules.specs.Lines.{after_key}
+use Rattle.text.specs.Prefix.{begins_with}
+use Rattle.text.proofs.Loops.{drop_next}
 
-pub begins-next : (k s : List ℕ) (i : ℕ) → i < length k → i < length s
-    → begins-with (drop i k) (drop i s) ≡ eqb (getD s i 0) (getD k i 0) && begins-with (drop (i + 1) k) (drop (i + 1) s)
-unfolding begins-with
-begins-next k s i h g = rw (drop-next k i h, drop-next s i g)
+pub begins_next : (k s : List ℕ) (i : ℕ) → i < length k → i < length s
+    → begins_with (drop i k) (drop i s) ≡ eqb (get_or s i 0) (get_or k i 0) && begins_with (drop (i + 1) k) (drop (i + 1) s)
+unfolding begins_with
+begins_next k s i h g = rw (drop_next k i h, drop_next s i g)
 
-pub begins-short : (k s : List ℕ) (i : ℕ) → i < length k → length s ≤ i → begins-with (drop i k) (drop i s) ≡ false
-unfolding begins-with
-begins-short k s i h g = rw (drop-next k i h, drop-of-length-le s g)
+pub begins_short : (k s : List ℕ) (i : ℕ) → i < length k → length s ≤ i → begins_with (drop i k) (drop i s) ≡ false
+unfolding begins_with
+begins_short k s i h g = rw (drop_next k i h, drop_of_length-le s g)
 
-pub begins-end : (k s : List ℕ) (i : ℕ) → length k ≤ i → begins-with (drop i k) (drop i s) ≡ true
-unfolding begins-with
-begins-end k s i h = rw (drop-of-length-le k h)
+pub begins_end : (k s : List ℕ) (i : ℕ) → length k ≤ i → begins_with (drop i k) (drop i s) ≡ true
+unfolding begins_with
+begins_end k s i h = rw (drop_of_length-le k h)
 
-pub begins-same : (k s : List ℕ) (i : ℕ) {r : Bool} → i < length k → i < length s → getD s i 0 ≡ getD k i 0
-    → begins-with (drop i k) (drop i s) ≡ r → begins-with (drop (i + 1) k) (drop (i + 1) s) ≡ r
-begins-same k s i h g e inv = cc (begins-next k s i h g, eq-eqb _ _ e)
+pub begins_same : (k s : List ℕ) (i : ℕ) {r : Bool} → i < length k → i < length s → get_or s i 0 ≡ get_or k i 0
+    → begins_with (drop i k) (drop i s) ≡ r → begins_with (drop (i + 1) k) (drop (i + 1) s) ≡ r
+begins_same k s i h g e inv = cc (begins_next k s i h g, eq-eqb _ _ e)
 
-pub begins-other : (k s : List ℕ) (i : ℕ) {r : Bool} → i < length k → i < length s → (getD s i 0 ≡ getD k i 0 → ⊥)
-    → begins-with (drop i k) (drop i s) ≡ r → false ≡ r
-begins-other k s i h g e inv = cc (begins-next k s i h g, ne-eqb _ _ e)
+pub begins_other : (k s : List ℕ) (i : ℕ) {r : Bool} → i < length k → i < length s → (get_or s i 0 ≡ get_or k i 0 → ⊥)
+    → begins_with (drop i k) (drop i s) ≡ r → false ≡ r
+begins_other k s i h g e inv = cc (begins_next k s i h g, ne_eqb _ _ e)
 
 -- what follows the key is there exactly where the text begins with it
-pub after-key-is : (k s : Text) → after-key k s ≡ cond (begins-with k s) (some (drop (length k) s)) none
-unfolding after-key begins-with
-after-key-is [] s = refl
-after-key-is (k ∷ ks) [] = refl
-after-key-is (k ∷ ks) (b ∷ s) = go (eqb k b) refl (eqb b k) refl (after-key-is ks s)
+pub after_key_is : (k s : Text) → after_key k s ≡ cond (begins_with k s) (some (drop (length k) s)) none
+unfolding after_key begins_with
+after_key_is [] s = refl
+after_key_is (k ∷ ks) [] = refl
+after_key_is (k ∷ ks) (b ∷ s) = go (eqb k b) refl (eqb b k) refl (after_key_is ks s)
   where
     go : (p : Bool) → eqb k b ≡ p → (q : Bool) → eqb b k ≡ q
-        → after-key ks s ≡ cond (begins-with ks s) (some (drop (length ks) s)) none
-        → elim p [ true ↦ after-key ks s | false ↦ none ] ≡ cond (q && begins-with ks s) (some (drop (length ks) s)) none
+        → after_key ks s ≡ cond (begins_with ks s) (some (drop (length ks) s)) none
+        → elim p [ true ↦ after_key ks s | false ↦ none ] ≡ cond (q && begins_with ks s) (some (drop (length ks) s)) none
     go true e true f r = r
     go false e false f r = refl
     go true e false f r = let z : k ≡ b = eqb-true k b e in absurd (eqb-false b k f (cc))

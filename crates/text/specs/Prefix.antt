@@ -1,10 +1,8 @@
--- Whether a text begins with another: the test that `after-key` makes. Definitions only.
-use mathlib.Core.Bool.{Bool, true, false, _&&_}
-use mathlib.Core.List.{[], _∷_}
-use lib.Dec.{eqb}
-use Rattle·rules.specs.Bytes.{Text}
+-- Whether a text begins with another: the test that `after_key` makes. Definitions only.
+use Rattle.std.specs.Prelude.{Bool, true, false, ◌&&◌, [], ◌∷◌, eqb}
+use Rattle.rules.specs.Bytes.{Text}
 
-unfoldable pub begins-with : Text → Text → Bool
-begins-with [] s = true
-begins-with (k ∷ ks) [] = false
-begins-with (k ∷ ks) (b ∷ s) = eqb b k && begins-with ks s
+unfoldable pub begins_with : Text → Text → Bool
+begins_with [] s = true
+begins_with (k ∷ ks) [] = false
+begins_with (k ∷ ks) (b ∷ s) = eqb b k && begins_with ks s

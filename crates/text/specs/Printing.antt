@@ -1,14 +1,11 @@
 -- Bytes written into an output. Definitions only.
-use Prim.Native.Nat.{ℕ, _+_}
-use mathlib.Core.Path.{_≡_}
-use mathlib.Core.List.{List, _++_}
-use lib.ListN.{length, take, drop}
+use Rattle.std.specs.Prelude.{ℕ, ◌+◌, ◌≡◌, List, ◌++◌, length, take, drop}
 
 -- out with bs from at on
-unfoldable pub printed-over : List ℕ → ℕ → List ℕ → List ℕ
-printed-over out at bs = take at out ++ (bs ++ drop (at + length bs) out)
+unfoldable pub printed_over : List ℕ → ℕ → List ℕ → List ℕ
+printed_over out at bs = take at out ++ (bs ++ drop (at + length bs) out)
 
 -- v is out with bs from at on, and r is where they end
 pub record Printed (out v : List ℕ) (at : ℕ) (bs : List ℕ) (r : ℕ) : Type 0 where
-  pub bytes : v ≡ printed-over out at bs
+  pub bytes : v ≡ printed_over out at bs
   pub end : r ≡ at + length bs

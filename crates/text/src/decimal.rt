@@ -1,13 +1,13 @@
 // Decimal numbers: reading with a bound, and printing.
+ghost use Rattle.std.specs.Prelude.{◌≡◌, ◌+◌, ◌≤◌, length};
+ghost use Rattle.rules.specs.Decimal.{number_up_to, decimal};
+ghost use Rattle.text.specs.Numbers.{number_of};
+ghost use Rattle.text.specs.Printing.{Printed};
+
 use super::is_digit;
-ghost use mathlib.Core.Path.{_≡_};
-ghost use Prim.Native.Nat.{_+_, _≤_};
-ghost use lib.ListN.{length};
-ghost use Rattle·rules.specs.Decimal.{number-up-to, decimal};
-ghost use Rattle·text·specs.specs.Numbers.{number-of};
-ghost use Rattle·text·specs.specs.Printing.{Printed};
 
 // A number, or none.
+#[derive(Drop)]
 pub enum Number {
     Is(usize),
     Not,
@@ -15,7 +15,7 @@ pub enum Number {
 
 // The number that a text is in decimal, with no leading zero, up to a bound.
 pub fn number_up_to(text: &[u8], bound: usize) -> Number
-    ensures { λ r. ⌜ r ≡ number-of (number-up-to bound (now (text .entry))) ⌝ }
+    ensures { result ≡ number_of (number_up_to bound text.now) }
 {
     if text.len() == 0 {
         return Number::Not;
@@ -47,7 +47,7 @@ pub fn number_up_to(text: &[u8], bound: usize) -> Number
 
 // How many digits a number has.
 pub fn width_of(n: usize) -> usize
-    ensures { λ r. ⌜ r ≡ length (decimal n) ⌝ }
+    ensures { result ≡ length (decimal n) }
 {
     let mut m = n;
     let mut w = 1;
@@ -60,8 +60,8 @@ pub fn width_of(n: usize) -> usize
 
 // Writes a number in decimal from `at` on, and gives where it ends.
 pub fn print(n: usize, out: &mut [u8], at: usize) -> usize
-    requires { ⌜ at + length (decimal n) ≤ length (now out) ⌝ }
-    ensures { λ r. ⌜ Printed (now (out .entry)) (now (out .exit)) at (decimal n) r ⌝ }
+    requires { at + length (decimal n) ≤ length out.old }
+    ensures { Printed out.old out.new at (decimal n) result }
 {
     let end = at + width_of(n);
     let mut m = n;

@@ -1,23 +1,23 @@
 -- The children of a cell by its kind.
 use Prim.Native.Nat.{ℕ}
-use mathlib.Core.Path.{_≡_, refl, sym, ap, _∙_}
+use mathlib.Core.Path.{◌≡◌, refl, sym, ap, ◌∙◌}
 use mathlib.Core.List.{List}
-use Rattle·rules.specs.Bytes.{Text}
-use Rattle·rules.specs.Tree.{none, children}
-use Rattle·tree·specs.specs.Cells.{kind-of, first-of, tree-at, trees-at}
-use Rattle·tree·proofs.proofs.Decoding.{Kind, application, a-variable, an-atom, kind, tree-variable, tree-atom, tree-apply, trees-none}
+use Rattle.rules.specs.Bytes.{Text}
+use Rattle.rules.specs.Tree.{none, children}
+use Rattle.tree.specs.Cells.{kind_of, first_of, tree_at, trees_at}
+use Rattle.tree.proofs.Decoding.{Kind, application, a_variable, an_atom, kind, tree_variable, tree_atom, tree_apply, trees_none}
 
 -- the children of cell k, with its kind r as the code holds it
-module _ (s : Text) (w : List ℕ) (k : ℕ) {r : ℕ} (e : r ≡ kind-of w k) where
-  pub children-apply : {j : ℕ} → r ≡ 0 → j ≡ first-of w k → trees-at s w j ≡ children (tree-at s w k)
+module _ (s : Text) (w : List ℕ) (k : ℕ) {r : ℕ} (e : r ≡ kind_of w k) where
+  pub children_apply : {j : ℕ} → r ≡ 0 → j ≡ first_of w k → trees_at s w j ≡ children (tree_at s w k)
   unfolding children
-  children-apply f g = ap (trees-at s w) g ∙ sym (ap children (tree-apply s w k (sym e ∙ f)))
+  children_apply f g = ap (trees_at s w) g ∙ sym (ap children (tree_apply s w k (sym e ∙ f)))
 
-  no-children : Kind (kind-of w k) → (r ≡ 0 → ⊥) → children (tree-at s w k) ≡ none
+  no_children : Kind (kind_of w k) → (r ≡ 0 → ⊥) → children (tree_at s w k) ≡ none
   unfolding children
-  no-children (application g) f = absurd (f (e ∙ g))
-  no-children (a-variable p q) f = ap children (tree-variable s w k p q)
-  no-children (an-atom p) f = ap children (tree-atom s w k p)
+  no_children (application g) f = absurd (f (e ∙ g))
+  no_children (a_variable p q) f = ap children (tree_variable s w k p q)
+  no_children (an_atom p) f = ap children (tree_atom s w k p)
 
-  pub children-leaf : (r ≡ 0 → ⊥) → trees-at s w 0 ≡ children (tree-at s w k)
-  children-leaf f = trees-none s w 0 refl ∙ sym (no-children (kind (kind-of w k)) f)
+  pub children_leaf : (r ≡ 0 → ⊥) → trees_at s w 0 ≡ children (tree_at s w k)
+  children_leaf f = trees_none s w 0 refl ∙ sym (no_children (kind (kind_of w k)) f)

@@ -1,69 +1,69 @@
 -- The decoder at a cell, the frame law, and the measures of a walk over cells.
-use Prim.Native.Nat.{ℕ, zero, suc, _+_, _*_, _<_, _≤_}
-use mathlib.Core.Path.{_≡_, refl, sym, ap, ap₂, _∙_}
-use mathlib.Core.Bool.{Bool, _&&_}
+use Prim.Native.Nat.{ℕ, zero, suc, ◌+◌, ◌*◌, ◌<◌, ◌≤◌}
+use mathlib.Core.Path.{◌≡◌, refl, sym, ap, ap₂, ◌∙◌}
+use mathlib.Core.Bool.{Bool, ◌&&◌}
 use mathlib.Core.List.{List}
-use lib.ListN.{getD}
+use lib.ListN.{get_or}
 use native.Mathlib.Omega.{arith}
-use native.Mathlib.Decide.{decLt}
-use borrow.Author.Tests.{eq-eqb, ne-eqb, lt-ltb, le-ltb}
-use Rattle·rules.specs.Bytes.{Text}
-use Rattle·rules.specs.Tree.{Tree, variable, atom, apply, Trees, none, more, size, sizes}
-use Rattle·tree·specs.specs.Cells.{start-of, length-of, kind-of, first-of, next-of, nodes-of, named, name-at, made, forest, trees-at, tree-at}
-use Rattle·tree·specs.specs.Arena.{Links}
+use native.Mathlib.Decide.{dec_lt}
+use borrow.Author.Tests.{eq-eqb, ne_eqb, lt-ltb, le-ltb}
+use Rattle.rules.specs.Bytes.{Text}
+use Rattle.rules.specs.Tree.{Tree, variable, atom, apply, Trees, none, more, size, sizes}
+use Rattle.tree.specs.Cells.{start_of, length_of, kind_of, first_of, next_of, nodes_of, named, name_at, made, forest, trees_at, tree_at}
+use Rattle.tree.specs.Arena.{Links}
 
 -- a cell's kind is one of three
 pub data Kind (n : ℕ) : Type 0 where
   application : n ≡ 0 → Kind n
-  a-variable : 0 < n → n < 7 → Kind n
-  an-atom : 7 ≤ n → Kind n
+  a_variable : 0 < n → n < 7 → Kind n
+  an_atom : 7 ≤ n → Kind n
 
 pub kind : (n : ℕ) → Kind n
-kind n = elim (decLt 0 n) [ no p ↦ application (omega arith) | yes p ↦ elim (decLt n 7) [ yes q ↦ a-variable p q | no q ↦ an-atom (omega arith) ] ]
+kind n = elim (dec_lt 0 n) [ no p ↦ application (omega arith) | yes p ↦ elim (dec_lt n 7) [ yes q ↦ a_variable p q | no q ↦ an_atom (omega arith) ] ]
 
 module _ (k : ℕ) (n : Text) (ts : Trees) where
-  pub made-apply : k ≡ 0 → made k n ts ≡ apply n ts
+  pub made_apply : k ≡ 0 → made k n ts ≡ apply n ts
   unfolding made
-  made-apply e = rw (eq-eqb k 0 e)
+  made_apply e = rw (eq-eqb k 0 e)
 
-  pub made-variable : 0 < k → k < 7 → made k n ts ≡ variable n
+  pub made_variable : 0 < k → k < 7 → made k n ts ≡ variable n
   unfolding made
-  made-variable p q = rw (ne-eqb k 0 (omega arith), lt-ltb k 7 q)
+  made_variable p q = rw (ne_eqb k 0 (omega arith), lt-ltb k 7 q)
 
-  pub made-atom : 7 ≤ k → made k n ts ≡ atom k n
+  pub made_atom : 7 ≤ k → made k n ts ≡ atom k n
   unfolding made
-  made-atom p = rw (ne-eqb k 0 (omega arith), le-ltb k 7 p)
+  made_atom p = rw (ne_eqb k 0 (omega arith), le-ltb k 7 p)
 
 -- two areas have the same words in the cells below n
 abbrev pub Agree : List ℕ → List ℕ → ℕ → Type 0
-Agree w v n = (p : ℕ) → p < 4 * n → getD w p 0 ≡ getD v p 0
+Agree w v n = (p : ℕ) → p < 4 * n → get_or w p 0 ≡ get_or v p 0
 
 module _ (w v : List ℕ) {n : ℕ} (e : Agree w v n) (k : ℕ) (q : k < n) where
-  pub same-start : start-of w k ≡ start-of v k
-  unfolding start-of
-  same-start = rw (e (4 * k) (omega arith))
+  pub same_start : start_of w k ≡ start_of v k
+  unfolding start_of
+  same_start = rw (e (4 * k) (omega arith))
 
-  pub same-length : length-of w k ≡ length-of v k
-  unfolding length-of
-  same-length = rw (e (4 * k) (omega arith))
+  pub same_length : length_of w k ≡ length_of v k
+  unfolding length_of
+  same_length = rw (e (4 * k) (omega arith))
 
-  pub same-kind : kind-of w k ≡ kind-of v k
-  unfolding kind-of
-  same-kind = rw (e (4 * k + 1) (omega arith))
+  pub same_kind : kind_of w k ≡ kind_of v k
+  unfolding kind_of
+  same_kind = rw (e (4 * k + 1) (omega arith))
 
-  pub same-count : nodes-of w k ≡ nodes-of v k
-  unfolding nodes-of
-  same-count = rw (e (4 * k + 1) (omega arith))
+  pub same_count : nodes_of w k ≡ nodes_of v k
+  unfolding nodes_of
+  same_count = rw (e (4 * k + 1) (omega arith))
 
-  pub same-first : first-of w k ≡ first-of v k
-  same-first = e (4 * k + 2) (omega arith)
+  pub same_first : first_of w k ≡ first_of v k
+  same_first = e (4 * k + 2) (omega arith)
 
-  pub same-next : next-of w k ≡ next-of v k
-  same-next = e (4 * k + 3) (omega arith)
+  pub same_next : next_of w k ≡ next_of v k
+  same_next = e (4 * k + 3) (omega arith)
 
-  pub same-name : (s : Text) → name-at s w k ≡ name-at s v k
-  unfolding name-at
-  same-name s = ap₂ (named s) same-start same-length
+  pub same_name : (s : Text) → name_at s w k ≡ name_at s v k
+  unfolding name_at
+  same_name s = ap₂ (named s) same_start same_length
 
 -- enough fuel is enough
 fuel : (s : Text) (w : List ℕ) (n : ℕ) → Links w n → (f g k : ℕ) → k ≤ f → k ≤ g → k < n → forest f s w k ≡ forest g s w k
@@ -75,112 +75,112 @@ fuel s w n h (suc f) zero zero p q l = refl
 fuel s w n h (suc f) zero (suc k) p q l = absurd (omega arith)
 fuel s w n h (suc f) (suc g) zero p q l = refl
 fuel s w n h (suc f) (suc g) (suc k) p q l =
-    let lf = h .first (suc k) (omega arith) l in
-    let ln = h .next (suc k) (omega arith) l in
-    ap₂ (λ (a b : Trees). more (made (kind-of w (suc k)) (name-at s w (suc k)) a) b)
-    (fuel s w n h f g (first-of w (suc k)) (omega arith) (omega arith) (omega arith))
-    (fuel s w n h f g (next-of w (suc k)) (omega arith) (omega arith) (omega arith))
+    let lf = h.first (suc k) (omega arith) l in
+    let ln = h.next (suc k) (omega arith) l in
+    ap₂ (λ (a b : Trees). more (made (kind_of w (suc k)) (name_at s w (suc k)) a) b)
+    (fuel s w n h f g (first_of w (suc k)) (omega arith) (omega arith) (omega arith))
+    (fuel s w n h f g (next_of w (suc k)) (omega arith) (omega arith) (omega arith))
 
 -- no cell
-pub trees-none : (s : Text) (w : List ℕ) (k : ℕ) → k ≡ 0 → trees-at s w k ≡ none
-unfolding trees-at forest
-trees-none s w k e = rw e
+pub trees_none : (s : Text) (w : List ℕ) (k : ℕ) → k ≡ 0 → trees_at s w k ≡ none
+unfolding trees_at forest
+trees_none s w k e = rw e
 
 -- a cell with what follows it
-pub trees-more : {w : List ℕ} {n : ℕ} (s : Text) → Links w n → (k : ℕ) → 0 < k → k < n → trees-at s w k ≡ more (tree-at s w k) (trees-at s w (next-of w k))
-unfolding trees-at tree-at forest
-trees-more {w} {n} s a zero p q = absurd (omega arith)
-trees-more {w} {n} s a (suc k) p q =
-    let lf = a .first (suc k) p q in
-    let ln = a .next (suc k) p q in
-    ap₂ (λ (a b : Trees). more (made (kind-of w (suc k)) (name-at s w (suc k)) a) b)
-    (fuel s w n a k (first-of w (suc k)) (first-of w (suc k)) (omega arith) (omega arith) (omega arith))
-    (fuel s w n a k (next-of w (suc k)) (next-of w (suc k)) (omega arith) (omega arith) (omega arith))
+pub trees_more : {w : List ℕ} {n : ℕ} (s : Text) → Links w n → (k : ℕ) → 0 < k → k < n → trees_at s w k ≡ more (tree_at s w k) (trees_at s w (next_of w k))
+unfolding trees_at tree_at forest
+trees_more {w} {n} s a zero p q = absurd (omega arith)
+trees_more {w} {n} s a (suc k) p q =
+    let lf = a.first (suc k) p q in
+    let ln = a.next (suc k) p q in
+    ap₂ (λ (a b : Trees). more (made (kind_of w (suc k)) (name_at s w (suc k)) a) b)
+    (fuel s w n a k (first_of w (suc k)) (first_of w (suc k)) (omega arith) (omega arith) (omega arith))
+    (fuel s w n a k (next_of w (suc k)) (next_of w (suc k)) (omega arith) (omega arith) (omega arith))
 
 -- the frame law: where two areas agree on the words of the cells below n, so do the trees there
-frame-forest : (s : Text) (w v : List ℕ) (n : ℕ) → Links w n → Agree w v n → (f k : ℕ) → k < n → forest f s w k ≡ forest f s v k
+frame_forest : (s : Text) (w v : List ℕ) (n : ℕ) → Links w n → Agree w v n → (f k : ℕ) → k < n → forest f s w k ≡ forest f s v k
 unfolding forest
-frame-forest s w v n h e zero k l = refl
-frame-forest s w v n h e (suc f) zero l = refl
-frame-forest s w v n h e (suc f) (suc k) l =
-    let lf = h .first (suc k) (omega arith) l in
-    let ln = h .next (suc k) (omega arith) l in
-    let first = frame-forest s w v n h e f (first-of w (suc k)) (omega arith) in
-    let next = frame-forest s w v n h e f (next-of w (suc k)) (omega arith) in
-    rw (first, next, same-kind w v e (suc k) l, same-name w v e (suc k) l s, same-first w v e (suc k) l, same-next w v e (suc k) l)
+frame_forest s w v n h e zero k l = refl
+frame_forest s w v n h e (suc f) zero l = refl
+frame_forest s w v n h e (suc f) (suc k) l =
+    let lf = h.first (suc k) (omega arith) l in
+    let ln = h.next (suc k) (omega arith) l in
+    let first = frame_forest s w v n h e f (first_of w (suc k)) (omega arith) in
+    let next = frame_forest s w v n h e f (next_of w (suc k)) (omega arith) in
+    rw (first, next, same_kind w v e (suc k) l, same_name w v e (suc k) l s, same_first w v e (suc k) l, same_next w v e (suc k) l)
 
-pub frame-trees : {w : List ℕ} {n : ℕ} (s : Text) (v : List ℕ) → Links w n → Agree w v n → (k : ℕ) → k < n → trees-at s w k ≡ trees-at s v k
-unfolding trees-at
-frame-trees {w} {n} s v a e k l = frame-forest s w v n a e k k l
+pub frame_trees : {w : List ℕ} {n : ℕ} (s : Text) (v : List ℕ) → Links w n → Agree w v n → (k : ℕ) → k < n → trees_at s w k ≡ trees_at s v k
+unfolding trees_at
+frame_trees {w} {n} s v a e k l = frame_forest s w v n a e k k l
 
-pub frame-tree : {w : List ℕ} {n : ℕ} (s : Text) (v : List ℕ) → Links w n → Agree w v n → (k : ℕ) → 0 < k → k < n → tree-at s w k ≡ tree-at s v k
-unfolding tree-at
-frame-tree {w} {n} s v a e k p l =
-    let lf = a .first k p l in
-    let first = frame-trees s v a e (first-of w k) (omega arith) in
-    rw (first, same-kind w v e k l, same-name w v e k l s, same-first w v e k l)
+pub frame_tree : {w : List ℕ} {n : ℕ} (s : Text) (v : List ℕ) → Links w n → Agree w v n → (k : ℕ) → 0 < k → k < n → tree_at s w k ≡ tree_at s v k
+unfolding tree_at
+frame_tree {w} {n} s v a e k p l =
+    let lf = a.first k p l in
+    let first = frame_trees s v a e (first_of w k) (omega arith) in
+    rw (first, same_kind w v e k l, same_name w v e k l s, same_first w v e k l)
 
 -- the tree of a cell, by its kind
 module _ (s : Text) (w : List ℕ) (k : ℕ) where
-  pub tree-variable : 0 < kind-of w k → kind-of w k < 7 → tree-at s w k ≡ variable (name-at s w k)
-  unfolding tree-at
-  tree-variable p q = made-variable (kind-of w k) (name-at s w k) (trees-at s w (first-of w k)) p q
+  pub tree_variable : 0 < kind_of w k → kind_of w k < 7 → tree_at s w k ≡ variable (name_at s w k)
+  unfolding tree_at
+  tree_variable p q = made_variable (kind_of w k) (name_at s w k) (trees_at s w (first_of w k)) p q
 
-  pub tree-atom : 7 ≤ kind-of w k → tree-at s w k ≡ atom (kind-of w k) (name-at s w k)
-  unfolding tree-at
-  tree-atom p = made-atom (kind-of w k) (name-at s w k) (trees-at s w (first-of w k)) p
+  pub tree_atom : 7 ≤ kind_of w k → tree_at s w k ≡ atom (kind_of w k) (name_at s w k)
+  unfolding tree_at
+  tree_atom p = made_atom (kind_of w k) (name_at s w k) (trees_at s w (first_of w k)) p
 
-  pub tree-apply : kind-of w k ≡ 0 → tree-at s w k ≡ apply (name-at s w k) (trees-at s w (first-of w k))
-  unfolding tree-at
-  tree-apply e = made-apply (kind-of w k) (name-at s w k) (trees-at s w (first-of w k)) e
+  pub tree_apply : kind_of w k ≡ 0 → tree_at s w k ≡ apply (name_at s w k) (trees_at s w (first_of w k))
+  unfolding tree_at
+  tree_apply e = made_apply (kind_of w k) (name_at s w k) (trees_at s w (first_of w k)) e
 
 -- a tree has a node
-pub size-pos : (t : Tree) → 0 < size t
+pub size_pos : (t : Tree) → 0 < size t
 unfolding size
-size-pos (variable n) = omega arith
-size-pos (atom l d) = omega arith
-size-pos (apply n ts) = omega arith
+size_pos (variable n) = omega arith
+size_pos (atom l d) = omega arith
+size_pos (apply n ts) = omega arith
 
 -- the counts of a cell's parts
-pub size-leaf : (s : Text) (w : List ℕ) (k : ℕ) → 0 < kind-of w k → Kind (kind-of w k) → size (tree-at s w k) ≡ 1
+pub size_leaf : (s : Text) (w : List ℕ) (k : ℕ) → 0 < kind_of w k → Kind (kind_of w k) → size (tree_at s w k) ≡ 1
 unfolding size
-size-leaf s w k p (application e) = absurd (omega arith)
-size-leaf s w k p (a-variable q r) = ap size (tree-variable s w k q r)
-size-leaf s w k p (an-atom q) = ap size (tree-atom s w k q)
+size_leaf s w k p (application e) = absurd (omega arith)
+size_leaf s w k p (a_variable q r) = ap size (tree_variable s w k q r)
+size_leaf s w k p (an_atom q) = ap size (tree_atom s w k q)
 
-pub size-apply : (s : Text) (w : List ℕ) (k : ℕ) → kind-of w k ≡ 0 → size (tree-at s w k) ≡ 1 + sizes (trees-at s w (first-of w k))
+pub size_apply : (s : Text) (w : List ℕ) (k : ℕ) → kind_of w k ≡ 0 → size (tree_at s w k) ≡ 1 + sizes (trees_at s w (first_of w k))
 unfolding size
-size-apply s w k e = ap size (tree-apply s w k e)
+size_apply s w k e = ap size (tree_apply s w k e)
 
-pub sizes-none : (s : Text) (w : List ℕ) (k : ℕ) → k ≡ 0 → sizes (trees-at s w k) ≡ 0
+pub sizes_none : (s : Text) (w : List ℕ) (k : ℕ) → k ≡ 0 → sizes (trees_at s w k) ≡ 0
 unfolding size
-sizes-none s w k e = ap sizes (trees-none s w k e)
+sizes_none s w k e = ap sizes (trees_none s w k e)
 
-pub sizes-more : {w : List ℕ} {n : ℕ} (s : Text) → Links w n → (k : ℕ) → 0 < k → k < n → sizes (trees-at s w k) ≡ size (tree-at s w k) + sizes (trees-at s w (next-of w k))
+pub sizes_more : {w : List ℕ} {n : ℕ} (s : Text) → Links w n → (k : ℕ) → 0 < k → k < n → sizes (trees_at s w k) ≡ size (tree_at s w k) + sizes (trees_at s w (next_of w k))
 unfolding size
-sizes-more s l k p q = ap sizes (trees-more s l k p q)
+sizes_more s l k p q = ap sizes (trees_more s l k p q)
 
-pub sizes-is : (s : Text) (w : List ℕ) {i j : ℕ} → i ≡ j → sizes (trees-at s w i) ≡ sizes (trees-at s w j)
-sizes-is s w e = rw e
+pub sizes_is : (s : Text) (w : List ℕ) {i j : ℕ} → i ≡ j → sizes (trees_at s w i) ≡ sizes (trees_at s w j)
+sizes_is s w e = rw e
 
 -- a count is of 16 bits
-pub count-small : (w : List ℕ) (k : ℕ) → nodes-of w k < 65536
-unfolding nodes-of
-count-small w k = omega arith
+pub count_small : (w : List ℕ) (k : ℕ) → nodes_of w k < 65536
+unfolding nodes_of
+count_small w k = omega arith
 
 -- The measures of a walk: twice the count of nodes of a tree, and one more than that of a list. They fall from a tree to its list,
 -- from a list to its first tree and from a list to its rest.
-pub children-fall : (s : Text) (w : List ℕ) (k j : ℕ) → kind-of w k ≡ 0 → j ≡ first-of w k → 2 * sizes (trees-at s w j) + 1 < 2 * size (tree-at s w k)
-children-fall s w k j e f = omega (arith, size-apply s w k e, sizes-is s w f)
+pub children_fall : (s : Text) (w : List ℕ) (k j : ℕ) → kind_of w k ≡ 0 → j ≡ first_of w k → 2 * sizes (trees_at s w j) + 1 < 2 * size (tree_at s w k)
+children_fall s w k j e f = omega (arith, size_apply s w k e, sizes_is s w f)
 
-pub head-falls : {w : List ℕ} {n : ℕ} (s : Text) → Links w n → (k : ℕ) → 0 < k → k < n → 2 * size (tree-at s w k) < 2 * sizes (trees-at s w k) + 1
-head-falls s l k p q = omega (arith, sizes-more s l k p q)
+pub head_falls : {w : List ℕ} {n : ℕ} (s : Text) → Links w n → (k : ℕ) → 0 < k → k < n → 2 * size (tree_at s w k) < 2 * sizes (trees_at s w k) + 1
+head_falls s l k p q = omega (arith, sizes_more s l k p q)
 
-pub rest-falls : {w : List ℕ} {n : ℕ} (s : Text) → Links w n → (k j : ℕ) → 0 < k → k < n → j ≡ next-of w k → 2 * sizes (trees-at s w j) + 1 < 2 * sizes (trees-at s w k) + 1
-rest-falls {w} s l k j p q e = omega (arith, sizes-more s l k p q, size-pos (tree-at s w k), sizes-is s w e)
+pub rest_falls : {w : List ℕ} {n : ℕ} (s : Text) → Links w n → (k j : ℕ) → 0 < k → k < n → j ≡ next_of w k → 2 * sizes (trees_at s w j) + 1 < 2 * sizes (trees_at s w k) + 1
+rest_falls {w} s l k j p q e = omega (arith, sizes_more s l k p q, size_pos (tree_at s w k), sizes_is s w e)
 
 -- A test of every tree of a list, from the answers at its first cell and at its next.
 module _ (f : Tree → Bool) (fs : Trees → Bool) (step : (t : Tree) (ts : Trees) → fs (more t ts) ≡ f t && fs ts) where
-  pub all-more : {w : List ℕ} {n : ℕ} (s : Text) (k j : ℕ) (b all : Bool) → Links w n → 0 < k → k < n → j ≡ next-of w k → b ≡ f (tree-at s w k) → all ≡ fs (trees-at s w j)
-      → b && all ≡ fs (trees-at s w k)
-  all-more {w} s k j b all l p q e g h = ap₂ _&&_ g (h ∙ ap (λ (j : ℕ). fs (trees-at s w j)) e) ∙ sym (ap fs (trees-more s l k p q) ∙ step (tree-at s w k) (trees-at s w (next-of w k)))
+  pub all_more : {w : List ℕ} {n : ℕ} (s : Text) (k j : ℕ) (b all : Bool) → Links w n → 0 < k → k < n → j ≡ next_of w k → b ≡ f (tree_at s w k) → all ≡ fs (trees_at s w j)
+      → b && all ≡ fs (trees_at s w k)
+  all_more {w} s k j b all l p q e g h = ap₂ ◌&&◌ g (h ∙ ap (λ (j : ℕ). fs (trees_at s w j)) e) ∙ sym (ap fs (trees_more s l k p q) ∙ step (tree_at s w k) (trees_at s w (next_of w k)))

@@ -1,38 +1,38 @@
 -- Bytes written into an output, one after another.
-use Prim.Native.Nat.{ℕ, _+_, _<_, _≤_}
-use mathlib.Core.Path.{_≡_, sym, ap, ap₂, _∙_}
-use mathlib.Core.List.{List, [], _∷_, _++_, append-assoc}
-use lib.ListN.{length, getD, take, drop, set, length-append, length-take, length-drop, take-append-drop}
-use lib.Seq.{take-at, drop-append-add, drop-drop, set-split, take-suc, length-take-le}
+use Prim.Native.Nat.{ℕ, ◌+◌, ◌<◌, ◌≤◌}
+use mathlib.Core.Path.{◌≡◌, sym, ap, ap₂, ◌∙◌}
+use mathlib.Core.List.{List, [], ◌∷◌, ◌++◌, append_assoc}
+use lib.ListN.{length, get_or, take, drop, set, length-append, length-take, length-drop, take-append-drop}
+use lib.Seq.{take_at, drop-append-add, drop-drop, set_split, take-suc, length-take-le}
 use native.Mathlib.Nat.{add-zero}
 use native.Mathlib.Numerals.{add-one}
 use native.Mathlib.Omega.{arith}
-use Rattle·rules.specs.Bytes.{Text}
-use Rattle·rules.specs.Answer.{line}
-use Rattle·text.specs.Printing.{printed-over, Printed}
+use Rattle.rules.specs.Bytes.{Text}
+use Rattle.rules.specs.Answer.{line}
+use Rattle.text.specs.Printing.{printed_over, Printed}
 
-pub written-none : (out : List ℕ) (at : ℕ) → printed-over out at [] ≡ out
-unfolding printed-over
-written-none out at = rw add-zero (take-append-drop at out)
+pub written_none : (out : List ℕ) (at : ℕ) → printed_over out at [] ≡ out
+unfolding printed_over
+written_none out at = rw add-zero (take-append-drop at out)
 
-pub length-written : (out : List ℕ) (at : ℕ) (bs : List ℕ) → at + length bs ≤ length out → length (printed-over out at bs) ≡ length out
-unfolding printed-over
-length-written out at bs h = simp (length-append, length-take, length-drop) (omega arith)
+pub length_written : (out : List ℕ) (at : ℕ) (bs : List ℕ) → at + length bs ≤ length out → length (printed_over out at bs) ≡ length out
+unfolding printed_over
+length_written out at bs h = simp (length-append, length-take, length-drop) (omega arith)
 
 -- one byte
-pub written-byte : (out : List ℕ) (at b : ℕ) → at < length out → set out at b ≡ printed-over out at (b ∷ [])
-unfolding printed-over
-written-byte out at b h = set-split out at b h ∙ rw add-one
+pub written_byte : (out : List ℕ) (at b : ℕ) → at < length out → set out at b ≡ printed_over out at (b ∷ [])
+unfolding printed_over
+written_byte out at b h = set_split out at b h ∙ rw add-one
 
 -- one part after another
-pub written-then : (out : List ℕ) (at : ℕ) (a b : List ℕ) → at + length a ≤ length out → printed-over (printed-over out at a) (at + length a) b ≡ printed-over out at (a ++ b)
-unfolding printed-over
-written-then out at a b h =
+pub written_then : (out : List ℕ) (at : ℕ) (a b : List ℕ) → at + length a ≤ length out → printed_over (printed_over out at a) (at + length a) b ≡ printed_over out at (a ++ b)
+unfolding printed_over
+written_then out at a b h =
     let D = drop (at + length a) out in
     let P = take at out ++ a in
     let len : length P ≡ at + length a = simp (length-append, length-take) (omega arith) in
-    let whole : take at out ++ (a ++ D) ≡ P ++ D = sym (append-assoc (take at out) a D) in
-    let front : take (at + length a) (take at out ++ (a ++ D)) ≡ P = ap (take (at + length a)) whole ∙ take-at P D (at + length a) len in
+    let whole : take at out ++ (a ++ D) ≡ P ++ D = sym (append_assoc (take at out) a D) in
+    let front : take (at + length a) (take at out ++ (a ++ D)) ≡ P = ap (take (at + length a)) whole ∙ take_at P D (at + length a) len in
     let sum : at + length a + length b ≡ at + length (a ++ b) = omega (arith, length-append a b) in
     let back : drop (at + length a + length b) (take at out ++ (a ++ D)) ≡ drop (at + length (a ++ b)) out =
     ap₂ (λ (n : ℕ) (l : List ℕ). drop (n + length b) l) (sym len) whole
@@ -40,37 +40,37 @@ written-then out at a b h =
     ∙ drop-drop (length b) (at + length a) out
     ∙ ap (λ (n : ℕ). drop n out) sum in
     ap₂ (λ (x y : List ℕ). x ++ (b ++ y)) front back
-    ∙ append-assoc (take at out) a (b ++ drop (at + length (a ++ b)) out)
-    ∙ ap (λ (x : List ℕ). take at out ++ x) (sym (append-assoc a b (drop (at + length (a ++ b)) out)))
+    ∙ append_assoc (take at out) a (b ++ drop (at + length (a ++ b)) out)
+    ∙ ap (λ (x : List ℕ). take at out ++ x) (sym (append_assoc a b (drop (at + length (a ++ b)) out)))
 
 -- a part printed after another
-pub printed-then : {out v u : List ℕ} {at r q : ℕ} {a b : List ℕ} → at + length a ≤ length out → Printed out v at a r → Printed v u r b q → Printed out u at (a ++ b) q
-printed-then {out} {v} {u} {at} {r} {q} {a} {b} h x y = record {
-  bytes = y .bytes ∙ ap₂ (λ (l : List ℕ) (n : ℕ). printed-over l n b) (x .bytes) (x .end) ∙ written-then out at a b h;
-  end = omega (arith, y .end, x .end, length-append a b);
+pub printed_then : {out v u : List ℕ} {at r q : ℕ} {a b : List ℕ} → at + length a ≤ length out → Printed out v at a r → Printed v u r b q → Printed out u at (a ++ b) q
+printed_then {out} {v} {u} {at} {r} {q} {a} {b} h x y = record {
+  bytes = y.bytes ∙ ap₂ (λ (l : List ℕ) (n : ℕ). printed_over l n b) x.bytes x.end ∙ written_then out at a b h;
+  end = omega (arith, y.end, x.end, length-append a b);
 }
 
 -- a turn of the loop that prints a text
-pub written-more : (out text : List ℕ) (at i : ℕ) → at + length text ≤ length out → i < length text → set (printed-over out at (take i text)) (at + i) (getD text i 0) ≡ printed-over out at (take (i + 1) text)
-written-more out text at i h l =
+pub written_more : (out text : List ℕ) (at i : ℕ) → at + length text ≤ length out → i < length text → set (printed_over out at (take i text)) (at + i) (get_or text i 0) ≡ printed_over out at (take (i + 1) text)
+written_more out text at i h l =
     let a = take i text in
-    let x = getD text i 0 in
+    let x = get_or text i 0 in
     let len : length a ≡ i = length-take-le i text (omega arith) in
-    let long = length-written out at a (omega arith) in
-    written-byte (printed-over out at a) (at + i) x (omega arith)
-    ∙ ap (λ (n : ℕ). printed-over (printed-over out at a) (at + n) (x ∷ [])) (sym len)
-    ∙ written-then out at a (x ∷ []) (omega arith)
-    ∙ ap (printed-over out at) (sym (ap (λ (n : ℕ). take n text) (add-one i) ∙ take-suc text i 0 l))
+    let long = length_written out at a (omega arith) in
+    written_byte (printed_over out at a) (at + i) x (omega arith)
+    ∙ ap (λ (n : ℕ). printed_over (printed_over out at a) (at + n) (x ∷ [])) (sym len)
+    ∙ written_then out at a (x ∷ []) (omega arith)
+    ∙ ap (printed_over out at) (sym (ap (λ (n : ℕ). take n text) (add-one i) ∙ take-suc text i 0 l))
 
-pub printed-none : (out : Text) (at : ℕ) {t : Text} → t ≡ [] → Printed out out at t at
-printed-none out at e = rw e record { bytes = sym (written-none out at); end = omega arith }
+pub printed_none : (out : Text) (at : ℕ) {t : Text} → t ≡ [] → Printed out out at t at
+printed_none out at e = rw e record { bytes = sym (written_none out at); end = omega arith }
 
 -- a line: its key, its value, byte 10
-pub line-length : (key v : Text) → length (line key v) ≡ length key + length v + 1
-line-length key v = simp length-append
+pub line_length : (key v : Text) → length (line key v) ≡ length key + length v + 1
+line_length key v = simp length-append
 
-pub line-printed : {out a b c : Text} {at i j n : ℕ} (key v : Text) → at + (length key + length v + 1) ≤ length out → Printed out a at key i → Printed a b i v j → Printed b c j (10 ∷ []) n
+pub line_printed : {out a b c : Text} {at i j n : ℕ} (key v : Text) → at + (length key + length v + 1) ≤ length out → Printed out a at key i → Printed a b i v j → Printed b c j (10 ∷ []) n
     → Printed out c at (line key v) n
-line-printed key v h p q r =
+line_printed key v h p q r =
     let f = length-append key v in
-    printed-then (omega arith) (printed-then (omega arith) p q) r
+    printed_then (omega arith) (printed_then (omega arith) p q) r

@@ -1,12 +1,11 @@
 // The words of a cell, and new cells at the free end.
+ghost use Rattle.std.specs.Prelude.{◌≡◌, ◌+◌, ◌*◌, ◌<◌, ◌≤◌, ◌^◌, length};
+ghost use Rattle.rules.specs.Tree.{variable, size, sizes};
+ghost use Rattle.laws.specs.Unspelled.{unspelled};
+ghost use Rattle.tree.specs.Cells.{start_of, length_of, kind_of, nodes_of, first_of, next_of, tree_at, trees_at};
+ghost use Rattle.tree.specs.Arena.{Links, Arena, WroteCell, Linked};
+
 use text::places::wide;
-ghost use mathlib.Core.Path.{_≡_};
-ghost use Prim.Native.Nat.{_+_, _*_, _<_, _≤_, _^_};
-ghost use lib.ListN.{length};
-ghost use Rattle·rules.specs.Tree.{variable, size, sizes};
-ghost use Rattle·laws.specs.Unspelled.{unspelled};
-ghost use Rattle·tree·specs.specs.Cells.{start-of, length-of, kind-of, nodes-of, first-of, next-of, tree-at, trees-at};
-ghost use Rattle·tree·specs.specs.Arena.{Links, Arena, WroteCell, Linked};
 
 // The kinds of cells (specs/Cells.antt): an application, a variable by its sort, and from ATOMS on an atom by its letter.
 pub const APPLICATION: usize = 0;
@@ -31,49 +30,49 @@ const UNSPELLED: usize = 7;
 
 // The start of a cell's name in the sheet, or the code of its name.
 pub fn start_of(work: &[u32], k: usize) -> usize
-    requires { ⌜ 4 * k + 4 ≤ length (now work) ⌝ }
-    ensures { λ r. ⌜ r ≡ start-of (now (work .entry)) k ⌝ }
+    requires { 4 * k + 4 ≤ length work.now }
+    ensures { result ≡ start_of work.now k }
 {
     wide(work[4 * k]) / 65536
 }
 
 // The length of a cell's name in the sheet, 0 for a name by its code.
 pub fn length_of(work: &[u32], k: usize) -> usize
-    requires { ⌜ 4 * k + 4 ≤ length (now work) ⌝ }
-    ensures { λ r. ⌜ r ≡ length-of (now (work .entry)) k ⌝ }
+    requires { 4 * k + 4 ≤ length work.now }
+    ensures { result ≡ length_of work.now k }
 {
     wide(work[4 * k]) % 65536
 }
 
 pub fn kind_of(work: &[u32], k: usize) -> usize
-    requires { ⌜ 4 * k + 4 ≤ length (now work) ⌝ }
-    ensures { λ r. ⌜ r ≡ kind-of (now (work .entry)) k ⌝ }
+    requires { 4 * k + 4 ≤ length work.now }
+    ensures { result ≡ kind_of work.now k }
 {
     wide(work[4 * k + 1]) / 65536
 }
 
 // The count of nodes.
 pub fn count_of(work: &[u32], k: usize) -> usize
-    requires { ⌜ 4 * k + 4 ≤ length (now work) ⌝ }
-    ensures { λ r. ⌜ (r ≡ nodes-of (now (work .entry)) k) × (r < 65536) ⌝ }
+    requires { 4 * k + 4 ≤ length work.now }
+    ensures { (result ≡ nodes_of work.now k) × (result < 65536) }
 {
     wide(work[4 * k + 1]) % 65536
 }
 
 // The first child, 0 for none.
 pub fn first_of(work: &[u32], free: usize, k: usize) -> usize
-    requires { ⌜ Links (now work) free ⌝ }
-    requires { ⌜ (0 < k) × (k < free) ⌝ }
-    ensures { λ r. ⌜ (r ≡ first-of (now (work .entry)) k) × (r < k) ⌝ }
+    requires links { Links work.now free }
+    requires k_nonzero { (0 < k) × (k < free) }
+    ensures { (result ≡ first_of work.now k) × (result < k) }
 {
     wide(work[4 * k + 2])
 }
 
 // The next sibling, 0 for none.
 pub fn next_of(work: &[u32], free: usize, k: usize) -> usize
-    requires { ⌜ Links (now work) free ⌝ }
-    requires { ⌜ (0 < k) × (k < free) ⌝ }
-    ensures { λ r. ⌜ (r ≡ next-of (now (work .entry)) k) × (r < k) ⌝ }
+    requires links { Links work.now free }
+    requires k_nonzero { (0 < k) × (k < free) }
+    ensures { (result ≡ next_of work.now k) × (result < k) }
 {
     wide(work[4 * k + 3])
 }
@@ -89,10 +88,10 @@ pub fn push_cell(
     next: usize,
     count: usize,
 ) -> usize
-    requires { ⌜ 4 * free + 4 ≤ length (now work) ⌝ }
-    requires { ⌜ (start < 65536) × (len < 65536) × (kind < 65536) × (count < 65536) ⌝ }
-    requires { ⌜ (first < 2 ^ 32) × (next < 2 ^ 32) ⌝ }
-    ensures { λ r. ⌜ (r ≡ free + 1) × WroteCell (now (work .entry)) (now (work .exit)) free start len kind first next count ⌝ }
+    requires free_in_bounds { 4 * free + 4 ≤ length work.old }
+    requires start_bound { (start < 65536) × (len < 65536) × (kind < 65536) × (count < 65536) }
+    requires first_bound { (first < 2 ^ 32) × (next < 2 ^ 32) }
+    ensures { (result ≡ free + 1) × WroteCell work.old work.new free start len kind first next count }
 {
     let at = 4 * free;
     work[at] = (start * 65536 + len) as u32;
@@ -111,9 +110,9 @@ pub fn push_like(
     next: usize,
     count: usize,
 ) -> usize
-    requires { ⌜ (4 * free + 4 ≤ length (now work)) × (k < free) ⌝ }
-    requires { ⌜ (first < 2 ^ 32) × (next < 2 ^ 32) × (count < 65536) ⌝ }
-    ensures { λ r. ⌜ (r ≡ free + 1) × WroteCell (now (work .entry)) (now (work .exit)) free (start-of (now (work .entry)) k) (length-of (now (work .entry)) k) (kind-of (now (work .entry)) k) first next count ⌝ }
+    requires free_in_bounds { (4 * free + 4 ≤ length work.old) × (k < free) }
+    requires first_bound { (first < 2 ^ 32) × (next < 2 ^ 32) × (count < 65536) }
+    ensures { (result ≡ free + 1) × WroteCell work.old work.new free (start_of work.old k) (length_of work.old k) (kind_of work.old k) first next count }
 {
     let place = wide(work[4 * k]);
     let mark = wide(work[4 * k + 1]);
@@ -131,10 +130,10 @@ pub fn push_like(
 
 // Writes the tree of cell k once more, before the list at `next`, and returns the free end after it.
 pub fn share(sheet: &[u8], work: &mut [u32], free: usize, k: usize, next: usize) -> usize
-    requires { ⌜ Arena (now sheet) (now work) free ⌝ }
-    requires { ⌜ (0 < k) × (k < free) × (next < free) ⌝ }
-    requires { ⌜ (4 * free + 4 ≤ length (now work)) × (free < 2 ^ 32) ⌝ }
-    ensures { λ r. ⌜ (r ≡ free + 1) × Linked (now (sheet .entry)) (now (work .entry)) (now (work .exit)) free next (tree-at (now (sheet .entry)) (now (work .entry)) k) ⌝ }
+    requires arena { Arena sheet.now work.old free }
+    requires k_nonzero { (0 < k) × (k < free) × (next < free) }
+    requires free_in_bounds { (4 * free + 4 ≤ length work.old) × (free < 2 ^ 32) }
+    ensures { (result ≡ free + 1) × Linked sheet.now work.old work.new free next (tree_at sheet.now work.old k) }
 {
     let count = count_of(work, k);
     let first = first_of(work, free, k);
@@ -143,19 +142,20 @@ pub fn share(sheet: &[u8], work: &mut [u32], free: usize, k: usize, next: usize)
 
 // Writes the variable with the n-th name that no sheet spells, before the list at `next`, and returns the free end after it.
 pub fn push_unspelled(sheet: &[u8], work: &mut [u32], free: usize, n: usize, next: usize) -> usize
-    requires { ⌜ Arena (now sheet) (now work) free ⌝ }
-    requires { ⌜ (n < 24) × (next < free) ⌝ }
-    requires { ⌜ (4 * free + 4 ≤ length (now work)) × (free < 2 ^ 32) ⌝ }
-    ensures { λ r. ⌜ (r ≡ free + 1) × Linked (now (sheet .entry)) (now (work .entry)) (now (work .exit)) free next (variable (unspelled n)) ⌝ }
+    requires arena { Arena sheet.now work.old free }
+    requires n_bound { (n < 24) × (next < free) }
+    requires free_in_bounds { (4 * free + 4 ≤ length work.old) × (free < 2 ^ 32) }
+    ensures { (result ≡ free + 1) × Linked sheet.now work.old work.new free next (variable (unspelled n)) }
 {
     push_cell(work, free, n + UNSPELLED, 0, VARIABLE_MSG, 0, next, 1)
 }
 
 // The number of nodes of the tree of cell i.
+#[cycle(size_sizes)]
 fn size(sheet: &[u8], work: &[u32], free: usize, i: usize) -> usize
-    requires { ⌜ Arena (now sheet) (now work) free ⌝ }
-    requires { ⌜ (0 < i) × (i < free) ⌝ }
-    ensures { λ r. ⌜ r ≡ size (tree-at (now (sheet .entry)) (now (work .entry)) i) ⌝ }
+    requires arena { Arena sheet.now work.now free }
+    requires i_nonzero { (0 < i) × (i < free) }
+    ensures { result ≡ size (tree_at sheet.now work.now i) }
 {
     if APPLICATION < kind_of(work, i) {
         return 1;
@@ -164,11 +164,12 @@ fn size(sheet: &[u8], work: &[u32], free: usize, i: usize) -> usize
 }
 
 // The number of nodes of the list from cell i on.
+#[cycle(size_sizes)]
 fn sizes(sheet: &[u8], work: &[u32], free: usize, i: usize) -> usize
-    requires { ⌜ Arena (now sheet) (now work) free ⌝ }
-    requires { ⌜ i < free ⌝ }
-    requires { ⌜ sizes (trees-at (now sheet) (now work) i) < 65536 ⌝ }
-    ensures { λ r. ⌜ r ≡ sizes (trees-at (now (sheet .entry)) (now (work .entry)) i) ⌝ }
+    requires arena { Arena sheet.now work.now free }
+    requires i_lt_free { i < free }
+    requires i_bound { sizes (trees_at sheet.now work.now i) < 65536 }
+    ensures { result ≡ sizes (trees_at sheet.now work.now i) }
 {
     if i == 0 {
         return 0;

@@ -1,19 +1,17 @@
 // The children of a cell as a list.
-use crate::cells::APPLICATION;
-use crate::cells::first_of;
-use crate::cells::kind_of;
-ghost use mathlib.Core.Path.{_≡_};
-ghost use Prim.Native.Nat.{_<_};
-ghost use Rattle·rules.specs.Bytes.{Text};
-ghost use Rattle·rules.specs.Tree.{children};
-ghost use Rattle·tree·specs.specs.Cells.{kind-of, first-of, tree-at, trees-at};
-ghost use Rattle·tree·specs.specs.Arena.{Links};
+ghost use Rattle.std.specs.Prelude.{◌≡◌, ◌<◌};
+ghost use Rattle.rules.specs.Bytes.{Text};
+ghost use Rattle.rules.specs.Tree.{children};
+ghost use Rattle.tree.specs.Cells.{kind_of, first_of, tree_at, trees_at};
+ghost use Rattle.tree.specs.Arena.{Links};
+
+use crate::cells::{APPLICATION, first_of, kind_of};
 
 // The first child of cell k, 0 for a leaf.
 pub fn child_of(work: &[u32], free: usize, k: usize) -> usize
-    requires { ⌜ Links (now work) free ⌝ }
-    requires { ⌜ (0 < k) × (k < free) ⌝ }
-    ensures { λ r. ⌜ (r < k) × ((s : Text) → trees-at s (now (work .entry)) r ≡ children (tree-at s (now (work .entry)) k)) × (0 < r → (kind-of (now (work .entry)) k ≡ 0) × (r ≡ first-of (now (work .entry)) k)) × (r ≡ 0 → kind-of (now (work .entry)) k ≡ 0 → first-of (now (work .entry)) k ≡ 0) ⌝ }
+    requires links { Links work.now free }
+    requires k_nonzero { (0 < k) × (k < free) }
+    ensures { (result < k) × ((s : Text) → trees_at s work.now result ≡ children (tree_at s work.now k)) × (0 < result → (kind_of work.now k ≡ 0) × (result ≡ first_of work.now k)) × (result ≡ 0 → kind_of work.now k ≡ 0 → first_of work.now k ≡ 0) }
 {
     if kind_of(work, k) == APPLICATION {
         return first_of(work, free, k);

@@ -1,21 +1,19 @@
 // Equality of trees.
-use crate::cells::APPLICATION;
-use crate::cells::first_of;
-use crate::cells::kind_of;
-use crate::cells::next_of;
+ghost use Rattle.std.specs.Prelude.{◌≡◌, ◌<◌};
+ghost use Rattle.rules.specs.Tree.{same_tree, same_trees};
+ghost use Rattle.tree.specs.Cells.{tree_at, trees_at};
+ghost use Rattle.tree.specs.Arena.{Arena};
+
+use crate::cells::{APPLICATION, first_of, kind_of, next_of};
 use crate::names::same_name;
-ghost use mathlib.Core.Path.{_≡_};
-ghost use Prim.Native.Nat.{_<_};
-ghost use Rattle·rules.specs.Tree.{same-tree, same-trees};
-ghost use Rattle·tree·specs.specs.Cells.{tree-at, trees-at};
-ghost use Rattle·tree·specs.specs.Arena.{Arena};
 
 // Whether the trees of cells i and j are one.
+#[cycle(same_tree_same_trees)]
 pub fn same_tree(sheet: &[u8], work: &[u32], free: usize, i: usize, j: usize) -> bool
-    requires { ⌜ Arena (now sheet) (now work) free ⌝ }
-    requires { ⌜ (0 < i) × (i < free) ⌝ }
-    requires { ⌜ (0 < j) × (j < free) ⌝ }
-    ensures { λ r. ⌜ r ≡ same-tree (tree-at (now (sheet .entry)) (now (work .entry)) i) (tree-at (now (sheet .entry)) (now (work .entry)) j) ⌝ }
+    requires arena { Arena sheet.now work.now free }
+    requires i_nonzero { (0 < i) × (i < free) }
+    requires j_nonzero { (0 < j) × (j < free) }
+    ensures { result ≡ same_tree (tree_at sheet.now work.now i) (tree_at sheet.now work.now j) }
 {
     let kind = kind_of(work, i);
     if kind != kind_of(work, j) {
@@ -37,10 +35,11 @@ pub fn same_tree(sheet: &[u8], work: &[u32], free: usize, i: usize, j: usize) ->
 }
 
 // Whether the lists from cells i and j on are one.
+#[cycle(same_tree_same_trees)]
 fn same_trees(sheet: &[u8], work: &[u32], free: usize, i: usize, j: usize) -> bool
-    requires { ⌜ Arena (now sheet) (now work) free ⌝ }
-    requires { ⌜ (i < free) × (j < free) ⌝ }
-    ensures { λ r. ⌜ r ≡ same-trees (trees-at (now (sheet .entry)) (now (work .entry)) i) (trees-at (now (sheet .entry)) (now (work .entry)) j) ⌝ }
+    requires arena { Arena sheet.now work.now free }
+    requires i_lt_free { (i < free) × (j < free) }
+    ensures { result ≡ same_trees (trees_at sheet.now work.now i) (trees_at sheet.now work.now j) }
 {
     if i == 0 {
         return j == 0;

@@ -1,11 +1,9 @@
 // The fixed names by their codes: their bytes, compared and printed.
-ghost use mathlib.Core.Path.{_≡_};
-ghost use Prim.Native.Nat.{_+_, _-_, _<_, _≤_};
-ghost use lib.ListN.{length, getD};
-ghost use Rattle·rules.specs.Bytes.{same};
-ghost use Rattle·laws.specs.Unspelled.{unspelled};
-ghost use Rattle·tree·specs.specs.Cells.{fixed-name};
-ghost use Rattle·text.specs.Printing.{Printed};
+ghost use Rattle.std.specs.Prelude.{◌≡◌, ◌+◌, ◌-◌, ◌<◌, ◌≤◌, length, get_or};
+ghost use Rattle.rules.specs.Bytes.{same};
+ghost use Rattle.laws.specs.Unspelled.{unspelled};
+ghost use Rattle.tree.specs.Cells.{fixed_name};
+ghost use Rattle.text.specs.Printing.{Printed};
 
 // tamXCroleA, code 1.
 const ROLE_A: [u8; 10] = [116, 97, 109, 88, 67, 114, 111, 108, 101, 65];
@@ -30,8 +28,8 @@ const MSG: [u8; 4] = [58, 77, 115, 103];
 
 // The length of the fixed name of a code.
 pub fn fixed_len(code: usize) -> usize
-    requires { ⌜ (0 < code) × (code < 65536) ⌝ }
-    ensures { λ r. ⌜ (r ≡ length (fixed-name code)) × (r < 131072) ⌝ }
+    requires { (0 < code) × (code < 65536) }
+    ensures { (result ≡ length (fixed_name code)) × (result < 131072) }
 {
     match code {
         1 => 10,
@@ -46,8 +44,8 @@ pub fn fixed_len(code: usize) -> usize
 
 // Byte a of the name of a code from 7 on, which no sheet spells: an x, zeros, a colon and the sort.
 fn unspelled_byte(code: usize, a: usize) -> u8
-    requires { ⌜ (7 ≤ code) × (code < 65536) × (a < code + 65534) ⌝ }
-    ensures { λ r. ⌜ r ≡ getD (unspelled (code - 7)) a 0 ⌝ }
+    requires { (7 ≤ code) × (code < 65536) × (a < code + 65534) }
+    ensures { result ≡ get_or (unspelled (code - 7)) a 0 }
 {
     let end = code + 65530;
     if a == 0 {
@@ -61,8 +59,8 @@ fn unspelled_byte(code: usize, a: usize) -> u8
 
 // Byte a of the fixed name of a code.
 pub fn fixed_byte(code: usize, a: usize) -> u8
-    requires { ⌜ (0 < code) × (code < 65536) × (a < length (fixed-name code)) ⌝ }
-    ensures { λ r. ⌜ r ≡ getD (fixed-name code) a 0 ⌝ }
+    requires { (0 < code) × (code < 65536) × (a < length (fixed_name code)) }
+    ensures { result ≡ get_or (fixed_name code) a 0 }
 {
     match code {
         1 => ROLE_A[a],
@@ -77,8 +75,8 @@ pub fn fixed_byte(code: usize, a: usize) -> u8
 
 // Whether the fixed name of a code is a text.
 pub(crate) fn fixed_is(code: usize, text: &[u8]) -> bool
-    requires { ⌜ (0 < code) × (code < 65536) ⌝ }
-    ensures { λ r. ⌜ r ≡ same (fixed-name code) (now (text .entry)) ⌝ }
+    requires { (0 < code) × (code < 65536) }
+    ensures { result ≡ same (fixed_name code) text.now }
 {
     let n = fixed_len(code);
     if n != text.len() {
@@ -96,9 +94,9 @@ pub(crate) fn fixed_is(code: usize, text: &[u8]) -> bool
 
 // Writes the fixed name of a code, and returns where it ends.
 pub(crate) fn print_fixed(out: &mut [u8], at: usize, code: usize) -> usize
-    requires { ⌜ (0 < code) × (code < 65536) ⌝ }
-    requires { ⌜ at + length (fixed-name code) ≤ length (now out) ⌝ }
-    ensures { λ r. ⌜ Printed (now (out .entry)) (now (out .exit)) at (fixed-name code) r ⌝ }
+    requires code_nonzero { (0 < code) × (code < 65536) }
+    requires code_in_bounds { at + length (fixed_name code) ≤ length out.old }
+    ensures { Printed out.old out.new at (fixed_name code) result }
 {
     let n = fixed_len(code);
     let mut i = 0;

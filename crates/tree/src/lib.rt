@@ -1,4 +1,6 @@
 // Trees in a lent work area: cells, fixed names, names, equality.
+#![tactic(auto)]
+
 pub mod cells;
 pub mod children;
 pub mod equality;

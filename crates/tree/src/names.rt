@@ -1,29 +1,21 @@
 // The names of cells: compared, measured, printed. A name is a part of the sheet or one of the fixed names.
-use crate::cells::ATOMS;
-use crate::cells::kind_of;
-use crate::cells::length_of;
-use crate::cells::start_of;
-use crate::fixed::fixed_is;
-use crate::fixed::fixed_len;
-use crate::fixed::print_fixed;
+ghost use Rattle.std.specs.Prelude.{◌≡◌, ◌&&◌, [], ◌∷◌, ◌+◌, ◌*◌, ◌<◌, ◌≤◌, length};
+ghost use Rattle.rules.specs.Bytes.{same};
+ghost use Rattle.rules.specs.Tree.{head};
+ghost use Rattle.tree.specs.Cells.{length_of, name_at, tree_at};
+ghost use Rattle.tree.specs.Arena.{Arena};
+ghost use Rattle.text.specs.Printing.{Printed};
+
+use crate::cells::{ATOMS, kind_of, length_of, start_of};
+use crate::fixed::{fixed_is, fixed_len, print_fixed};
 use text::same;
-ghost use mathlib.Core.Path.{_≡_};
-ghost use mathlib.Core.Bool.{_&&_};
-ghost use mathlib.Core.List.{[], _∷_};
-ghost use Prim.Native.Nat.{_+_, _*_, _<_, _≤_};
-ghost use lib.ListN.{length};
-ghost use Rattle·rules.specs.Bytes.{same};
-ghost use Rattle·rules.specs.Tree.{head};
-ghost use Rattle·tree·specs.specs.Cells.{length-of, name-at, tree-at};
-ghost use Rattle·tree·specs.specs.Arena.{Arena};
-ghost use Rattle·text.specs.Printing.{Printed};
 
 // The name of cell k, a part of the sheet.
 fn name_of<'a>(sheet: &'a [u8], work: &[u32], free: usize, k: usize) -> &'a [u8]
-    requires { ⌜ Arena (now sheet) (now work) free ⌝ }
-    requires { ⌜ (0 < k) × (k < free) ⌝ }
-    requires { ⌜ 0 < length-of (now work) k ⌝ }
-    ensures { λ r. ⌜ now r ≡ name-at (now (sheet .entry)) (now (work .entry)) k ⌝ }
+    requires arena { Arena sheet.now work.now free }
+    requires k_nonzero { (0 < k) × (k < free) }
+    requires k_nonzero_2 { 0 < length_of work.now k }
+    ensures { result.now ≡ name_at sheet.now work.now k }
 {
     let a = start_of(work, k);
     let e = a + length_of(work, k);
@@ -32,9 +24,9 @@ fn name_of<'a>(sheet: &'a [u8], work: &[u32], free: usize, k: usize) -> &'a [u8]
 
 // Whether the name of cell k is a text.
 pub fn name_is(sheet: &[u8], work: &[u32], free: usize, k: usize, text: &[u8]) -> bool
-    requires { ⌜ Arena (now sheet) (now work) free ⌝ }
-    requires { ⌜ (0 < k) × (k < free) ⌝ }
-    ensures { λ r. ⌜ r ≡ same (name-at (now (sheet .entry)) (now (work .entry)) k) (now (text .entry)) ⌝ }
+    requires arena { Arena sheet.now work.now free }
+    requires k_nonzero { (0 < k) × (k < free) }
+    ensures { result ≡ same (name_at sheet.now work.now k) text.now }
 {
     if length_of(work, k) == 0 {
         return fixed_is(start_of(work, k), text);
@@ -44,10 +36,10 @@ pub fn name_is(sheet: &[u8], work: &[u32], free: usize, k: usize, text: &[u8]) -
 
 // Whether cells i and j have one name. Two fixed names are one where their codes are.
 pub fn same_name(sheet: &[u8], work: &[u32], free: usize, i: usize, j: usize) -> bool
-    requires { ⌜ Arena (now sheet) (now work) free ⌝ }
-    requires { ⌜ (0 < i) × (i < free) ⌝ }
-    requires { ⌜ (0 < j) × (j < free) ⌝ }
-    ensures { λ r. ⌜ r ≡ same (name-at (now (sheet .entry)) (now (work .entry)) i) (name-at (now (sheet .entry)) (now (work .entry)) j) ⌝ }
+    requires arena { Arena sheet.now work.now free }
+    requires i_nonzero { (0 < i) × (i < free) }
+    requires j_nonzero { (0 < j) × (j < free) }
+    ensures { result ≡ same (name_at sheet.now work.now i) (name_at sheet.now work.now j) }
 {
     let a = start_of(work, i);
     let n = length_of(work, i);
@@ -69,10 +61,10 @@ pub fn same_name(sheet: &[u8], work: &[u32], free: usize, i: usize, j: usize) ->
 
 // Whether the trees of cells i and j have one head. An atom has the head of no other kind of tree.
 pub fn same_head(sheet: &[u8], work: &[u32], free: usize, i: usize, j: usize) -> bool
-    requires { ⌜ Arena (now sheet) (now work) free ⌝ }
-    requires { ⌜ (0 < i) × (i < free) ⌝ }
-    requires { ⌜ (0 < j) × (j < free) ⌝ }
-    ensures { λ r. ⌜ r ≡ same (head (tree-at (now (sheet .entry)) (now (work .entry)) i)) (head (tree-at (now (sheet .entry)) (now (work .entry)) j)) ⌝ }
+    requires arena { Arena sheet.now work.now free }
+    requires i_nonzero { (0 < i) × (i < free) }
+    requires j_nonzero { (0 < j) × (j < free) }
+    ensures { result ≡ same (head (tree_at sheet.now work.now i)) (head (tree_at sheet.now work.now j)) }
 {
     let p = kind_of(work, i);
     let q = kind_of(work, j);
@@ -89,9 +81,9 @@ pub fn same_head(sheet: &[u8], work: &[u32], free: usize, i: usize, j: usize) ->
 
 // The length of the name of cell k.
 pub fn name_len(sheet: &[u8], work: &[u32], free: usize, k: usize) -> usize
-    requires { ⌜ Arena (now sheet) (now work) free ⌝ }
-    requires { ⌜ (0 < k) × (k < free) ⌝ }
-    ensures { λ r. ⌜ (r ≡ length (name-at (now (sheet .entry)) (now (work .entry)) k)) × (r < 131072) ⌝ }
+    requires arena { Arena sheet.now work.now free }
+    requires k_nonzero { (0 < k) × (k < free) }
+    ensures { (result ≡ length (name_at sheet.now work.now k)) × (result < 131072) }
 {
     let n = length_of(work, k);
     if n == 0 {
@@ -102,8 +94,8 @@ pub fn name_len(sheet: &[u8], work: &[u32], free: usize, k: usize) -> usize
 
 // Writes one byte, and returns where it ends.
 pub fn print_byte(out: &mut [u8], at: usize, b: u8) -> usize
-    requires { ⌜ at < length (now out) ⌝ }
-    ensures { λ r. ⌜ Printed (now (out .entry)) (now (out .exit)) at (b ∷ []) r ⌝ }
+    requires { at < length out.old }
+    ensures { Printed out.old out.new at (b ∷ []) result }
 {
     out[at] = b;
     at + 1
@@ -111,8 +103,8 @@ pub fn print_byte(out: &mut [u8], at: usize, b: u8) -> usize
 
 // Writes the bytes of a text, and returns where they end.
 pub fn print_text(out: &mut [u8], at: usize, text: &[u8]) -> usize
-    requires { ⌜ at + length (now text) ≤ length (now out) ⌝ }
-    ensures { λ r. ⌜ Printed (now (out .entry)) (now (out .exit)) at (now (text .entry)) r ⌝ }
+    requires { at + length text.now ≤ length out.old }
+    ensures { Printed out.old out.new at text.now result }
 {
     let mut i = 0;
     while i < text.len() {
@@ -131,10 +123,10 @@ pub fn print_name(
     out: &mut [u8],
     at: usize,
 ) -> usize
-    requires { ⌜ Arena (now sheet) (now work) free ⌝ }
-    requires { ⌜ (0 < k) × (k < free) ⌝ }
-    requires { ⌜ at + length (name-at (now sheet) (now work) k) ≤ length (now out) ⌝ }
-    ensures { λ r. ⌜ Printed (now (out .entry)) (now (out .exit)) at (name-at (now (sheet .entry)) (now (work .entry)) k) r ⌝ }
+    requires arena { Arena sheet.now work.now free }
+    requires k_nonzero { (0 < k) × (k < free) }
+    requires k_in_bounds { at + length (name_at sheet.now work.now k) ≤ length out.old }
+    ensures { Printed out.old out.new at (name_at sheet.now work.now k) result }
 {
     if length_of(work, k) == 0 {
         return print_fixed(out, at, start_of(work, k));

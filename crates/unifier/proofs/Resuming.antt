@@ -1,46 +1,46 @@
 -- A run that goes on after some steps: the bindings made so far, the last made first, and the pairs taken so far.
-use Prim.Native.Nat.{ℕ, zero, suc, _+_, _-_, _<_}
-use mathlib.Core.Path.{_≡_, refl, ap}
-use mathlib.Core.List.{List, [], _∷_, reverseAux}
+use Prim.Native.Nat.{ℕ, zero, suc, ◌+◌, ◌-◌, ◌<◌}
+use mathlib.Core.Path.{◌≡◌, refl, ap}
+use mathlib.Core.List.{List, [], ◌∷◌, reverse_aux}
 use native.Mathlib.Omega.{arith}
-use Rattle·rules.specs.Bytes.{Text}
-use Rattle·rules.specs.Tree.{Tree}
-use Rattle·rules.specs.Substitution.{Binding, Pair}
-use Rattle·rules.specs.Solving.{step, Verdict, solved, failed, unsupported, Answer, with-binding, after, run}
+use Rattle.rules.specs.Bytes.{Text}
+use Rattle.rules.specs.Tree.{Tree}
+use Rattle.rules.specs.Substitution.{Binding, Pair}
+use Rattle.rules.specs.Solving.{step, Verdict, solved, failed, unsupported, Answer, with_binding, after, run}
 
-abbrev pub with-bindings : List Binding → Verdict → Verdict
-with-bindings bs (solved cs) = solved (reverseAux bs cs)
-with-bindings bs failed = failed
-with-bindings bs unsupported = unsupported
+abbrev pub with_bindings : List Binding → Verdict → Verdict
+with_bindings bs (solved cs) = solved (reverse_aux bs cs)
+with_bindings bs failed = failed
+with_bindings bs unsupported = unsupported
 
 -- the whole answer, where the answer a is that of the pairs left
 abbrev pub resumed : List Binding → ℕ → Answer → Answer
-resumed bs n a = (with-bindings bs (a .0), n + a .1)
+resumed bs n a = (with_bindings bs a.0, n + a.1)
 
-pub with-none : (v : Verdict) → with-bindings [] v ≡ v
-with-none (solved cs) = refl
-with-none failed = refl
-with-none unsupported = refl
+pub with_none : (v : Verdict) → with_bindings [] v ≡ v
+with_none (solved cs) = refl
+with_none failed = refl
+with_none unsupported = refl
 
 -- the next binding
-pub with-more : (x : Text) (t : Tree) (bs : List Binding) (v : Verdict) → with-bindings bs (with-binding x t v) ≡ with-bindings ((x, t) ∷ bs) v
-with-more x t bs (solved cs) = refl
-with-more x t bs failed = refl
-with-more x t bs unsupported = refl
+pub with_more : (x : Text) (t : Tree) (bs : List Binding) (v : Verdict) → with_bindings bs (with_binding x t v) ≡ with_bindings ((x, t) ∷ bs) v
+with_more x t bs (solved cs) = refl
+with_more x t bs failed = refl
+with_more x t bs unsupported = refl
 
 -- The run, pair by pair
 
-pub run-end : (k : ℕ) → 0 < k → run k [] ≡ (solved [], 0)
+pub run_end : (k : ℕ) → 0 < k → run k [] ≡ (solved [], 0)
 unfolding run
-run-end zero h = absurd (omega arith)
-run-end (suc k) h = refl
+run_end zero h = absurd (omega arith)
+run_end (suc k) h = refl
 
-pub run-step : (k : ℕ) (l r : Tree) (ps : List Pair) → 0 < k → run k ((l, r) ∷ ps) ≡ after (step l r ps) (λ qs. run (k - 1) qs)
+pub run_step : (k : ℕ) (l r : Tree) (ps : List Pair) → 0 < k → run k ((l, r) ∷ ps) ≡ after (step l r ps) (λ qs. run (k - 1) qs)
 unfolding run
-run-step zero l r ps h = absurd (omega arith)
-run-step (suc k) l r ps h = let e : k ≡ suc k - 1 = omega arith in ap (λ (m : ℕ). after (step l r ps) (λ qs. run m qs)) e
+run_step zero l r ps h = absurd (omega arith)
+run_step (suc k) l r ps h = let e : k ≡ suc k - 1 = omega arith in ap (λ (m : ℕ). after (step l r ps) (λ qs. run m qs)) e
 
-pub run-spent : (k : ℕ) (ps : List Pair) → k ≡ 0 → run k ps ≡ (unsupported, 0)
+pub run_spent : (k : ℕ) (ps : List Pair) → k ≡ 0 → run k ps ≡ (unsupported, 0)
 unfolding run
-run-spent zero ps h = refl
-run-spent (suc k) ps h = absurd (omega arith)
+run_spent zero ps h = refl
+run_spent (suc k) ps h = absurd (omega arith)

@@ -1,15 +1,13 @@
 -- Pairs that can be matched with the fuel and the room there are. Definitions only.
-use Prim.Native.Nat.{ℕ, _+_, _*_, _<_}
-use mathlib.Core.List.{List}
-use lib.ListN.{length}
-use Rattle·rules.specs.Bytes.{Text}
-use Rattle·rules.specs.Substitution.{Pair}
-use Rattle·laws.specs.Memory.{weight, pattern-nodes}
-use Rattle·elimination.specs.Stack.{FitPairs}
-use Rattle·elimination.specs.Area.{Room}
+use Rattle.std.specs.Prelude.{ℕ, ◌+◌, ◌*◌, ◌<◌, List, length}
+use Rattle.rules.specs.Bytes.{Text}
+use Rattle.rules.specs.Substitution.{Pair}
+use Rattle.laws.specs.Memory.{weight, pattern_nodes}
+use Rattle.elimination.specs.Stack.{FitPairs}
+use Rattle.elimination.specs.Area.{Room}
 
 -- the pairs are fit, have fewer pattern nodes than the sheet has bytes, and there is room for n cells and their match
 pub record Matched (s : Text) (w : List ℕ) (n : ℕ) (qs : List Pair) : Type 0 where
   pub fit : FitPairs qs
-  pub few : pattern-nodes qs < length s
+  pub few : pattern_nodes qs < length s
   pub room : Room w (n + weight qs + 2 * length s)

@@ -1,3 +1,5 @@
 // Unification of trees in a lent work area (unifier.rs, `unify`).
+#![tactic(auto)]
+
 pub mod unifying; // unifying.rt: `unify`
 pub mod room; // room.rt: the room that a run needs

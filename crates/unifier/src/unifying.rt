@@ -1,18 +1,19 @@
 // `unify`: pairs are taken from the stack until there are none, a pair ends the run or the fuel is spent; then the bindings are composed.
+ghost use Rattle.std.specs.Prelude.{◌<◌, ◌≤◌};
+ghost use Rattle.rules.specs.Solving.{run, unify};
+ghost use Rattle.tree.specs.Cells.{trees_at};
+ghost use Rattle.tree.specs.Arena.{Arena};
+ghost use Rattle.elimination.specs.Stack.{Whole, pairs_at, FitPairs};
+ghost use Rattle.unifier.specs.Running.{Roomy, Runs, Answers};
+
 use elimination::Taken;
 use stepping::step;
 use substitution::bindings::push_pair;
-use substitution::solving::Composition;
-use substitution::solving::compose;
+use substitution::solving::{Composition, compose};
 use tree::cells::next_of;
-ghost use Prim.Native.Nat.{_<_, _≤_};
-ghost use Rattle·rules.specs.Solving.{run, unify};
-ghost use Rattle·tree.specs.Cells.{trees-at};
-ghost use Rattle·tree.specs.Arena.{Arena};
-ghost use Rattle·elimination.specs.Stack.{Whole, pairs-at, FitPairs};
-ghost use Rattle·unifier·specs.specs.Running.{Roomy, Runs, Answers};
 
 // A verdict with the number of pairs taken from the stack. The bindings are a list: the key and the value of each in turn.
+#[derive(Clone, Copy)]
 pub enum Outcome {
     Solved {
         bindings: usize,
@@ -29,10 +30,10 @@ pub enum Outcome {
 
 // The run over the pairs from cell stack on. The bindings are not composed, the last made first.
 fn run(sheet: &[u8], work: &mut [u32], free: usize, stack: usize, fuel: usize) -> Outcome
-    requires { ⌜ Arena (now sheet) (now work) free ⌝ }
-    requires { ⌜ (stack < free) × (fuel ≤ 65536) × Whole (trees-at (now sheet) (now work) stack) × FitPairs (pairs-at (now sheet) (now work) stack) ⌝ }
-    requires { ⌜ Roomy (now work) free fuel (pairs-at (now sheet) (now work) stack) ⌝ }
-    ensures { λ r. ⌜ Runs (now (sheet .entry)) (now (work .entry)) (now (work .exit)) free (run fuel (pairs-at (now (sheet .entry)) (now (work .entry)) stack)) r ⌝ }
+    requires arena { Arena sheet.now work.old free }
+    requires stack_lt_free { (stack < free) × (fuel ≤ 65536) × Whole (trees_at sheet.now work.old stack) × FitPairs (pairs_at sheet.now work.old stack) }
+    requires roomy { Roomy work.old free fuel (pairs_at sheet.now work.old stack) }
+    ensures { Runs sheet.now work.old work.new free (run fuel (pairs_at sheet.now work.old stack)) result }
 {
     let mut left = fuel;
     let mut waiting = stack;
@@ -86,10 +87,10 @@ fn run(sheet: &[u8], work: &mut [u32], free: usize, stack: usize, fuel: usize) -
 
 // Unifies the pairs from cell stack on.
 pub fn unify(sheet: &[u8], work: &mut [u32], free: usize, stack: usize, fuel: usize) -> Outcome
-    requires { ⌜ Arena (now sheet) (now work) free ⌝ }
-    requires { ⌜ (stack < free) × (fuel ≤ 65536) × Whole (trees-at (now sheet) (now work) stack) × FitPairs (pairs-at (now sheet) (now work) stack) ⌝ }
-    requires { ⌜ Roomy (now work) free fuel (pairs-at (now sheet) (now work) stack) ⌝ }
-    ensures { λ r. ⌜ Answers (now (sheet .entry)) (now (work .entry)) (now (work .exit)) free (unify fuel (pairs-at (now (sheet .entry)) (now (work .entry)) stack)) r ⌝ }
+    requires arena { Arena sheet.now work.old free }
+    requires stack_lt_free { (stack < free) × (fuel ≤ 65536) × Whole (trees_at sheet.now work.old stack) × FitPairs (pairs_at sheet.now work.old stack) }
+    requires roomy { Roomy work.old free fuel (pairs_at sheet.now work.old stack) }
+    ensures { Answers sheet.now work.old work.new free (unify fuel (pairs_at sheet.now work.old stack)) result }
 {
     let ran = run(sheet, work, free, stack, fuel);
     match ran {

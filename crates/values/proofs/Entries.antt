@@ -1,146 +1,146 @@
 -- The walk over a member's entries: the values up to a position stand in bindings.
-use Prim.Native.Nat.{ℕ, _+_, _*_, _-_, _<_, _≤_}
-use mathlib.Core.Path.{_≡_, refl, sym, ap, subst, _∙_}
+use Prim.Native.Nat.{ℕ, ◌+◌, ◌*◌, ◌-◌, ◌<◌, ◌≤◌}
+use mathlib.Core.Path.{◌≡◌, refl, sym, ap, subst, ◌∙◌}
 use mathlib.Core.Bool.{Bool, true, false}
-use mathlib.Core.List.{List, [], _∷_}
+use mathlib.Core.List.{List, [], ◌∷◌}
 use mathlib.Core.Option.{some}
-use lib.ListN.{length, getD}
+use lib.ListN.{length, get_or}
 use native.Mathlib.Omega.{arith}
-use Rattle·rules.specs.Bytes.{Text, same}
-use Rattle·rules.specs.Text.{bytes, is-one-of}
-use Rattle·rules.specs.Tree.{variable, Trees}
-use Rattle·rules.specs.Matching.{or-else, bound}
-use Rattle·rules.specs.Substitution.{Binding, pick, lookup}
-use Rattle·rules.specs.Sheet.{Entry}
-use Rattle·rules.specs.Cover.{entry-at}
-use Rattle·tree.specs.Cells.{trees-at}
-use Rattle·tree.specs.Arena.{Arena, Below}
-use Rattle·tree.proofs.Decoding.{frame-trees}
-use Rattle·tree.proofs.Areas.{below-then}
-use Rattle·sheet.specs.Pairs.{two-lines-at}
-use Rattle·forms.specs.Form.{Inside}
-use Rattle·sheet.specs.declared.Cursor.{Cursor}
-use Rattle·sheet.specs.declared.Place.{Place}
-use Rattle·sheet.specs.declared.PairLine.the-variants.{Sides, End}
-use Rattle·forms.proofs.PairLaws.{paired}
-use Rattle·forms.proofs.WalkLaws.{two-there, two-end}
-use Rattle·reading.specs.Parsing.{stack-end}
-use Rattle·substitution.specs.Bindings.{bindings-at}
-use Rattle·substitution.proofs.Keys.{bindings-none}
-use Rattle·variables.specs.Pairing.{names-of, OfVariables}
-use Rattle·values·specs.specs.Values.{value-in, resumed, entry-of, Valued, Unread, EntriesThen, ValuesRead, OneUnread}
+use Rattle.rules.specs.Bytes.{Text, same}
+use Rattle.rules.specs.Text.{bytes, is_one_of}
+use Rattle.rules.specs.Tree.{variable, Trees}
+use Rattle.rules.specs.Matching.{or_else, bound}
+use Rattle.rules.specs.Substitution.{Binding, pick, lookup}
+use Rattle.rules.specs.Sheet.{Entry}
+use Rattle.rules.specs.Cover.{entry_at}
+use Rattle.tree.specs.Cells.{trees_at}
+use Rattle.tree.specs.Arena.{Arena, Below}
+use Rattle.tree.proofs.Decoding.{frame_trees}
+use Rattle.tree.proofs.Areas.{below_then}
+use Rattle.sheet.specs.Pairs.{two_lines_at}
+use Rattle.forms.specs.Form.{Inside}
+use Rattle.sheet.specs.declared.Cursor.{Cursor}
+use Rattle.sheet.specs.declared.Place.{Place}
+use Rattle.sheet.specs.declared.PairLine.TheVariants.{Sides, End}
+use Rattle.forms.proofs.PairLaws.{paired}
+use Rattle.forms.proofs.WalkLaws.{two_there, two_end}
+use Rattle.reading.specs.Parsing.{stack_end}
+use Rattle.substitution.specs.Bindings.{bindings_at}
+use Rattle.substitution.proofs.Keys.{bindings_none}
+use Rattle.variables.specs.Pairing.{names_of, OfVariables}
+use Rattle.values.specs.Values.{value_in, resumed, entry_of, Valued, Unread, EntriesThen, ValuesRead, OneUnread}
 
 -- what is found, or else the variable itself, is what is looked up
-resumed-lookup : (y : Text) (bs : List Binding) → resumed (bound y bs) (some (variable y)) ≡ some (lookup bs y)
+resumed_lookup : (y : Text) (bs : List Binding) → resumed (bound y bs) (some (variable y)) ≡ some (lookup bs y)
 unfolding bound lookup
-resumed-lookup y [] = refl
-resumed-lookup y (b ∷ bs) = go (same (b .0) y) (resumed-lookup y bs)
+resumed_lookup y [] = refl
+resumed_lookup y (b ∷ bs) = go (same b.0 y) (resumed_lookup y bs)
   where
-    go : (c : Bool) → resumed (bound y bs) (some (variable y)) ≡ some (lookup bs y) → resumed (or-else c (b .1) (bound y bs)) (some (variable y)) ≡ some (pick c (b .1) (lookup bs y))
+    go : (c : Bool) → resumed (bound y bs) (some (variable y)) ≡ some (lookup bs y) → resumed (or_else c b.1 (bound y bs)) (some (variable y)) ≡ some (pick c b.1 (lookup bs y))
     go true h = refl
     go false h = h
 
 -- the entries from c on are those that are left, and the bindings give what was found before
 abbrev pub Later : Text → List ℕ → List Text → ℕ → ℕ → List Entry → List Text → Type 0
-Later s v ns c list es rest = (fs : List Entry) × EntriesThen s c fs rest × ((y : Text) → is-one-of ns y ≡ true → value-in es y ≡ resumed (bound y (bindings-at s v list)) (value-in fs y))
+Later s v ns c list es rest = (fs : List Entry) × EntriesThen s c fs rest × ((y : Text) → is_one_of ns y ≡ true → value_in es y ≡ resumed (bound y (bindings_at s v list)) (value_in fs y))
 
 pub record Walking (s : Text) (w : List ℕ) (n names at : ℕ) (v : List ℕ) (c list end : ℕ) : Type 0 where
   pub arena : Arena s v end
   pub len : length v ≡ length w
-  pub below : (p : ℕ) → p < 4 * n → getD w p 0 ≡ getD v p 0
+  pub below : (p : ℕ) → p < 4 * n → get_or w p 0 ≡ get_or v p 0
   pub grew : n ≤ end
   pub inside : list < end
   pub used : end + 2 * at ≤ n + 2 * c
   pub low : at ≤ c
   pub within : c ≤ length s
-  pub later : (es : List Entry) (rest : List Text) → EntriesThen s at es rest → Later s v (names-of (trees-at s w names)) c list es rest
+  pub later : (es : List Entry) (rest : List Text) → EntriesThen s at es rest → Later s v (names_of (trees_at s w names)) c list es rest
 
-pub walking-starts : (s : Text) (w : List ℕ) (n names at : ℕ) → Arena s w n → at ≤ length s → Walking s w n names at w at 0 n
+pub walking_starts : (s : Text) (w : List ℕ) (n names at : ℕ) → Arena s w n → at ≤ length s → Walking s w n names at w at 0 n
 unfolding bound
-walking-starts s w n names at a p = record {
+walking_starts s w n names at a p = record {
   arena = a;
   len = refl;
   below = λ p h. refl;
   grew = omega arith;
-  inside = a .links .some;
+  inside = a.links.some;
   used = omega arith;
   low = omega arith;
   within = p;
-  later = λ es rest f. (es, f, λ y o. sym (ap (λ (bs : List Binding). resumed (bound y bs) (value-in es y)) (bindings-none s w 0 refl)));
+  later = λ es rest f. (es, f, λ y o. sym (ap (λ (bs : List Binding). resumed (bound y bs) (value_in es y)) (bindings_none s w 0 refl)));
 }
 
 -- where two lines stand
 pub record Placed (s : Text) (c : ℕ) (l r : Place) (n : Cursor) : Type 0 where
   pub key : Inside s l
   pub value : Inside s r
-  pub next : c + 12 + (l .to - l .from) + (r .to - r .from) ≡ n .at
-  pub within : n .at ≤ length s
+  pub next : c + 12 + (l.to - l.from) + (r.to - r.from) ≡ n.at
+  pub within : n.at ≤ length s
 
-pub placed : (s : Text) (c : ℕ) (l r : Place) (n : Cursor) → Sides l r n ≡ two-lines-at (bytes "key=") (bytes "value=") s c → Placed s c l r n
+pub placed : (s : Text) (c : ℕ) (l r : Place) (n : Cursor) → Sides l r n ≡ two_lines_at (bytes "key=") (bytes "value=") s c → Placed s c l r n
 placed s c l r n e =
     let h = paired (bytes "key=") (bytes "value=") s c l r n e in
     let a : length (bytes "key=") ≡ 4 = refl in
     let b : length (bytes "value=") ≡ 6 = refl in
     record {
-      key = h .one .ends;
-      value = h .two .ends;
-      next = omega (arith, h .one .begins, h .one .ends, h .one .after, h .two .begins, h .two .ends, h .two .after);
-      within = omega (arith, h .two .ends, h .two .after);
+      key = h.one.ends;
+      value = h.two.ends;
+      next = omega (arith, h.one.begins, h.one.ends, h.one.after, h.two.begins, h.two.ends, h.two.after);
+      within = omega (arith, h.two.ends, h.two.after);
     }
 
 module _ {s : Text} {w v : List ℕ} {n names at c list end : ℕ} (a : Arena s w n) (p : names < n) (h : Walking s w n names at v c list end) where
-  names-kept : trees-at s w names ≡ trees-at s v names
-  names-kept = frame-trees s v (a .links) (h .below) names p
+  names_kept : trees_at s w names ≡ trees_at s v names
+  names_kept = frame_trees s v a.links h.below names p
 
-  pub names-there : OfVariables (trees-at s w names) → OfVariables (trees-at s v names)
-  names-there o = subst OfVariables names-kept o
+  pub names_there : OfVariables (trees_at s w names) → OfVariables (trees_at s v names)
+  names_there o = subst OfVariables names_kept o
 
-  pub walking-ends : End ≡ two-lines-at (bytes "key=") (bytes "value=") s c → ValuesRead s w v n (names-of (trees-at s w names)) at list end c
-  unfolding value-in entry-at
-  walking-ends e = record {
-    low = h .low;
-    high = h .within;
-    ends = λ es rest f. (let (fs, g, k) = h .later es rest f in two-end (bytes "key=") (bytes "value=") s c fs rest g e .1);
-    arena = h .arena;
-    len = h .len;
-    below = h .below;
-    grew = h .grew;
-    inside = h .inside;
-    used = omega (arith, h .used, h .low);
+  pub walking_ends : End ≡ two_lines_at (bytes "key=") (bytes "value=") s c → ValuesRead s w v n (names_of (trees_at s w names)) at list end c
+  unfolding value_in entry_at
+  walking_ends e = record {
+    low = h.low;
+    high = h.within;
+    ends = λ es rest f. (let (fs, g, k) = h.later es rest f in (two_end (bytes "key=") (bytes "value=") s c fs rest g e).1);
+    arena = h.arena;
+    len = h.len;
+    below = h.below;
+    grew = h.grew;
+    inside = h.inside;
+    used = omega (arith, h.used, h.low);
     gives = λ es f y o. (
-        let (fs, g, k) = h .later es (f .0) (f .1) in
-        k y o ∙ ap (λ (fs : List Entry). resumed (bound y (bindings-at s v list)) (value-in fs y)) (two-end (bytes "key=") (bytes "value=") s c fs (f .0) g e .0) ∙ resumed-lookup y (bindings-at s v list)
+        let (fs, g, k) = h.later es f.0 f.1 in
+        k y o ∙ ap (λ (fs : List Entry). resumed (bound y (bindings_at s v list)) (value_in fs y)) (two_end (bytes "key=") (bytes "value=") s c fs f.0 g e).0 ∙ resumed_lookup y (bindings_at s v list)
         );
   }
 
-  module _ (l r : Place) (nx : Cursor) (e : Sides l r nx ≡ two-lines-at (bytes "key=") (bytes "value=") s c) where
-    pub walking-room : (stack-end end (r .from) (r .to) + 8 + 4 * at ≤ 4 * n + 11 * length s + 4 * at + 9) × (end + 2 * (r .to - r .from) + 2 ≤ n + 2 * length s)
-    walking-room = let x = placed s c l r nx e in let u = h .used in let y = h .low in let z = x .next in let t = x .within in (omega arith, omega arith)
+  module _ (l r : Place) (nx : Cursor) (e : Sides l r nx ≡ two_lines_at (bytes "key=") (bytes "value=") s c) where
+    pub walking_room : (stack_end end r.from r.to + 8 + 4 * at ≤ 4 * n + 11 * length s + 4 * at + 9) × (end + 2 * (r.to - r.from) + 2 ≤ n + 2 * length s)
+    walking_room = let x = placed s c l r nx e in let u = h.used in let y = h.low in let z = x.next in let t = x.within in (omega arith, omega arith)
 
-    after-entry : (es : List Entry) (rest : List Text) → EntriesThen s at es rest → (gs : List Entry) × EntriesThen s (nx .at) gs rest × ((y : Text) → is-one-of (names-of (trees-at s v names)) y ≡ true → value-in es y ≡ resumed (bound y (bindings-at s v list)) (value-in (entry-of s l r ∷ gs) y))
-    after-entry es rest f =
-        let (fs, g, k) = h .later es rest f in
-        let (gs, d, t) = two-there (bytes "key=") (bytes "value=") s c fs rest g l r nx e in
-        (gs, t, λ y o. k y (ap (λ (ts : Trees). is-one-of (names-of ts) y) names-kept ∙ o) ∙ ap (λ (fs : List Entry). resumed (bound y (bindings-at s v list)) (value-in fs y)) d)
+    after_entry : (es : List Entry) (rest : List Text) → EntriesThen s at es rest → (gs : List Entry) × EntriesThen s nx.at gs rest × ((y : Text) → is_one_of (names_of (trees_at s v names)) y ≡ true → value_in es y ≡ resumed (bound y (bindings_at s v list)) (value_in (entry_of s l r ∷ gs) y))
+    after_entry es rest f =
+        let (fs, g, k) = h.later es rest f in
+        let (gs, d, t) = two_there (bytes "key=") (bytes "value=") s c fs rest g l r nx e in
+        (gs, t, λ y o. k y (ap (λ (ts : Trees). is_one_of (names_of ts) y) names_kept ∙ o) ∙ ap (λ (fs : List Entry). resumed (bound y (bindings_at s v list)) (value_in fs y)) d)
 
-    pub walking-unread : {u : List ℕ} → Unread s v u end (names-of (trees-at s v names)) l r list → OneUnread s (names-of (trees-at s w names)) at × Below w u n
-    walking-unread x = ((λ es f. (let (gs, g, k) = after-entry es (f .0) (f .1) in (x .name, ap (λ (ts : Trees). is-one-of (names-of ts) (x .name)) names-kept ∙ x .one, k (x .name) (x .one) ∙ x .fails gs))), below-then (record { len = h .len; words = h .below }) (x .below) (h .grew))
+    pub walking_unread : {u : List ℕ} → Unread s v u end (names_of (trees_at s v names)) l r list → OneUnread s (names_of (trees_at s w names)) at × Below w u n
+    walking_unread x = ((λ es f. (let (gs, g, k) = after_entry es f.0 f.1 in (x.name, ap (λ (ts : Trees). is_one_of (names_of ts) x.name) names_kept ∙ x.one, k x.name x.one ∙ x.fails gs))), below_then (record { len = h.len; words = h.below }) x.below h.grew)
 
-    pub walking-turn : {u : List ℕ} {b m : ℕ} → Valued s v u end (names-of (trees-at s v names)) l r list b m → Walking s w n names at u (nx .at) b m
-    walking-turn x =
+    pub walking_turn : {u : List ℕ} {b m : ℕ} → Valued s v u end (names_of (trees_at s v names)) l r list b m → Walking s w n names at u nx.at b m
+    walking_turn x =
         let y = placed s c l r nx e in
-        let g = h .grew in
+        let g = h.grew in
         record {
-          arena = x .arena;
-          len = x .len ∙ h .len;
-          below = λ i q. h .below i q ∙ x .below i (omega arith);
-          grew = omega (arith, x .grew);
-          inside = x .inside;
-          used = omega (arith, x .used, h .used, y .next);
-          low = omega (arith, h .low, y .next);
-          within = y .within;
+          arena = x.arena;
+          len = x.len ∙ h.len;
+          below = λ i q. h.below i q ∙ x.below i (omega arith);
+          grew = omega (arith, x.grew);
+          inside = x.inside;
+          used = omega (arith, x.used, h.used, y.next);
+          low = omega (arith, h.low, y.next);
+          within = y.within;
           later = λ es rest f. (
-              let (gs, t, k) = after-entry es rest f in
-              (gs, t, λ z o. (let o₁ = ap (λ (ts : Trees). is-one-of (names-of ts) z) (sym names-kept) ∙ o in k z o₁ ∙ x .keeps gs z o₁))
+              let (gs, t, k) = after_entry es rest f in
+              (gs, t, λ z o. (let o₁ = ap (λ (ts : Trees). is_one_of (names_of ts) z) (sym names_kept) ∙ o in k z o₁ ∙ x.keeps gs z o₁))
               );
         }

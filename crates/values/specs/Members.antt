@@ -1,41 +1,38 @@
 -- The pairs by which one member covers, as a list of trees in cells. Definitions only.
-use Prim.Native.Nat.{ℕ, _+_, _*_, _-_, _<_, _≤_}
-use mathlib.Core.Path.{_≡_}
-use mathlib.Core.List.{List, map}
-use mathlib.Core.Option.{some, none as nothing}
-use lib.ListN.{length, getD}
-use Rattle·rules.specs.Bytes.{Text}
-use Rattle·rules.specs.Maybe.{every}
-use Rattle·rules.specs.Tree.{count}
-use Rattle·rules.specs.Substitution.{Pair, flatten}
-use Rattle·rules.specs.Sheet.{Entry}
-use Rattle·rules.specs.Cover.{pair-at}
-use Rattle·sheet.specs.Lines.{lines-at}
-use Rattle·tree.specs.Cells.{trees-at}
-use Rattle·tree.specs.Arena.{Arena, Below}
-use Rattle·substitution.specs.Bindings.{bindings-at}
-use Rattle·variables.specs.Pairing.{names-at}
-use Rattle·values·specs.specs.Values.{EntriesThen, EntriesFrom}
-use Rattle·values·specs.specs.declared.members.Sides.{Sides}
-use Rattle·values·specs.specs.declared.members.Sides.the-variants.{Stack, Unreadable}
+use Rattle.std.specs.Prelude.{ℕ, ◌+◌, ◌*◌, ◌-◌, ◌<◌, ◌≤◌, ◌≡◌, List, map, length, get_or}
+use Rattle.std.proofs.Math.Option.{some, none as nothing}
+use Rattle.rules.specs.Bytes.{Text}
+use Rattle.rules.specs.Maybe.{every}
+use Rattle.rules.specs.Tree.{count}
+use Rattle.rules.specs.Substitution.{Pair, flatten}
+use Rattle.rules.specs.Sheet.{Entry}
+use Rattle.rules.specs.Cover.{pair_at}
+use Rattle.sheet.specs.Lines.{lines_at}
+use Rattle.tree.specs.Cells.{trees_at}
+use Rattle.tree.specs.Arena.{Arena, Below}
+use Rattle.substitution.specs.Bindings.{bindings_at}
+use Rattle.variables.specs.Pairing.{names_at}
+use Rattle.values.specs.Values.{EntriesThen, EntriesFrom}
+use Rattle.values.specs.declared.members.Sides.{Sides}
+use Rattle.values.specs.declared.members.Sides.TheVariants.{Stack, Unreadable}
 
 -- from w, with the free end n, to v, with the free end m: the list from cell i on is that of the pairs of a member with the entries from
 -- `at` to c
 pub record MemberPairs (s : Text) (w v : List ℕ) (n names bindings at i m c : ℕ) : Type 0 where
   pub low : at ≤ c
   pub high : c ≤ length s
-  pub ends : (es : List Entry) (rest : List Text) → EntriesThen s at es rest → lines-at s c ≡ some rest
+  pub ends : (es : List Entry) (rest : List Text) → EntriesThen s at es rest → lines_at s c ≡ some rest
   pub ps : List Pair
-  pub are : (x : Text) (es : List Entry) → EntriesFrom s at es → every (map (pair-at (bindings-at s w bindings) (x, es)) (names-at s w names)) ≡ some ps
+  pub are : (x : Text) (es : List Entry) → EntriesFrom s at es → every (map (pair_at (bindings_at s w bindings) (x, es)) (names_at s w names)) ≡ some ps
   pub arena : Arena s v m
   pub len : length v ≡ length w
-  pub below : (p : ℕ) → p < 4 * n → getD w p 0 ≡ getD v p 0
+  pub below : (p : ℕ) → p < 4 * n → get_or w p 0 ≡ get_or v p 0
   pub grew : n ≤ m
   pub inside : i < m
-  pub trees : trees-at s v i ≡ flatten ps
-  pub used : m ≤ n + 2 * (c - at) + 2 * count (trees-at s w names)
+  pub trees : trees_at s v i ≡ flatten ps
+  pub used : m ≤ n + 2 * (c - at) + 2 * count (trees_at s w names)
 
 abbrev pub PairsMember : Text → List ℕ → List ℕ → ℕ → ℕ → ℕ → ℕ → Sides → Type 0
-PairsMember s w v n names bindings at (Stack i m c) = MemberPairs s w v n names bindings at i m (c .at)
+PairsMember s w v n names bindings at (Stack i m c) = MemberPairs s w v n names bindings at i m c.at
 PairsMember s w v n names bindings at Unreadable =
-    ((x : Text) (es : List Entry) → EntriesFrom s at es → every (map (pair-at (bindings-at s w bindings) (x, es)) (names-at s w names)) ≡ nothing) × Below w v n
+    ((x : Text) (es : List Entry) → EntriesFrom s at es → every (map (pair_at (bindings_at s w bindings) (x, es)) (names_at s w names)) ≡ nothing) × Below w v n

@@ -1,19 +1,18 @@
 // The pairs by which one member covers.
-use crate::values::Read;
-use crate::values::read_values;
+ghost use Rattle.std.specs.Prelude.{◌≡◌, ◌+◌, ◌*◌, ◌<◌, ◌≤◌, ◌^◌, length};
+ghost use Rattle.rules.specs.Tree.{count};
+ghost use Rattle.tree.specs.Cells.{trees_at};
+ghost use Rattle.tree.specs.Arena.{Arena};
+ghost use Rattle.variables.specs.Pairing.{OfVariables};
+ghost use Rattle.values.specs.Values.{EntriesThere};
+ghost use Rattle.values.specs.Members.{PairsMember};
+
+use crate::values::{Read, read_values};
 use sheet::Cursor;
 use variables::pairing::pair_variables;
-ghost use mathlib.Core.Path.{_≡_};
-ghost use Prim.Native.Nat.{_+_, _*_, _<_, _≤_, _^_};
-ghost use lib.ListN.{length};
-ghost use Rattle·rules.specs.Tree.{count};
-ghost use Rattle·tree.specs.Cells.{trees-at};
-ghost use Rattle·tree.specs.Arena.{Arena};
-ghost use Rattle·variables.specs.Pairing.{OfVariables};
-ghost use Rattle·values·specs.specs.Values.{EntriesThere};
-ghost use Rattle·values·specs.specs.Members.{PairsMember};
 
 // A list of sides, the free end after it and where the member ends, or a value that cannot be read.
+#[derive(Clone, Copy)]
 pub enum Sides {
     Stack {
         index: usize,
@@ -32,12 +31,12 @@ pub fn member_pairs(
     bindings: usize,
     start: Cursor,
 ) -> Sides
-    requires { ⌜ Arena (now sheet) (now work) free ⌝ }
-    requires { ⌜ (names < free) × (bindings < free) × OfVariables (trees-at (now sheet) (now work) names) ⌝ }
-    requires { ⌜ (start .at ≤ length (now sheet)) × (length (now sheet) ≤ 65536) ⌝ }
-    requires { ⌜ (4 * free + 11 * length (now sheet) + 9 + 8 * count (trees-at (now sheet) (now work) names) ≤ length (now work)) × (free + 2 * length (now sheet) + 2 + 2 * count (trees-at (now sheet) (now work) names) < 2 ^ 32) ⌝ }
-    requires { ⌜ EntriesThere (now sheet) (start .at) ⌝ }
-    ensures { λ r. ⌜ PairsMember (now (sheet .entry)) (now (work .entry)) (now (work .exit)) free names bindings (start .at) r ⌝ }
+    requires arena { Arena sheet.now work.old free }
+    requires names_lt_free { (names < free) × (bindings < free) × OfVariables (trees_at sheet.now work.old names) }
+    requires at_in_bounds { (start.at ≤ length sheet.now) × (length sheet.now ≤ 65536) }
+    requires names_in_bounds { (4 * free + 11 * length sheet.now + 9 + 8 * count (trees_at sheet.now work.old names) ≤ length work.old) × (free + 2 * length sheet.now + 2 + 2 * count (trees_at sheet.now work.old names) < 2 ^ 32) }
+    requires entries_there { EntriesThere sheet.now start.at }
+    ensures { PairsMember sheet.now work.old work.new free names bindings start.at result }
 {
     let read = read_values(sheet, work, free, names, start);
     let Read::Bound {

@@ -1,26 +1,18 @@
 // The values of a member's entries whose keys are variables of the pairs, as bindings.
-use reading::Parsed;
-use reading::parse;
-use sheet::Cursor;
-use sheet::PairLine;
-use sheet::Place;
-use sheet::next_entry;
-use sheet::part;
-use substitution::bindings::Found;
-use substitution::bindings::lookup;
-use substitution::bindings::push_pair;
+ghost use Rattle.std.specs.Prelude.{◌≡◌, ◌+◌, ◌*◌, ◌-◌, ◌<◌, ◌≤◌, ◌^◌, length};
+ghost use Rattle.tree.specs.Cells.{trees_at};
+ghost use Rattle.tree.specs.Arena.{Arena};
+ghost use Rattle.reading.specs.Parsing.{stack_end};
+ghost use Rattle.sheet.specs.Lines.{part_of};
+ghost use Rattle.forms.specs.Form.{Inside};
+ghost use Rattle.variables.specs.Pairing.{names_of, OfVariables};
+ghost use Rattle.values.specs.Values.{FindsVariable, ReadsValue, EntriesThere, ReadsValues};
+
+use reading::{Parsed, parse};
+use sheet::{Cursor, PairLine, Place, next_entry, part};
+use substitution::bindings::{Found, lookup, push_pair};
 use tree::cells::next_of;
 use tree::names::name_is;
-ghost use mathlib.Core.Path.{_≡_};
-ghost use Prim.Native.Nat.{_+_, _*_, _-_, _<_, _≤_, _^_};
-ghost use lib.ListN.{length};
-ghost use Rattle·tree.specs.Cells.{trees-at};
-ghost use Rattle·tree.specs.Arena.{Arena};
-ghost use Rattle·reading.specs.Parsing.{stack-end};
-ghost use Rattle·sheet.specs.Lines.{part-of};
-ghost use Rattle·forms.specs.Form.{Inside};
-ghost use Rattle·variables.specs.Pairing.{names-of, OfVariables};
-ghost use Rattle·values·specs.specs.Values.{FindsVariable, ReadsValue, EntriesThere, ReadsValues};
 
 // The cell of the variable of the list from cell `names` on whose name is the text from `from` to `to`, 0 for none.
 fn find_variable(
@@ -31,9 +23,9 @@ fn find_variable(
     from: usize,
     to: usize,
 ) -> usize
-    requires { ⌜ Arena (now sheet) (now work) free ⌝ }
-    requires { ⌜ (names < free) × (from ≤ to) × (to ≤ length (now sheet)) × OfVariables (trees-at (now sheet) (now work) names) ⌝ }
-    ensures { λ r. ⌜ FindsVariable (now (sheet .entry)) (now (work .entry)) free (names-of (trees-at (now (sheet .entry)) (now (work .entry)) names)) (part-of from to (now (sheet .entry))) r ⌝ }
+    requires arena { Arena sheet.now work.now free }
+    requires names_lt_free { (names < free) × (from ≤ to) × (to ≤ length sheet.now) × OfVariables (trees_at sheet.now work.now names) }
+    ensures { FindsVariable sheet.now work.now free (names_of (trees_at sheet.now work.now names)) (part_of from to sheet.now) result }
 {
     let mut k = names;
     while k != 0 {
@@ -46,6 +38,7 @@ fn find_variable(
 }
 
 // Bindings and the free end after them, or a value that cannot be read.
+#[derive(Clone, Copy)]
 enum Values {
     Bound { bindings: usize, free: usize },
     Unreadable,
@@ -61,11 +54,11 @@ fn read_value(
     value: Place,
     list: usize,
 ) -> Values
-    requires { ⌜ Arena (now sheet) (now work) free ⌝ }
-    requires { ⌜ (names < free) × (list < free) × OfVariables (trees-at (now sheet) (now work) names) ⌝ }
-    requires { ⌜ Inside (now sheet) key × Inside (now sheet) value × (length (now sheet) ≤ 65536) ⌝ }
-    requires { ⌜ (stack-end free (value .from) (value .to) + 8 ≤ length (now work)) × (free + 2 * (value .to - value .from) + 2 < 2 ^ 32) ⌝ }
-    ensures { λ r. ⌜ ReadsValue (now (sheet .entry)) (now (work .entry)) (now (work .exit)) free (names-of (trees-at (now (sheet .entry)) (now (work .entry)) names)) key value list r ⌝ }
+    requires arena { Arena sheet.now work.old free }
+    requires names_lt_free { (names < free) × (list < free) × OfVariables (trees_at sheet.now work.old names) }
+    requires inside { Inside sheet.now key × Inside sheet.now value × (length sheet.now ≤ 65536) }
+    requires to_in_bounds { (stack_end free value.from value.to + 8 ≤ length work.old) × (free + 2 * (value.to - value.from) + 2 < 2 ^ 32) }
+    ensures { ReadsValue sheet.now work.old work.new free (names_of (trees_at sheet.now work.old names)) key value list result }
 {
     let key_from = key.from;
     let key_to = key.to;
@@ -99,6 +92,7 @@ fn read_value(
 }
 
 // The bindings of a member's values, the free end after them and where its entries end, or a value that cannot be read.
+#[derive(Clone, Copy)]
 pub(crate) enum Read {
     Bound {
         bindings: usize,
@@ -116,12 +110,12 @@ pub(crate) fn read_values(
     names: usize,
     start: Cursor,
 ) -> Read
-    requires { ⌜ Arena (now sheet) (now work) free ⌝ }
-    requires { ⌜ (names < free) × OfVariables (trees-at (now sheet) (now work) names) ⌝ }
-    requires { ⌜ (start .at ≤ length (now sheet)) × (length (now sheet) ≤ 65536) ⌝ }
-    requires { ⌜ (4 * free + 11 * length (now sheet) + 9 ≤ length (now work)) × (free + 2 * length (now sheet) + 2 < 2 ^ 32) ⌝ }
-    requires { ⌜ EntriesThere (now sheet) (start .at) ⌝ }
-    ensures { λ r. ⌜ ReadsValues (now (sheet .entry)) (now (work .entry)) (now (work .exit)) free (names-of (trees-at (now (sheet .entry)) (now (work .entry)) names)) (start .at) r ⌝ }
+    requires arena { Arena sheet.now work.old free }
+    requires names_lt_free { (names < free) × OfVariables (trees_at sheet.now work.old names) }
+    requires at_in_bounds { (start.at ≤ length sheet.now) × (length sheet.now ≤ 65536) }
+    requires sheet_in_bounds { (4 * free + 11 * length sheet.now + 9 ≤ length work.old) × (free + 2 * length sheet.now + 2 < 2 ^ 32) }
+    requires entries_there { EntriesThere sheet.now start.at }
+    ensures { ReadsValues sheet.now work.old work.new free (names_of (trees_at sheet.now work.old names)) start.at result }
 {
     let mut cursor = start;
     let mut list: usize = 0;

@@ -1,17 +1,16 @@
 -- Texts in byte order, each once: what inserting all of them makes, and what dropping repeats makes of a sorted list. Definitions only.
-use mathlib.Core.Bool.{cond}
-use mathlib.Core.List.{List, [], _∷_}
-use Rattle·rules.specs.Bytes.{Text, same}
-use Rattle·rules.specs.Cover.{insert-once}
+use Rattle.std.specs.Prelude.{cond, List, [], ◌∷◌}
+use Rattle.rules.specs.Bytes.{Text, same}
+use Rattle.rules.specs.Cover.{insert_once}
 
 -- all texts inserted into a list
 unfoldable pub inserted : List Text → List Text → List Text
-unfolding insert-once
+unfolding insert_once
 inserted [] found = found
-inserted (x ∷ xs) found = insert-once x (inserted xs found)
+inserted (x ∷ xs) found = insert_once x (inserted xs found)
 
-abbrev pub ordered-once : List Text → List Text
-ordered-once xs = inserted xs []
+abbrev pub ordered_once : List Text → List Text
+ordered_once xs = inserted xs []
 
 -- a text that stands before itself is dropped
 unfoldable pub unique : List Text → List Text

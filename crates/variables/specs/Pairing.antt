@@ -1,28 +1,26 @@
 -- At each variable the trees that two lists of bindings give it, as a list of trees in cells. Definitions only.
-use Prim.Native.Nat.{ℕ, _+_, _*_}
-use mathlib.Core.Path.{_≡_}
-use mathlib.Core.List.{List, [], _∷_}
-use Rattle·rules.specs.Bytes.{Text}
-use Rattle·rules.specs.Tree.{Trees, none, more, count}
-use Rattle·rules.specs.Substitution.{Binding, Pair, lookup}
-use Rattle·tree.specs.Cells.{trees-at}
-use Rattle·substitution.specs.Bindings.{key-of, bindings-at}
-use Rattle·substitution.specs.Building.{Made}
-use Rattle·variables·specs.specs.Listing.{variable-list, backwards}
+use Rattle.std.specs.Prelude.{ℕ, ◌+◌, ◌*◌, ◌≡◌, List, [], ◌∷◌}
+use Rattle.rules.specs.Bytes.{Text}
+use Rattle.rules.specs.Tree.{Trees, none, more, count}
+use Rattle.rules.specs.Substitution.{Binding, Pair, lookup}
+use Rattle.tree.specs.Cells.{trees_at}
+use Rattle.substitution.specs.Bindings.{key_of, bindings_at}
+use Rattle.substitution.specs.Building.{Made}
+use Rattle.variables.specs.Listing.{variable_list, backwards}
 
 -- the names of a list of variables
-unfoldable pub names-of : Trees → List Text
-unfolding key-of
-names-of none = []
-names-of (more t ts) = key-of t ∷ names-of ts
+unfoldable pub names_of : Trees → List Text
+unfolding key_of
+names_of none = []
+names_of (more t ts) = key_of t ∷ names_of ts
 
 -- a list of variables and nothing else
 abbrev pub OfVariables : Trees → Type 0
-OfVariables ts = variable-list (names-of ts) ≡ ts
+OfVariables ts = variable_list (names_of ts) ≡ ts
 
 -- the variables of the list from cell k on, the last first
-abbrev pub names-at : Text → List ℕ → ℕ → List Text
-names-at s w k = backwards (names-of (trees-at s w k)) []
+abbrev pub names_at : Text → List ℕ → ℕ → List Text
+names_at s w k = backwards (names_of (trees_at s w k)) []
 
 -- at each variable the tree that the bindings ms give it against that of the bindings bs
 unfoldable pub paired : List Binding → List Binding → List Text → List Pair
@@ -31,11 +29,11 @@ paired ms bs [] = []
 paired ms bs (x ∷ xs) = (lookup ms x, lookup bs x) ∷ paired ms bs xs
 
 -- left, right, left, right, before a list
-unfoldable pub flatten-before : List Pair → Trees → Trees
-flatten-before [] ts = ts
-flatten-before (p ∷ ps) ts = more (p .0) (more (p .1) (flatten-before ps ts))
+unfoldable pub flatten_before : List Pair → Trees → Trees
+flatten_before [] ts = ts
+flatten_before (p ∷ ps) ts = more p.0 (more p.1 (flatten_before ps ts))
 
 -- from w, with the free end n, to v, with the free end m: the list from cell i on is that of the pairs, before the list from cell rest on
 pub record PairsUp (s : Text) (w v : List ℕ) (n names values bindings rest i m : ℕ) : Type 0 where
-  pub made : Made s w v n m i (flatten-before (paired (bindings-at s w values) (bindings-at s w bindings) (names-at s w names)) (trees-at s w rest))
-  pub used : m ≡ n + 2 * count (trees-at s w names)
+  pub made : Made s w v n m i (flatten_before (paired (bindings_at s w values) (bindings_at s w bindings) (names_at s w names)) (trees_at s w rest))
+  pub used : m ≡ n + 2 * count (trees_at s w names)

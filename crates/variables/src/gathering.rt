@@ -1,30 +1,24 @@
 // The variables of trees in byte order, each once, as places in the work area.
-use text::places::sort_places;
-use text::places::text_at;
+ghost use Rattle.std.specs.Prelude.{◌≡◌, map, ◌+◌, ◌*◌, ◌<◌, ◌≤◌, ◌^◌, length, get_or};
+ghost use Rattle.std.proofs.Math.Seq.{slice};
+ghost use Rattle.rules.specs.Bytes.{same};
+ghost use Rattle.rules.specs.Tree.{size, sizes, variable_names, variable_names_in};
+ghost use Rattle.text.specs.Places.{text_at};
+ghost use Rattle.tree.specs.Cells.{tree_at, trees_at};
+ghost use Rattle.tree.specs.Arena.{Arena};
+ghost use Rattle.variables.specs.Variables.{Readable, ReadableAll, VariablePlaces, repeats, Dropped, Ordered};
+
+use text::places::{sort_places, text_at};
 use text::same;
-use tree::cells::APPLICATION;
-use tree::cells::ATOMS;
-use tree::cells::first_of;
-use tree::cells::kind_of;
-use tree::cells::next_of;
-ghost use mathlib.Core.Path.{_≡_};
-ghost use mathlib.Core.List.{map};
-ghost use Prim.Native.Nat.{_+_, _*_, _<_, _≤_, _^_};
-ghost use lib.ListN.{length, getD};
-ghost use lib.Seq.{slice};
-ghost use Rattle·rules.specs.Bytes.{same};
-ghost use Rattle·rules.specs.Tree.{size, sizes, variable-names, variable-names-in};
-ghost use Rattle·text.specs.Places.{text-at};
-ghost use Rattle·tree.specs.Cells.{tree-at, trees-at};
-ghost use Rattle·tree.specs.Arena.{Arena};
-ghost use Rattle·variables·specs.specs.Variables.{Readable, ReadableAll, VariablePlaces, repeats, Dropped, Ordered};
+use tree::cells::{APPLICATION, ATOMS, first_of, kind_of, next_of};
 
 // Writes the places of the variables of the tree of cell i from `at` on, and answers where they end.
+#[cycle(gather_gather_list)]
 fn gather(sheet: &[u8], work: &mut [u32], free: usize, i: usize, at: usize) -> usize
-    requires { ⌜ Arena (now sheet) (now work) free ⌝ }
-    requires { ⌜ (0 < i) × (i < free) × Readable (tree-at (now sheet) (now work) i) ⌝ }
-    requires { ⌜ (4 * free ≤ at) × (at + size (tree-at (now sheet) (now work) i) ≤ length (now work)) ⌝ }
-    ensures { λ r. ⌜ VariablePlaces (now (sheet .entry)) (now (work .entry)) (now (work .exit)) at r (size (tree-at (now (sheet .entry)) (now (work .entry)) i)) (variable-names (tree-at (now (sheet .entry)) (now (work .entry)) i)) ⌝ }
+    requires arena { Arena sheet.now work.old free }
+    requires i_nonzero { (0 < i) × (i < free) × Readable (tree_at sheet.now work.old i) }
+    requires free_bound { (4 * free ≤ at) × (at + size (tree_at sheet.now work.old i) ≤ length work.old) }
+    ensures { VariablePlaces sheet.now work.old work.new at result (size (tree_at sheet.now work.old i)) (variable_names (tree_at sheet.now work.old i)) }
 {
     let kind = kind_of(work, i);
     if kind == APPLICATION {
@@ -39,11 +33,12 @@ fn gather(sheet: &[u8], work: &mut [u32], free: usize, i: usize, at: usize) -> u
 }
 
 // The same of the trees of the list from cell i on.
+#[cycle(gather_gather_list)]
 fn gather_list(sheet: &[u8], work: &mut [u32], free: usize, i: usize, at: usize) -> usize
-    requires { ⌜ Arena (now sheet) (now work) free ⌝ }
-    requires { ⌜ (i < free) × ReadableAll (trees-at (now sheet) (now work) i) ⌝ }
-    requires { ⌜ (4 * free ≤ at) × (at + sizes (trees-at (now sheet) (now work) i) ≤ length (now work)) ⌝ }
-    ensures { λ r. ⌜ VariablePlaces (now (sheet .entry)) (now (work .entry)) (now (work .exit)) at r (sizes (trees-at (now (sheet .entry)) (now (work .entry)) i)) (variable-names-in (trees-at (now (sheet .entry)) (now (work .entry)) i)) ⌝ }
+    requires arena { Arena sheet.now work.old free }
+    requires i_lt_free { (i < free) × ReadableAll (trees_at sheet.now work.old i) }
+    requires free_bound { (4 * free ≤ at) × (at + sizes (trees_at sheet.now work.old i) ≤ length work.old) }
+    ensures { VariablePlaces sheet.now work.old work.new at result (sizes (trees_at sheet.now work.old i)) (variable_names_in (trees_at sheet.now work.old i)) }
 {
     if i == 0 {
         return at;
@@ -55,10 +50,10 @@ fn gather_list(sheet: &[u8], work: &mut [u32], free: usize, i: usize, at: usize)
 
 // The same of a list of any length.
 fn gather_all(sheet: &[u8], work: &mut [u32], free: usize, list: usize, at: usize) -> usize
-    requires { ⌜ Arena (now sheet) (now work) free ⌝ }
-    requires { ⌜ (list < free) × ReadableAll (trees-at (now sheet) (now work) list) ⌝ }
-    requires { ⌜ (4 * free ≤ at) × (at + sizes (trees-at (now sheet) (now work) list) ≤ length (now work)) ⌝ }
-    ensures { λ r. ⌜ VariablePlaces (now (sheet .entry)) (now (work .entry)) (now (work .exit)) at r (sizes (trees-at (now (sheet .entry)) (now (work .entry)) list)) (variable-names-in (trees-at (now (sheet .entry)) (now (work .entry)) list)) ⌝ }
+    requires arena { Arena sheet.now work.old free }
+    requires list_lt_free { (list < free) × ReadableAll (trees_at sheet.now work.old list) }
+    requires free_bound { (4 * free ≤ at) × (at + sizes (trees_at sheet.now work.old list) ≤ length work.old) }
+    ensures { VariablePlaces sheet.now work.old work.new at result (sizes (trees_at sheet.now work.old list)) (variable_names_in (trees_at sheet.now work.old list)) }
 {
     let mut i = list;
     let mut end = at;
@@ -71,8 +66,8 @@ fn gather_all(sheet: &[u8], work: &mut [u32], free: usize, list: usize, at: usiz
 
 // Whether the text of the place at i stands also at the next one, before `end`.
 fn repeats(sheet: &[u8], work: &[u32], i: usize, end: usize) -> bool
-    requires { ⌜ (i < end) × (end ≤ length (now work)) ⌝ }
-    ensures { λ r. ⌜ r ≡ repeats (map (text-at (now (sheet .entry))) (slice i end (now (work .entry)))) ⌝ }
+    requires { (i < end) × (end ≤ length work.now) }
+    ensures { result ≡ repeats (map (text_at sheet.now) (slice i end work.now)) }
 {
     if end <= i + 1 {
         return false;
@@ -82,8 +77,8 @@ fn repeats(sheet: &[u8], work: &[u32], i: usize, end: usize) -> bool
 
 // Drops each place from `at` to `end` whose text is also the next one's, and answers where the others end.
 fn drop_repeats(sheet: &[u8], work: &mut [u32], at: usize, end: usize) -> usize
-    requires { ⌜ (at ≤ end) × (end ≤ length (now work)) ⌝ }
-    ensures { λ r. ⌜ Dropped (now (sheet .entry)) (now (work .entry)) (now (work .exit)) at end r ⌝ }
+    requires { (at ≤ end) × (end ≤ length work.old) }
+    ensures { Dropped sheet.now work.old work.new at end result }
 {
     let mut i = at;
     let mut out = at;
@@ -102,10 +97,10 @@ fn drop_repeats(sheet: &[u8], work: &mut [u32], at: usize, end: usize) -> usize
 // Writes the places of the variables of the trees of the list, in byte order and each once, from `at` on, and answers where they end. As
 // many words as the trees have nodes, and as many again, are scratch.
 pub fn variables_of(sheet: &[u8], work: &mut [u32], free: usize, list: usize, at: usize) -> usize
-    requires { ⌜ Arena (now sheet) (now work) free ⌝ }
-    requires { ⌜ (list < free) × ReadableAll (trees-at (now sheet) (now work) list) ⌝ }
-    requires { ⌜ (4 * free ≤ at) × (at + 2 * sizes (trees-at (now sheet) (now work) list) ≤ length (now work)) ⌝ }
-    ensures { λ r. ⌜ Ordered (now (sheet .entry)) (now (work .entry)) (now (work .exit)) at r (sizes (trees-at (now (sheet .entry)) (now (work .entry)) list)) (variable-names-in (trees-at (now (sheet .entry)) (now (work .entry)) list)) ⌝ }
+    requires arena { Arena sheet.now work.old free }
+    requires list_lt_free { (list < free) × ReadableAll (trees_at sheet.now work.old list) }
+    requires free_bound { (4 * free ≤ at) × (at + 2 * sizes (trees_at sheet.now work.old list) ≤ length work.old) }
+    ensures { Ordered sheet.now work.old work.new at result (sizes (trees_at sheet.now work.old list)) (variable_names_in (trees_at sheet.now work.old list)) }
 {
     let end = gather_all(sheet, work, free, list, at);
     sort_places(sheet, work, at, end, end);

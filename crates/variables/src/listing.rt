@@ -1,26 +1,23 @@
 // Variables at places of the sheet as a list of cells.
+ghost use Rattle.std.specs.Prelude.{◌≡◌, map, ◌+◌, ◌*◌, ◌-◌, ◌<◌, ◌≤◌, ◌^◌, length};
+ghost use Rattle.std.proofs.Math.Seq.{slice};
+ghost use Rattle.rules.specs.Tree.{variable};
+ghost use Rattle.text.specs.Places.{text_at};
+ghost use Rattle.tree.specs.Arena.{Arena, Linked};
+ghost use Rattle.variables.specs.Variables.{Variable, Variables};
+ghost use Rattle.variables.specs.Listing.{ListsVariables};
+
 use leaves::leaf_kind;
 use substitution::bindings::Pushed;
-use text::places::text_at;
-use text::places::wide;
+use text::places::{text_at, wide};
 use tree::cells::push_cell;
-ghost use mathlib.Core.Path.{_≡_};
-ghost use mathlib.Core.List.{map};
-ghost use Prim.Native.Nat.{_+_, _*_, _-_, _<_, _≤_, _^_};
-ghost use lib.ListN.{length};
-ghost use lib.Seq.{slice};
-ghost use Rattle·rules.specs.Tree.{variable};
-ghost use Rattle·text.specs.Places.{text-at};
-ghost use Rattle·tree.specs.Arena.{Arena, Linked};
-ghost use Rattle·variables·specs.specs.Variables.{Variable, Variables};
-ghost use Rattle·variables·specs.specs.Listing.{ListsVariables};
 
 // Writes the variable at a place before the list at `next`, and returns the free end after it.
 pub fn push_variable(sheet: &[u8], work: &mut [u32], free: usize, x: u32, next: usize) -> usize
-    requires { ⌜ Arena (now sheet) (now work) free ⌝ }
-    requires { ⌜ Variable (now sheet) x × (length (now sheet) ≤ 65536) ⌝ }
-    requires { ⌜ (next < free) × (4 * free + 4 ≤ length (now work)) × (free < 2 ^ 32) ⌝ }
-    ensures { λ r. ⌜ (r ≡ free + 1) × Linked (now (sheet .entry)) (now (work .entry)) (now (work .exit)) free next (variable (text-at (now (sheet .entry)) x)) ⌝ }
+    requires arena { Arena sheet.now work.old free }
+    requires variable { Variable sheet.now x × (length sheet.now ≤ 65536) }
+    requires next_lt_free { (next < free) × (4 * free + 4 ≤ length work.old) × (free < 2 ^ 32) }
+    ensures { (result ≡ free + 1) × Linked sheet.now work.old work.new free next (variable (text_at sheet.now x)) }
 {
     let place = wide(x);
     let kind = leaf_kind(text_at(sheet, x));
@@ -29,10 +26,10 @@ pub fn push_variable(sheet: &[u8], work: &mut [u32], free: usize, x: u32, next: 
 
 // The variables at the places from `at` to `end` as a list of cells, the last first. The places stand after the cells.
 pub fn list_variables(sheet: &[u8], work: &mut [u32], free: usize, at: usize, end: usize) -> Pushed
-    requires { ⌜ Arena (now sheet) (now work) free × (length (now sheet) ≤ 65536) ⌝ }
-    requires { ⌜ (at ≤ end) × (end ≤ length (now work)) × Variables (now sheet) (slice at end (now work)) ⌝ }
-    requires { ⌜ (4 * (free + (end - at)) ≤ at) × (free + (end - at) < 2 ^ 32) ⌝ }
-    ensures { λ r. ⌜ ListsVariables (now (sheet .entry)) (now (work .entry)) (now (work .exit)) free (end - at) (map (text-at (now (sheet .entry))) (slice at end (now (work .entry)))) (r .index) (r .free) ⌝ }
+    requires arena { Arena sheet.now work.old free × (length sheet.now ≤ 65536) }
+    requires at_le_end { (at ≤ end) × (end ≤ length work.old) × Variables sheet.now (slice at end work.old) }
+    requires at_bound { (4 * (free + (end - at)) ≤ at) × (free + (end - at) < 2 ^ 32) }
+    ensures { ListsVariables sheet.now work.old work.new free (end - at) (map (text_at sheet.now) (slice at end work.old)) result.index result.free }
 {
     let mut i = at;
     let mut list: usize = 0;

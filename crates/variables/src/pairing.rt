@@ -1,25 +1,21 @@
 // The pairs of trees that two lists of bindings give variables.
-use substitution::bindings::Found;
-use substitution::bindings::Pushed;
-use substitution::bindings::lookup;
-use substitution::bindings::push_pair;
+ghost use Rattle.std.specs.Prelude.{◌≡◌, ◌+◌, ◌*◌, ◌<◌, ◌≤◌, ◌^◌, length};
+ghost use Rattle.rules.specs.Tree.{variable, count};
+ghost use Rattle.rules.specs.Substitution.{lookup};
+ghost use Rattle.tree.specs.Cells.{name_at, tree_at, trees_at};
+ghost use Rattle.tree.specs.Arena.{Arena};
+ghost use Rattle.substitution.specs.Bindings.{bindings_at};
+ghost use Rattle.variables.specs.Pairing.{OfVariables, PairsUp};
+
+use substitution::bindings::{Found, Pushed, lookup, push_pair};
 use tree::cells::next_of;
-ghost use mathlib.Core.Path.{_≡_};
-ghost use Prim.Native.Nat.{_+_, _*_, _<_, _≤_, _^_};
-ghost use lib.ListN.{length};
-ghost use Rattle·rules.specs.Tree.{variable, count};
-ghost use Rattle·rules.specs.Substitution.{lookup};
-ghost use Rattle·tree.specs.Cells.{name-at, tree-at, trees-at};
-ghost use Rattle·tree.specs.Arena.{Arena};
-ghost use Rattle·substitution.specs.Bindings.{bindings-at};
-ghost use Rattle·variables·specs.specs.Pairing.{OfVariables, PairsUp};
 
 // The cell of the tree that the bindings from cell b on give the variable of cell x: its own where they have no such key.
 fn value_at(sheet: &[u8], work: &[u32], free: usize, b: usize, x: usize) -> usize
-    requires { ⌜ Arena (now sheet) (now work) free ⌝ }
-    requires { ⌜ b < free ⌝ }
-    requires { ⌜ (0 < x) × (x < free) × (tree-at (now sheet) (now work) x ≡ variable (name-at (now sheet) (now work) x)) ⌝ }
-    ensures { λ r. ⌜ (0 < r) × (r < free) × (tree-at (now (sheet .entry)) (now (work .entry)) r ≡ lookup (bindings-at (now (sheet .entry)) (now (work .entry)) b) (name-at (now (sheet .entry)) (now (work .entry)) x)) ⌝ }
+    requires arena { Arena sheet.now work.now free }
+    requires b_lt_free { b < free }
+    requires x_nonzero { (0 < x) × (x < free) × (tree_at sheet.now work.now x ≡ variable (name_at sheet.now work.now x)) }
+    ensures { (0 < result) × (result < free) × (tree_at sheet.now work.now result ≡ lookup (bindings_at sheet.now work.now b) (name_at sheet.now work.now x)) }
 {
     let found = lookup(sheet, work, free, b, x);
     let Found::At(value) = found else {
@@ -39,10 +35,10 @@ pub fn pair_variables(
     bindings: usize,
     rest: usize,
 ) -> Pushed
-    requires { ⌜ Arena (now sheet) (now work) free ⌝ }
-    requires { ⌜ (names < free) × (values < free) × (bindings < free) × OfVariables (trees-at (now sheet) (now work) names) × (rest < free) ⌝ }
-    requires { ⌜ (4 * (free + 2 * count (trees-at (now sheet) (now work) names)) ≤ length (now work)) × (free + 2 * count (trees-at (now sheet) (now work) names) < 2 ^ 32) ⌝ }
-    ensures { λ r. ⌜ PairsUp (now (sheet .entry)) (now (work .entry)) (now (work .exit)) free names values bindings rest (r .index) (r .free) ⌝ }
+    requires arena { Arena sheet.now work.old free }
+    requires names_lt_free { (names < free) × (values < free) × (bindings < free) × OfVariables (trees_at sheet.now work.old names) × (rest < free) }
+    requires names_in_bounds { (4 * (free + 2 * count (trees_at sheet.now work.old names)) ≤ length work.old) × (free + 2 * count (trees_at sheet.now work.old names) < 2 ^ 32) }
+    ensures { PairsUp sheet.now work.old work.new free names values bindings rest result.index result.free }
 {
     let mut k = names;
     let mut list = rest;

@@ -1,123 +1,123 @@
 -- A member read into cells.
-use Prim.Native.Nat.{ℕ, _+_, _-_, _<_, _≤_}
+use Prim.Native.Nat.{ℕ, ◌+◌, ◌-◌, ◌<◌, ◌≤◌}
 use native.Mathlib.Omega.{arith}
-use mathlib.Core.Path.{_≡_, refl, sym, ap, ap₂, _∙_}
-use mathlib.Core.List.{List, [], _∷_, _++_, append-nil, map}
+use mathlib.Core.Path.{◌≡◌, refl, sym, ap, ap₂, ◌∙◌}
+use mathlib.Core.List.{List, [], ◌∷◌, ◌++◌, append-nil, map}
 use mathlib.Core.Option.{Option, some, none as nothing}
 use lib.ListN.{length}
-use Rattle·rules.specs.Bytes.{Text}
-use Rattle·rules.specs.Text.{bytes}
-use Rattle·rules.specs.Maybe.{_>>=_, every}
-use Rattle·rules.specs.Tree.{Tree}
-use Rattle·rules.specs.Reading.{parse}
-use Rattle·rules.specs.Substitution.{Binding}
-use Rattle·rules.specs.Sheet.{Entry, Member, distinct-keys}
-use Rattle·rules.specs.Variants.{Variant, read-entry, read-member}
-use Rattle·laws.proofs.Basics.Options.{bound}
-use Rattle·laws.proofs.Reading.Builds.{reads-within}
-use Rattle·tree.specs.Cells.{tree-at}
-use Rattle·tree.proofs.Decoding.{frame-tree}
-use Rattle·tree.proofs.Areas.{below-same, below-then}
-use Rattle·reading.specs.Parsing.{Read, Parses}
-use Rattle·reading.specs.declared.Parsed.the-variants as parsed
-use Rattle·sheet.specs.Lines.{part-of, lines-at, value-at}
-use Rattle·sheet.specs.Pairs.{entries-by, entries-before}
-use Rattle·forms.specs.Members.{members-at}
-use Rattle·sheet.specs.declared.Cursor.{Cursor}
-use Rattle·sheet.specs.declared.Line.the-variants.{Whole, Missing}
-use Rattle·sheet.proofs.LineLaws.{keyed}
-use Rattle·forms.proofs.WalkLaws.{two-end, member-end, member-next, members-later}
-use Rattle·variants·specs.specs.Members.{ReadEntries, ReadsEntries, MemberReads, ReadMember, ReadsMember}
-use Rattle·variants·specs.specs.declared.members.Entries.the-variants as entries
-use Rattle·variants·specs.specs.declared.members.Variant.the-variants as variant
-use Rattle·variants·proofs.proofs.Entering.{below-outside, part-size, parts-before}
+use Rattle.rules.specs.Bytes.{Text}
+use Rattle.rules.specs.Text.{bytes}
+use Rattle.rules.specs.Maybe.{◌>>=◌, every}
+use Rattle.rules.specs.Tree.{Tree}
+use Rattle.rules.specs.Reading.{parse}
+use Rattle.rules.specs.Substitution.{Binding}
+use Rattle.rules.specs.Sheet.{Entry, Member, distinct_keys}
+use Rattle.rules.specs.Variants.{Variant, read_entry, read_member}
+use Rattle.laws.proofs.Basics.Options.{bound}
+use Rattle.laws.proofs.Reading.Builds.{reads_within}
+use Rattle.tree.specs.Cells.{tree_at}
+use Rattle.tree.proofs.Decoding.{frame_tree}
+use Rattle.tree.proofs.Areas.{below_same, below_then}
+use Rattle.reading.specs.Parsing.{Read, Parses}
+use Rattle.reading.specs.declared.Parsed.TheVariants as parsed
+use Rattle.sheet.specs.Lines.{part_of, lines_at, value_at}
+use Rattle.sheet.specs.Pairs.{entries_by, entries_before}
+use Rattle.forms.specs.Members.{members_at}
+use Rattle.sheet.specs.declared.Cursor.{Cursor}
+use Rattle.sheet.specs.declared.Line.TheVariants.{Whole, Missing}
+use Rattle.sheet.proofs.LineLaws.{keyed}
+use Rattle.forms.proofs.WalkLaws.{two_end, member_end, member_next, members_later}
+use Rattle.variants.specs.Members.{ReadEntries, ReadsEntries, MemberReads, ReadMember, ReadsMember}
+use Rattle.variants.specs.declared.members.Entries.TheVariants as entries
+use Rattle.variants.specs.declared.members.Variant.TheVariants as variant
+use Rattle.variants.proofs.Entering.{below_outside, part_size, parts_before}
 
 -- ---- the definition by what its texts read as
 
-member-as : (v : Text) (es : List Entry) (o : Option Tree) (p : Option (List Binding)) → parse v ≡ o → every (map read-entry es) ≡ p
-    → read-member (v, es) ≡ (o >>= λ t. p >>= λ bs. some (t, bs))
-unfolding read-member
-member-as v es o p e f = ap₂ (λ (o : Option Tree) (p : Option (List Binding)). o >>= λ t. p >>= λ bs. some (t, bs)) e f
+member_as : (v : Text) (es : List Entry) (o : Option Tree) (p : Option (List Binding)) → parse v ≡ o → every (map read_entry es) ≡ p
+    → read_member (v, es) ≡ (o >>= λ t. p >>= λ bs. some (t, bs))
+unfolding read_member
+member_as v es o p e f = ap₂ (λ (o : Option Tree) (p : Option (List Binding)). o >>= λ t. p >>= λ bs. some (t, bs)) e f
 
 abbrev unread : Option Variant
 unread = nothing
 
-entries-none : (o : Option Tree) → (o >>= λ t. unread) ≡ unread
-entries-none nothing = refl
-entries-none (some t) = refl
+entries_none : (o : Option Tree) → (o >>= λ t. unread) ≡ unread
+entries_none nothing = refl
+entries_none (some t) = refl
 
-first-of : {m : Member} {ms : List Member} {v : Text} {es : List Entry} {os : List Member} → m ∷ ms ≡ (v, es) ∷ os → (m ≡ (v, es)) × (ms ≡ os)
-first-of e = (cc, cc)
+first_of : {m : Member} {ms : List Member} {v : Text} {es : List Entry} {os : List Member} → m ∷ ms ≡ (v, es) ∷ os → (m ≡ (v, es)) × (ms ≡ os)
+first_of e = (cc, cc)
 
 -- ---- at a position
 
-pub no-member : (s : Text) (w : List ℕ) (n at : ℕ) → Missing ≡ value-at s (bytes "member=") at → ReadsMember s w w n at variant.Unreadable
-no-member s w n at e = (go, below-same w n)
+pub no_member : (s : Text) (w : List ℕ) (n at : ℕ) → Missing ≡ value_at s (bytes "member=") at → ReadsMember s w w n at variant.Unreadable
+no_member s w n at e = (go, below_same w n)
   where
-    go : (m : Member) (ms : List Member) → members-at s at ≡ some (m ∷ ms) → read-member m ≡ nothing
+    go : (m : Member) (ms : List Member) → members_at s at ≡ some (m ∷ ms) → read_member m ≡ nothing
     go m ms h =
-        let z = member-end s at (m ∷ ms) h e in
-        let y : _≡_ {A = ℕ} 0 1 = cc in
+        let z = member_end s at (m ∷ ms) h e in
+        let y : ◌≡◌ {A = ℕ} 0 1 = cc in
         absurd (omega arith)
 
-module _ (s : Text) (at f t : ℕ) (c : Cursor) (e : Whole f t c ≡ value-at s (bytes "member=") at) where
+module _ (s : Text) (at f t : ℕ) (c : Cursor) (e : Whole f t c ≡ value_at s (bytes "member=") at) where
   -- the text of the line, and where it ends
-  pub member-placed : (at < c .at) × (c .at ≤ length s) × (f ≤ t) × (t < length s) × (at + 8 + (t - f) ≡ c .at)
-  member-placed =
+  pub member_placed : (at < c.at) × (c.at ≤ length s) × (f ≤ t) × (t < length s) × (at + 8 + (t - f) ≡ c.at)
+  member_placed =
       let h = keyed s (bytes "member=") at f t c e in
       let l : length (bytes "member=") ≡ 7 = refl in
-      omega (arith, h .begins, h .ends, h .after)
+      omega (arith, h.begins, h.ends, h.after)
 
-  pub text-unread : {w v : List ℕ} (n : ℕ) → Parses s w v n f t parsed.Unreadable → ReadsMember s w v n at variant.Unreadable
-  text-unread n x = (go, below-outside (x .1))
+  pub text_unread : {w v : List ℕ} (n : ℕ) → Parses s w v n f t parsed.Unreadable → ReadsMember s w v n at variant.Unreadable
+  text_unread n x = (go, below_outside x.1)
     where
-      go : (m : Member) (ms : List Member) → members-at s at ≡ some (m ∷ ms) → read-member m ≡ nothing
+      go : (m : Member) (ms : List Member) → members_at s at ≡ some (m ∷ ms) → read_member m ≡ nothing
       go m ms h =
-          let y = member-next s at (m ∷ ms) h f t c e in
-          ap read-member (first-of (y .members) .0) ∙ member-as (part-of f t s) (y .es) nothing (every (map read-entry (y .es))) (x .0) refl
+          let y = member_next s at (m ∷ ms) h f t c e in
+          ap read_member (first_of y.members).0 ∙ member_as (part_of f t s) y.es nothing (every (map read_entry y.es)) x.0 refl
 
   module _ {w w₁ : List ℕ} {n index middle : ℕ} (one : Read s w w₁ n f t index middle) where
-    pub entries-unread : {v : List ℕ} → ReadsEntries s w₁ v middle (c .at) entries.Unreadable → ReadsMember s w v n at variant.Unreadable
-    entries-unread x = (go, below-then (below-outside (one .outside)) (x .1) (one .grew))
+    pub entries_unread : {v : List ℕ} → ReadsEntries s w₁ v middle c.at entries.Unreadable → ReadsMember s w v n at variant.Unreadable
+    entries_unread x = (go, below_then (below_outside one.outside) x.1 one.grew)
       where
-        go : (m : Member) (ms : List Member) → members-at s at ≡ some (m ∷ ms) → read-member m ≡ nothing
+        go : (m : Member) (ms : List Member) → members_at s at ≡ some (m ∷ ms) → read_member m ≡ nothing
         go m ms h =
-            let y = member-next s at (m ∷ ms) h f t c e in
-            ap read-member (first-of (y .members) .0) ∙ member-as (part-of f t s) (y .es) (parse (part-of f t s)) nothing refl (x .0 (y .es) (y .rest) (y .entries)) ∙ entries-none (parse (part-of f t s))
+            let y = member_next s at (m ∷ ms) h f t c e in
+            ap read_member (first_of y.members).0 ∙ member_as (part_of f t s) y.es (parse (part_of f t s)) nothing refl (x.0 y.es y.rest y.entries) ∙ entries_none (parse (part_of f t s))
 
-    module _ {v : List ℕ} {i end d : ℕ} (x : ReadEntries s w₁ v middle (c .at) i end d) where
-      same-tree : tree-at s w₁ index ≡ tree-at s v index
-      same-tree = frame-tree s v (one .arena .links) (x .kept .words) index (one .placed .0) (one .placed .1)
+    module _ {v : List ℕ} {i end d : ℕ} (x : ReadEntries s w₁ v middle c.at i end d) where
+      same_tree : tree_at s w₁ index ≡ tree_at s v index
+      same_tree = frame_tree s v one.arena.links x.kept.words index one.placed.0 one.placed.1
 
-      member-reads : (m : Member) (ms : List Member) → members-at s at ≡ some (m ∷ ms) → MemberReads s v index i d m ms
-      member-reads m ms h =
-          let y = member-next s at (m ∷ ms) h f t c e in
-          let z = first-of (y .members) in
-          let (p, a, b) = bound (lines-at s d >>= entries-by (bytes "key=") (bytes "value=")) (entries-before (x .walk .es)) (y .es, y .rest) (sym (x .walk .chain) ∙ y .entries) in
-          let q = parts-before (x .walk .es) p (y .es) (y .rest) b in
-          let g = two-end (bytes "key=") (bytes "value=") s d (p .0) (p .1) a (x .stops) in
-          let k : y .es ≡ x .walk .es = sym (q .0) ∙ ap (λ (gs : List Entry). x .walk .es ++ gs) (g .0) ∙ append-nil (x .walk .es) in
+      member_reads : (m : Member) (ms : List Member) → members_at s at ≡ some (m ∷ ms) → MemberReads s v index i d m ms
+      member_reads m ms h =
+          let y = member_next s at (m ∷ ms) h f t c e in
+          let z = first_of y.members in
+          let (p, a, b) = bound (lines_at s d >>= entries_by (bytes "key=") (bytes "value=")) (entries_before x.walk.es) (y.es, y.rest) (sym x.walk.chain ∙ y.entries) in
+          let q = parts_before x.walk.es p y.es y.rest b in
+          let g = two_end (bytes "key=") (bytes "value=") s d p.0 p.1 a x.stops in
+          let k : y.es ≡ x.walk.es = sym q.0 ∙ ap (λ (gs : List Entry). x.walk.es ++ gs) g.0 ∙ append-nil x.walk.es in
           record {
-            bs = x .bs;
+            bs = x.bs;
             read =
-                ap read-member (z .0 ∙ ap (λ (es : List Entry). (part-of f t s, es)) k)
-                ∙ member-as (part-of f t s) (x .walk .es) (some (tree-at s v index)) (some (x .bs)) (one .reads ∙ ap some same-tree) (x .read);
-            alike = x .alike (ap (λ (es : List Entry). distinct-keys es []) (sym k) ∙ y .distinct);
-            later = members-later s d (y .rest) ms (g .1 ∙ ap some (q .1)) (y .later ∙ ap some (sym (z .1)));
+                ap read_member (z.0 ∙ ap (λ (es : List Entry). (part_of f t s, es)) k)
+                ∙ member_as (part_of f t s) x.walk.es (some (tree_at s v index)) (some x.bs) (one.reads ∙ ap some same_tree) x.read;
+            alike = x.alike (ap (λ (es : List Entry). distinct_keys es []) (sym k) ∙ y.distinct);
+            later = members_later s d y.rest ms (g.1 ∙ ap some q.1) (y.later ∙ ap some (sym z.1));
           }
 
-      pub member-there : ReadMember s w v n at index i end d
-      member-there = record {
-        reads = member-reads;
-        small = reads-within (part-of f t s) (tree-at s v index) (one .reads ∙ ap some same-tree);
-        chain = x .chain;
-        arena = x .arena;
-        kept = below-then (below-outside (one .outside)) (x .kept) (one .grew);
-        grew = omega (arith, one .grew, x .grew);
-        used = omega (arith, one .room, x .used, x .walk .low, member-placed);
-        light = omega (arith, part-size s f t (tree-at s v index) (one .reads ∙ ap some same-tree), x .light, x .walk .low, member-placed);
-        placed = (one .placed .0, omega (arith, one .placed, x .grew));
-        inside = x .inside;
-        onward = omega (arith, x .walk .low, member-placed);
-        within = x .walk .high (omega (arith, member-placed));
+      pub member_there : ReadMember s w v n at index i end d
+      member_there = record {
+        reads = member_reads;
+        small = reads_within (part_of f t s) (tree_at s v index) (one.reads ∙ ap some same_tree);
+        chain = x.chain;
+        arena = x.arena;
+        kept = below_then (below_outside one.outside) x.kept one.grew;
+        grew = omega (arith, one.grew, x.grew);
+        used = omega (arith, one.room, x.used, x.walk.low, member_placed);
+        light = omega (arith, part_size s f t (tree_at s v index) (one.reads ∙ ap some same_tree), x.light, x.walk.low, member_placed);
+        placed = (one.placed.0, omega (arith, one.placed, x.grew));
+        inside = x.inside;
+        onward = omega (arith, x.walk.low, member_placed);
+        within = x.walk.high (omega (arith, member_placed));
       }

@@ -1,36 +1,27 @@
 // A member's texts as trees in cells: its own, and the values of its keys, with the keys, as one list of bindings.
+ghost use Rattle.std.specs.Prelude.{◌≡◌, true, ◌+◌, ◌*◌, ◌<◌, ◌≤◌, ◌^◌, length};
+ghost use Rattle.rules.specs.Tree.{variable};
+ghost use Rattle.forms.specs.Form.{text_of, Inside};
+ghost use Rattle.tree.specs.Cells.{variable_kind, tree_at, trees_at};
+ghost use Rattle.tree.specs.Arena.{Arena, Linked};
+ghost use Rattle.substitution.specs.Building.{Made};
+ghost use Rattle.variants.specs.Members.{nameable, binding_before, entry_end, ReadsEntry, TextsRoom, ReadsEntries, MemberThere, ReadsMember};
+
 use leaves::leaf_kind;
-use reading::Parsed;
-use reading::parse;
-use sheet::Cursor;
-use sheet::Line;
-use sheet::PairLine;
-use sheet::Place;
-use sheet::next_entry;
-use sheet::next_member;
-use sheet::part;
+use reading::{Parsed, parse};
+use sheet::{Cursor, Line, PairLine, Place, next_entry, next_member, part};
 use substitution::bindings::Pushed;
-use tree::cells::APPLICATION;
-use tree::cells::push_cell;
-use tree::cells::share;
-ghost use mathlib.Core.Path.{_≡_};
-ghost use mathlib.Core.Bool.{true};
-ghost use Prim.Native.Nat.{_+_, _*_, _<_, _≤_, _^_};
-ghost use lib.ListN.{length};
-ghost use Rattle·rules.specs.Tree.{variable};
-ghost use Rattle·forms.specs.Form.{text-of, Inside};
-ghost use Rattle·tree.specs.Cells.{variable-kind, tree-at, trees-at};
-ghost use Rattle·tree.specs.Arena.{Arena, Linked};
-ghost use Rattle·substitution.specs.Building.{Made};
-ghost use Rattle·variants·specs.specs.Members.{nameable, binding-before, entry-end, ReadsEntry, TextsRoom, ReadsEntries, MemberThere, ReadsMember};
+use tree::cells::{APPLICATION, push_cell, share};
 
 // A list of bindings and the free end after it, or a value that cannot be read.
+#[derive(Clone, Copy)]
 enum Bindings {
     Stack { index: usize, free: usize },
     Unreadable,
 }
 
 // The bindings of a member and where its entries end, or a value that cannot be read.
+#[derive(Clone, Copy)]
 enum Entries {
     Stack {
         index: usize,
@@ -41,6 +32,7 @@ enum Entries {
 }
 
 // A member: the cell of its tree, its bindings, the free end after them and where the member ends. Or a text that cannot be read.
+#[derive(Clone, Copy)]
 pub enum Variant {
     Read {
         value: usize,
@@ -53,7 +45,7 @@ pub enum Variant {
 
 // Whether a variable's cell may have a text for its name: it is not empty, and no atom's text.
 fn is_nameable(text: &[u8]) -> bool
-    ensures { λ r. ⌜ r ≡ nameable (now (text .entry)) ⌝ }
+    ensures { result ≡ nameable text.now }
 {
     if text.len() == 0 {
         return false;
@@ -66,7 +58,7 @@ fn is_nameable(text: &[u8]) -> bool
 
 // The kind of a variable, by its name.
 fn variable_kind(name: &[u8]) -> usize
-    ensures { λ r. ⌜ (r ≡ variable-kind (now (name .entry))) × (0 < r) × (r < 7) ⌝ }
+    ensures { (result ≡ variable_kind name.now) × (0 < result) × (result < 7) }
 {
     let kind = leaf_kind(name);
     if kind == APPLICATION {
@@ -77,10 +69,10 @@ fn variable_kind(name: &[u8]) -> usize
 
 // Writes the variable with a key's name before the list from cell next on.
 fn push_key(sheet: &[u8], work: &mut [u32], free: usize, key: Place, next: usize) -> usize
-    requires { ⌜ Arena (now sheet) (now work) free ⌝ }
-    requires { ⌜ Inside (now sheet) key × (nameable (text-of (now sheet) key) ≡ true) × (next < free) ⌝ }
-    requires { ⌜ (length (now sheet) ≤ 65536) × (4 * free + 4 ≤ length (now work)) × (free < 2 ^ 32) ⌝ }
-    ensures { λ r. ⌜ (r ≡ free + 1) × Linked (now (sheet .entry)) (now (work .entry)) (now (work .exit)) free next (variable (text-of (now (sheet .entry)) key)) ⌝ }
+    requires arena { Arena sheet.now work.old free }
+    requires inside { Inside sheet.now key × (nameable (text_of sheet.now key) ≡ true) × (next < free) }
+    requires sheet_len_bound { (length sheet.now ≤ 65536) × (4 * free + 4 ≤ length work.old) × (free < 2 ^ 32) }
+    ensures { (result ≡ free + 1) × Linked sheet.now work.old work.new free next (variable (text_of sheet.now key)) }
 {
     let from = key.from;
     let to = key.to;
@@ -97,10 +89,10 @@ fn push_entry(
     value: usize,
     list: usize,
 ) -> Pushed
-    requires { ⌜ Arena (now sheet) (now work) free ⌝ }
-    requires { ⌜ Inside (now sheet) key × (0 < value) × (value < free) × (list < free) ⌝ }
-    requires { ⌜ (length (now sheet) ≤ 65536) × (4 * (free + 2) ≤ length (now work)) × (free + 2 < 2 ^ 32) ⌝ }
-    ensures { λ r. ⌜ Made (now (sheet .entry)) (now (work .entry)) (now (work .exit)) free (r .free) (r .index) (binding-before (text-of (now (sheet .entry)) key) (tree-at (now (sheet .entry)) (now (work .entry)) value) (trees-at (now (sheet .entry)) (now (work .entry)) list)) × (r .free ≤ free + 2) ⌝ }
+    requires arena { Arena sheet.now work.old free }
+    requires inside { Inside sheet.now key × (0 < value) × (value < free) × (list < free) }
+    requires sheet_len_bound { (length sheet.now ≤ 65536) × (4 * (free + 2) ≤ length work.old) × (free + 2 < 2 ^ 32) }
+    ensures { Made sheet.now work.old work.new free result.free result.index (binding_before (text_of sheet.now key) (tree_at sheet.now work.old value) (trees_at sheet.now work.old list)) × (result.free ≤ free + 2) }
 {
     let from = key.from;
     let to = key.to;
@@ -127,10 +119,10 @@ fn read_entry(
     value: Place,
     list: usize,
 ) -> Bindings
-    requires { ⌜ Arena (now sheet) (now work) free ⌝ }
-    requires { ⌜ Inside (now sheet) key × Inside (now sheet) value × (list < free) ⌝ }
-    requires { ⌜ (length (now sheet) ≤ 65536) × (4 * entry-end free value + 3 * length (now sheet) < length (now work)) × (entry-end free value < 2 ^ 32) ⌝ }
-    ensures { λ r. ⌜ ReadsEntry (now (sheet .entry)) (now (work .entry)) (now (work .exit)) free key value list r ⌝ }
+    requires arena { Arena sheet.now work.old free }
+    requires inside { Inside sheet.now key × Inside sheet.now value × (list < free) }
+    requires sheet_len_bound { (length sheet.now ≤ 65536) × (4 * entry_end free value + 3 * length sheet.now < length work.old) × (entry_end free value < 2 ^ 32) }
+    ensures { ReadsEntry sheet.now work.old work.new free key value list result }
 {
     let from = value.from;
     let to = value.to;
@@ -153,9 +145,9 @@ fn read_entry(
 
 // The entries of a member from a cursor on, the last first.
 fn read_entries(sheet: &[u8], work: &mut [u32], free: usize, start: Cursor) -> Entries
-    requires { ⌜ Arena (now sheet) (now work) free ⌝ }
-    requires { ⌜ (start .at ≤ length (now sheet)) × TextsRoom (now sheet) (now work) free (start .at) ⌝ }
-    ensures { λ r. ⌜ ReadsEntries (now (sheet .entry)) (now (work .entry)) (now (work .exit)) free (start .at) r ⌝ }
+    requires arena { Arena sheet.now work.old free }
+    requires at_in_bounds { (start.at ≤ length sheet.now) × TextsRoom sheet.now work.old free start.at }
+    ensures { ReadsEntries sheet.now work.old work.new free start.at result }
 {
     let mut cursor = start;
     let mut list: usize = 0;
@@ -181,10 +173,10 @@ fn read_entries(sheet: &[u8], work: &mut [u32], free: usize, start: Cursor) -> E
 
 // The member whose line is at the cursor.
 pub fn read_member(sheet: &[u8], work: &mut [u32], free: usize, start: Cursor) -> Variant
-    requires { ⌜ Arena (now sheet) (now work) free ⌝ }
-    requires { ⌜ TextsRoom (now sheet) (now work) free (start .at) ⌝ }
-    requires { ⌜ MemberThere (now sheet) (start .at) ⌝ }
-    ensures { λ r. ⌜ ReadsMember (now (sheet .entry)) (now (work .entry)) (now (work .exit)) free (start .at) r ⌝ }
+    requires arena { Arena sheet.now work.old free }
+    requires texts_room { TextsRoom sheet.now work.old free start.at }
+    requires member_there { MemberThere sheet.now start.at }
+    ensures { ReadsMember sheet.now work.old work.new free start.at result }
 {
     let line = next_member(sheet, start);
     let Line::Whole { from, to, next } = line else {

@@ -1,19 +1,17 @@
 // Kind `sound`: the instance of a term under a member's bindings, reduced, against the member's own tree.
-use crate::members::Variant;
-use crate::members::read_member;
+ghost use Rattle.std.specs.Prelude.{◌+◌, ◌*◌, ◌<◌, ◌≤◌, length};
+ghost use Rattle.rules.specs.Tree.{size};
+ghost use Rattle.tree.specs.Cells.{tree_at};
+ghost use Rattle.tree.specs.Arena.{Arena};
+ghost use Rattle.variants.specs.Members.{texts_end};
+ghost use Rattle.variants.specs.Soundness.{ClaimsInstance, OneMember, ClaimsSound};
+
+use crate::members::{Variant, read_member};
 use equivalence::equivalent;
 use reduction::normalizing::normalize;
 use sheet::Cursor;
 use sheet::claims::Claim;
-use substitution::instances::Built;
-use substitution::instances::substitute;
-ghost use Prim.Native.Nat.{_+_, _*_, _<_, _≤_};
-ghost use lib.ListN.{length};
-ghost use Rattle·rules.specs.Tree.{size};
-ghost use Rattle·tree.specs.Cells.{tree-at};
-ghost use Rattle·tree.specs.Arena.{Arena};
-ghost use Rattle·variants·specs.specs.Members.{texts-end};
-ghost use Rattle·variants·specs.specs.Soundness.{ClaimsInstance, OneMember, ClaimsSound};
+use substitution::instances::{Built, substitute};
 
 // Whether the instance of the tree of cell term under the bindings from cell bindings on reduces to the tree of cell value, up to
 // the order of summands.
@@ -25,10 +23,10 @@ fn reduces_to(
     bindings: usize,
     value: usize,
 ) -> Claim
-    requires { ⌜ Arena (now sheet) (now work) free ⌝ }
-    requires { ⌜ (0 < term) × (term < free) × (bindings < free) × (0 < value) × (value < free) ⌝ }
-    requires { ⌜ (size (tree-at (now sheet) (now work) value) ≤ 4096) × (4 * free + 155648 ≤ length (now work)) × (free < 1048576) ⌝ }
-    ensures { λ r. ⌜ ClaimsInstance (now (sheet .entry)) (now (work .entry)) (now (work .exit)) free term bindings value r ⌝ }
+    requires arena { Arena sheet.now work.old free }
+    requires term_nonzero { (0 < term) × (term < free) × (bindings < free) × (0 < value) × (value < free) }
+    requires value_bound { (size (tree_at sheet.now work.old value) ≤ 4096) × (4 * free + 155648 ≤ length work.old) × (free < 1048576) }
+    ensures { ClaimsInstance sheet.now work.old work.new free term bindings value result }
 {
     let built = substitute(sheet, work, free, term, bindings, 0, 4096);
     let Built::Done {
@@ -50,11 +48,11 @@ fn reduces_to(
 
 // Whether the one member at the cursor is a sound variant of the tree of cell term.
 pub fn sound(sheet: &[u8], work: &mut [u32], free: usize, term: usize, start: Cursor) -> Claim
-    requires { ⌜ Arena (now sheet) (now work) free ⌝ }
-    requires { ⌜ (0 < term) × (term < free) ⌝ }
-    requires { ⌜ (length (now sheet) ≤ 65536) × (1048576 + 16 * length (now sheet) ≤ length (now work)) × (texts-end (now sheet) free (start .at) ≤ 1 + 4 * length (now sheet)) ⌝ }
-    requires { ⌜ OneMember (now sheet) (start .at) ⌝ }
-    ensures { λ r. ⌜ ClaimsSound (now (sheet .entry)) (now (work .entry)) (now (work .exit)) free term (start .at) r ⌝ }
+    requires arena { Arena sheet.now work.old free }
+    requires term_nonzero { (0 < term) × (term < free) }
+    requires sheet_len_bound { (length sheet.now ≤ 65536) × (1048576 + 16 * length sheet.now ≤ length work.old) × (texts_end sheet.now free start.at ≤ 1 + 4 * length sheet.now) }
+    requires one_member { OneMember sheet.now start.at }
+    ensures { ClaimsSound sheet.now work.old work.new free term start.at result }
 {
     let member = read_member(sheet, work, free, start);
     let Variant::Read {

@@ -1,28 +1,27 @@
 -- The parts of the answer to `unify` and `match`. Definitions only.
-use Prim.Native.Nat.{ℕ}
-use mathlib.Core.List.{List, _++_}
-use Rattle·rules.specs.Bytes.{Text}
-use Rattle·rules.specs.Text.{bytes}
-use Rattle·rules.specs.Decimal.{decimal}
-use Rattle·rules.specs.Tree.{Tree}
-use Rattle·rules.specs.Writing.{render}
-use Rattle·rules.specs.Answer.{line, binding-lines}
-use Rattle·substitution.specs.Bindings.{bindings-at}
+use Rattle.std.specs.Prelude.{ℕ, List, ◌++◌}
+use Rattle.rules.specs.Bytes.{Text}
+use Rattle.rules.specs.Text.{bytes}
+use Rattle.rules.specs.Decimal.{decimal}
+use Rattle.rules.specs.Tree.{Tree}
+use Rattle.rules.specs.Writing.{render}
+use Rattle.rules.specs.Answer.{line, binding_lines}
+use Rattle.substitution.specs.Bindings.{bindings_at}
 
 -- the verdict's line, and the number of pairs taken
-unfoldable pub head-lines : Text → ℕ → Text
-head-lines verdict spent = verdict ++ line (bytes "spent=") (decimal spent)
+unfoldable pub head_lines : Text → ℕ → Text
+head_lines verdict spent = verdict ++ line (bytes "spent=") (decimal spent)
 
-unfoldable pub key-line : Text → Text
-key-line x = line (bytes "key=") x
+unfoldable pub key_line : Text → Text
+key_line x = line (bytes "key=") x
 
-unfoldable pub value-line : Tree → Text
-value-line t = line (bytes "value=") (render t)
+unfoldable pub value_line : Tree → Text
+value_line t = line (bytes "value=") (render t)
 
 -- the two lines of one binding
-abbrev pub entry-lines : Text → Tree → Text
-entry-lines x t = key-line x ++ value-line t
+abbrev pub entry_lines : Text → Tree → Text
+entry_lines x t = key_line x ++ value_line t
 
 -- `key` and `value` for each binding from cell k on
-abbrev pub bindings-text : Text → List ℕ → ℕ → Text
-bindings-text s w k = binding-lines (bindings-at s w k)
+abbrev pub bindings_text : Text → List ℕ → ℕ → Text
+bindings_text s w k = binding_lines (bindings_at s w k)

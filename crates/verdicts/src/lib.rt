@@ -1,30 +1,25 @@
 // The answers to `unify` and `match`: measured, and written at a place of the output.
-use printing::measuring::Measured;
-use printing::measuring::measure_term;
+#![tactic(auto)]
+
+ghost use Rattle.std.specs.Prelude.{◌≡◌, ◌+◌, ◌<◌, ◌≤◌, length};
+ghost use Rattle.rules.specs.Solving.{solved};
+ghost use Rattle.rules.specs.Answer.{verdict_lines};
+ghost use Rattle.tree.specs.Cells.{name_at, tree_at, trees_at};
+ghost use Rattle.tree.specs.Arena.{Arena};
+ghost use Rattle.text.specs.Printing.{Printed};
+ghost use Rattle.printing.specs.Measure.{measured};
+ghost use Rattle.substitution.specs.Bindings.{Chain, bindings_at};
+ghost use Rattle.verdicts.specs.Verdicts.{head_lines, key_line, value_line, entry_lines, bindings_text};
+
+use printing::measuring::{Measured, measure_term};
 use printing::writing::write_term;
-use substitution::bindings::rest_of;
-use substitution::bindings::value_of;
-use text::decimal::print;
-use text::decimal::width_of;
-use tree::names::name_len;
-use tree::names::print_byte;
-use tree::names::print_name;
-use tree::names::print_text;
-ghost use mathlib.Core.Path.{_≡_};
-ghost use Prim.Native.Nat.{_+_, _<_, _≤_};
-ghost use lib.ListN.{length};
-ghost use Rattle·rules.specs.Solving.{solved};
-ghost use Rattle·rules.specs.Answer.{verdict-lines};
-ghost use Rattle·tree.specs.Cells.{name-at, tree-at, trees-at};
-ghost use Rattle·tree.specs.Arena.{Arena};
-ghost use Rattle·text.specs.Printing.{Printed};
-ghost use Rattle·printing.specs.Measure.{measured};
-ghost use Rattle·substitution.specs.Bindings.{Chain, bindings-at};
-ghost use Rattle·verdicts·specs.specs.Verdicts.{head-lines, key-line, value-line, entry-lines, bindings-text};
+use substitution::bindings::{rest_of, value_of};
+use text::decimal::{print, width_of};
+use tree::names::{name_len, print_byte, print_name, print_text};
 
 // The length of the verdict's line and the line `spent`.
 pub fn measure_head(verdict: &[u8], spent: usize, room: usize) -> Measured
-    ensures { λ r. ⌜ r ≡ measured (length (head-lines (now (verdict .entry)) spent)) room ⌝ }
+    ensures { result ≡ measured (length (head_lines verdict.now spent)) room }
 {
     let width = width_of(spent);
     if room < verdict.len() {
@@ -42,8 +37,8 @@ pub fn measure_head(verdict: &[u8], spent: usize, room: usize) -> Measured
 
 // Writes the verdict's line and the line `spent`, and returns where they end.
 pub fn write_head(output: &mut [u8], at: usize, verdict: &[u8], spent: usize) -> usize
-    requires { ⌜ at + length (head-lines (now verdict) spent) ≤ length (now output) ⌝ }
-    ensures { λ r. ⌜ Printed (now (output .entry)) (now (output .exit)) at (head-lines (now (verdict .entry)) spent) r ⌝ }
+    requires { at + length (head_lines verdict.now spent) ≤ length output.old }
+    ensures { Printed output.old output.new at (head_lines verdict.now spent) result }
 {
     let start = print_text(output, at, verdict);
     let digits = print_text(output, start, b"spent=");
@@ -60,10 +55,10 @@ fn measure_entry(
     value: usize,
     room: usize,
 ) -> Measured
-    requires { ⌜ Arena (now sheet) (now work) free ⌝ }
-    requires { ⌜ (0 < key) × (key < free) ⌝ }
-    requires { ⌜ (0 < value) × (value < free) ⌝ }
-    ensures { λ r. ⌜ r ≡ measured (length (entry-lines (name-at (now (sheet .entry)) (now (work .entry)) key) (tree-at (now (sheet .entry)) (now (work .entry)) value))) room ⌝ }
+    requires arena { Arena sheet.now work.now free }
+    requires key_nonzero { (0 < key) × (key < free) }
+    requires value_nonzero { (0 < value) × (value < free) }
+    ensures { result ≡ measured (length (entry_lines (name_at sheet.now work.now key) (tree_at sheet.now work.now value))) room }
 {
     let n = name_len(sheet, work, free, key) + 12;
     if room < n {
@@ -78,10 +73,10 @@ fn measure_entry(
 
 // The length of the lines of the bindings from cell `list` on. The room that is left falls from binding to binding.
 fn measure_bindings(sheet: &[u8], work: &[u32], free: usize, list: usize, room: usize) -> Measured
-    requires { ⌜ Arena (now sheet) (now work) free ⌝ }
-    requires { ⌜ list < free ⌝ }
-    requires { ⌜ Chain (trees-at (now sheet) (now work) list) ⌝ }
-    ensures { λ r. ⌜ r ≡ measured (length (bindings-text (now (sheet .entry)) (now (work .entry)) list)) room ⌝ }
+    requires arena { Arena sheet.now work.now free }
+    requires list_lt_free { list < free }
+    requires chain { Chain (trees_at sheet.now work.now list) }
+    ensures { result ≡ measured (length (bindings_text sheet.now work.now list)) room }
 {
     let mut k = list;
     let mut left = room;
@@ -106,10 +101,10 @@ fn write_key(
     output: &mut [u8],
     at: usize,
 ) -> usize
-    requires { ⌜ Arena (now sheet) (now work) free ⌝ }
-    requires { ⌜ (0 < i) × (i < free) ⌝ }
-    requires { ⌜ at + length (key-line (name-at (now sheet) (now work) i)) ≤ length (now output) ⌝ }
-    ensures { λ r. ⌜ Printed (now (output .entry)) (now (output .exit)) at (key-line (name-at (now (sheet .entry)) (now (work .entry)) i)) r ⌝ }
+    requires arena { Arena sheet.now work.now free }
+    requires i_nonzero { (0 < i) × (i < free) }
+    requires i_in_bounds { at + length (key_line (name_at sheet.now work.now i)) ≤ length output.old }
+    ensures { Printed output.old output.new at (key_line (name_at sheet.now work.now i)) result }
 {
     let start = print_text(output, at, b"key=");
     let end = print_name(sheet, work, free, i, output, start);
@@ -125,10 +120,10 @@ fn write_value(
     output: &mut [u8],
     at: usize,
 ) -> usize
-    requires { ⌜ Arena (now sheet) (now work) free ⌝ }
-    requires { ⌜ (0 < i) × (i < free) ⌝ }
-    requires { ⌜ at + length (value-line (tree-at (now sheet) (now work) i)) ≤ length (now output) ⌝ }
-    ensures { λ r. ⌜ Printed (now (output .entry)) (now (output .exit)) at (value-line (tree-at (now (sheet .entry)) (now (work .entry)) i)) r ⌝ }
+    requires arena { Arena sheet.now work.now free }
+    requires i_nonzero { (0 < i) × (i < free) }
+    requires i_in_bounds { at + length (value_line (tree_at sheet.now work.now i)) ≤ length output.old }
+    ensures { Printed output.old output.new at (value_line (tree_at sheet.now work.now i)) result }
 {
     let start = print_text(output, at, b"value=");
     let end = write_term(sheet, work, free, i, output, start);
@@ -145,11 +140,11 @@ fn write_entry(
     output: &mut [u8],
     at: usize,
 ) -> usize
-    requires { ⌜ Arena (now sheet) (now work) free ⌝ }
-    requires { ⌜ (0 < key) × (key < free) ⌝ }
-    requires { ⌜ (0 < value) × (value < free) ⌝ }
-    requires { ⌜ at + length (entry-lines (name-at (now sheet) (now work) key) (tree-at (now sheet) (now work) value)) ≤ length (now output) ⌝ }
-    ensures { λ r. ⌜ Printed (now (output .entry)) (now (output .exit)) at (entry-lines (name-at (now (sheet .entry)) (now (work .entry)) key) (tree-at (now (sheet .entry)) (now (work .entry)) value)) r ⌝ }
+    requires arena { Arena sheet.now work.now free }
+    requires key_nonzero { (0 < key) × (key < free) }
+    requires value_nonzero { (0 < value) × (value < free) }
+    requires value_in_bounds { at + length (entry_lines (name_at sheet.now work.now key) (tree_at sheet.now work.now value)) ≤ length output.old }
+    ensures { Printed output.old output.new at (entry_lines (name_at sheet.now work.now key) (tree_at sheet.now work.now value)) result }
 {
     let end = write_key(sheet, work, free, key, output, at);
     write_value(sheet, work, free, value, output, end)
@@ -164,11 +159,11 @@ fn write_bindings(
     output: &mut [u8],
     at: usize,
 ) -> usize
-    requires { ⌜ Arena (now sheet) (now work) free ⌝ }
-    requires { ⌜ list < free ⌝ }
-    requires { ⌜ Chain (trees-at (now sheet) (now work) list) ⌝ }
-    requires { ⌜ at + length (bindings-text (now sheet) (now work) list) ≤ length (now output) ⌝ }
-    ensures { λ r. ⌜ Printed (now (output .entry)) (now (output .exit)) at (bindings-text (now (sheet .entry)) (now (work .entry)) list) r ⌝ }
+    requires arena { Arena sheet.now work.now free }
+    requires list_lt_free { list < free }
+    requires chain { Chain (trees_at sheet.now work.now list) }
+    requires list_in_bounds { at + length (bindings_text sheet.now work.now list) ≤ length output.old }
+    ensures { Printed output.old output.new at (bindings_text sheet.now work.now list) result }
 {
     let mut key = list;
     let mut end = at;
@@ -189,10 +184,10 @@ pub fn measure_solved(
     spent: usize,
     room: usize,
 ) -> Measured
-    requires { ⌜ Arena (now sheet) (now work) free ⌝ }
-    requires { ⌜ list < free ⌝ }
-    requires { ⌜ Chain (trees-at (now sheet) (now work) list) ⌝ }
-    ensures { λ r. ⌜ r ≡ measured (length (verdict-lines (solved (bindings-at (now (sheet .entry)) (now (work .entry)) list), spent))) room ⌝ }
+    requires arena { Arena sheet.now work.now free }
+    requires list_lt_free { list < free }
+    requires chain { Chain (trees_at sheet.now work.now list) }
+    ensures { result ≡ measured (length (verdict_lines (solved (bindings_at sheet.now work.now list), spent))) room }
 {
     let head = measure_head(b"verdict=solved\n", spent, room);
     let Measured::Fits(n) = head else {
@@ -215,11 +210,11 @@ pub fn write_solved(
     output: &mut [u8],
     at: usize,
 ) -> usize
-    requires { ⌜ Arena (now sheet) (now work) free ⌝ }
-    requires { ⌜ list < free ⌝ }
-    requires { ⌜ Chain (trees-at (now sheet) (now work) list) ⌝ }
-    requires { ⌜ at + length (verdict-lines (solved (bindings-at (now sheet) (now work) list), spent)) ≤ length (now output) ⌝ }
-    ensures { λ r. ⌜ Printed (now (output .entry)) (now (output .exit)) at (verdict-lines (solved (bindings-at (now (sheet .entry)) (now (work .entry)) list), spent)) r ⌝ }
+    requires arena { Arena sheet.now work.now free }
+    requires list_lt_free { list < free }
+    requires chain { Chain (trees_at sheet.now work.now list) }
+    requires spent_in_bounds { at + length (verdict_lines (solved (bindings_at sheet.now work.now list), spent)) ≤ length output.old }
+    ensures { Printed output.old output.new at (verdict_lines (solved (bindings_at sheet.now work.now list), spent)) result }
 {
     let start = write_head(output, at, b"verdict=solved\n", spent);
     write_bindings(sheet, work, free, list, output, start)

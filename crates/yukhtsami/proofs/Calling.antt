@@ -1,61 +1,61 @@
 -- What was decided of a sheet is settled with the output, and answers the call.
-use mathlib.Core.Path.{_≡_, sym, subst, ap, _∙_}
+use mathlib.Core.Path.{◌≡◌, sym, subst, ap, ◌∙◌}
 use mathlib.Core.List.{List}
-use Prim.Native.Nat.{ℕ, _≤_}
+use Prim.Native.Nat.{ℕ, ◌≤◌}
 use lib.ListN.{length}
 use native.Mathlib.Omega.{arith}
-use Rattle·rules.specs.Bytes.{Text}
-use Rattle·rules.specs.Sheet.{Sheet}
-use Rattle·rules.specs.Call.{Reply, refused, admitted, settled, call, refusal-number, written, overwritten, zeroed, cleared, work-after}
-use Rattle·forms.specs.Form.{sheet-of, EnoughWords}
-use Rattle·forms.specs.declared.form.Form.{Form}
-use Rattle·answers.specs.Deciding.{reply-of, Standing}
-use Rattle·answers.specs.Settling.{within-room, Settles}
-use Rattle·admission.specs.Admission.{refusal-code, Decoded, Stands}
-use Rattle·yukhtsami·specs.specs.Answering.{SettlesForm, CallAnswers}
-use Rattle·answers.specs.declared.deciding.Decision.{Decision}
-use Rattle·answers.specs.declared.giving.Reply as code
-use Rattle·answers.specs.declared.giving.Reply.the-variants as replies
-use Rattle·admission.specs.declared.refusal.Refusal.{Refusal}
-use Rattle·kinds.specs.Outcomes.{DecidesForm}
+use Rattle.rules.specs.Bytes.{Text}
+use Rattle.rules.specs.Sheet.{Sheet}
+use Rattle.rules.specs.Call.{Reply, refused, admitted, settled, call, refusal_number, written, overwritten, zeroed, cleared, work_after}
+use Rattle.forms.specs.Form.{sheet_of, EnoughWords}
+use Rattle.forms.specs.declared.form.Form.{Form}
+use Rattle.answers.specs.Deciding.{reply_of, Standing}
+use Rattle.answers.specs.Settling.{within_room, Settles}
+use Rattle.admission.specs.Admission.{refusal_code, Decoded, Stands}
+use Rattle.yukhtsami.specs.Answering.{SettlesForm, CallAnswers}
+use Rattle.answers.specs.declared.deciding.Decision.{Decision}
+use Rattle.answers.specs.declared.giving.Reply as code
+use Rattle.answers.specs.declared.giving.Reply.TheVariants as replies
+use Rattle.admission.specs.declared.refusal.Refusal.{Refusal}
+use Rattle.kinds.specs.Outcomes.{DecidesForm}
 
-pub more-words : (s : Text) (f : Form) {n m : ℕ} → EnoughWords s f n → n ≤ m → EnoughWords s f m
-more-words s f h k = record { sheet = h .sheet; stands = h .stands; enough = (let e = h .enough in omega arith) }
+pub more_words : (s : Text) (f : Form) {n m : ℕ} → EnoughWords s f n → n ≤ m → EnoughWords s f m
+more_words s f h k = record { sheet = h.sheet; stands = h.stands; enough = (let e = h.enough in omega arith) }
 
 -- what was decided, with an output
-pub decided-held : (s : Text) (f : Form) {w : List ℕ} {d : Decision} → Decoded s f → DecidesForm (sheet-of s f) s w d → Standing s w d
-decided-held s f x h = h (x .sheet) (x .decodes) .held
+pub decided_held : (s : Text) (f : Form) {w : List ℕ} {d : Decision} → Decoded s f → DecidesForm (sheet_of s f) s w d → Standing s w d
+decided_held s f x h = (h x.sheet x.decodes).held
 
-pub decided-settles : (s : Text) (f : Form) {w : List ℕ} (d : Decision) {out v : Text} {r : code.Reply} → DecidesForm (sheet-of s f) s w d
-    → Settles (within-room (reply-of s w d) (length out)) out v r → SettlesForm (sheet-of s f) out v r
-unfolding settled within-room
-decided-settles s f {w} d {out} {v} {r} h k sheet e = subst (λ (z : Reply Text). Settles (within-room z (length out)) out v r) (h sheet e .reply) k
+pub decided_settles : (s : Text) (f : Form) {w : List ℕ} (d : Decision) {out v : Text} {r : code.Reply} → DecidesForm (sheet_of s f) s w d
+    → Settles (within_room (reply_of s w d) (length out)) out v r → SettlesForm (sheet_of s f) out v r
+unfolding settled within_room
+decided_settles s f {w} d {out} {v} {r} h k sheet e = subst (λ (z : Reply Text). Settles (within_room z (length out)) out v r) (h sheet e).reply k
 
 -- the whole call, by what was admitted and settled
 module _ (s : Text) (w : List ℕ) (out : Text) where
-  pub refused-answers : (x : Refusal) → admitted s (length w) ≡ refused (refusal-code x) → CallAnswers s w w out out (replies.Refused x)
-  unfolding call work-after
-  refused-answers x e =
-      let f : call s (length w) (length out) ≡ refused (refusal-code x) = rw e in
+  pub refused_answers : (x : Refusal) → admitted s (length w) ≡ refused (refusal_code x) → CallAnswers s w w out out (replies.Refused x)
+  unfolding call work_after
+  refused_answers x e =
+      let f : call s (length w) (length out) ≡ refused (refusal_code x) = rw e in
       record {
-        number = sym (ap refusal-number f);
-        written-is = sym (ap written f);
+        number = sym (ap refusal_number f);
+        written_is = sym (ap written f);
         output = sym (ap (λ (z : Reply Text). overwritten z out) f);
         work = sym (ap (λ (z : Reply Sheet). cleared s z w) e);
       }
 
   module _ (f : Form) (needed : ℕ) (a : Stands s (length w) f needed) where
-    pub enough-words : EnoughWords s f needed
-    enough-words = record { sheet = a .decoded .sheet; stands = a .decoded .decodes; enough = omega (arith, a .need) }
+    pub enough_words : EnoughWords s f needed
+    enough_words = record { sheet = a.decoded.sheet; stands = a.decoded.decodes; enough = omega (arith, a.need) }
 
-    pub settled-answers : (v : List ℕ) (after : Text) (r : code.Reply) → SettlesForm (sheet-of s f) out after r → v ≡ zeroed needed w → CallAnswers s w v out after r
-    unfolding call work-after
-    settled-answers v after r h z =
-        let k = h (a .decoded .sheet) (a .decoded .decodes) in
-        let g : call s (length w) (length out) ≡ settled (a .decoded .sheet) (length out) = rw (a .passes) in
+    pub settled_answers : (v : List ℕ) (after : Text) (r : code.Reply) → SettlesForm (sheet_of s f) out after r → v ≡ zeroed needed w → CallAnswers s w v out after r
+    unfolding call work_after
+    settled_answers v after r h z =
+        let k = h a.decoded.sheet a.decoded.decodes in
+        let g : call s (length w) (length out) ≡ settled a.decoded.sheet (length out) = rw a.passes in
         record {
-          number = k .number ∙ sym (ap refusal-number g);
-          written-is = k .count ∙ sym (ap written g);
-          output = k .output ∙ sym (ap (λ (y : Reply Text). overwritten y out) g);
-          work = z ∙ ap (λ (n : ℕ). zeroed n w) (a .need) ∙ sym (ap (λ (y : Reply Sheet). cleared s y w) (a .passes));
+          number = k.number ∙ sym (ap refusal_number g);
+          written_is = k.count ∙ sym (ap written g);
+          output = k.output ∙ sym (ap (λ (y : Reply Text). overwritten y out) g);
+          work = z ∙ ap (λ (n : ℕ). zeroed n w) a.need ∙ sym (ap (λ (y : Reply Sheet). cleared s y w) a.passes);
         }

@@ -1,14 +1,11 @@
 -- The call as the code answers it. Definitions only.
-use Prim.Native.Nat.{ℕ}
-use mathlib.Core.Path.{_≡_}
-use mathlib.Core.List.{List}
-use mathlib.Core.Option.{Option, some}
-use lib.ListN.{length}
-use Rattle·rules.specs.Bytes.{Text}
-use Rattle·rules.specs.Sheet.{Sheet}
-use Rattle·rules.specs.Call.{settled, call, refusal-number, written, overwritten, work-after}
-use Rattle·answers.specs.Settling.{reply-number, reply-count, Settles}
-use Rattle·answers.specs.declared.giving.Reply as code
+use Rattle.std.specs.Prelude.{ℕ, ◌≡◌, List, length}
+use Rattle.std.proofs.Math.Option.{Option, some}
+use Rattle.rules.specs.Bytes.{Text}
+use Rattle.rules.specs.Sheet.{Sheet}
+use Rattle.rules.specs.Call.{settled, call, refusal_number, written, overwritten, work_after}
+use Rattle.answers.specs.Settling.{reply_number, reply_count, Settles}
+use Rattle.answers.specs.declared.giving.Reply as code
 
 -- a sheet that was read is settled
 abbrev pub SettlesForm : Option Sheet → Text → Text → code.Reply → Type 0
@@ -16,10 +13,10 @@ SettlesForm o out v r = (sheet : Sheet) → o ≡ some sheet → Settles (settle
 
 -- what the call gives, as 01's two numbers, and every byte of the output and every word of the work area after it
 pub record Calls (s : Text) (w v : List ℕ) (out after : Text) (refusal count : ℕ) : Type 0 where
-  pub number : refusal ≡ refusal-number (call s (length w) (length out))
-  pub written-is : count ≡ written (call s (length w) (length out))
+  pub number : refusal ≡ refusal_number (call s (length w) (length out))
+  pub written_is : count ≡ written (call s (length w) (length out))
   pub output : after ≡ overwritten (call s (length w) (length out)) out
-  pub work : v ≡ work-after s w
+  pub work : v ≡ work_after s w
 
 abbrev pub CallAnswers : Text → List ℕ → List ℕ → Text → Text → code.Reply → Type 0
-CallAnswers s w v out after r = Calls s w v out after (reply-number r) (reply-count r)
+CallAnswers s w v out after r = Calls s w v out after (reply_number r) (reply_count r)

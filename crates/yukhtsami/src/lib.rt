@@ -1,27 +1,25 @@
 // The call: a sheet, a work area and an output, all lent.
+#![tactic(auto)]
 
-use admission::Admitted;
-use admission::admit;
+ghost use Rattle.std.specs.Prelude.{◌≡◌, ◌≤◌, length};
+ghost use Rattle.forms.specs.Form.{sheet_of, EnoughWords};
+ghost use Rattle.answers.specs.Settling.{reply_number, reply_count};
+ghost use Rattle.rules.specs.Call.{zeroed};
+ghost use Rattle.yukhtsami.specs.Answering.{SettlesForm, CallAnswers, Calls};
+ghost use Rattle.admission.specs.Admission.{refusal_code, Decoded};
+
 use admission::clearing::clear;
 use admission::refusal::Refusal;
-use answers::giving::Reply;
-use answers::giving::give;
+use admission::{Admitted, admit};
+use answers::giving::{Reply, give};
 use forms::form::Form;
 use kinds::decide;
-ghost use mathlib.Core.Path.{_≡_};
-ghost use Prim.Native.Nat.{_≤_};
-ghost use lib.ListN.{length};
-ghost use Rattle·forms.specs.Form.{sheet-of, EnoughWords};
-ghost use Rattle·answers.specs.Settling.{reply-number, reply-count};
-ghost use Rattle·rules.specs.Call.{zeroed};
-ghost use Rattle·yukhtsami·specs.specs.Answering.{SettlesForm, CallAnswers, Calls};
-ghost use Rattle·admission.specs.Admission.{refusal-code, Decoded};
 
 // Decides a sheet that is admitted, and gives what was decided. Every word of the work area is free afterwards.
 fn settle(sheet: &[u8], work: &mut [u32], output: &mut [u8], form: Form) -> Reply
-    requires { ⌜ Decoded (now sheet) form ⌝ }
-    requires { ⌜ EnoughWords (now sheet) form (length (now work)) ⌝ }
-    ensures { λ r. ⌜ SettlesForm (sheet-of (now (sheet .entry)) form) (now (output .entry)) (now (output .exit)) r ⌝ }
+    requires decoded { Decoded sheet.now form }
+    requires enough_words { EnoughWords sheet.now form (length work.old) }
+    ensures { SettlesForm (sheet_of sheet.now form) output.old output.new result }
 {
     let decision = decide(sheet, work, form);
     give(sheet, work, decision, output)
@@ -35,10 +33,10 @@ fn settle_and_clear(
     form: Form,
     needed: usize,
 ) -> Reply
-    requires { ⌜ Decoded (now sheet) form ⌝ }
-    requires { ⌜ EnoughWords (now sheet) form needed × (needed ≤ length (now work)) ⌝ }
-    ensures { λ r. ⌜ SettlesForm (sheet-of (now (sheet .entry)) form) (now (output .entry)) (now (output .exit)) r ⌝ }
-    ensures { λ _. ⌜ now (work .exit) ≡ zeroed needed (now (work .entry)) ⌝ }
+    requires decoded { Decoded sheet.now form }
+    requires enough_words { EnoughWords sheet.now form needed × (needed ≤ length work.old) }
+    ensures settles_form { SettlesForm (sheet_of sheet.now form) output.old output.new result }
+    ensures work_after { work.new ≡ zeroed needed work.old }
 {
     let settled = settle(sheet, &mut work[..needed], output, form);
     clear(work, needed);
@@ -47,7 +45,7 @@ fn settle_and_clear(
 
 // Answers a sheet.
 pub fn answer(sheet: &[u8], work: &mut [u32], output: &mut [u8]) -> Reply
-    ensures { λ r. ⌜ CallAnswers (now (sheet .entry)) (now (work .entry)) (now (work .exit)) (now (output .entry)) (now (output .exit)) r ⌝ }
+    ensures { CallAnswers sheet.now work.old work.new output.old output.new result }
 {
     let admitted = admit(sheet, work.len());
     match admitted {
@@ -58,6 +56,7 @@ pub fn answer(sheet: &[u8], work: &mut [u32], output: &mut [u8]) -> Reply
 
 // What the exported call gives: the refusal's number, 0 for none, and the count of bytes written.
 #[repr(C)]
+#[derive(Clone, Copy)]
 pub struct Called {
     pub refusal: u32,
     pub written: usize,
@@ -65,7 +64,7 @@ pub struct Called {
 
 // The number of a refusal.
 fn number_of(refusal: Refusal) -> u32
-    ensures { λ r. ⌜ r ≡ refusal-code refusal ⌝ }
+    ensures { result ≡ refusal_code refusal }
 {
     match refusal {
         Refusal::TooLong => 1,
@@ -79,7 +78,7 @@ fn number_of(refusal: Refusal) -> u32
 
 // A reply as two numbers.
 fn numbers_of(reply: Reply) -> Called
-    ensures { λ r. ⌜ (r .refusal ≡ reply-number reply) × (r .written ≡ reply-count reply) ⌝ }
+    ensures { (result.refusal ≡ reply_number reply) × (result.written ≡ reply_count reply) }
 {
     match reply {
         Reply::Written(count) => Called {
@@ -93,10 +92,9 @@ fn numbers_of(reply: Reply) -> Called
     }
 }
 
-// `answer`, for C: each slice is a pointer and a length.
-#[no_mangle]
-pub extern "C" fn yukhtsami_answer(sheet: &[u8], work: &mut [u32], output: &mut [u8]) -> Called
-    ensures { λ r. ⌜ Calls (now (sheet .entry)) (now (work .entry)) (now (work .exit)) (now (output .entry)) (now (output .exit)) (r .refusal) (r .written) ⌝ }
+// `answer`, with a result that C can hold; the crate yukhtsami_c exports it.
+pub fn yukhtsami_answer(sheet: &[u8], work: &mut [u32], output: &mut [u8]) -> Called
+    ensures { Calls sheet.now work.old work.new output.old output.new result.refusal result.written }
 {
     let reply = answer(sheet, work, output);
     numbers_of(reply)

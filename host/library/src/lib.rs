@@ -1,6 +1,6 @@
 //! The proved library behind safe functions. The build links the file that the variable
 //! `YUKHTSAMI_LIBRARY` names, otherwise `target/staticlib/libyukhtsami.a` of the repository, which
-//! `rt staticlib yukhtsami` writes; where it is absent the build fails and says so.
+//! `host/link` writes; where it is absent the build fails and says so.
 //!
 //! A caller lends a work area of [`words_needed`] words and an output, and asks [`answer`]:
 //!
@@ -189,7 +189,7 @@ pub const fn logic() -> &'static str {
 /// What to tell the user where it was not found.
 pub fn notice() -> String {
     format!(
-        "library absent: no {} (write it by `rt staticlib yukhtsami`, or set YUKHTSAMI_LIBRARY to its path)",
+        "library absent: no {} (write it by `host/link`, or set YUKHTSAMI_LIBRARY to its path)",
         file()
     )
 }

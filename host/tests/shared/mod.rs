@@ -1,9 +1,10 @@
 // The command `yukhtsami` as it is built, run on files and on standard input.
 use std::{
-    fs,
+    env, fs,
     io::Write,
+    ops::Deref,
     path::{Path, PathBuf},
-    process::{Command, Stdio},
+    process::{self, Command, Stdio},
 };
 
 pub const EQUAL: &str = "kind=equal\nleft=tamtplus(a,b)\nright=tamtplus(b,a)\n";
@@ -28,14 +29,35 @@ pub fn ran(mut command: Command, input: &[u8]) -> Ran {
     (status, text(output.stdout), text(output.stderr))
 }
 
-/// A folder of this test's own, empty. It stands below the root's `target`, where rt takes no file
-/// for a source: some tests write files of Rattle.
-pub fn folder(test: &str) -> PathBuf {
-    let tests = Path::new(env!("CARGO_MANIFEST_DIR")).join("../target/host-tests");
-    let folder = tests.join(test);
+/// A folder of this test's own, empty at first and gone at the end. It stands outside the repository,
+/// in which `rt ci` refuses a file of Rattle that belongs to no crate: some tests write such files.
+pub struct Folder(PathBuf);
+
+impl Deref for Folder {
+    type Target = Path;
+
+    fn deref(&self) -> &Path {
+        &self.0
+    }
+}
+
+impl AsRef<Path> for Folder {
+    fn as_ref(&self) -> &Path {
+        self
+    }
+}
+
+impl Drop for Folder {
+    fn drop(&mut self) {
+        let _ = fs::remove_dir_all(&self.0);
+    }
+}
+
+pub fn folder(test: &str) -> Folder {
+    let folder = env::temp_dir().join(format!("yukhtsami-{}-{test}", process::id()));
     let _ = fs::remove_dir_all(&folder);
     fs::create_dir_all(&folder).unwrap();
-    folder.canonicalize().unwrap()
+    Folder(folder.canonicalize().unwrap())
 }
 
 /// The command in a folder with these files.
@@ -45,7 +67,7 @@ pub fn run_in(test: &str, files: &[(&str, &[u8])], words: &[&str]) -> Ran {
         fs::write(folder.join(name), bytes).unwrap();
     }
     let mut command = command();
-    command.current_dir(folder).args(words);
+    command.current_dir(&folder).args(words);
     ran(command, b"")
 }
 

@@ -1,18 +1,18 @@
 -- How names are spelled: words and variables hold no bracket and no comma, no word is a variable, and heads that are one
 -- are heads of one kind.
-use mathlib.Core.Path.{_≡_, refl, sym, _∙_, ap, ap₂, subst}
-use mathlib.Core.Logic.{_≢_, _⊎_, inl, inr}
-use mathlib.Core.Bool.{Bool, true, false, cond, _&&_, _||_, true≢false, false≢true}
-use mathlib.Core.List.{[], _∷_, cons≢nil, head-eq-of-cons-eq, tail-eq-of-cons-eq, append-cancel-right}
+use mathlib.Core.Path.{◌≡◌, refl, sym, ◌∙◌, ap, ap₂, subst}
+use mathlib.Core.Logic.{◌≢◌, ◌⊎◌, inl, inr}
+use mathlib.Core.Bool.{Bool, true, false, cond, ◌&&◌, ◌||◌, true≢false, false≢true}
+use mathlib.Core.List.{[], ◌∷◌, cons≢nil, head-eq_of_cons-eq, tail-eq_of_cons-eq, append_cancel_right}
 use Prim.Native.Nat.{ℕ}
 use native.Mathlib.Omega.{arith}
 use lib.Dec.{eqb}
-use Rattle·rules.specs.Bytes.{Text}
-use Rattle·rules.specs.Names.{digit, alphabetic, alphanumeric, all, identifier, number, word, indexed, variable-token, letter}
-use Rattle·rules.specs.Tree.{Tree, variable, atom, apply, Trees, atom-text, head, children, count}
-use Rattle·rules.specs.Equality.{AC, reflexive, congruent, ACs}
-use Rattle·rules.specs.Tidy.{Tidy}
-use Rattle·laws·proofs.proofs.Basics.Tests.{and-left, and-right, or-cases, eqb-true}
+use Rattle.rules.specs.Bytes.{Text}
+use Rattle.rules.specs.Names.{digit, alphabetic, alphanumeric, all, identifier, number, word, indexed, variable_token, letter}
+use Rattle.rules.specs.Tree.{Tree, variable, atom, apply, Trees, atom_text, head, children, count}
+use Rattle.rules.specs.Equality.{Ac, reflexive, congruent, ACs}
+use Rattle.rules.specs.Tidy.{Tidy}
+use Rattle.laws.proofs.Basics.Tests.{and_left, and_right, or_cases, eqb_true}
 
 -- no bracket and no comma
 pub data Plain : Text → Type 0 where
@@ -23,127 +23,127 @@ pub data Plain : Text → Type 0 where
 abbrev Passes : (ℕ → Bool) → Type 0
 Passes p = (p 40 ≡ false) × (p 41 ≡ false) × (p 44 ≡ false) × (p 58 ≡ false)
 
-not-passed : (p : ℕ → Bool) (x y : ℕ) → p x ≡ true → p y ≡ false → x ≢ y
-not-passed p x y h k e = true≢false (sym h ∙ ap p e ∙ k)
+not_passed : (p : ℕ → Bool) (x y : ℕ) → p x ≡ true → p y ≡ false → x ≢ y
+not_passed p x y h k e = true≢false (sym h ∙ ap p e ∙ k)
 
-plain-byte : (p : ℕ → Bool) → Passes p → (x : ℕ) {n : Text} → p x ≡ true → Plain n → Plain (x ∷ n)
-plain-byte p k x h = byte (not-passed p x 40 h (k .0)) (not-passed p x 41 h (k .1)) (not-passed p x 44 h (k .2))
+plain_byte : (p : ℕ → Bool) → Passes p → (x : ℕ) {n : Text} → p x ≡ true → Plain n → Plain (x ∷ n)
+plain_byte p k x h = byte (not_passed p x 40 h k.0) (not_passed p x 41 h k.1) (not_passed p x 44 h k.2)
 
-plain-all : (p : ℕ → Bool) → Passes p → (n : Text) → all p n ≡ true → Plain n
+plain_all : (p : ℕ → Bool) → Passes p → (n : Text) → all p n ≡ true → Plain n
 unfolding all
-plain-all p k [] e = end
-plain-all p k (b ∷ n) e = plain-byte p k b (and-left (p b) (all p n) e) (plain-all p k n (and-right (p b) (all p n) e))
+plain_all p k [] e = end
+plain_all p k (b ∷ n) e = plain_byte p k b (and_left (p b) (all p n) e) (plain_all p k n (and_right (p b) (all p n) e))
 
-passes-digit : Passes digit
+passes_digit : Passes digit
 unfolding digit
-passes-digit = (refl, refl, refl, refl)
+passes_digit = (refl, refl, refl, refl)
 
-passes-alphabetic : Passes alphabetic
+passes_alphabetic : Passes alphabetic
 unfolding alphabetic
-passes-alphabetic = (refl, refl, refl, refl)
+passes_alphabetic = (refl, refl, refl, refl)
 
-passes-alphanumeric : Passes alphanumeric
+passes_alphanumeric : Passes alphanumeric
 unfolding alphanumeric
-passes-alphanumeric = (refl, refl, refl, refl)
+passes_alphanumeric = (refl, refl, refl, refl)
 
-pub number-plain : (n : Text) → number n ≡ true → Plain n
+pub number_plain : (n : Text) → number n ≡ true → Plain n
 unfolding number
-number-plain [] e = end
-number-plain (b ∷ n) e =
-    plain-byte digit passes-digit b (and-left (digit b) (all digit n) e) (plain-all digit passes-digit n (and-right (digit b) (all digit n) e))
+number_plain [] e = end
+number_plain (b ∷ n) e =
+    plain_byte digit passes_digit b (and_left (digit b) (all digit n) e) (plain_all digit passes_digit n (and_right (digit b) (all digit n) e))
 
-identifier-plain : (n : Text) → identifier n ≡ true → Plain n
+identifier_plain : (n : Text) → identifier n ≡ true → Plain n
 unfolding identifier
-identifier-plain [] e = end
-identifier-plain (b ∷ n) e =
-    plain-byte alphabetic passes-alphabetic b (and-left (alphabetic b) (all alphanumeric n) e) (plain-all alphanumeric passes-alphanumeric n (and-right (alphabetic b) (all alphanumeric n) e))
+identifier_plain [] e = end
+identifier_plain (b ∷ n) e =
+    plain_byte alphabetic passes_alphabetic b (and_left (alphabetic b) (all alphanumeric n) e) (plain_all alphanumeric passes_alphanumeric n (and_right (alphabetic b) (all alphanumeric n) e))
 
-pub word-plain : (n : Text) → word n ≡ true → Plain n
+pub word_plain : (n : Text) → word n ≡ true → Plain n
 unfolding word
-word-plain n e = go (or-cases (identifier n) (number n) e)
+word_plain n e = go (or_cases (identifier n) (number n) e)
   where
     go : (identifier n ≡ true) ⊎ (number n ≡ true) → Plain n
-    go (inl h) = identifier-plain n h
-    go (inr h) = number-plain n h
+    go (inl h) = identifier_plain n h
+    go (inr h) = number_plain n h
 
-indexed-plain : (n : Text) → indexed n ≡ true → Plain n
+indexed_plain : (n : Text) → indexed n ≡ true → Plain n
 unfolding indexed
-indexed-plain [] e = end
-indexed-plain (b ∷ n) e = go (eqb b 58) refl e (indexed-plain n)
+indexed_plain [] e = end
+indexed_plain (b ∷ n) e = go (eqb b 58) refl e (indexed_plain n)
   where
     go : (c : Bool) → eqb b 58 ≡ c → cond c (identifier n) (digit b && indexed n) ≡ true → (indexed n ≡ true → Plain n) → Plain (b ∷ n)
-    go true p h k = let q = eqb-true b 58 p in byte {x = b} (λ z. omega arith) (λ z. omega arith) (λ z. omega arith) (identifier-plain n h)
-    go false p h k = plain-byte digit passes-digit b (and-left (digit b) (indexed n) h) (k (and-right (digit b) (indexed n) h))
+    go true p h k = let q = eqb_true b 58 p in byte {x = b} (λ z. omega arith) (λ z. omega arith) (λ z. omega arith) (identifier_plain n h)
+    go false p h k = plain_byte digit passes_digit b (and_left (digit b) (indexed n) h) (k (and_right (digit b) (indexed n) h))
 
 -- the first byte of a variable
 abbrev sigil : ℕ → Bool
 sigil b = eqb b 120 || eqb b 35 || eqb b 37
 
-pub variable-plain : (x : Text) → variable-token x ≡ true → Plain x
-unfolding variable-token
-variable-plain [] e = end
-variable-plain (b ∷ []) e = absurd (false≢true e)
-variable-plain (b ∷ c ∷ n) e =
-    let h = and-right (sigil b) (digit c && indexed n) e in
-    plain-byte sigil (refl, refl, refl, refl) b (and-left (sigil b) (digit c && indexed n) e)
-    (plain-byte digit passes-digit c (and-left (digit c) (indexed n) h) (indexed-plain n (and-right (digit c) (indexed n) h)))
+pub variable_plain : (x : Text) → variable_token x ≡ true → Plain x
+unfolding variable_token
+variable_plain [] e = end
+variable_plain (b ∷ []) e = absurd (false≢true e)
+variable_plain (b ∷ c ∷ n) e =
+    let h = and_right (sigil b) (digit c && indexed n) e in
+    plain_byte sigil (refl, refl, refl, refl) b (and_left (sigil b) (digit c && indexed n) e)
+    (plain_byte digit passes_digit c (and_left (digit c) (indexed n) h) (indexed_plain n (and_right (digit c) (indexed n) h)))
 
-pub token-plain : (n : Text) → (word n || variable-token n) ≡ true → Plain n
-token-plain n e = go (or-cases (word n) (variable-token n) e)
+pub token_plain : (n : Text) → (word n || variable_token n) ≡ true → Plain n
+token_plain n e = go (or_cases (word n) (variable_token n) e)
   where
-    go : (word n ≡ true) ⊎ (variable-token n ≡ true) → Plain n
-    go (inl h) = word-plain n h
-    go (inr h) = variable-plain n h
+    go : (word n ≡ true) ⊎ (variable_token n ≡ true) → Plain n
+    go (inl h) = word_plain n h
+    go (inr h) = variable_plain n h
 
-pub letter-plain : (c : ℕ) → letter c ≡ true → Plain (c ∷ [])
+pub letter_plain : (c : ℕ) → letter c ≡ true → Plain (c ∷ [])
 unfolding letter
-letter-plain c e = plain-byte letter (refl, refl, refl, refl) c e end
+letter_plain c e = plain_byte letter (refl, refl, refl, refl) c e end
 
 -- a variable holds a colon, where a word has none
 colonless : (n : Text) → all alphanumeric n ≡ true → indexed n ≡ false
 unfolding all indexed
 colonless [] e = refl
-colonless (b ∷ n) e = go (eqb b 58) refl (digit b) (colonless n (and-right (alphanumeric b) (all alphanumeric n) e))
+colonless (b ∷ n) e = go (eqb b 58) refl (digit b) (colonless n (and_right (alphanumeric b) (all alphanumeric n) e))
   where
     go : (c : Bool) → eqb b 58 ≡ c → (d : Bool) → indexed n ≡ false → cond c (identifier n) (d && indexed n) ≡ false
-    go true p d h = absurd (not-passed alphanumeric b 58 (and-left (alphanumeric b) (all alphanumeric n) e) (passes-alphanumeric .3) (eqb-true b 58 p))
+    go true p d h = absurd (not_passed alphanumeric b 58 (and_left (alphanumeric b) (all alphanumeric n) e) passes_alphanumeric.3 (eqb_true b 58 p))
     go false p true h = h
     go false p false h = refl
 
-and-false : (a b c : Bool) → c ≡ false → (a && (b && c)) ≡ false
-and-false true true c h = h
-and-false true false c h = refl
-and-false false b c h = refl
+and_false : (a b c : Bool) → c ≡ false → (a && (b && c)) ≡ false
+and_false true true c h = h
+and_false true false c h = refl
+and_false false b c h = refl
 
-pub digits-alphanumeric : (n : Text) → all digit n ≡ true → all alphanumeric n ≡ true
+pub digits_alphanumeric : (n : Text) → all digit n ≡ true → all alphanumeric n ≡ true
 unfolding all alphanumeric
-digits-alphanumeric [] e = refl
-digits-alphanumeric (b ∷ n) e = go (alphabetic b) (digit b) (and-left (digit b) (all digit n) e) (digits-alphanumeric n (and-right (digit b) (all digit n) e))
+digits_alphanumeric [] e = refl
+digits_alphanumeric (b ∷ n) e = go (alphabetic b) (digit b) (and_left (digit b) (all digit n) e) (digits_alphanumeric n (and_right (digit b) (all digit n) e))
   where
     go : (a d : Bool) → d ≡ true → all alphanumeric n ≡ true → ((a || d) && all alphanumeric n) ≡ true
     go true d p h = h
     go false true p h = h
     go false false p h = absurd (false≢true p)
 
-tail-alphanumeric : (b c : ℕ) (n : Text) → word (b ∷ c ∷ n) ≡ true → all alphanumeric n ≡ true
+tail_alphanumeric : (b c : ℕ) (n : Text) → word (b ∷ c ∷ n) ≡ true → all alphanumeric n ≡ true
 unfolding word identifier number all
-tail-alphanumeric b c n e = go (or-cases (identifier (b ∷ c ∷ n)) (number (b ∷ c ∷ n)) e)
+tail_alphanumeric b c n e = go (or_cases (identifier (b ∷ c ∷ n)) (number (b ∷ c ∷ n)) e)
   where
     go : ((alphabetic b && (alphanumeric c && all alphanumeric n)) ≡ true) ⊎ ((digit b && (digit c && all digit n)) ≡ true) → all alphanumeric n ≡ true
-    go (inl h) = and-right (alphanumeric c) (all alphanumeric n) (and-right (alphabetic b) (alphanumeric c && all alphanumeric n) h)
-    go (inr h) = digits-alphanumeric n (and-right (digit c) (all digit n) (and-right (digit b) (digit c && all digit n) h))
+    go (inl h) = and_right (alphanumeric c) (all alphanumeric n) (and_right (alphabetic b) (alphanumeric c && all alphanumeric n) h)
+    go (inr h) = digits_alphanumeric n (and_right (digit c) (all digit n) (and_right (digit b) (digit c && all digit n) h))
 
-pub word-no-variable : (n : Text) → word n ≡ true → variable-token n ≡ false
-unfolding variable-token
-word-no-variable [] e = refl
-word-no-variable (b ∷ []) e = refl
-word-no-variable (b ∷ c ∷ n) e = and-false (sigil b) (digit c) (indexed n) (colonless n (tail-alphanumeric b c n e))
+pub word_no_variable : (n : Text) → word n ≡ true → variable_token n ≡ false
+unfolding variable_token
+word_no_variable [] e = refl
+word_no_variable (b ∷ []) e = refl
+word_no_variable (b ∷ c ∷ n) e = and_false (sigil b) (digit c) (indexed n) (colonless n (tail_alphanumeric b c n e))
 
 -- no name is an atom's text
-plain-no-atom : (c : ℕ) (d : Text) {n : Text} → Plain n → atom-text c d ≡ n → ⊥
-plain-no-atom c d end e = cons≢nil e
-plain-no-atom c d (byte p q r end) e = cons≢nil (tail-eq-of-cons-eq e)
-plain-no-atom c d (byte p q r (byte p′ q′ r′ h)) e = p′ (sym (head-eq-of-cons-eq (tail-eq-of-cons-eq e)))
+plain_no_atom : (c : ℕ) (d : Text) {n : Text} → Plain n → atom_text c d ≡ n → ⊥
+plain_no_atom c d end e = cons≢nil e
+plain_no_atom c d (byte p q r end) e = cons≢nil (tail-eq_of_cons-eq e)
+plain_no_atom c d (byte p q r (byte p' q' r' h)) e = p' (sym (head-eq_of_cons-eq (tail-eq_of_cons-eq e)))
 
 -- trees of one head
 pub data SameHead : Tree → Tree → Type 0 where
@@ -151,28 +151,28 @@ pub data SameHead : Tree → Tree → Type 0 where
   applications : {f g : Text} {ts us : Trees} → f ≡ g → count ts ≡ count us → SameHead (apply f ts) (apply g us)
 
 module _ (arity : Text → ℕ) where
-  pub same-head : (t u : Tree) → Tidy arity t → Tidy arity u → head t ≡ head u → SameHead t u
+  pub same_head : (t u : Tree) → Tidy arity t → Tidy arity u → head t ≡ head u → SameHead t u
   unfolding head children
-  same-head (variable x) (variable y) d k e = equal (ap variable e) refl
-  same-head (variable x) (atom c n) d k e = absurd (plain-no-atom c n (variable-plain x (d .2)) (sym e))
-  same-head (variable x) (apply g us) d k e = absurd (true≢false (sym (d .2) ∙ ap variable-token e ∙ word-no-variable g (k .1)))
-  same-head (atom c n) (variable y) d k e = absurd (plain-no-atom c n (variable-plain y (k .2)) e)
-  same-head (atom c n) (atom b m) d k e =
-      let p : c ≡ b = head-eq-of-cons-eq e in
-      let q : n ≡ m = append-cancel-right n m (41 ∷ []) (tail-eq-of-cons-eq (tail-eq-of-cons-eq e)) in
+  same_head (variable x) (variable y) d k e = equal (ap variable e) refl
+  same_head (variable x) (atom c n) d k e = absurd (plain_no_atom c n (variable_plain x d.2) (sym e))
+  same_head (variable x) (apply g us) d k e = absurd (true≢false (sym d.2 ∙ ap variable_token e ∙ word_no_variable g k.1))
+  same_head (atom c n) (variable y) d k e = absurd (plain_no_atom c n (variable_plain y k.2) e)
+  same_head (atom c n) (atom b m) d k e =
+      let p : c ≡ b = head-eq_of_cons-eq e in
+      let q : n ≡ m = append_cancel_right n m (41 ∷ []) (tail-eq_of_cons-eq (tail-eq_of_cons-eq e)) in
       equal (ap₂ atom p q) refl
-  same-head (atom c n) (apply g us) d k e = absurd (plain-no-atom c n (word-plain g (k .1)) e)
-  same-head (apply f ts) (variable y) d k e = absurd (true≢false (sym (k .2) ∙ ap variable-token (sym e) ∙ word-no-variable f (d .1)))
-  same-head (apply f ts) (atom c n) d k e = absurd (plain-no-atom c n (word-plain f (d .1)) (sym e))
-  same-head (apply f ts) (apply g us) d k e = applications e (d .0 ∙ ap arity e ∙ sym (k .0))
+  same_head (atom c n) (apply g us) d k e = absurd (plain_no_atom c n (word_plain g k.1) e)
+  same_head (apply f ts) (variable y) d k e = absurd (true≢false (sym k.2 ∙ ap variable_token (sym e) ∙ word_no_variable f d.1))
+  same_head (apply f ts) (atom c n) d k e = absurd (plain_no_atom c n (word_plain f d.1) (sym e))
+  same_head (apply f ts) (apply g us) d k e = applications e (d.0 ∙ ap arity e ∙ sym k.0)
 
-pub same-count : {t u : Tree} → SameHead t u → count (children t) ≡ count (children u)
+pub same_count : {t u : Tree} → SameHead t u → count (children t) ≡ count (children u)
 unfolding children
-same-count (equal e c) = c
-same-count (applications e c) = c
+same_count (equal e c) = c
+same_count (applications e c) = c
 
 -- trees of one head with equal arguments are equal
-pub same-root : {t u : Tree} → SameHead t u → ACs (children t) (children u) → AC t u
+pub same_root : {t u : Tree} → SameHead t u → ACs (children t) (children u) → Ac t u
 unfolding children
-same-root {t} (equal e c) h = subst (AC t) e reflexive
-same-root (applications {f = f} {ts = ts} {us = us} e c) h = subst (λ (g : Text). AC (apply f ts) (apply g us)) e (congruent h)
+same_root {t} (equal e c) h = subst (Ac t) e reflexive
+same_root (applications {f = f} {ts = ts} {us = us} e c) h = subst (λ (g : Text). Ac (apply f ts) (apply g us)) e (congruent h)

@@ -1,41 +1,41 @@
 -- The summands of a tree: they are built or tidy where it is, hold its variables, and under a substitution weigh what it weighs.
-use mathlib.Core.Path.{_≡_, refl, ap, sym, _∙_}
+use mathlib.Core.Path.{◌≡◌, refl, ap, sym, ◌∙◌}
 use mathlib.Core.Bool.{Bool, true, false}
-use mathlib.Core.List.{List, [], _∷_, _++_, append-nil}
-use Prim.Native.Nat.{ℕ, _+_, _<_}
+use mathlib.Core.List.{List, [], ◌∷◌, ◌++◌, append-nil}
+use Prim.Native.Nat.{ℕ, ◌+◌, ◌<◌}
 use native.Mathlib.Omega.{arith}
-use Rattle·rules.specs.Bytes.{Text, same}
-use Rattle·rules.specs.Names.{word}
-use Rattle·rules.specs.Tree.{Tree, variable, atom, apply, Trees, none, more, tamtplus, plus}
-use Rattle·rules.specs.Substitution.{Substitution, substitute, substitutes}
-use Rattle·rules.specs.Sums.{unless-sum, summands, summands-of, rebuild}
-use Rattle·rules.specs.Tidy.{Built, Builts, Arity, Tidy, Tidies}
-use Rattle·rules.specs.Meaning.{WellSorted, Free, Frees}
-use Rattle·laws·proofs.proofs.Basics.Tests.{same-eq}
-use Rattle·laws·proofs.proofs.Equality.Building.{built-first, built-rest, built-children, tidy-built}
-use Rattle·laws·proofs.proofs.Equality.Bags.{weight, weight-plus, weight-some}
-use Rattle·laws·proofs.proofs.Sorts.Instances.{substitute-tidy}
+use Rattle.rules.specs.Bytes.{Text, same}
+use Rattle.rules.specs.Names.{word}
+use Rattle.rules.specs.Tree.{Tree, variable, atom, apply, Trees, none, more, tamtplus, plus}
+use Rattle.rules.specs.Substitution.{Substitution, substitute, substitutes}
+use Rattle.rules.specs.Sums.{unless_sum, summands, summands_of, rebuild}
+use Rattle.rules.specs.Tidy.{Built, Builts, Arity, Tidy, Tidies}
+use Rattle.rules.specs.Meaning.{WellSorted, Free, Frees}
+use Rattle.laws.proofs.Basics.Tests.{same_eq}
+use Rattle.laws.proofs.Equality.Building.{built_first, built_rest, built_children, tidy_built}
+use Rattle.laws.proofs.Equality.Bags.{weight, weight_plus, weight_some}
+use Rattle.laws.proofs.Sorts.Instances.{substitute_tidy}
 
 abbrev pub AllOf : (Tree → Type 0) → List Tree → Type 0
 AllOf P [] = Unit {0}
 AllOf P (x ∷ xs) = P x × AllOf P xs
 
 module _ (P : Tree → Type 0) where
-  pub all-append : (xs ys : List Tree) → AllOf P xs → AllOf P ys → AllOf P (xs ++ ys)
-  all-append [] ys p q = q
-  all-append (x ∷ xs) ys p q = (p .0, all-append xs ys (p .1) q)
+  pub all_append : (xs ys : List Tree) → AllOf P xs → AllOf P ys → AllOf P (xs ++ ys)
+  all_append [] ys p q = q
+  all_append (x ∷ xs) ys p q = (p.0, all_append xs ys p.1 q)
 
-  all-left : (xs ys : List Tree) → AllOf P (xs ++ ys) → AllOf P xs
-  all-left [] ys p = tt
-  all-left (x ∷ xs) ys p = (p .0, all-left xs ys (p .1))
+  all_left : (xs ys : List Tree) → AllOf P (xs ++ ys) → AllOf P xs
+  all_left [] ys p = tt
+  all_left (x ∷ xs) ys p = (p.0, all_left xs ys p.1)
 
-  all-right : (xs ys : List Tree) → AllOf P (xs ++ ys) → AllOf P ys
-  all-right [] ys p = p
-  all-right (x ∷ xs) ys p = all-right xs ys (p .1)
+  all_right : (xs ys : List Tree) → AllOf P (xs ++ ys) → AllOf P ys
+  all_right [] ys p = p
+  all_right (x ∷ xs) ys p = all_right xs ys p.1
 
-  pub all-unless : (b : Bool) (ts : List Tree) (t : Tree) → AllOf P ts → P t → AllOf P (unless-sum b ts t)
-  all-unless true ts t p q = p
-  all-unless false ts t p q = (q, tt)
+  pub all_unless : (b : Bool) (ts : List Tree) (t : Tree) → AllOf P ts → P t → AllOf P (unless_sum b ts t)
+  all_unless true ts t p q = p
+  all_unless false ts t p q = (q, tt)
 
 -- trees as reading builds them
 
@@ -45,14 +45,14 @@ BuiltList = AllOf Built
 mutual
   unfolding summands
 
-  pub summands-built : (t : Tree) → Built t → BuiltList (summands t)
-  summands-built (variable x) b = (b, tt)
-  summands-built (atom c d) b = (b, tt)
-  summands-built (apply f ts) b = all-unless Built (same f tamtplus) (summands-of ts) (apply f ts) (summands-of-built ts (built-children b)) b
+  pub summands_built : (t : Tree) → Built t → BuiltList (summands t)
+  summands_built (variable x) b = (b, tt)
+  summands_built (atom c d) b = (b, tt)
+  summands_built (apply f ts) b = all_unless Built (same f tamtplus) (summands_of ts) (apply f ts) (summands_of_built ts (built_children b)) b
 
-  summands-of-built : (ts : Trees) → Builts ts → BuiltList (summands-of ts)
-  summands-of-built none b = tt
-  summands-of-built (more t ts) b = all-append Built (summands t) (summands-of ts) (summands-built t (built-first b)) (summands-of-built ts (built-rest b))
+  summands_of_built : (ts : Trees) → Builts ts → BuiltList (summands_of ts)
+  summands_of_built none b = tt
+  summands_of_built (more t ts) b = all_append Built (summands t) (summands_of ts) (summands_built t (built_first b)) (summands_of_built ts (built_rest b))
 
 -- variables
 
@@ -60,37 +60,37 @@ module _ (y : Text) where
   mutual
     unfolding summands
 
-    pub summands-free : (t : Tree) → Free y t → AllOf (Free y) (summands t)
-    summands-free (variable x) d = (d, tt)
-    summands-free (atom c n) d = (d, tt)
-    summands-free (apply f ts) d = all-unless (Free y) (same f tamtplus) (summands-of ts) (apply f ts) (summands-of-free ts d) d
+    pub summands_free : (t : Tree) → Free y t → AllOf (Free y) (summands t)
+    summands_free (variable x) d = (d, tt)
+    summands_free (atom c n) d = (d, tt)
+    summands_free (apply f ts) d = all_unless (Free y) (same f tamtplus) (summands_of ts) (apply f ts) (summands_of_free ts d) d
 
-    summands-of-free : (ts : Trees) → Frees y ts → AllOf (Free y) (summands-of ts)
-    summands-of-free none d = tt
-    summands-of-free (more t ts) d = all-append (Free y) (summands t) (summands-of ts) (summands-free t (d .0)) (summands-of-free ts (d .1))
+    summands_of_free : (ts : Trees) → Frees y ts → AllOf (Free y) (summands_of ts)
+    summands_of_free none d = tt
+    summands_of_free (more t ts) d = all_append (Free y) (summands t) (summands_of ts) (summands_free t d.0) (summands_of_free ts d.1)
 
-  unless-free : (b : Bool) (us : List Tree) (f : Text) (ts : Trees) → (AllOf (Free y) us → Frees y ts) → AllOf (Free y) (unless-sum b us (apply f ts))
+  unless_free : (b : Bool) (us : List Tree) (f : Text) (ts : Trees) → (AllOf (Free y) us → Frees y ts) → AllOf (Free y) (unless_sum b us (apply f ts))
       → Frees y ts
-  unless-free true us f ts h p = h p
-  unless-free false us f ts h p = p .0
+  unless_free true us f ts h p = h p
+  unless_free false us f ts h p = p.0
 
   mutual
     unfolding summands
 
-    pub free-summands : (t : Tree) → AllOf (Free y) (summands t) → Free y t
-    free-summands (variable x) d = d .0
-    free-summands (atom c n) d = d .0
-    free-summands (apply f ts) d = unless-free (same f tamtplus) (summands-of ts) f ts (λ k. free-summands-of ts k) d
+    pub free_summands : (t : Tree) → AllOf (Free y) (summands t) → Free y t
+    free_summands (variable x) d = d.0
+    free_summands (atom c n) d = d.0
+    free_summands (apply f ts) d = unless_free (same f tamtplus) (summands_of ts) f ts (λ k. free_summands_of ts k) d
 
-    free-summands-of : (ts : Trees) → AllOf (Free y) (summands-of ts) → Frees y ts
-    free-summands-of none d = tt
-    free-summands-of (more t ts) d =
-        (free-summands t (all-left (Free y) (summands t) (summands-of ts) d), free-summands-of ts (all-right (Free y) (summands t) (summands-of ts) d))
+    free_summands_of : (ts : Trees) → AllOf (Free y) (summands_of ts) → Frees y ts
+    free_summands_of none d = tt
+    free_summands_of (more t ts) d =
+        (free_summands t (all_left (Free y) (summands t) (summands_of ts) d), free_summands_of ts (all_right (Free y) (summands t) (summands_of ts) d))
 
-  pub rebuild-free : (a : Tree) (xs : List Tree) → AllOf (Free y) (a ∷ xs) → Free y (rebuild a xs)
+  pub rebuild_free : (a : Tree) (xs : List Tree) → AllOf (Free y) (a ∷ xs) → Free y (rebuild a xs)
   unfolding rebuild
-  rebuild-free a [] d = d .0
-  rebuild-free a (b ∷ bs) d = (d .0, (rebuild-free b bs (d .1), tt))
+  rebuild_free a [] d = d.0
+  rebuild_free a (b ∷ bs) d = (d.0, (rebuild_free b bs d.1, tt))
 
 -- weights under a substitution
 
@@ -98,37 +98,37 @@ unfoldable pub weigh : Substitution → Text → List Tree → ℕ
 weigh σ w [] = 0
 weigh σ w (x ∷ xs) = weight w (substitute σ x) + weigh σ w xs
 
-weigh-append : (σ : Substitution) (w : Text) (xs ys : List Tree) → weigh σ w (xs ++ ys) ≡ weigh σ w xs + weigh σ w ys
+weigh_append : (σ : Substitution) (w : Text) (xs ys : List Tree) → weigh σ w (xs ++ ys) ≡ weigh σ w xs + weigh σ w ys
 unfolding weigh
-weigh-append σ w [] ys = omega arith
-weigh-append σ w (x ∷ xs) ys = let h = weigh-append σ w xs ys in omega arith
+weigh_append σ w [] ys = omega arith
+weigh_append σ w (x ∷ xs) ys = let h = weigh_append σ w xs ys in omega arith
 
-pub weigh-rebuild : (σ : Substitution) (w : Text) (a : Tree) (xs : List Tree) → weight w (substitute σ (rebuild a xs)) ≡ weigh σ w (a ∷ xs)
+pub weigh_rebuild : (σ : Substitution) (w : Text) (a : Tree) (xs : List Tree) → weight w (substitute σ (rebuild a xs)) ≡ weigh σ w (a ∷ xs)
 unfolding weigh substitute rebuild
-weigh-rebuild σ w a [] = omega arith
-weigh-rebuild σ w a (b ∷ bs) = let h = weigh-rebuild σ w b bs in let k = weight-plus w (substitute σ a) (substitute σ (rebuild b bs)) in omega arith
+weigh_rebuild σ w a [] = omega arith
+weigh_rebuild σ w a (b ∷ bs) = let h = weigh_rebuild σ w b bs in let k = weight_plus w (substitute σ a) (substitute σ (rebuild b bs)) in omega arith
 
 module _ (arity : Text → ℕ) (counts : Arity arity) where
   mutual
     unfolding summands
 
-    pub summands-tidy : (t : Tree) → Tidy arity t → AllOf (Tidy arity) (summands t)
-    summands-tidy (variable x) d = (d, tt)
-    summands-tidy (atom c n) d = (d, tt)
-    summands-tidy (apply f ts) d = all-unless (Tidy arity) (same f tamtplus) (summands-of ts) (apply f ts) (summands-of-tidy ts (d .2)) d
+    pub summands_tidy : (t : Tree) → Tidy arity t → AllOf (Tidy arity) (summands t)
+    summands_tidy (variable x) d = (d, tt)
+    summands_tidy (atom c n) d = (d, tt)
+    summands_tidy (apply f ts) d = all_unless (Tidy arity) (same f tamtplus) (summands_of ts) (apply f ts) (summands_of_tidy ts d.2) d
 
-    summands-of-tidy : (ts : Trees) → Tidies arity ts → AllOf (Tidy arity) (summands-of ts)
-    summands-of-tidy none d = tt
-    summands-of-tidy (more t ts) d = all-append (Tidy arity) (summands t) (summands-of ts) (summands-tidy t (d .0)) (summands-of-tidy ts (d .1))
+    summands_of_tidy : (ts : Trees) → Tidies arity ts → AllOf (Tidy arity) (summands_of ts)
+    summands_of_tidy none d = tt
+    summands_of_tidy (more t ts) d = all_append (Tidy arity) (summands t) (summands_of ts) (summands_tidy t d.0) (summands_of_tidy ts d.1)
 
-  plus-tidy : (a b : Tree) → Tidy arity a → Tidy arity b → Tidy arity (plus a b)
+  plus_tidy : (a b : Tree) → Tidy arity a → Tidy arity b → Tidy arity (plus a b)
   unfolding word
-  plus-tidy a b p q = (sym (counts .sums), refl, (p, (q, tt)))
+  plus_tidy a b p q = (sym counts.sums, refl, (p, (q, tt)))
 
-  pub rebuild-tidy : (a : Tree) (xs : List Tree) → AllOf (Tidy arity) (a ∷ xs) → Tidy arity (rebuild a xs)
+  pub rebuild_tidy : (a : Tree) (xs : List Tree) → AllOf (Tidy arity) (a ∷ xs) → Tidy arity (rebuild a xs)
   unfolding rebuild
-  rebuild-tidy a [] d = d .0
-  rebuild-tidy a (b ∷ bs) d = plus-tidy a (rebuild b bs) (d .0) (rebuild-tidy b bs (d .1))
+  rebuild_tidy a [] d = d.0
+  rebuild_tidy a (b ∷ bs) d = plus_tidy a (rebuild b bs) d.0 (rebuild_tidy b bs d.1)
 
   module _ (σ : Substitution) where
     module _ (w : Text) where
@@ -140,43 +140,43 @@ module _ (arity : Text → ℕ) (counts : Arity arity) where
       AllWeigh (more t ts) = Weighs t × AllWeigh ts
 
       -- a sum has two arguments
-      sum-weighs : (f : Text) → f ≡ tamtplus → (ts : Trees) → Tidy arity (apply f ts) → AllWeigh ts
-          → weight w (apply f (substitutes σ ts)) ≡ weigh σ w (summands-of ts)
+      sum_weighs : (f : Text) → f ≡ tamtplus → (ts : Trees) → Tidy arity (apply f ts) → AllWeigh ts
+          → weight w (apply f (substitutes σ ts)) ≡ weigh σ w (summands_of ts)
       unfolding substitute summands
-      sum-weighs f e none d h = absurd (let z = d .0 ∙ ap arity e ∙ counts .sums in omega arith)
-      sum-weighs f e (more a none) d h = absurd (let z = d .0 ∙ ap arity e ∙ counts .sums in omega arith)
-      sum-weighs f e (more a (more b (more c cs))) d h = absurd (let z = d .0 ∙ ap arity e ∙ counts .sums in omega arith)
-      sum-weighs f e (more a (more b none)) d h =
+      sum_weighs f e none d h = absurd (let z = d.0 ∙ ap arity e ∙ counts.sums in omega arith)
+      sum_weighs f e (more a none) d h = absurd (let z = d.0 ∙ ap arity e ∙ counts.sums in omega arith)
+      sum_weighs f e (more a (more b (more c cs))) d h = absurd (let z = d.0 ∙ ap arity e ∙ counts.sums in omega arith)
+      sum_weighs f e (more a (more b none)) d h =
           let p = ap (λ (g : Text). weight w (apply g (more (substitute σ a) (more (substitute σ b) none)))) e in
-          let q = weight-plus w (substitute σ a) (substitute σ b) in
-          let r = weigh-append σ w (summands a) (summands b) in
+          let q = weight_plus w (substitute σ a) (substitute σ b) in
+          let r = weigh_append σ w (summands a) (summands b) in
           let s = ap (λ (l : List Tree). weigh σ w (summands a ++ l)) (append-nil (summands b)) in
-          let i = h .0 in
-          let j = h .1 .0 in
+          let i = h.0 in
+          let j = h.1.0 in
           omega arith
 
-      apply-weighs : (f : Text) (ts : Trees) → Tidy arity (apply f ts) → AllWeigh ts → Weighs (apply f ts)
+      apply_weighs : (f : Text) (ts : Trees) → Tidy arity (apply f ts) → AllWeigh ts → Weighs (apply f ts)
       unfolding substitute summands weigh
-      apply-weighs f ts d h = go (same f tamtplus) refl
+      apply_weighs f ts d h = go (same f tamtplus) refl
         where
-          go : (b : Bool) → same f tamtplus ≡ b → weight w (apply f (substitutes σ ts)) ≡ weigh σ w (unless-sum b (summands-of ts) (apply f ts))
-          go true e = sum-weighs f (same-eq f tamtplus e) ts d h
+          go : (b : Bool) → same f tamtplus ≡ b → weight w (apply f (substitutes σ ts)) ≡ weigh σ w (unless_sum b (summands_of ts) (apply f ts))
+          go true e = sum_weighs f (same_eq f tamtplus e) ts d h
           go false e = omega arith
 
       mutual
         unfolding substitute summands weigh
 
-        pub weigh-summands : (t : Tree) → Tidy arity t → weight w (substitute σ t) ≡ weigh σ w (summands t)
-        weigh-summands (variable x) d = omega arith
-        weigh-summands (atom c n) d = omega arith
-        weigh-summands (apply f ts) d = apply-weighs f ts d (all-weigh ts (d .2))
+        pub weigh_summands : (t : Tree) → Tidy arity t → weight w (substitute σ t) ≡ weigh σ w (summands t)
+        weigh_summands (variable x) d = omega arith
+        weigh_summands (atom c n) d = omega arith
+        weigh_summands (apply f ts) d = apply_weighs f ts d (all_weigh ts d.2)
 
-        all-weigh : (ts : Trees) → Tidies arity ts → AllWeigh ts
-        all-weigh none d = tt
-        all-weigh (more t ts) d = (weigh-summands t (d .0), all-weigh ts (d .1))
+        all_weigh : (ts : Trees) → Tidies arity ts → AllWeigh ts
+        all_weigh none d = tt
+        all_weigh (more t ts) d = (weigh_summands t d.0, all_weigh ts d.1)
 
     -- a list that is not empty weighs something
-    pub weigh-some : WellSorted arity σ → (x : Tree) (xs : List Tree) → Tidy arity x → (w : Text) × (0 < weigh σ w (x ∷ xs))
+    pub weigh_some : WellSorted arity σ → (x : Tree) (xs : List Tree) → Tidy arity x → (w : Text) × (0 < weigh σ w (x ∷ xs))
     unfolding weigh
-    weigh-some g x xs d =
-        let k = weight-some (tidy-built arity counts (substitute σ x) (substitute-tidy arity counts σ g x d)) in let l = k .1 in (k .0, omega arith)
+    weigh_some g x xs d =
+        let k = weight_some (tidy_built arity counts (substitute σ x) (substitute_tidy arity counts σ g x d)) in let l = k.1 in (k.0, omega arith)

@@ -1,232 +1,232 @@
 -- Each variable that is read has a colon of its own in the text, each node a byte, and each application of a rule's function with
 -- children a bracket.
-use Prim.Native.Nat.{ℕ, zero, suc, _+_, _≤_}
+use Prim.Native.Nat.{ℕ, zero, suc, ◌+◌, ◌≤◌}
 use native.Mathlib.Omega.{arith}
-use mathlib.Core.Path.{_≡_, refl, ap, subst}
-use mathlib.Core.List.{[], _∷_, _++_}
-use mathlib.Core.Option.{Option, some, none as nothing, Option·some-injective, Option·none-ne-some}
+use mathlib.Core.Path.{◌≡◌, refl, ap, subst}
+use mathlib.Core.List.{[], ◌∷◌, ◌++◌}
+use mathlib.Core.Option.{Option, some, none as nothing, some-injective, none-ne-some}
 use mathlib.Core.Bool.{Bool, true, false, cond, true≢false}
 use lib.Dec.{eqb}
-use lib.ListN.{length, length-append, getD}
-use Rattle·rules.specs.Bytes.{Text, same}
-use Rattle·rules.specs.Text.{count-of}
-use Rattle·rules.specs.Maybe.{guard}
-use Rattle·rules.specs.Names.{digit, all, letter-name}
-use Rattle·rules.specs.Tree.{Tree, variable, atom, apply, Trees, none, more, count, size, sizes, tamtplus, variable-names, variable-names-in}
-use Rattle·rules.specs.Reduction.{Rule, rule-named}
-use Rattle·laws·specs.specs.Memory.{rule-node, rule-nodes, rule-nodes-in}
-use Rattle·rules.specs.Reading.{leaf, single, constant-name, atom-of, nested, sum-of, close, parse}
-use Rattle·laws·proofs.proofs.Basics.Tests.{same-eq}
-use Rattle·laws·proofs.proofs.Basics.Options.{bound}
-use Rattle·laws·proofs.proofs.Reading.Measures.{total, Measure, read-measured}
+use lib.ListN.{length, length-append, get_or}
+use Rattle.rules.specs.Bytes.{Text, same}
+use Rattle.rules.specs.Text.{count_of}
+use Rattle.rules.specs.Maybe.{guard}
+use Rattle.rules.specs.Names.{digit, all, letter_name}
+use Rattle.rules.specs.Tree.{Tree, variable, atom, apply, Trees, none, more, count, size, sizes, tamtplus, variable_names, variable_names_in}
+use Rattle.rules.specs.Reduction.{Rule, rule_named}
+use Rattle.laws.specs.Memory.{rule_node, rule_nodes, rule_nodes_in}
+use Rattle.rules.specs.Reading.{leaf, single, constant_name, atom_of, nested, sum_of, close, parse}
+use Rattle.laws.proofs.Basics.Tests.{same_eq}
+use Rattle.laws.proofs.Basics.Options.{bound}
+use Rattle.laws.proofs.Reading.Measures.{total, Measure, read_measured}
 
 -- What closing makes of a name and its list: an atom, a sum or an application
 module _ (P : Text → Trees → Tree → Type 0) (atoms : (n : Text) (ts : Trees) (c : ℕ) (d : Text) → P n ts (atom c d))
     (sums : (n : Text) (t u : Tree) (us : Trees) → n ≡ tamtplus → P n (more t (more u us)) (nested t (more u us)))
     (applications : (n : Text) (ts : Trees) → P n ts (apply n ts)) where
-  atom-closed : (n : Text) (ts : Trees) (t : Tree) → atom-of n ts ≡ some t → P n ts t
-  unfolding atom-of
-  atom-closed n ts t h =
+  atom_closed : (n : Text) (ts : Trees) (t : Tree) → atom_of n ts ≡ some t → P n ts t
+  unfolding atom_of
+  atom_closed n ts t h =
       let (u, e, h₁) = bound (single ts) _ t h in
-      let (d, k, h₂) = bound (constant-name u) _ t h₁ in
-      let (x, g, h₃) = bound (guard (all digit d)) (λ _. some (atom (getD n 0 0) d)) t h₂ in
-      subst (P n ts) (Option·some-injective (atom (getD n 0 0) d) t h₃) (atoms n ts (getD n 0 0) d)
+      let (d, k, h₂) = bound (constant_name u) _ t h₁ in
+      let (x, g, h₃) = bound (guard (all digit d)) (λ _. some (atom (get_or n 0 0) d)) t h₂ in
+      subst (P n ts) (some-injective (atom (get_or n 0 0) d) t h₃) (atoms n ts (get_or n 0 0) d)
 
-  sum-closed : (n : Text) (ts : Trees) (t : Tree) → n ≡ tamtplus → sum-of ts ≡ some t → P n ts t
-  unfolding sum-of
-  sum-closed n none t e h = absurd (Option·none-ne-some t h)
-  sum-closed n (more a none) t e h = absurd (Option·none-ne-some t h)
-  sum-closed n (more a (more b us)) t e h = subst (P n (more a (more b us))) (Option·some-injective (nested a (more b us)) t h) (sums n a b us e)
+  sum_closed : (n : Text) (ts : Trees) (t : Tree) → n ≡ tamtplus → sum_of ts ≡ some t → P n ts t
+  unfolding sum_of
+  sum_closed n none t e h = absurd (none-ne-some t h)
+  sum_closed n (more a none) t e h = absurd (none-ne-some t h)
+  sum_closed n (more a (more b us)) t e h = subst (P n (more a (more b us))) (some-injective (nested a (more b us)) t h) (sums n a b us e)
 
-  pub closed-cases : (n : Text) (ts : Trees) (t : Tree) → close n ts ≡ some t → P n ts t
+  pub closed_cases : (n : Text) (ts : Trees) (t : Tree) → close n ts ≡ some t → P n ts t
   unfolding close
-  closed-cases n ts t h = go (letter-name n) (same n tamtplus) refl h
+  closed_cases n ts t h = go (letter_name n) (same n tamtplus) refl h
     where
-      go : (b c : Bool) → same n tamtplus ≡ c → elim b [ true ↦ atom-of n ts | false ↦ elim c [ true ↦ sum-of ts | false ↦ some (apply n ts) ] ] ≡ some t → P n ts t
-      go true c e k = atom-closed n ts t k
-      go false true e k = sum-closed n ts t (same-eq n tamtplus e) k
-      go false false e k = subst (P n ts) (Option·some-injective (apply n ts) t k) (applications n ts)
+      go : (b c : Bool) → same n tamtplus ≡ c → elim b [ true ↦ atom_of n ts | false ↦ elim c [ true ↦ sum_of ts | false ↦ some (apply n ts) ] ] ≡ some t → P n ts t
+      go true c e k = atom_closed n ts t k
+      go false true e k = sum_closed n ts t (same_eq n tamtplus e) k
+      go false false e k = subst (P n ts) (some-injective (apply n ts) t k) (applications n ts)
 
 -- Colons
 
-abbrev names-count : Tree → ℕ
-names-count t = length (variable-names t)
+abbrev names_count : Tree → ℕ
+names_count t = length (variable_names t)
 
-abbrev names-counts : Trees → ℕ
-names-counts ts = length (variable-names-in ts)
+abbrev names_counts : Trees → ℕ
+names_counts ts = length (variable_names_in ts)
 
-names-more : (t : Tree) (ts : Trees) → names-counts (more t ts) ≡ names-count t + names-counts ts
-unfolding variable-names
-names-more t ts = length-append (variable-names t) (variable-names-in ts)
+names_more : (t : Tree) (ts : Trees) → names_counts (more t ts) ≡ names_count t + names_counts ts
+unfolding variable_names
+names_more t ts = length-append (variable_names t) (variable_names_in ts)
 
-nested-names : (t : Tree) (us : Trees) → names-count (nested t us) ≡ names-count t + names-counts us
-unfolding nested variable-names
-nested-names t none = omega arith
-nested-names t (more u us) =
-    let h = nested-names u us in
-    let k = length-append (variable-names t) (variable-names (nested u us) ++ []) in
-    let l = length-append (variable-names (nested u us)) [] in
-    let i = names-more u us in
+nested_names : (t : Tree) (us : Trees) → names_count (nested t us) ≡ names_count t + names_counts us
+unfolding nested variable_names
+nested_names t none = omega arith
+nested_names t (more u us) =
+    let h = nested_names u us in
+    let k = length-append (variable_names t) (variable_names (nested u us) ++ []) in
+    let l = length-append (variable_names (nested u us)) [] in
+    let i = names_more u us in
     omega arith
 
-some-number : (k : ℕ) → eqb k 0 ≡ false → 1 ≤ k
-some-number zero e = absurd (true≢false e)
-some-number (suc k) e = omega arith
+some_number : (k : ℕ) → eqb k 0 ≡ false → 1 ≤ k
+some_number zero e = absurd (true≢false e)
+some_number (suc k) e = omega arith
 
-leaf-names : (n : Text) → names-count (leaf n) ≤ count-of 58 n
-unfolding leaf variable-names
-leaf-names n = go (eqb (count-of 58 n) 0) refl
+leaf_names : (n : Text) → names_count (leaf n) ≤ count_of 58 n
+unfolding leaf variable_names
+leaf_names n = go (eqb (count_of 58 n) 0) refl
   where
-    go : (b : Bool) → eqb (count-of 58 n) 0 ≡ b → names-count (cond b (apply n none) (variable n)) ≤ count-of 58 n
+    go : (b : Bool) → eqb (count_of 58 n) 0 ≡ b → names_count (cond b (apply n none) (variable n)) ≤ count_of 58 n
     go true e = omega arith
-    go false e = some-number (count-of 58 n) e
+    go false e = some_number (count_of 58 n) e
 
 abbrev pub colon : ℕ → ℕ
 colon b = cond (eqb b 58) 1 0
 
-pub colons-total : (s : Text) → total colon s ≡ count-of 58 s
-unfolding total count-of
-colons-total [] = refl
-colons-total (b ∷ s) = ap (λ (n : ℕ). colon b + n) (colons-total s)
+pub colons_total : (s : Text) → total colon s ≡ count_of 58 s
+unfolding total count_of
+colons_total [] = refl
+colons_total (b ∷ s) = ap (λ (n : ℕ). colon b + n) (colons_total s)
 
-pub colons-upto : (s : Text) → count-of 58 s ≤ length s
-unfolding count-of
-colons-upto [] = omega arith
-colons-upto (b ∷ s) = go (eqb b 58) (colons-upto s)
+pub colons_upto : (s : Text) → count_of 58 s ≤ length s
+unfolding count_of
+colons_upto [] = omega arith
+colons_upto (b ∷ s) = go (eqb b 58) (colons_upto s)
   where
-    go : (x : Bool) → count-of 58 s ≤ length s → cond x 1 0 + count-of 58 s ≤ suc (length s)
+    go : (x : Bool) → count_of 58 s ≤ length s → cond x 1 0 + count_of 58 s ≤ suc (length s)
     go true h = omega arith
     go false h = omega arith
 
-names-closed : (n : Text) (ts : Trees) (t : Tree) → close n ts ≡ some t → names-count t ≤ names-counts ts
-unfolding variable-names
-names-closed = closed-cases (λ n ts t. names-count t ≤ names-counts ts) (λ n ts c d. omega arith)
-    (λ n t u us e. omega (arith, nested-names t (more u us), names-more t (more u us))) (λ n ts. omega arith)
+names_closed : (n : Text) (ts : Trees) (t : Tree) → close n ts ≡ some t → names_count t ≤ names_counts ts
+unfolding variable_names
+names_closed = closed_cases (λ n ts t. names_count t ≤ names_counts ts) (λ n ts c d. omega arith)
+    (λ n t u us e. omega (arith, nested_names t (more u us), names_more t (more u us))) (λ n ts. omega arith)
 
-unfoldable colon-measure : Measure
-unfolding variable-names count-of
-colon-measure = record {
+unfoldable colon_measure : Measure
+unfolding variable_names count_of
+colon_measure = record {
   byte = colon;
-  token = count-of 58;
+  token = count_of 58;
   delimiter = 0;
-  tree = names-count;
-  trees = names-counts;
-  token-bytes = λ b n. omega (arith, colons-total (b ∷ n));
-  comma-token = omega arith;
-  bracket-token = omega arith;
-  leaf-token = leaf-names;
-  no-trees = refl;
-  more-trees = λ t ts. omega (arith, names-more t ts);
-  closed = λ n ts t h. omega (arith, names-closed n ts t h);
+  tree = names_count;
+  trees = names_counts;
+  token_bytes = λ b n. omega (arith, colons_total (b ∷ n));
+  comma_token = omega arith;
+  bracket_token = omega arith;
+  leaf_token = leaf_names;
+  no_trees = refl;
+  more_trees = λ t ts. omega (arith, names_more t ts);
+  closed = λ n ts t h. omega (arith, names_closed n ts t h);
 }
 
 -- each variable of the tree has a colon of its own
-pub parse-colons : (s : Text) (t : Tree) → parse s ≡ some t → length (variable-names t) ≤ count-of 58 s
-unfolding colon-measure
-parse-colons s t h = omega (arith, read-measured colon-measure s t h, colons-total s)
+pub parse_colons : (s : Text) (t : Tree) → parse s ≡ some t → length (variable_names t) ≤ count_of 58 s
+unfolding colon_measure
+parse_colons s t h = omega (arith, read_measured colon_measure s t h, colons_total s)
 
 -- Nodes
 
-nested-size : (t : Tree) (us : Trees) → size (nested t us) ≡ size t + sizes us + count us
+nested_size : (t : Tree) (us : Trees) → size (nested t us) ≡ size t + sizes us + count us
 unfolding nested size
-nested-size t none = omega arith
-nested-size t (more u us) = let h = nested-size u us in omega arith
+nested_size t none = omega arith
+nested_size t (more u us) = let h = nested_size u us in omega arith
 
-pub leaf-size : (n : Text) → size (leaf n) ≡ 1
+pub leaf_size : (n : Text) → size (leaf n) ≡ 1
 unfolding leaf size
-leaf-size n = go (eqb (count-of 58 n) 0)
+leaf_size n = go (eqb (count_of 58 n) 0)
   where
     go : (b : Bool) → size (cond b (apply n none) (variable n)) ≡ 1
     go true = refl
     go false = refl
 
-pub bytes-total : (s : Text) → total (λ b. 1) s ≡ length s
+pub bytes_total : (s : Text) → total (λ b. 1) s ≡ length s
 unfolding total
-bytes-total [] = refl
-bytes-total (b ∷ s) = let h = bytes-total s in omega arith
+bytes_total [] = refl
+bytes_total (b ∷ s) = let h = bytes_total s in omega arith
 
-size-closed : (n : Text) (ts : Trees) (t : Tree) → close n ts ≡ some t → size t ≤ 1 + (sizes ts + count ts)
+size_closed : (n : Text) (ts : Trees) (t : Tree) → close n ts ≡ some t → size t ≤ 1 + (sizes ts + count ts)
 unfolding size
-size-closed = closed-cases (λ n ts t. size t ≤ 1 + (sizes ts + count ts)) (λ n ts c d. omega arith) (λ n t u us e. omega (arith, nested-size t (more u us)))
+size_closed = closed_cases (λ n ts t. size t ≤ 1 + (sizes ts + count ts)) (λ n ts c d. omega arith) (λ n t u us e. omega (arith, nested_size t (more u us)))
     (λ n ts. omega arith)
 
-unfoldable node-measure : Measure
+unfoldable node_measure : Measure
 unfolding size total
-node-measure = record {
+node_measure = record {
   byte = λ b. 1;
   token = λ n. 1;
   delimiter = 1;
   tree = size;
   trees = λ ts. sizes ts + count ts;
-  token-bytes = λ b n. omega arith;
-  comma-token = omega arith;
-  bracket-token = omega arith;
-  leaf-token = λ n. omega (arith, leaf-size n);
-  no-trees = refl;
-  more-trees = λ t ts. omega arith;
-  closed = λ n ts t h. omega (arith, size-closed n ts t h);
+  token_bytes = λ b n. omega arith;
+  comma_token = omega arith;
+  bracket_token = omega arith;
+  leaf_token = λ n. omega (arith, leaf_size n);
+  no_trees = refl;
+  more_trees = λ t ts. omega arith;
+  closed = λ n ts t h. omega (arith, size_closed n ts t h);
 }
 
 -- each node of the tree has a byte of its own
-pub parse-size : (s : Text) (t : Tree) → parse s ≡ some t → size t ≤ length s
-unfolding node-measure
-parse-size s t h = omega (arith, read-measured node-measure s t h, bytes-total s)
+pub parse_size : (s : Text) (t : Tree) → parse s ≡ some t → size t ≤ length s
+unfolding node_measure
+parse_size s t h = omega (arith, read_measured node_measure s t h, bytes_total s)
 
 -- Brackets
 
-nested-rules : (t : Tree) (us : Trees) → rule-nodes (nested t us) ≡ rule-nodes t + rule-nodes-in us
-unfolding nested rule-nodes rule-named
-nested-rules t none = omega arith
-nested-rules t (more u us) = let h = nested-rules u us in omega arith
+nested_rules : (t : Tree) (us : Trees) → rule_nodes (nested t us) ≡ rule_nodes t + rule_nodes_in us
+unfolding nested rule_nodes rule_named
+nested_rules t none = omega arith
+nested_rules t (more u us) = let h = nested_rules u us in omega arith
 
-leaf-rules : (n : Text) → rule-nodes (leaf n) ≡ 0
-unfolding leaf rule-nodes
-leaf-rules n = go (eqb (count-of 58 n) 0)
+leaf_rules : (n : Text) → rule_nodes (leaf n) ≡ 0
+unfolding leaf rule_nodes
+leaf_rules n = go (eqb (count_of 58 n) 0)
   where
-    at : (o : Option Rule) → rule-node o none + 0 ≡ 0
+    at : (o : Option Rule) → rule_node o none + 0 ≡ 0
     at nothing = refl
     at (some r) = refl
 
-    go : (b : Bool) → rule-nodes (cond b (apply n none) (variable n)) ≡ 0
-    go true = at (rule-named n)
+    go : (b : Bool) → rule_nodes (cond b (apply n none) (variable n)) ≡ 0
+    go true = at (rule_named n)
     go false = refl
 
-rule-upto : (o : Option Rule) (ts : Trees) → rule-node o ts ≤ 1
-rule-upto nothing ts = omega arith
-rule-upto (some r) none = omega arith
-rule-upto (some r) (more t ts) = omega arith
+rule_upto : (o : Option Rule) (ts : Trees) → rule_node o ts ≤ 1
+rule_upto nothing ts = omega arith
+rule_upto (some r) none = omega arith
+rule_upto (some r) (more t ts) = omega arith
 
-rules-closed : (n : Text) (ts : Trees) (t : Tree) → close n ts ≡ some t → rule-nodes t ≤ 1 + rule-nodes-in ts
-unfolding rule-nodes
-rules-closed = closed-cases (λ n ts t. rule-nodes t ≤ 1 + rule-nodes-in ts) (λ n ts c d. omega arith)
-    (λ n t u us e. omega (arith, nested-rules t (more u us))) (λ n ts. omega (arith, rule-upto (rule-named n) ts))
+rules_closed : (n : Text) (ts : Trees) (t : Tree) → close n ts ≡ some t → rule_nodes t ≤ 1 + rule_nodes_in ts
+unfolding rule_nodes
+rules_closed = closed_cases (λ n ts t. rule_nodes t ≤ 1 + rule_nodes_in ts) (λ n ts c d. omega arith)
+    (λ n t u us e. omega (arith, nested_rules t (more u us))) (λ n ts. omega (arith, rule_upto (rule_named n) ts))
 
 abbrev opening : ℕ → ℕ
 opening b = cond (eqb b 40) 1 0
 
-openings-total : (s : Text) → total opening s ≡ count-of 40 s
-unfolding total count-of
-openings-total [] = refl
-openings-total (b ∷ s) = ap (λ (n : ℕ). opening b + n) (openings-total s)
+openings_total : (s : Text) → total opening s ≡ count_of 40 s
+unfolding total count_of
+openings_total [] = refl
+openings_total (b ∷ s) = ap (λ (n : ℕ). opening b + n) (openings_total s)
 
-unfoldable bracket-measure : Measure
-unfolding rule-nodes count-of
-bracket-measure = record {
+unfoldable bracket_measure : Measure
+unfolding rule_nodes count_of
+bracket_measure = record {
   byte = opening;
-  token = count-of 40;
+  token = count_of 40;
   delimiter = 0;
-  tree = rule-nodes;
-  trees = rule-nodes-in;
-  token-bytes = λ b n. omega (arith, openings-total (b ∷ n));
-  comma-token = omega arith;
-  bracket-token = omega arith;
-  leaf-token = λ n. omega (arith, leaf-rules n);
-  no-trees = refl;
-  more-trees = λ t ts. omega arith;
-  closed = λ n ts t h. omega (arith, rules-closed n ts t h);
+  tree = rule_nodes;
+  trees = rule_nodes_in;
+  token_bytes = λ b n. omega (arith, openings_total (b ∷ n));
+  comma_token = omega arith;
+  bracket_token = omega arith;
+  leaf_token = λ n. omega (arith, leaf_rules n);
+  no_trees = refl;
+  more_trees = λ t ts. omega arith;
+  closed = λ n ts t h. omega (arith, rules_closed n ts t h);
 }
 
 -- each application of a rule's function with children has a bracket of its own
-pub parse-brackets : (s : Text) (t : Tree) → parse s ≡ some t → rule-nodes t ≤ count-of 40 s
-unfolding bracket-measure
-parse-brackets s t h = omega (arith, read-measured bracket-measure s t h, openings-total s)
+pub parse_brackets : (s : Text) (t : Tree) → parse s ≡ some t → rule_nodes t ≤ count_of 40 s
+unfolding bracket_measure
+parse_brackets s t h = omega (arith, read_measured bracket_measure s t h, openings_total s)

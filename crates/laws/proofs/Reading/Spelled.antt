@@ -1,64 +1,64 @@
 -- Every name of a tree that is read stands in its text.
-use Prim.Native.Nat.{ℕ, zero, suc, _≤_}
+use Prim.Native.Nat.{ℕ, zero, suc, ◌≤◌}
 use native.Mathlib.Omega.{arith}
-use mathlib.Core.Path.{_≡_, refl, sym, _∙_, ap, subst}
-use mathlib.Core.List.{List, [], _∷_, _++_, append-assoc}
-use mathlib.Core.Option.{Option, some, none as nothing, Option·some-injective, Option·none-ne-some}
+use mathlib.Core.Path.{◌≡◌, refl, sym, ◌∙◌, ap, subst}
+use mathlib.Core.List.{List, [], ◌∷◌, ◌++◌, append_assoc}
+use mathlib.Core.Option.{Option, some, none as nothing, some-injective, none-ne-some}
 use mathlib.Core.Bool.{Bool, true, false, cond, not}
 use lib.Dec.{eqb, leb}
 use lib.ListN.{length, take, drop, length-append, take-append-drop}
-use lib.Seq.{take-append-seam, drop-append-seam, take-length}
-use Rattle·rules.specs.Bytes.{Text, same}
-use Rattle·rules.specs.Text.{bytes, count-of}
-use Rattle·rules.specs.Maybe.{_>>=_, guard}
-use Rattle·rules.specs.Tree.{Tree, variable, atom, apply, Trees, none, more, size, tamtplus, variable-names, variable-names-in}
-use Rattle·rules.specs.Tokens.{rest-length, tokens-after, tokens}
-use Rattle·rules.specs.Reading.{leaf, nested, close, after-token, wholly, read-term, read-list, read-text, parse}
-use Rattle·laws·specs.specs.Parts.{PartOf}
-use Rattle·laws·proofs.proofs.Basics.Options.{bound}
-use Rattle·laws·proofs.proofs.Reading.TokenKinds.{is-mark}
-use Rattle·laws·proofs.proofs.Reading.Colons.{closed-cases}
-use Rattle·laws·proofs.proofs.Variants.Targets.{All, all-append}
+use lib.Seq.{take-append_seam, drop-append_seam, take-length}
+use Rattle.rules.specs.Bytes.{Text, same}
+use Rattle.rules.specs.Text.{bytes, count_of}
+use Rattle.rules.specs.Maybe.{◌>>=◌, guard}
+use Rattle.rules.specs.Tree.{Tree, variable, atom, apply, Trees, none, more, size, tamtplus, variable_names, variable_names_in}
+use Rattle.rules.specs.Tokens.{rest_length, tokens_after, tokens}
+use Rattle.rules.specs.Reading.{leaf, nested, close, after_token, wholly, read_term, read_list, read_text, parse}
+use Rattle.laws.specs.Parts.{PartOf}
+use Rattle.laws.proofs.Basics.Options.{bound}
+use Rattle.laws.proofs.Reading.TokenKinds.{is_mark}
+use Rattle.laws.proofs.Reading.Colons.{closed_cases}
+use Rattle.laws.proofs.Variants.Targets.{All, all_append}
 
 -- Parts
 
-pub part-self : (s : Text) → PartOf s s
-part-self s = (0, length s, take-length s)
+pub part_self : (s : Text) → PartOf s s
+part_self s = (0, length s, take-length s)
 
 -- of a text with one byte more in front
-pub part-later : (b : ℕ) (s x : Text) → PartOf s x → PartOf (b ∷ s) x
-part-later b s x (a, n, e) = (suc a, n, e)
+pub part_later : (b : ℕ) (s x : Text) → PartOf s x → PartOf (b ∷ s) x
+part_later b s x (a, n, e) = (suc a, n, e)
 
 -- a part between two others
 abbrev Between : Text → Text → Type 0
 Between s x = (p : Text) × (q : Text) × (s ≡ p ++ (x ++ q))
 
-part-between : (s x : Text) → PartOf s x → Between s x
-part-between s x (a, n, e) = (
+part_between : (s x : Text) → PartOf s x → Between s x
+part_between s x (a, n, e) = (
   take a s,
   drop n (drop a s),
   sym (take-append-drop a s) ∙ ap (λ (r : Text). take a s ++ r) (sym (take-append-drop n (drop a s)) ∙ ap (λ (y : Text). y ++ drop n (drop a s)) e),
 )
 
-between-part : (s x : Text) → Between s x → PartOf s x
-between-part s x (p, q, e) =
-    (length p, length x, ap (λ (r : Text). take (length x) (drop (length p) r)) e ∙ ap (take (length x)) (drop-append-seam p (x ++ q)) ∙ take-append-seam x q)
+between_part : (s x : Text) → Between s x → PartOf s x
+between_part s x (p, q, e) =
+    (length p, length x, ap (λ (r : Text). take (length x) (drop (length p) r)) e ∙ ap (take (length x)) (drop-append_seam p (x ++ q)) ∙ take-append_seam x q)
 
 -- a part of a part
-pub part-of-part : (s t x : Text) → PartOf s t → PartOf t x → PartOf s x
-part-of-part s t x h k =
-    let (p, q, e) = part-between s t h in
-    let (u, v, f) = part-between t x k in
-    between-part s x (
+pub part_of_part : (s t x : Text) → PartOf s t → PartOf t x → PartOf s x
+part_of_part s t x h k =
+    let (p, q, e) = part_between s t h in
+    let (u, v, f) = part_between t x k in
+    between_part s x (
       p ++ u,
       v ++ q,
-      e ∙ ap (λ (y : Text). p ++ (y ++ q)) f ∙ ap (λ (y : Text). p ++ y) (append-assoc u (x ++ v) q ∙ ap (λ (y : Text). u ++ y) (append-assoc x v q))
-          ∙ sym (append-assoc p u (x ++ (v ++ q))),
+      e ∙ ap (λ (y : Text). p ++ (y ++ q)) f ∙ ap (λ (y : Text). p ++ y) (append_assoc u (x ++ v) q ∙ ap (λ (y : Text). u ++ y) (append_assoc x v q))
+          ∙ sym (append_assoc p u (x ++ (v ++ q))),
     )
 
-pub part-length : (s x : Text) → PartOf s x → length x ≤ length s
-part-length s x h =
-    let (p, q, e) = part-between s x h in
+pub part_length : (s x : Text) → PartOf s x → length x ≤ length s
+part_length s x h =
+    let (p, q, e) = part_between s x h in
     let k = ap length e in
     omega (arith, length-append p (x ++ q), length-append x q)
 
@@ -84,28 +84,28 @@ AllHeads P t = Named (λ x. Unit {0}) P t
 
 module _ (P P₂ Q Q₂ : Text → Type 0) (p : (x : Text) → P x → P₂ x) (q : (x : Text) → Q x → Q₂ x) where
   mutual
-    pub named-map : (t : Tree) → Named P Q t → Named P₂ Q₂ t
-    named-map (variable x) h = p x h
-    named-map (atom c d) h = tt
-    named-map (apply g ts) h = (q g (h .0), named-in-map ts (h .1))
+    pub named_map : (t : Tree) → Named P Q t → Named P₂ Q₂ t
+    named_map (variable x) h = p x h
+    named_map (atom c d) h = tt
+    named_map (apply g ts) h = (q g h.0, named_in_map ts h.1)
 
-    named-in-map : (ts : Trees) → NamedIn P Q ts → NamedIn P₂ Q₂ ts
-    named-in-map none h = tt
-    named-in-map (more t ts) h = (named-map t (h .0), named-in-map ts (h .1))
+    named_in_map : (ts : Trees) → NamedIn P Q ts → NamedIn P₂ Q₂ ts
+    named_in_map none h = tt
+    named_in_map (more t ts) h = (named_map t h.0, named_in_map ts h.1)
 
 module _ (P Q : Text → Type 0) where
   mutual
-    unfolding variable-names
+    unfolding variable_names
 
     -- the variables' names in a list
-    pub names-listed : (t : Tree) → Named P Q t → All P (variable-names t)
-    names-listed (variable x) h = (h, tt)
-    names-listed (atom c d) h = tt
-    names-listed (apply f ts) h = names-in-listed ts (h .1)
+    pub names_listed : (t : Tree) → Named P Q t → All P (variable_names t)
+    names_listed (variable x) h = (h, tt)
+    names_listed (atom c d) h = tt
+    names_listed (apply f ts) h = names_in_listed ts h.1
 
-    names-in-listed : (ts : Trees) → NamedIn P Q ts → All P (variable-names-in ts)
-    names-in-listed none h = tt
-    names-in-listed (more t ts) h = all-append P (variable-names t) (variable-names-in ts) (names-listed t (h .0)) (names-in-listed ts (h .1))
+    names_in_listed : (ts : Trees) → NamedIn P Q ts → All P (variable_names_in ts)
+    names_in_listed none h = tt
+    names_in_listed (more t ts) h = all_append P (variable_names t) (variable_names_in ts) (names_listed t h.0) (names_in_listed ts h.1)
 
 -- Reading
 
@@ -117,117 +117,117 @@ Listed = Trees × List Text
 
 module _ (P : Text → Type 0) where
   -- names with the property make trees whose names have it
-  leaf-named : (n : Text) → P n → AllNames P (leaf n)
+  leaf_named : (n : Text) → P n → AllNames P (leaf n)
   unfolding leaf
-  leaf-named n p = go (eqb (count-of 58 n) 0)
+  leaf_named n p = go (eqb (count_of 58 n) 0)
     where
       go : (b : Bool) → AllNames P (cond b (apply n none) (variable n))
       go true = (p, tt)
       go false = p
 
-  nested-named : P tamtplus → (t : Tree) (us : Trees) → AllNames P t → NamedIn P P us → AllNames P (nested t us)
+  nested_named : P tamtplus → (t : Tree) (us : Trees) → AllNames P t → NamedIn P P us → AllNames P (nested t us)
   unfolding nested
-  nested-named p t none h k = h
-  nested-named p t (more u us) h k = (p, (h, (nested-named p u us (k .0) (k .1), tt)))
+  nested_named p t none h k = h
+  nested_named p t (more u us) h k = (p, (h, (nested_named p u us k.0 k.1, tt)))
 
-  close-named : (n : Text) (ts : Trees) (t : Tree) → close n ts ≡ some t → P n → NamedIn P P ts → AllNames P t
-  close-named =
-      closed-cases (λ n ts t. P n → NamedIn P P ts → AllNames P t) (λ n ts c d p h. tt)
-      (λ n t u us e p h. nested-named (subst P e p) t (more u us) (h .0) (h .1)) (λ n ts p h. (p, h))
+  close_named : (n : Text) (ts : Trees) (t : Tree) → close n ts ≡ some t → P n → NamedIn P P ts → AllNames P t
+  close_named =
+      closed_cases (λ n ts t. P n → NamedIn P P ts → AllNames P t) (λ n ts c d p h. tt)
+      (λ n t u us e p h. nested_named (subst P e p) t (more u us) h.0 h.1) (λ n ts p h. (p, h))
 
   abbrev NamedTerm : Term → Type 0
-  NamedTerm p = AllNames P (p .0) × All P (p .1)
+  NamedTerm p = AllNames P p.0 × All P p.1
 
   abbrev NamedList : Listed → Type 0
-  NamedList q = NamedIn P P (q .0) × All P (q .1)
+  NamedList q = NamedIn P P q.0 × All P q.1
 
-  next-named : (s : Text) (ts us : List Text) → after-token s ts ≡ some us → All P ts → All P us
-  unfolding after-token
-  next-named s [] us h k = absurd (Option·none-ne-some us h)
-  next-named s (t ∷ ts) us h k = go (same s t) h
+  next_named : (s : Text) (ts us : List Text) → after_token s ts ≡ some us → All P ts → All P us
+  unfolding after_token
+  next_named s [] us h k = absurd (none-ne-some us h)
+  next_named s (t ∷ ts) us h k = go (same s t) h
     where
       go : (x : Bool) → cond x (some ts) nothing ≡ some us → All P us
-      go true e = subst (All P) (Option·some-injective ts us e) (k .1)
-      go false e = absurd (Option·none-ne-some us e)
+      go true e = subst (All P) (some-injective ts us e) k.1
+      go false e = absurd (none-ne-some us e)
 
   named : (n : Text) (ts : List Text) (p : Term) (go : List Text → Option Listed) → ((us : List Text) (q : Listed) → go us ≡ some q → All P us → NamedList q)
-      → P n → All P ts → (o : Option (List Text)) → after-token (bytes "(") ts ≡ o
-      → elim o [ nothing ↦ some (leaf n, ts) | some us ↦ go us >>= λ q. close n (q .0) >>= λ t. some (t, q .1) ] ≡ some p → NamedTerm p
-  named n ts p go ih a b nothing e h = subst NamedTerm (Option·some-injective (leaf n, ts) p h) (leaf-named n a, b)
+      → P n → All P ts → (o : Option (List Text)) → after_token (bytes "(") ts ≡ o
+      → elim o [ nothing ↦ some (leaf n, ts) | some us ↦ go us >>= λ q. close n q.0 >>= λ t. some (t, q.1) ] ≡ some p → NamedTerm p
+  named n ts p go ih a b nothing e h = subst NamedTerm (some-injective (leaf n, ts) p h) (leaf_named n a, b)
   named n ts p go ih a b (some us) e h =
-      let (q, f, h₁) = bound (go us) (λ r. close n (r .0) >>= λ t. some (t, r .1)) p h in
-      let (t, g, h₂) = bound (close n (q .0)) (λ t. some (t, q .1)) p h₁ in
-      let k = ih us q f (next-named (bytes "(") ts us e b) in
-      subst NamedTerm (Option·some-injective (t, q .1) p h₂) (close-named n (q .0) t g a (k .0), k .1)
+      let (q, f, h₁) = bound (go us) (λ r. close n r.0 >>= λ t. some (t, r.1)) p h in
+      let (t, g, h₂) = bound (close n q.0) (λ t. some (t, q.1)) p h₁ in
+      let k = ih us q f (next_named (bytes "(") ts us e b) in
+      subst NamedTerm (some-injective (t, q.1) p h₂) (close_named n q.0 t g a k.0, k.1)
 
   listed : (p : Term) (q : Listed) (go : List Text → Option Listed) → ((us : List Text) (r : Listed) → go us ≡ some r → All P us → NamedList r)
-      → NamedTerm p → (o : Option (List Text)) → after-token (bytes ",") (p .1) ≡ o
-      → elim o [ some vs ↦ go vs >>= λ r. some (more (p .0) (r .0), r .1) | nothing ↦ after-token (bytes ")") (p .1) >>= λ vs. some (more (p .0) none, vs) ] ≡ some q
+      → NamedTerm p → (o : Option (List Text)) → after_token (bytes ",") p.1 ≡ o
+      → elim o [ some vs ↦ go vs >>= λ r. some (more p.0 r.0, r.1) | nothing ↦ after_token (bytes ")") p.1 >>= λ vs. some (more p.0 none, vs) ] ≡ some q
       → NamedList q
   listed p q go ih a nothing e h =
-      let (vs, f, h₁) = bound (after-token (bytes ")") (p .1)) (λ us. some (more (p .0) none, us)) q h in
-      subst NamedList (Option·some-injective (more (p .0) none, vs) q h₁) ((a .0, tt), next-named (bytes ")") (p .1) vs f (a .1))
+      let (vs, f, h₁) = bound (after_token (bytes ")") p.1) (λ us. some (more p.0 none, us)) q h in
+      subst NamedList (some-injective (more p.0 none, vs) q h₁) ((a.0, tt), next_named (bytes ")") p.1 vs f a.1)
   listed p q go ih a (some vs) e h =
-      let (r, f, h₁) = bound (go vs) (λ s. some (more (p .0) (s .0), s .1)) q h in
-      let k = ih vs r f (next-named (bytes ",") (p .1) vs e (a .1)) in
-      subst NamedList (Option·some-injective (more (p .0) (r .0), r .1) q h₁) ((a .0, k .0), k .1)
+      let (r, f, h₁) = bound (go vs) (λ s. some (more p.0 s.0, s.1)) q h in
+      let k = ih vs r f (next_named (bytes ",") p.1 vs e a.1) in
+      subst NamedList (some-injective (more p.0 r.0, r.1) q h₁) ((a.0, k.0), k.1)
 
   mutual
-    unfolding read-term
+    unfolding read_term
 
-    term-named : (k : ℕ) (ts : List Text) (p : Term) → read-term close k ts ≡ some p → All P ts → NamedTerm p
-    term-named zero ts p h a = absurd (Option·none-ne-some p h)
-    term-named (suc k) [] p h a = absurd (Option·none-ne-some p h)
-    term-named (suc k) (n ∷ ts) p h a =
-        let (x, g, h₁) = bound (guard (not (is-mark n))) _ p h in
-        named n ts p (read-list close k) (λ us q e b. list-named k us q e b) (a .0) (a .1) (after-token (bytes "(") ts) refl h₁
+    term_named : (k : ℕ) (ts : List Text) (p : Term) → read_term close k ts ≡ some p → All P ts → NamedTerm p
+    term_named zero ts p h a = absurd (none-ne-some p h)
+    term_named (suc k) [] p h a = absurd (none-ne-some p h)
+    term_named (suc k) (n ∷ ts) p h a =
+        let (x, g, h₁) = bound (guard (not (is_mark n))) _ p h in
+        named n ts p (read_list close k) (λ us q e b. list_named k us q e b) a.0 a.1 (after_token (bytes "(") ts) refl h₁
 
-    list-named : (k : ℕ) (ts : List Text) (q : Listed) → read-list close k ts ≡ some q → All P ts → NamedList q
-    list-named zero ts q h a = absurd (Option·none-ne-some q h)
-    list-named (suc k) ts q h a =
-        let (p, e, h₁) = bound (read-term close k ts) _ q h in
-        listed p q (read-list close k) (λ us r f b. list-named k us r f b) (term-named k ts p e a) (after-token (bytes ",") (p .1)) refl h₁
+    list_named : (k : ℕ) (ts : List Text) (q : Listed) → read_list close k ts ≡ some q → All P ts → NamedList q
+    list_named zero ts q h a = absurd (none-ne-some q h)
+    list_named (suc k) ts q h a =
+        let (p, e, h₁) = bound (read_term close k ts) _ q h in
+        listed p q (read_list close k) (λ us r f b. list_named k us r f b) (term_named k ts p e a) (after_token (bytes ",") p.1) refl h₁
 
-  whole-named : (o : Option Term) (t : Tree) → ((p : Term) → o ≡ some p → NamedTerm p) → wholly o ≡ some t → AllNames P t
-  whole-named nothing t f h = absurd (Option·none-ne-some t h)
-  whole-named (some (v, [])) t f h = subst (AllNames P) (Option·some-injective v t h) (f (v, []) refl .0)
-  whole-named (some (v, x ∷ r)) t f h = absurd (Option·none-ne-some t h)
+  whole_named : (o : Option Term) (t : Tree) → ((p : Term) → o ≡ some p → NamedTerm p) → wholly o ≡ some t → AllNames P t
+  whole_named nothing t f h = absurd (none-ne-some t h)
+  whole_named (some (v, [])) t f h = subst (AllNames P) (some-injective v t h) (f (v, []) refl).0
+  whole_named (some (v, x ∷ r)) t f h = absurd (none-ne-some t h)
 
-  tokens-named : (s : Text) (t : Tree) → parse s ≡ some t → ((ts : List Text) → tokens s ≡ some ts → All P ts) → AllNames P t
-  unfolding parse read-text
-  tokens-named s t h a =
-      let (v, e, h₁) = bound (read-text close s) _ t h in
+  tokens_named : (s : Text) (t : Tree) → parse s ≡ some t → ((ts : List Text) → tokens s ≡ some ts → All P ts) → AllNames P t
+  unfolding parse read_text
+  tokens_named s t h a =
+      let (v, e, h₁) = bound (read_text close s) _ t h in
       let (x, g, h₂) = bound (guard (leb (size v) 4096)) (λ _. some v) t h₁ in
-      let (ts, f, k) = bound (tokens s) (λ us. wholly (read-term close (length us) us)) v e in
-      subst (AllNames P) (Option·some-injective v t h₂)
-      (whole-named (read-term close (length ts) ts) v (λ p l. term-named (length ts) ts p l (a ts f)) k)
+      let (ts, f, k) = bound (tokens s) (λ us. wholly (read_term close (length us) us)) v e in
+      subst (AllNames P) (some-injective v t h₂)
+      (whole_named (read_term close (length ts) ts) v (λ p l. term_named (length ts) ts p l (a ts f)) k)
 
 -- Tokens
 
-pub later-parts : (b : ℕ) (s : Text) (ts : List Text) → All (PartOf s) ts → All (PartOf (b ∷ s)) ts
-later-parts b s [] h = tt
-later-parts b s (t ∷ ts) h = (part-later b s t (h .0), later-parts b s ts (h .1))
+pub later_parts : (b : ℕ) (s : Text) (ts : List Text) → All (PartOf s) ts → All (PartOf (b ∷ s)) ts
+later_parts b s [] h = tt
+later_parts b s (t ∷ ts) h = (part_later b s t h.0, later_parts b s ts h.1)
 
-token-parts : (k : ℕ) (s : Text) (ts : List Text) → tokens-after k s ≡ some ts → All (PartOf s) ts
-unfolding tokens-after
-token-parts k [] ts h = subst (All (PartOf [])) (Option·some-injective [] ts h) tt
-token-parts (suc k) (b ∷ s) ts h = later-parts b s ts (token-parts k s ts h)
-token-parts zero (b ∷ s) ts h = go (eqb b 32) h (λ k us e. token-parts k s us e)
+token_parts : (k : ℕ) (s : Text) (ts : List Text) → tokens_after k s ≡ some ts → All (PartOf s) ts
+unfolding tokens_after
+token_parts k [] ts h = subst (All (PartOf [])) (some-injective [] ts h) tt
+token_parts (suc k) (b ∷ s) ts h = later_parts b s ts (token_parts k s ts h)
+token_parts zero (b ∷ s) ts h = go (eqb b 32) h (λ k us e. token_parts k s us e)
   where
-    go : (x : Bool) → elim x [ true ↦ tokens-after 0 s | false ↦ rest-length b s >>= λ n. tokens-after n s >>= λ us. some ((b ∷ take n s) ∷ us) ] ≡ some ts
-        → ((k : ℕ) (us : List Text) → tokens-after k s ≡ some us → All (PartOf s) us) → All (PartOf (b ∷ s)) ts
-    go true k ih = later-parts b s ts (ih 0 ts k)
+    go : (x : Bool) → elim x [ true ↦ tokens_after 0 s | false ↦ rest_length b s >>= λ n. tokens_after n s >>= λ us. some ((b ∷ take n s) ∷ us) ] ≡ some ts
+        → ((k : ℕ) (us : List Text) → tokens_after k s ≡ some us → All (PartOf s) us) → All (PartOf (b ∷ s)) ts
+    go true k ih = later_parts b s ts (ih 0 ts k)
     go false k ih =
-        let (n, e, h₁) = bound (rest-length b s) _ ts k in
-        let (us, f, h₂) = bound (tokens-after n s) (λ vs. some ((b ∷ take n s) ∷ vs)) ts h₁ in
-        subst (All (PartOf (b ∷ s))) (Option·some-injective ((b ∷ take n s) ∷ us) ts h₂) ((0, suc n, refl), later-parts b s us (ih n us f))
+        let (n, e, h₁) = bound (rest_length b s) _ ts k in
+        let (us, f, h₂) = bound (tokens_after n s) (λ vs. some ((b ∷ take n s) ∷ vs)) ts h₁ in
+        subst (All (PartOf (b ∷ s))) (some-injective ((b ∷ take n s) ∷ us) ts h₂) ((0, suc n, refl), later_parts b s us (ih n us f))
 
 -- each name of the tree is a part of the text
-pub parse-spelled : (s : Text) (t : Tree) → parse s ≡ some t → AllNames (PartOf s) t
+pub parse_spelled : (s : Text) (t : Tree) → parse s ≡ some t → AllNames (PartOf s) t
 unfolding tokens
-parse-spelled s t h = tokens-named (PartOf s) s t h (λ ts e. token-parts 0 s ts e)
+parse_spelled s t h = tokens_named (PartOf s) s t h (λ ts e. token_parts 0 s ts e)
 
 -- and of each text that the text is a part of
-pub part-spelled : (s x : Text) (t : Tree) → PartOf s x → parse x ≡ some t → AllNames (PartOf s) t
-part-spelled s x t p h =
-    named-map (PartOf x) (PartOf s) (PartOf x) (PartOf s) (λ y k. part-of-part s x y p k) (λ y k. part-of-part s x y p k) t (parse-spelled x t h)
+pub part_spelled : (s x : Text) (t : Tree) → PartOf s x → parse x ≡ some t → AllNames (PartOf s) t
+part_spelled s x t p h =
+    named_map (PartOf x) (PartOf s) (PartOf x) (PartOf s) (λ y k. part_of_part s x y p k) (λ y k. part_of_part s x y p k) t (parse_spelled x t h)

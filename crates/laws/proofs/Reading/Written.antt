@@ -1,175 +1,176 @@
 -- Terms as `equal` reads them: the trees that are read, that each reads as itself when it is written out, and that two texts have one
 -- canonical text exactly where their trees are equal up to order and grouping of sums.
-use mathlib.Core.Path.{_≡_, refl, sym, _∙_, ap, subst}
-use mathlib.Core.Bool.{Bool, true, false, _||_}
-use mathlib.Core.List.{List, [], _∷_, _++_, map, List·Permᴰ, List·Permᴰ·nil, List·Permᴰ·cons, List·Permᴰ·swap, List·Permᴰ·trans, Permᴰ·symm}
-use mathlib.Core.Logic.{_↔_}
-use mathlib.Core.Option.{some, Option·some-injective}
+use mathlib.Core.Path.{◌≡◌, refl, sym, ◌∙◌, ap, subst}
+use mathlib.Core.Bool.{Bool, true, false, ◌||◌}
+use mathlib.Core.List.Permᴰ
+use mathlib.Core.List.{List, [], ◌∷◌, ◌++◌, map, Permᴰ}
+use mathlib.Core.Logic.{◌↔◌}
+use mathlib.Core.Option.{some, some-injective}
 use native.Mathlib.Omega.{arith}
-use Rattle·rules.specs.Bytes.{Text, same}
-use Rattle·rules.specs.Text.{count-of}
-use Rattle·rules.specs.Names.{word, variable-token}
-use Rattle·rules.specs.Tree.{Tree, apply, Trees, none, more, tamtplus}
-use Rattle·rules.specs.Writing.{render}
-use Rattle·rules.specs.Sums.{shown, canonical}
-use Rattle·rules.specs.Equality.{AC}
-use Rattle·rules.specs.Grouping.{read-written, Written, a-variable, a-leaf, a-list, Writtens, no-more, one-more, SameSums, symmetric, transitive}
-use Rattle·rules.specs.Tidy.{Built}
-use Rattle·rules.specs.Reading.{leaf, as-written, parse, canonical-text}
-use Rattle·laws·proofs.proofs.Basics.Options.{bound}
-use Rattle·laws·proofs.proofs.Equality.Normal.{Normal, many, single, trees, tree, pieces, flats, gathered, norm, norms, sort-trees-perm, tree-text, canon-norm}
-use Rattle·laws·proofs.proofs.Equality.Canonical.{canonical-sound, canonical-complete}
-use Rattle·laws·proofs.proofs.Equality.Regrouping.{same-normal, same-canon, two-same}
-use Rattle·laws·proofs.proofs.Reading.Builds.{word-colons, variable-colon, not-zero, builds}
-use Rattle·laws·proofs.proofs.Reading.Throughout.{AllIn, throughout}
-use Rattle·laws·proofs.proofs.Reading.Rereading.{Reads, Continues, reads-variable, reads-leaf, reads-applied, continues-none, continues-more}
-use Rattle·laws·proofs.proofs.Reading.Lexing.{word-lex, variable-lex}
-use Rattle·laws·proofs.proofs.Reading.RoundTrip.{Lexes, LexesRest, rest-none, rest-more, lexes-list, whole-read}
-use Rattle·laws·proofs.proofs.Reading.SameText.{same-text}
+use Rattle.rules.specs.Bytes.{Text, same}
+use Rattle.rules.specs.Text.{count_of}
+use Rattle.rules.specs.Names.{word, variable_token}
+use Rattle.rules.specs.Tree.{Tree, apply, Trees, none, more, tamtplus}
+use Rattle.rules.specs.Writing.{render}
+use Rattle.rules.specs.Sums.{shown, canonical}
+use Rattle.rules.specs.Equality.{Ac}
+use Rattle.rules.specs.Grouping.{read_written, Written, a_variable, a_leaf, a_list, Writtens, no_more, one_more, SameSums, symmetric, transitive}
+use Rattle.rules.specs.Tidy.{Built}
+use Rattle.rules.specs.Reading.{leaf, as_written, parse, canonical_text}
+use Rattle.laws.proofs.Basics.Options.{bound}
+use Rattle.laws.proofs.Equality.Normal.{Normal, many, single, trees, tree, pieces, flats, gathered, norm, norms, sort_trees_perm, tree_text, canon_norm}
+use Rattle.laws.proofs.Equality.Canonical.{canonical_sound, canonical_complete}
+use Rattle.laws.proofs.Equality.Regrouping.{same_normal, same_canon, two_same}
+use Rattle.laws.proofs.Reading.Builds.{word_colons, variable_colon, not_zero, builds}
+use Rattle.laws.proofs.Reading.Throughout.{AllIn, throughout}
+use Rattle.laws.proofs.Reading.Rereading.{Reads, Continues, reads_variable, reads_leaf, reads_applied, continues_none, continues_more}
+use Rattle.laws.proofs.Reading.Lexing.{word_lex, variable_lex}
+use Rattle.laws.proofs.Reading.RoundTrip.{Lexes, LexesRest, rest_none, rest_more, lexes_list, whole_read}
+use Rattle.laws.proofs.Reading.SameText.{same_text}
 
 -- What is read
 
-leaf-written : (n : Text) → (word n || variable-token n) ≡ true → Written (leaf n)
+leaf_written : (n : Text) → (word n || variable_token n) ≡ true → Written (leaf n)
 unfolding leaf
-leaf-written n h = go (word n) refl h
+leaf_written n h = go (word n) refl h
   where
-    go : (x : Bool) → word n ≡ x → (x || variable-token n) ≡ true → Written (leaf n)
-    go true e k = rw (word-colons n e) (a-leaf e)
-    go false e k = rw (not-zero (count-of 58 n) (variable-colon n k)) (a-variable k)
+    go : (x : Bool) → word n ≡ x → (x || variable_token n) ≡ true → Written (leaf n)
+    go true e k = rw (word_colons n e) (a_leaf e)
+    go false e k = rw (not_zero (count_of 58 n) (variable_colon n k)) (a_variable k)
 
-all-written : (ts : Trees) → AllIn Written ts → Writtens ts
-all-written none h = no-more
-all-written (more t ts) h = one-more (h .0) (all-written ts (h .1))
+all_written : (ts : Trees) → AllIn Written ts → Writtens ts
+all_written none h = no_more
+all_written (more t ts) h = one_more h.0 (all_written ts h.1)
 
-pub writes : (s : Text) (t : Tree) → read-written s ≡ some t → Written t
-unfolding read-written
-writes = throughout as-written Written leaf-written
-    (λ n t us v w h hs e. subst Written (Option·some-injective (apply n (more t us)) v e) (a-list w h (all-written us hs)))
+pub writes : (s : Text) (t : Tree) → read_written s ≡ some t → Written t
+unfolding read_written
+writes = throughout as_written Written leaf_written
+    (λ n t us v w h hs e. subst Written (some-injective (apply n (more t us)) v e) (a_list w h (all_written us hs)))
 
 -- What is written out
 
 mutual
   pub lexes : {t : Tree} → Written t → Lexes t
-  lexes (a-variable {x = x} v) = λ s us e k. variable-lex x s us v e k
-  lexes (a-leaf {f = f} w) = λ s us e k. word-lex f s us w e k
-  lexes (a-list {f = f} {t = t} {ts = ts} w h hs) = lexes-list f t ts w (lexes h) (lexes-rest hs)
+  lexes (a_variable {x = x} v) = λ s us e k. variable_lex x s us v e k
+  lexes (a_leaf {f = f} w) = λ s us e k. word_lex f s us w e k
+  lexes (a_list {f = f} {t = t} {ts = ts} w h hs) = lexes_list f t ts w (lexes h) (lexes_rest hs)
 
-  lexes-rest : {ts : Trees} → Writtens ts → LexesRest ts
-  lexes-rest no-more = rest-none
-  lexes-rest (one-more {t = t} {ts = ts} h hs) = rest-more t ts (lexes h) (lexes-rest hs)
+  lexes_rest : {ts : Trees} → Writtens ts → LexesRest ts
+  lexes_rest no_more = rest_none
+  lexes_rest (one_more {t = t} {ts = ts} h hs) = rest_more t ts (lexes h) (lexes_rest hs)
 
 mutual
-  reads : {t : Tree} → Written t → Reads as-written t
-  reads (a-variable {x = x} v) = reads-variable as-written x v
-  reads (a-leaf {f = f} w) = reads-leaf as-written f w
-  reads (a-list {f = f} {t = t} {ts = ts} w h hs) = λ k r m o.
-      reads-applied as-written f t (apply f (more t ts)) ts w refl (reads h) (continues hs) k r (omega arith)
+  reads : {t : Tree} → Written t → Reads as_written t
+  reads (a_variable {x = x} v) = reads_variable as_written x v
+  reads (a_leaf {f = f} w) = reads_leaf as_written f w
+  reads (a_list {f = f} {t = t} {ts = ts} w h hs) = λ k r m o.
+      reads_applied as_written f t (apply f (more t ts)) ts w refl (reads h) (continues hs) k r (omega arith)
 
-  continues : {ts : Trees} → Writtens ts → Continues as-written ts
-  continues no-more = continues-none as-written
-  continues (one-more {t = t} {ts = ts} h hs) = continues-more as-written t ts (reads h) (continues hs)
+  continues : {ts : Trees} → Writtens ts → Continues as_written ts
+  continues no_more = continues_none as_written
+  continues (one_more {t = t} {ts = ts} h hs) = continues_more as_written t ts (reads h) (continues hs)
 
-pub written-reread : (t : Tree) → Written t → read-written (render t) ≡ some t
-unfolding read-written
-written-reread t h = whole-read as-written t (lexes h) (reads h)
+pub written_reread : (t : Tree) → Written t → read_written (render t) ≡ some t
+unfolding read_written
+written_reread t h = whole_read as_written t (lexes h) (reads h)
 
 -- so two such trees have different texts
-one-text : {a b : Tree} → Written a → Written b → render a ≡ render b → a ≡ b
-one-text {a} {b} p q e = Option·some-injective a b (sym (written-reread a p) ∙ ap read-written e ∙ written-reread b q)
+one_text : {a b : Tree} → Written a → Written b → render a ≡ render b → a ≡ b
+one_text {a} {b} p q e = some-injective a b (sym (written_reread a p) ∙ ap read_written e ∙ written_reread b q)
 
 -- The normal form is such a tree
 
-perm-written : {l m : List Tree} → List·Permᴰ l m → Writtens (trees l) → Writtens (trees m)
+perm_written : {l m : List Tree} → Permᴰ l m → Writtens (trees l) → Writtens (trees m)
 unfolding trees
-perm-written List·Permᴰ·nil hs = hs
-perm-written (List·Permᴰ·cons e p) (one-more h hs) = one-more (rw e at h) (perm-written p hs)
-perm-written (List·Permᴰ·swap e f) (one-more h (one-more k hs)) = one-more (rw f at k) (one-more (rw e at h) hs)
-perm-written (List·Permᴰ·trans p q) hs = perm-written q (perm-written p hs)
+perm_written Permᴰ.nil hs = hs
+perm_written (Permᴰ.cons e p) (one_more h hs) = one_more (rw e at h) (perm_written p hs)
+perm_written (Permᴰ.swap e f) (one_more h (one_more k hs)) = one_more (rw f at k) (one_more (rw e at h) hs)
+perm_written (Permᴰ.trans p q) hs = perm_written q (perm_written p hs)
 
-append-written : (l m : List Tree) → Writtens (trees l) → Writtens (trees m) → Writtens (trees (l ++ m))
+append_written : (l m : List Tree) → Writtens (trees l) → Writtens (trees m) → Writtens (trees (l ++ m))
 unfolding trees
-append-written [] m hs ks = ks
-append-written (t ∷ l) m (one-more h hs) ks = one-more h (append-written l m hs ks)
+append_written [] m hs ks = ks
+append_written (t ∷ l) m (one_more h hs) ks = one_more h (append_written l m hs ks)
 
 abbrev NormalsWritten : List Normal → Type 0
 NormalsWritten [] = Unit {0}
 NormalsWritten (c ∷ cs) = Writtens (trees (pieces c)) × NormalsWritten cs
 
-tree-written : (c : Normal) → Writtens (trees (pieces c)) → Written (tree c)
+tree_written : (c : Normal) → Writtens (trees (pieces c)) → Written (tree c)
 unfolding trees tree pieces word
-tree-written (many []) hs = a-leaf refl
-tree-written (many (t ∷ l)) (one-more h hs) = a-list refl h hs
-tree-written (single t) (one-more h hs) = h
+tree_written (many []) hs = a_leaf refl
+tree_written (many (t ∷ l)) (one_more h hs) = a_list refl h hs
+tree_written (single t) (one_more h hs) = h
 
-trees-written : (cs : List Normal) → NormalsWritten cs → Writtens (trees (map tree cs))
+trees_written : (cs : List Normal) → NormalsWritten cs → Writtens (trees (map tree cs))
 unfolding trees
-trees-written [] h = no-more
-trees-written (c ∷ cs) h = one-more (tree-written c (h .0)) (trees-written cs (h .1))
+trees_written [] h = no_more
+trees_written (c ∷ cs) h = one_more (tree_written c h.0) (trees_written cs h.1)
 
-flats-written : (cs : List Normal) → NormalsWritten cs → Writtens (trees (flats cs))
+flats_written : (cs : List Normal) → NormalsWritten cs → Writtens (trees (flats cs))
 unfolding flats trees
-flats-written [] h = no-more
-flats-written (c ∷ cs) h = append-written (pieces c) (flats cs) (h .0) (flats-written cs (h .1))
+flats_written [] h = no_more
+flats_written (c ∷ cs) h = append_written (pieces c) (flats cs) h.0 (flats_written cs h.1)
 
-gathered-written : (b : Bool) (n : Text) → (word n || variable-token n) ≡ true → (c : Normal) (cs : List Normal) → NormalsWritten (c ∷ cs)
+gathered_written : (b : Bool) (n : Text) → (word n || variable_token n) ≡ true → (c : Normal) (cs : List Normal) → NormalsWritten (c ∷ cs)
     → Writtens (trees (pieces (gathered b n (c ∷ cs))))
 unfolding gathered pieces trees
-gathered-written true n w c cs h = perm-written (Permᴰ·symm (sort-trees-perm (flats (c ∷ cs)))) (flats-written (c ∷ cs) h)
-gathered-written false n w c cs h = one-more (a-list w (tree-written c (h .0)) (trees-written cs (h .1))) no-more
+gathered_written true n w c cs h = perm_written (Permᴰ.symm (sort_trees_perm (flats (c ∷ cs)))) (flats_written (c ∷ cs) h)
+gathered_written false n w c cs h = one_more (a_list w (tree_written c h.0) (trees_written cs h.1)) no_more
 
 mutual
   unfolding norm trees pieces gathered
 
-  norm-written : {t : Tree} → Written t → Writtens (trees (pieces (norm t)))
-  norm-written (a-variable v) = one-more (a-variable v) no-more
-  norm-written (a-leaf w) = one-more (a-leaf w) no-more
-  norm-written (a-list {f = f} {t = t} {ts = ts} w h hs) = gathered-written (same f tamtplus) f w (norm t) (norms ts) (norm-written h, norms-written hs)
+  norm_written : {t : Tree} → Written t → Writtens (trees (pieces (norm t)))
+  norm_written (a_variable v) = one_more (a_variable v) no_more
+  norm_written (a_leaf w) = one_more (a_leaf w) no_more
+  norm_written (a_list {f = f} {t = t} {ts = ts} w h hs) = gathered_written (same f tamtplus) f w (norm t) (norms ts) (norm_written h, norms_written hs)
 
-  norms-written : {ts : Trees} → Writtens ts → NormalsWritten (norms ts)
-  norms-written no-more = tt
-  norms-written (one-more h hs) = (norm-written h, norms-written hs)
+  norms_written : {ts : Trees} → Writtens ts → NormalsWritten (norms ts)
+  norms_written no_more = tt
+  norms_written (one_more h hs) = (norm_written h, norms_written hs)
 
 -- Canonical texts
 
-pub same-canonical : {a b : Tree} → SameSums a b → canonical a ≡ canonical b
+pub same_canonical : {a b : Tree} → SameSums a b → canonical a ≡ canonical b
 unfolding canonical
-same-canonical h = ap shown (same-canon h)
+same_canonical h = ap shown (same_canon h)
 
-pub canonical-same : {a b : Tree} → Written a → Written b → canonical a ≡ canonical b → SameSums a b
+pub canonical_same : {a b : Tree} → Written a → Written b → canonical a ≡ canonical b → SameSums a b
 unfolding canonical
-canonical-same {a} {b} p q e =
-    let f : render (tree (norm a)) ≡ render (tree (norm b)) = cc (tree-text (norm a), tree-text (norm b), canon-norm a, canon-norm b) in
-    let g = one-text (tree-written (norm a) (norm-written p)) (tree-written (norm b) (norm-written q)) f in
-    transitive (same-normal a) (symmetric (subst (SameSums b) (sym g) (same-normal b)))
+canonical_same {a} {b} p q e =
+    let f : render (tree (norm a)) ≡ render (tree (norm b)) = cc (tree_text (norm a), tree_text (norm b), canon_norm a, canon_norm b) in
+    let g = one_text (tree_written (norm a) (norm_written p)) (tree_written (norm b) (norm_written q)) f in
+    transitive (same_normal a) (symmetric (subst (SameSums b) (sym g) (same_normal b)))
 
 -- a text that `equal` reads has the canonical text of its tree, and no other text has one
-pub written-text : (s : Text) (t : Tree) → read-written s ≡ some t → canonical-text s ≡ some (canonical t)
-unfolding canonical-text read-written
-written-text s t e = rw e
+pub written_text : (s : Text) (t : Tree) → read_written s ≡ some t → canonical_text s ≡ some (canonical t)
+unfolding canonical_text read_written
+written_text s t e = rw e
 
-pub text-written : (s c : Text) → canonical-text s ≡ some c → (t : Tree) × (read-written s ≡ some t) × (canonical t ≡ c)
-unfolding canonical-text read-written
-text-written s c e = let (t, f, g) = bound (read-written s) (λ u. some (canonical u)) c e in (t, f, Option·some-injective (canonical t) c g)
+pub text_written : (s c : Text) → canonical_text s ≡ some c → (t : Tree) × (read_written s ≡ some t) × (canonical t ≡ c)
+unfolding canonical_text read_written
+text_written s c e = let (t, f, g) = bound (read_written s) (λ u. some (canonical u)) c e in (t, f, some-injective (canonical t) c g)
 
-pub reads-written : (s : Text) → ((t : Tree) × (read-written s ≡ some t)) ↔ ((c : Text) × (canonical-text s ≡ some c))
-reads-written s = (λ z. (canonical (z .0), written-text s (z .0) (z .1)), λ z. let (t, e, f) = text-written s (z .0) (z .1) in (t, e))
+pub reads_written : (s : Text) → ((t : Tree) × (read_written s ≡ some t)) ↔ ((c : Text) × (canonical_text s ≡ some c))
+reads_written s = (λ z. (canonical z.0, written_text s z.0 z.1), λ z. let (t, e, f) = text_written s z.0 z.1 in (t, e))
 
-pub written-equality : (s r : Text) (t u : Tree) → read-written s ≡ some t → read-written r ≡ some u → SameSums t u ↔ (canonical-text s ≡ canonical-text r)
-written-equality s r t u e f = (
-  λ h. written-text s t e ∙ ap some (same-canonical h) ∙ sym (written-text r u f),
-  λ h. canonical-same (writes s t e) (writes r u f)
-      (Option·some-injective (canonical t) (canonical u) (sym (written-text s t e) ∙ h ∙ written-text r u f)),
+pub written_equality : (s r : Text) (t u : Tree) → read_written s ≡ some t → read_written r ≡ some u → SameSums t u ↔ (canonical_text s ≡ canonical_text r)
+written_equality s r t u e f = (
+  λ h. written_text s t e ∙ ap some (same_canonical h) ∙ sym (written_text r u f),
+  λ h. canonical_same (writes s t e) (writes r u f)
+      (some-injective (canonical t) (canonical u) (sym (written_text s t e) ∙ h ∙ written_text r u f)),
 )
 
--- on trees as `parse` builds them it is AC equality
-pub built-equality : {a b : Tree} → Built a → Built b → AC a b ↔ SameSums a b
-built-equality p q = (two-same, λ h. canonical-complete p q (same-canonical h))
+-- on trees as `parse` builds them it is Ac equality
+pub built_equality : {a b : Tree} → Built a → Built b → Ac a b ↔ SameSums a b
+built_equality p q = (two_same, λ h. canonical_complete p q (same_canonical h))
 
 -- and between the two readings of texts
-pub both-readings : (s r : Text) (t u v w : Tree) → parse s ≡ some t → parse r ≡ some u → read-written s ≡ some v → read-written r ≡ some w → AC t u ↔ SameSums v w
-both-readings s r t u v w e f g h =
-    let p : canonical t ≡ canonical v = Option·some-injective (canonical t) (canonical v) (sym (same-text s t e) ∙ written-text s v g) in
-    let q : canonical u ≡ canonical w = Option·some-injective (canonical u) (canonical w) (sym (same-text r u f) ∙ written-text r w h) in (
-      λ z. canonical-same (writes s v g) (writes r w h) (sym p ∙ canonical-sound z ∙ q),
-      λ z. canonical-complete (builds s t e) (builds r u f) (p ∙ same-canonical z ∙ sym q),
+pub both_readings : (s r : Text) (t u v w : Tree) → parse s ≡ some t → parse r ≡ some u → read_written s ≡ some v → read_written r ≡ some w → Ac t u ↔ SameSums v w
+both_readings s r t u v w e f g h =
+    let p : canonical t ≡ canonical v = some-injective (canonical t) (canonical v) (sym (same_text s t e) ∙ written_text s v g) in
+    let q : canonical u ≡ canonical w = some-injective (canonical u) (canonical w) (sym (same_text r u f) ∙ written_text r w h) in (
+      λ z. canonical_same (writes s v g) (writes r w h) (sym p ∙ canonical_sound z ∙ q),
+      λ z. canonical_complete (builds s t e) (builds r u f) (p ∙ same_canonical z ∙ sym q),
     )

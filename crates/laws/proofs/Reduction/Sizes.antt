@@ -1,47 +1,47 @@
 -- A reduced tree has no more nodes, so that it reads where the tree was read.
-use Prim.Native.Nat.{_+_, _≤_}
-use mathlib.Core.Path.{_≡_}
+use Prim.Native.Nat.{◌+◌, ◌≤◌}
+use mathlib.Core.Path.{◌≡◌}
 use mathlib.Core.Option.{some}
 use native.Mathlib.Omega.{arith}
-use Rattle·rules.specs.Bytes.{Text}
-use Rattle·rules.specs.Tree.{Tree, variable, atom, apply, Trees, none, more, size, sizes}
-use Rattle·rules.specs.Writing.{render}
-use Rattle·rules.specs.Tidy.{Built}
-use Rattle·rules.specs.Reading.{parse}
-use Rattle·rules.specs.Reduction.{Rule, root, normalize, normalizes}
-use Rattle·laws·proofs.proofs.Basics.Tests.{true-leb}
-use Rattle·laws·proofs.proofs.Reading.RoundTrip.{reread}
-use Rattle·laws·proofs.proofs.Reduction.Shapes.{Shape, fst-shape, snd-shape, a-shape, b-shape, sdec-shape, kdec-shape, Rooted, fired, stays, rooted}
-use Rattle·laws·proofs.proofs.Reduction.Reaching.{built-normal}
+use Rattle.rules.specs.Bytes.{Text}
+use Rattle.rules.specs.Tree.{Tree, variable, atom, apply, Trees, none, more, size, sizes}
+use Rattle.rules.specs.Writing.{render}
+use Rattle.rules.specs.Tidy.{Built}
+use Rattle.rules.specs.Reading.{parse}
+use Rattle.rules.specs.Reduction.{Rule, root, normalize, normalizes}
+use Rattle.laws.proofs.Basics.Tests.{true_leb}
+use Rattle.laws.proofs.Reading.RoundTrip.{reread}
+use Rattle.laws.proofs.Reduction.Shapes.{Shape, fst_shape, snd_shape, a_shape, b_shape, sdec_shape, kdec_shape, Rooted, fired, stays, rooted}
+use Rattle.laws.proofs.Reduction.Reaching.{built_normal}
 
-shape-size : {r : Rule} {ts : Trees} {u : Tree} → Shape r ts u → size u ≤ sizes ts
+shape_size : {r : Rule} {ts : Trees} {u : Tree} → Shape r ts u → size u ≤ sizes ts
 unfolding size
-shape-size (fst-shape p q) = omega arith
-shape-size (snd-shape p q) = omega arith
-shape-size a-shape = omega arith
-shape-size b-shape = omega arith
-shape-size (sdec-shape o) = omega arith
-shape-size (kdec-shape o) = omega arith
+shape_size (fst_shape p q) = omega arith
+shape_size (snd_shape p q) = omega arith
+shape_size a_shape = omega arith
+shape_size b_shape = omega arith
+shape_size (sdec_shape o) = omega arith
+shape_size (kdec_shape o) = omega arith
 
-root-size : (f : Text) (ts : Trees) → size (root f ts) ≤ 1 + sizes ts
+root_size : (f : Text) (ts : Trees) → size (root f ts) ≤ 1 + sizes ts
 unfolding size
-root-size f ts = go (rooted f ts)
+root_size f ts = go (rooted f ts)
   where
     go : {u : Tree} → Rooted f ts u → size u ≤ 1 + sizes ts
-    go (fired e x) = let h = shape-size x in omega arith
+    go (fired e x) = let h = shape_size x in omega arith
     go (stays n) = omega arith
 
 mutual
   unfolding size normalize
 
-  pub normalize-size : (t : Tree) → size (normalize t) ≤ size t
-  normalize-size (variable x) = omega arith
-  normalize-size (atom c d) = omega arith
-  normalize-size (apply f ts) = let h = normalizes-size ts in let k = root-size f (normalizes ts) in omega arith
+  pub normalize_size : (t : Tree) → size (normalize t) ≤ size t
+  normalize_size (variable x) = omega arith
+  normalize_size (atom c d) = omega arith
+  normalize_size (apply f ts) = let h = normalizes_size ts in let k = root_size f (normalizes ts) in omega arith
 
-  pub normalizes-size : (ts : Trees) → sizes (normalizes ts) ≤ sizes ts
-  normalizes-size none = omega arith
-  normalizes-size (more t ts) = let h = normalize-size t in let k = normalizes-size ts in omega arith
+  pub normalizes_size : (ts : Trees) → sizes (normalizes ts) ≤ sizes ts
+  normalizes_size none = omega arith
+  normalizes_size (more t ts) = let h = normalize_size t in let k = normalizes_size ts in omega arith
 
-pub normal-reads : (t : Tree) → Built t → size t ≤ 4096 → parse (render (normalize t)) ≡ some (normalize t)
-normal-reads t b h = reread (normalize t) (built-normal t b) (true-leb (size (normalize t)) 4096 (let k = normalize-size t in omega arith))
+pub normal_reads : (t : Tree) → Built t → size t ≤ 4096 → parse (render (normalize t)) ≡ some (normalize t)
+normal_reads t b h = reread (normalize t) (built_normal t b) (true_leb (size (normalize t)) 4096 (let k = normalize_size t in omega arith))

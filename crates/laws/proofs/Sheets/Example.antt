@@ -1,32 +1,32 @@
 -- The promise on one sheet, P1 of the scope: its pair is tidy, so its answer is a most general unifier, also as the text that
 -- the call writes, which is the same with more fuel.
-use mathlib.Core.Path.{_≡_, refl, ap}
-use mathlib.Core.Bool.{cond, _||_}
-use mathlib.Core.List.{List, [], _∷_}
+use mathlib.Core.Path.{◌≡◌, refl, ap}
+use mathlib.Core.Bool.{cond, ◌||◌}
+use mathlib.Core.List.{List, [], ◌∷◌}
 use mathlib.Core.Option.{some}
 use Prim.Native.Nat.{ℕ}
 use Prim.Native.String.{String}
 use native.Mathlib.Omega.{arith}
-use Rattle·rules.specs.Bytes.{Text, same}
-use Rattle·rules.specs.Text.{bytes}
-use Rattle·rules.specs.Names.{word, number, variable-token, letter, letter-name}
-use Rattle·rules.specs.Tree.{Tree, variable, atom, apply, none, more, tamtplus}
-use Rattle·rules.specs.Substitution.{Binding, Pair}
-use Rattle·rules.specs.Sorts.{Msg, Pub, variable-sort}
-use Rattle·rules.specs.Solving.{Answer, solved, unify}
-use Rattle·rules.specs.Tidy.{Arity, TidyPairs}
-use Rattle·rules.specs.Meaning.{MostGeneral}
-use Rattle·rules.specs.Sheet.{asks-unify, read-sheet}
-use Rattle·rules.specs.Answer.{read-pairs}
-use Rattle·rules.specs.Decimal.{number-up-to}
-use Rattle·rules.specs.Lines.{lines}
-use Rattle·rules.specs.Call.{passed, call}
-use Rattle·rules.specs.AnswerReading.{read-answer, Answered}
-use Rattle·rules.specs.Alike.{AlikeButFuel}
-use Rattle·rules.specs.Derivation.{UnifyDerives}
-use Rattle·rules.specs.Table.{text}
-use Rattle·laws·proofs.proofs.Promises.{unify-solved, unify-sheet-solved, unify-sheet-derived, fuel-alike}
-use Rattle·laws·proofs.proofs.Sheets.Alike.{alike-answer}
+use Rattle.rules.specs.Bytes.{Text, same}
+use Rattle.rules.specs.Text.{bytes}
+use Rattle.rules.specs.Names.{word, number, variable_token, letter, letter_name}
+use Rattle.rules.specs.Tree.{Tree, variable, atom, apply, none, more, tamtplus}
+use Rattle.rules.specs.Substitution.{Binding, Pair}
+use Rattle.rules.specs.Sorts.{Msg, Pub, variable_sort}
+use Rattle.rules.specs.Solving.{Answer, solved, unify}
+use Rattle.rules.specs.Tidy.{Arity, TidyPairs}
+use Rattle.rules.specs.Meaning.{MostGeneral}
+use Rattle.rules.specs.Sheet.{asks_unify, read_sheet}
+use Rattle.rules.specs.Answer.{read_pairs}
+use Rattle.rules.specs.Decimal.{number_up_to}
+use Rattle.rules.specs.Lines.{lines}
+use Rattle.rules.specs.Call.{passed, call}
+use Rattle.rules.specs.AnswerReading.{read_answer, Answered}
+use Rattle.rules.specs.Alike.{AlikeButFuel}
+use Rattle.rules.specs.Derivation.{UnifyDerives}
+use Rattle.rules.specs.Table.{text}
+use Rattle.laws.proofs.Promises.{unify_solved, unify_sheet_solved, unify_sheet_derived, fuel_alike}
+use Rattle.laws.proofs.Sheets.Alike.{alike_answer}
 
 abbrev g : Text
 g = bytes "g"
@@ -63,22 +63,22 @@ answer = refl
 
 -- the counts of arguments
 arity : Text → ℕ
-arity f = cond (letter-name f) 0 (cond (same f tamtplus || same f g || same f pair) 2 0)
+arity f = cond (letter_name f) 0 (cond (same f tamtplus || same f g || same f pair) 2 0)
 
 counts : Arity arity
-unfolding arity letter-name same
+unfolding arity letter_name same
 counts = record { sums = refl; ones = refl; letters = λ f e. rw e }
 
 tidy : TidyPairs arity pairs
-unfolding arity letter-name same variable-sort variable-token word number letter
+unfolding arity letter_name same variable_sort variable_token word number letter
 tidy = (
   (refl, refl, ((Msg, refl, refl), ((Pub, refl, refl), tt))),
   (refl, refl, ((refl, refl, ((Pub, refl, refl), ((refl, refl), tt))), ((refl, refl), tt))),
   tt,
 )
 
-most-general : MostGeneral arity pairs bindings
-most-general = unify-solved arity counts 4 pairs tidy bindings (ap (λ (a : Answer). a .0) answer)
+most_general : MostGeneral arity pairs bindings
+most_general = unify_solved arity counts 4 pairs tidy bindings (ap (λ (a : Answer). a.0) answer)
 
 -- the same from the sheet's bytes and the answer's
 abbrev written : Text
@@ -91,8 +91,8 @@ called : call (sheet "fuel=4") 2000000 1000 ≡ passed written
 unfolding call
 called = refl
 
-answered : Answered asks-unify 4 pairs written
-unfolding read-sheet read-pairs
+answered : Answered asks_unify 4 pairs written
+unfolding read_sheet read_pairs
 answered = record {
   sheet = sheet "fuel=4";
   words = 2000000;
@@ -103,33 +103,33 @@ answered = record {
   answered = called;
 }
 
-read : read-answer written ≡ some (solved bindings, 3)
-unfolding read-answer
+read : read_answer written ≡ some (solved bindings, 3)
+unfolding read_answer
 read = refl
 
-most-general-sheet : MostGeneral arity pairs bindings
-most-general-sheet = unify-sheet-solved arity counts tidy 3 answered bindings read
+most_general_sheet : MostGeneral arity pairs bindings
+most_general_sheet = unify_sheet_solved arity counts tidy 3 answered bindings read
 
 -- it is derived by the rules
-derived-sheet : UnifyDerives 4 pairs (solved bindings) 3
-derived-sheet = unify-sheet-derived answered (solved bindings) 3 .0 read
+derived_sheet : UnifyDerives 4 pairs (solved bindings) 3
+derived_sheet = (unify_sheet_derived answered (solved bindings) 3).0 read
 
 -- with more fuel the answer has the same bytes
 alike : AlikeButFuel (sheet "fuel=4") (sheet "fuel=65536") 4 65536
-unfolding lines number-up-to
+unfolding lines number_up_to
 alike = record {
   kind = bytes "kind=unify";
   after = bytes "left=g(x0:Msg,x1:Pub)" ∷ bytes "right=g(tamXCpair(x1:Pub,c(0)),p(2))" ∷ [];
-  less-digits = bytes "4";
-  more-digits = bytes "65536";
-  less-number = refl;
-  more-number = refl;
-  less-lines = refl;
-  more-lines = refl;
+  less_digits = bytes "4";
+  more_digits = bytes "65536";
+  less_number = refl;
+  more_number = refl;
+  less_lines = refl;
+  more_lines = refl;
 }
 
-same-bytes : (words room : ℕ) (b : Text) → call (sheet "fuel=65536") words room ≡ passed b → b ≡ written
-same-bytes words room b e =
-    alike-answer
-    (fuel-alike (sheet "fuel=4") (sheet "fuel=65536") 4 65536 alike (omega arith) 2000000 1000 written called
-    (record { verdict = solved bindings; spent = 3; reads = read; decided = tt }) .2 words room (passed b) .0 e)
+same_bytes : (words room : ℕ) (b : Text) → call (sheet "fuel=65536") words room ≡ passed b → b ≡ written
+same_bytes words room b e =
+    alike_answer
+    (((fuel_alike (sheet "fuel=4") (sheet "fuel=65536") 4 65536 alike (omega arith) 2000000 1000 written called
+    (record { verdict = solved bindings; spent = 3; reads = read; decided = tt })).2 words room (passed b)).0 e)

@@ -1,96 +1,96 @@
 -- The call gives each refusal exactly on its condition, and an answer in all other cases; what it leaves in the output and the work
 -- area, byte by byte and word by word.
-use mathlib.Core.Path.{_≡_, refl, sym, subst, ap, _∙_}
+use mathlib.Core.Path.{◌≡◌, refl, sym, subst, ap, ◌∙◌}
 use mathlib.Core.Bool.{Bool, true, false, true≢false}
-use mathlib.Core.List.{List, [], _∷_, _++_}
-use mathlib.Core.Logic.{_↔_, _⊎_, inl, inr}
+use mathlib.Core.List.{List, [], ◌∷◌, ◌++◌}
+use mathlib.Core.Logic.{◌↔◌, ◌⊎◌, inl, inr}
 use mathlib.Core.Option.{Option, some, none}
-use Prim.Native.Nat.{ℕ, zero, suc, _+_, _-_, _≤_, _<_}
+use Prim.Native.Nat.{ℕ, zero, suc, ◌+◌, ◌-◌, ◌≤◌, ◌<◌}
 use native.Mathlib.Omega.{arith}
 use lib.Dec.{leb, eqb}
-use lib.ListN.{length, getD, drop, replicate, length-append, length-drop, length-replicate, getD-replicate, List·getD-append}
-use lib.Seq.{getD-append-add, getD-drop}
-use Rattle·rules.specs.Bytes.{Text}
-use Rattle·rules.specs.Text.{within}
-use Rattle·rules.specs.Names.{all}
-use Rattle·rules.specs.Sheet.{Sheet, read-sheet, words-needed}
-use Rattle·rules.specs.Answer.{answer-of}
-use Rattle·rules.specs.RefusalNumbers.{number-for, TooLong, ForeignByte, LineOutOfPlace, UnreadableTerm, ShortWorkArea, ShortOutput}
-use Rattle·rules.specs.Call.{Reply, refused, passed, refusal-number, plain, admitted, settled, call, written, output-after, work-after}
-use Rattle·rules.specs.Refusals.{Allowed, Screened, Admitted, Outcome, too-long, foreign-byte, out-of-place, short-work, unreadable, short-output, answered, Overwritten, KeepsWork, Cleared}
-use Rattle·rules.specs.SheetLines.{IsSheet}
-use Rattle·laws·proofs.proofs.Basics.Tests.{and-left, and-right, and-both, and-split, or-cases, or-left, or-right, eqb-true, eqb-self, leb-true, leb-false, true-leb, false-leb}
-use Rattle·laws·proofs.proofs.Sheets.Forms.{reads-form, unread-form}
-use Rattle·laws·proofs.proofs.Sheets.Unread.{sheet-unread}
+use lib.ListN.{length, get_or, drop, replicate, length-append, length-drop, length-replicate, get_or-replicate, get_or-append}
+use lib.Seq.{get_or-append-add, get_or-drop}
+use Rattle.rules.specs.Bytes.{Text}
+use Rattle.rules.specs.Text.{within}
+use Rattle.rules.specs.Names.{all}
+use Rattle.rules.specs.Sheet.{Sheet, read_sheet, words_needed}
+use Rattle.rules.specs.Answer.{answer_of}
+use Rattle.rules.specs.RefusalNumbers.{number_for, TooLong, ForeignByte, LineOutOfPlace, UnreadableTerm, ShortWorkArea, ShortOutput}
+use Rattle.rules.specs.Call.{Reply, refused, passed, refusal_number, plain, admitted, settled, call, written, output_after, work_after}
+use Rattle.rules.specs.Refusals.{Allowed, Screened, Admitted, Outcome, too_long, foreign_byte, out_of_place, short_work, unreadable, short_output, answered, Overwritten, KeepsWork, Cleared}
+use Rattle.rules.specs.SheetLines.{IsSheet}
+use Rattle.laws.proofs.Basics.Tests.{and_left, and_right, and_both, and_split, or_cases, or_left, or_right, eqb_true, eqb_self, leb_true, leb_false, true_leb, false_leb}
+use Rattle.laws.proofs.Sheets.Forms.{reads_form, unread_form}
+use Rattle.laws.proofs.Sheets.Unread.{sheet_unread}
 
 -- Bytes
 
 -- a test of all bytes, index by index
 module _ (t : ℕ → Bool) where
-  pub all-at : (s : Text) → all t s ≡ true → (p : ℕ) → p < length s → t (getD s p 0) ≡ true
+  pub all_at : (s : Text) → all t s ≡ true → (p : ℕ) → p < length s → t (get_or s p 0) ≡ true
   unfolding all
-  all-at [] e p h = absurd (omega arith)
-  all-at (b ∷ s) e zero h = and-left (t b) (all t s) e
-  all-at (b ∷ s) e (suc p) h = all-at s (and-right (t b) (all t s) e) p (omega arith)
+  all_at [] e p h = absurd (omega arith)
+  all_at (b ∷ s) e zero h = and_left (t b) (all t s) e
+  all_at (b ∷ s) e (suc p) h = all_at s (and_right (t b) (all t s) e) p (omega arith)
 
-  at-all : (s : Text) → ((p : ℕ) → p < length s → t (getD s p 0) ≡ true) → all t s ≡ true
+  at_all : (s : Text) → ((p : ℕ) → p < length s → t (get_or s p 0) ≡ true) → all t s ≡ true
   unfolding all
-  at-all [] h = refl
-  at-all (b ∷ s) h = and-both (t b) (all t s) (h 0 (omega arith)) (at-all s (λ p k. h (suc p) (omega arith)))
+  at_all [] h = refl
+  at_all (b ∷ s) h = and_both (t b) (all t s) (h 0 (omega arith)) (at_all s (λ p k. h (suc p) (omega arith)))
 
-  not-at : (s : Text) → all t s ≡ false → (p : ℕ) × (p < length s) × (t (getD s p 0) ≡ false)
+  not_at : (s : Text) → all t s ≡ false → (p : ℕ) × (p < length s) × (t (get_or s p 0) ≡ false)
   unfolding all
-  not-at [] e = absurd (true≢false e)
-  not-at (b ∷ s) e = go (t b) refl (not-at s)
+  not_at [] e = absurd (true≢false e)
+  not_at (b ∷ s) e = go (t b) refl (not_at s)
     where
-      go : (c : Bool) → t b ≡ c → (all t s ≡ false → (p : ℕ) × (p < length s) × (t (getD s p 0) ≡ false))
-          → (p : ℕ) × (p < length (b ∷ s)) × (t (getD (b ∷ s) p 0) ≡ false)
+      go : (c : Bool) → t b ≡ c → (all t s ≡ false → (p : ℕ) × (p < length s) × (t (get_or s p 0) ≡ false))
+          → (p : ℕ) × (p < length (b ∷ s)) × (t (get_or (b ∷ s) p 0) ≡ false)
       go false k f = (0, omega arith, k)
       go true k f = let (p, l, j) = f (rw k at e) in (suc p, omega arith, j)
 
-pub plain-allowed : (b : ℕ) → plain b ≡ true → Allowed b
-plain-allowed b e = go (or-cases (eqb b 10) (within 32 126 b) e)
+pub plain_allowed : (b : ℕ) → plain b ≡ true → Allowed b
+plain_allowed b e = go (or_cases (eqb b 10) (within 32 126 b) e)
   where
     go : (eqb b 10 ≡ true) ⊎ (within 32 126 b ≡ true) → Allowed b
-    go (inl h) = inl (eqb-true b 10 h)
-    go (inr h) = let (l, r) = and-split (leb 32 b) (leb b 126) h in inr (leb-true 32 b l, leb-true b 126 r)
+    go (inl h) = inl (eqb_true b 10 h)
+    go (inr h) = let (l, r) = and_split (leb 32 b) (leb b 126) h in inr (leb_true 32 b l, leb_true b 126 r)
 
-pub allowed-plain : (b : ℕ) → Allowed b → plain b ≡ true
-allowed-plain b (inl e) = or-left (eqb b 10) (within 32 126 b) (rw e (eqb-self 10))
-allowed-plain b (inr (l, r)) = rw (true-leb 32 b l, true-leb b 126 r) (or-right (eqb b 10))
+pub allowed_plain : (b : ℕ) → Allowed b → plain b ≡ true
+allowed_plain b (inl e) = or_left (eqb b 10) (within 32 126 b) (rw e (eqb_self 10))
+allowed_plain b (inr (l, r)) = rw (true_leb 32 b l, true_leb b 126 r) (or_right (eqb b 10))
 
-pub all-plain : {s : Text} → Screened s → all plain s ≡ true
-all-plain {s} h = at-all plain s (λ p k. allowed-plain (getD s p 0) (h .allowed p k))
+pub all_plain : {s : Text} → Screened s → all plain s ≡ true
+all_plain {s} h = at_all plain s (λ p k. allowed_plain (get_or s p 0) (h.allowed p k))
 
-not-plain : (s : Text) (p : ℕ) → p < length s → ¬ Allowed (getD s p 0) → all plain s ≡ false
-not-plain s p h k = go (all plain s) refl
+not_plain : (s : Text) (p : ℕ) → p < length s → ¬ Allowed (get_or s p 0) → all plain s ≡ false
+not_plain s p h k = go (all plain s) refl
   where
     go : (c : Bool) → all plain s ≡ c → c ≡ false
-    go true e = absurd (k (plain-allowed (getD s p 0) (all-at plain s e p h)))
+    go true e = absurd (k (plain_allowed (get_or s p 0) (all_at plain s e p h)))
     go false e = refl
 
 -- What the relation says is what the call gives
 
 module _ (s : Text) (words : ℕ) where
-  pub refuses-1 : 65536 < length s → admitted s words ≡ refused (number-for TooLong)
+  pub refuses_1 : 65536 < length s → admitted s words ≡ refused (number_for TooLong)
   unfolding admitted
-  refuses-1 h = rw (false-leb (length s) 65536 h)
+  refuses_1 h = rw (false_leb (length s) 65536 h)
 
-  pub refuses-2 : length s ≤ 65536 → all plain s ≡ false → admitted s words ≡ refused (number-for ForeignByte)
+  pub refuses_2 : length s ≤ 65536 → all plain s ≡ false → admitted s words ≡ refused (number_for ForeignByte)
   unfolding admitted
-  refuses-2 h e = rw (true-leb (length s) 65536 h, e)
+  refuses_2 h e = rw (true_leb (length s) 65536 h, e)
 
-  refuses-3 : Screened s → read-sheet s ≡ none → admitted s words ≡ refused (number-for LineOutOfPlace)
+  refuses_3 : Screened s → read_sheet s ≡ none → admitted s words ≡ refused (number_for LineOutOfPlace)
   unfolding admitted
-  refuses-3 h e = rw (true-leb (length s) 65536 (h .short), all-plain h, e)
+  refuses_3 h e = rw (true_leb (length s) 65536 h.short, all_plain h, e)
 
-  refuses-11 : (sheet : Sheet) → Screened s → read-sheet s ≡ some sheet → words < words-needed s sheet → admitted s words ≡ refused (number-for ShortWorkArea)
+  refuses_11 : (sheet : Sheet) → Screened s → read_sheet s ≡ some sheet → words < words_needed s sheet → admitted s words ≡ refused (number_for ShortWorkArea)
   unfolding admitted
-  refuses-11 sheet h e k = rw (true-leb (length s) 65536 (h .short), all-plain h, e, false-leb (words-needed s sheet) words k)
+  refuses_11 sheet h e k = rw (true_leb (length s) 65536 h.short, all_plain h, e, false_leb (words_needed s sheet) words k)
 
   admits : (sheet : Sheet) → Admitted s words sheet → admitted s words ≡ passed sheet
   unfolding admitted
-  admits sheet h = rw (true-leb (length s) 65536 (h .screened .short), all-plain (h .screened), reads-form s sheet .1 (h .form), true-leb (words-needed s sheet) words (h .enough))
+  admits sheet h = rw (true_leb (length s) 65536 h.screened.short, all_plain h.screened, (reads_form s sheet).1 h.form, true_leb (words_needed s sheet) words h.enough)
 
 module _ (s : Text) (words room : ℕ) where
   -- a refusal from the sheet and the number of words ends the call
@@ -98,117 +98,117 @@ module _ (s : Text) (words room : ℕ) where
   unfolding call
   ends n e = rw e
 
-  goes-on : (sheet : Sheet) (r : Reply Text) → Admitted s words sheet → settled sheet room ≡ r → call s words room ≡ r
+  goes_on : (sheet : Sheet) (r : Reply Text) → Admitted s words sheet → settled sheet room ≡ r → call s words room ≡ r
   unfolding call
-  goes-on sheet r h e = rw (admits s words sheet h) e
+  goes_on sheet r h e = rw (admits s words sheet h) e
 
-  refuses-4 : (sheet : Sheet) → answer-of sheet ≡ none → settled sheet room ≡ refused (number-for UnreadableTerm)
+  refuses_4 : (sheet : Sheet) → answer_of sheet ≡ none → settled sheet room ≡ refused (number_for UnreadableTerm)
   unfolding settled
-  refuses-4 sheet e = rw e
+  refuses_4 sheet e = rw e
 
-  refuses-12 : (sheet : Sheet) (answer : Text) → answer-of sheet ≡ some answer → room < length answer → settled sheet room ≡ refused (number-for ShortOutput)
+  refuses_12 : (sheet : Sheet) (answer : Text) → answer_of sheet ≡ some answer → room < length answer → settled sheet room ≡ refused (number_for ShortOutput)
   unfolding settled
-  refuses-12 sheet answer e h = rw (e, false-leb (length answer) room h)
+  refuses_12 sheet answer e h = rw (e, false_leb (length answer) room h)
 
-  answers : (sheet : Sheet) (answer : Text) → answer-of sheet ≡ some answer → length answer ≤ room → settled sheet room ≡ passed answer
+  answers : (sheet : Sheet) (answer : Text) → answer_of sheet ≡ some answer → length answer ≤ room → settled sheet room ≡ passed answer
   unfolding settled
-  answers sheet answer e h = rw (e, true-leb (length answer) room h)
+  answers sheet answer e h = rw (e, true_leb (length answer) room h)
 
   gives : {r : Reply Text} → Outcome s words room r → call s words room ≡ r
-  gives (too-long h) = ends (number-for TooLong) (refuses-1 s words h)
-  gives (foreign-byte h p k a) = ends (number-for ForeignByte) (refuses-2 s words h (not-plain s p k a))
-  gives (out-of-place h e) = ends (number-for LineOutOfPlace) (refuses-3 s words h (unread-form s .1 e))
-  gives (short-work {sheet} h e k) = ends (number-for ShortWorkArea) (refuses-11 s words sheet h (reads-form s sheet .1 e) k)
-  gives (unreadable {sheet} h e) = goes-on sheet (refused (number-for UnreadableTerm)) h (refuses-4 sheet (sheet-unread sheet .1 e))
-  gives (short-output {sheet} {answer} h e k) = goes-on sheet (refused (number-for ShortOutput)) h (refuses-12 sheet answer e k)
-  gives (answered {sheet} {answer} h e k) = goes-on sheet (passed answer) h (answers sheet answer e k)
+  gives (too_long h) = ends (number_for TooLong) (refuses_1 s words h)
+  gives (foreign_byte h p k a) = ends (number_for ForeignByte) (refuses_2 s words h (not_plain s p k a))
+  gives (out_of_place h e) = ends (number_for LineOutOfPlace) (refuses_3 s words h ((unread_form s).1 e))
+  gives (short_work {sheet} h e k) = ends (number_for ShortWorkArea) (refuses_11 s words sheet h ((reads_form s sheet).1 e) k)
+  gives (unreadable {sheet} h e) = goes_on sheet (refused (number_for UnreadableTerm)) h (refuses_4 sheet ((sheet_unread sheet).1 e))
+  gives (short_output {sheet} {answer} h e k) = goes_on sheet (refused (number_for ShortOutput)) h (refuses_12 sheet answer e k)
+  gives (answered {sheet} {answer} h e k) = goes_on sheet (passed answer) h (answers sheet answer e k)
 
   -- One of the seven cases holds
 
   abbrev Some : Type 0
   Some = (r : Reply Text) × Outcome s words room r
 
-  by-room : {sheet : Sheet} {answer : Text} → Admitted s words sheet → answer-of sheet ≡ some answer → (b : Bool) → leb (length answer) room ≡ b → Some
-  by-room {answer = answer} h e true k = (passed answer, answered h e (leb-true (length answer) room k))
-  by-room {answer = answer} h e false k = (refused (number-for ShortOutput), short-output h e (leb-false (length answer) room k))
+  by_room : {sheet : Sheet} {answer : Text} → Admitted s words sheet → answer_of sheet ≡ some answer → (b : Bool) → leb (length answer) room ≡ b → Some
+  by_room {answer = answer} h e true k = (passed answer, answered h e (leb_true (length answer) room k))
+  by_room {answer = answer} h e false k = (refused (number_for ShortOutput), short_output h e (leb_false (length answer) room k))
 
-  by-answer : {sheet : Sheet} → Admitted s words sheet → (o : Option Text) → answer-of sheet ≡ o → Some
-  by-answer {sheet} h none e = (refused (number-for UnreadableTerm), unreadable h (sheet-unread sheet .0 e))
-  by-answer h (some answer) e = by-room h e (leb (length answer) room) refl
+  by_answer : {sheet : Sheet} → Admitted s words sheet → (o : Option Text) → answer_of sheet ≡ o → Some
+  by_answer {sheet} h none e = (refused (number_for UnreadableTerm), unreadable h ((sheet_unread sheet).0 e))
+  by_answer h (some answer) e = by_room h e (leb (length answer) room) refl
 
-  by-words : {sheet : Sheet} → Screened s → IsSheet s sheet → (b : Bool) → leb (words-needed s sheet) words ≡ b → Some
-  by-words {sheet} h e true k =
-      by-answer (record { screened = h; form = e; enough = leb-true (words-needed s sheet) words k }) (answer-of sheet) refl
-  by-words {sheet} h e false k = (refused (number-for ShortWorkArea), short-work h e (leb-false (words-needed s sheet) words k))
+  by_words : {sheet : Sheet} → Screened s → IsSheet s sheet → (b : Bool) → leb (words_needed s sheet) words ≡ b → Some
+  by_words {sheet} h e true k =
+      by_answer (record { screened = h; form = e; enough = leb_true (words_needed s sheet) words k }) (answer_of sheet) refl
+  by_words {sheet} h e false k = (refused (number_for ShortWorkArea), short_work h e (leb_false (words_needed s sheet) words k))
 
-  by-lines : Screened s → (o : Option Sheet) → read-sheet s ≡ o → Some
-  by-lines h none e = (refused (number-for LineOutOfPlace), out-of-place h (unread-form s .0 e))
-  by-lines h (some sheet) e = by-words h (reads-form s sheet .0 e) (leb (words-needed s sheet) words) refl
+  by_lines : Screened s → (o : Option Sheet) → read_sheet s ≡ o → Some
+  by_lines h none e = (refused (number_for LineOutOfPlace), out_of_place h ((unread_form s).0 e))
+  by_lines h (some sheet) e = by_words h ((reads_form s sheet).0 e) (leb (words_needed s sheet) words) refl
 
-  by-bytes : length s ≤ 65536 → (b : Bool) → all plain s ≡ b → Some
-  by-bytes h true e =
-      by-lines (record { short = h; allowed = λ p k. plain-allowed (getD s p 0) (all-at plain s e p k) }) (read-sheet s) refl
-  by-bytes h false e =
-      let (p, k, f) = not-at plain s e in
-      (refused (number-for ForeignByte), foreign-byte h p k (λ a. true≢false (sym (allowed-plain (getD s p 0) a) ∙ f)))
+  by_bytes : length s ≤ 65536 → (b : Bool) → all plain s ≡ b → Some
+  by_bytes h true e =
+      by_lines (record { short = h; allowed = λ p k. plain_allowed (get_or s p 0) (all_at plain s e p k) }) (read_sheet s) refl
+  by_bytes h false e =
+      let (p, k, f) = not_at plain s e in
+      (refused (number_for ForeignByte), foreign_byte h p k (λ a. true≢false (sym (allowed_plain (get_or s p 0) a) ∙ f)))
 
-  by-length : (b : Bool) → leb (length s) 65536 ≡ b → Some
-  by-length true e = by-bytes (leb-true (length s) 65536 e) (all plain s) refl
-  by-length false e = (refused (number-for TooLong), too-long (leb-false (length s) 65536 e))
+  by_length : (b : Bool) → leb (length s) 65536 ≡ b → Some
+  by_length true e = by_bytes (leb_true (length s) 65536 e) (all plain s) refl
+  by_length false e = (refused (number_for TooLong), too_long (leb_false (length s) 65536 e))
 
   holds : Outcome s words room (call s words room)
-  holds = let (r, h) = by-length (leb (length s) 65536) refl in subst (Outcome s words room) (sym (gives h)) h
+  holds = let (r, h) = by_length (leb (length s) 65536) refl in subst (Outcome s words room) (sym (gives h)) h
 
-  pub call-outcome : (r : Reply Text) → (call s words room ≡ r) ↔ Outcome s words room r
-  call-outcome r = (λ e. subst (Outcome s words room) e holds, gives)
+  pub call_outcome : (r : Reply Text) → (call s words room ≡ r) ↔ Outcome s words room r
+  call_outcome r = (λ e. subst (Outcome s words room) e holds, gives)
 
   -- none of the six numbers is 0
-  pub number-zero : (refusal-number (call s words room) ≡ 0) ↔ ((answer : Text) × (call s words room ≡ passed answer))
-  number-zero = (λ e. go holds e (λ a i. (a, i)), λ z. ap refusal-number (z .1))
+  pub number_zero : (refusal_number (call s words room) ≡ 0) ↔ ((answer : Text) × (call s words room ≡ passed answer))
+  number_zero = (λ e. go holds e (λ a i. (a, i)), λ z. ap refusal_number z.1)
     where
-      go : {r : Reply Text} {P : Type 0} → Outcome s words room r → refusal-number r ≡ 0 → ((answer : Text) → r ≡ passed answer → P) → P
-      go (too-long h) e f = absurd (omega arith)
-      go (foreign-byte h p k a) e f = absurd (omega arith)
-      go (out-of-place h i) e f = absurd (omega arith)
-      go (short-work h i k) e f = absurd (omega arith)
+      go : {r : Reply Text} {P : Type 0} → Outcome s words room r → refusal_number r ≡ 0 → ((answer : Text) → r ≡ passed answer → P) → P
+      go (too_long h) e f = absurd (omega arith)
+      go (foreign_byte h p k a) e f = absurd (omega arith)
+      go (out_of_place h i) e f = absurd (omega arith)
+      go (short_work h i k) e f = absurd (omega arith)
       go (unreadable h i) e f = absurd (omega arith)
-      go (short-output h i k) e f = absurd (omega arith)
+      go (short_output h i k) e f = absurd (omega arith)
       go (answered {answer = a} h i k) e f = f a refl
 
 -- What is left
 
 -- a list of n elements put over the first n of another
 module _ (n : ℕ) (front list : List ℕ) (e : length front ≡ n) (h : n ≤ length list) where
-  over-length : length (front ++ drop n list) ≡ length list
-  over-length = simp (length-append, length-drop) (omega arith)
+  over_length : length (front ++ drop n list) ≡ length list
+  over_length = simp (length-append, length-drop) (omega arith)
 
-  over-first : (p : ℕ) → p < n → getD (front ++ drop n list) p 0 ≡ getD front p 0
-  over-first p k = List·getD-append front (drop n list) 0 p (omega arith)
+  over_first : (p : ℕ) → p < n → get_or (front ++ drop n list) p 0 ≡ get_or front p 0
+  over_first p k = get_or-append front (drop n list) 0 p (omega arith)
 
-  over-later : (p : ℕ) → n ≤ p → getD (front ++ drop n list) p 0 ≡ getD list p 0
-  over-later p k =
+  over_later : (p : ℕ) → n ≤ p → get_or (front ++ drop n list) p 0 ≡ get_or list p 0
+  over_later p k =
       let i : length front + (p - n) ≡ p = omega arith in
       let j : n + (p - n) ≡ p = omega arith in
-      subst (λ (q : ℕ). getD (front ++ drop n list) q 0 ≡ getD list p 0) i
-      (getD-append-add front (drop n list) (p - n) 0 ∙ getD-drop n list (p - n) 0 ∙ rw j)
+      subst (λ (q : ℕ). get_or (front ++ drop n list) q 0 ≡ get_or list p 0) i
+      (get_or-append-add front (drop n list) (p - n) 0 ∙ get_or-drop n list (p - n) 0 ∙ rw j)
 
 module _ (s : Text) (words : ℕ) (output : List ℕ) where
-  pub refusal-keeps : (n : ℕ) → call s words (length output) ≡ refused n
-      → (written (call s words (length output)) ≡ 0) × (output-after s words output ≡ output)
-  unfolding output-after
-  refusal-keeps n e = (rw e, rw e)
+  pub refusal_keeps : (n : ℕ) → call s words (length output) ≡ refused n
+      → (written (call s words (length output)) ≡ 0) × (output_after s words output ≡ output)
+  unfolding output_after
+  refusal_keeps n e = (rw e, rw e)
 
-  pub answer-writes : (answer : Text) → call s words (length output) ≡ passed answer
-      → (written (call s words (length output)) ≡ length answer) × Overwritten answer output (output-after s words output)
-  unfolding output-after
-  answer-writes answer e = (rw e, rw e (go (call-outcome s words (length output) (passed answer) .0 e)))
+  pub answer_writes : (answer : Text) → call s words (length output) ≡ passed answer
+      → (written (call s words (length output)) ≡ length answer) × Overwritten answer output (output_after s words output)
+  unfolding output_after
+  answer_writes answer e = (rw e, rw e (go ((call_outcome s words (length output) (passed answer)).0 e)))
     where
       go : Outcome s words (length output) (passed answer) → Overwritten answer output (answer ++ drop (length answer) output)
       go (answered h k f) = record {
         fits = f;
-        same-length = over-length (length answer) answer output refl f;
-        first = over-first (length answer) answer output refl f;
-        later = over-later (length answer) answer output refl f;
+        same_length = over_length (length answer) answer output refl f;
+        first = over_first (length answer) answer output refl f;
+        later = over_later (length answer) answer output refl f;
       }
 
 clears : (n : ℕ) (work : List ℕ) → n ≤ length work → Cleared n work (replicate n 0 ++ drop n work)
@@ -217,52 +217,52 @@ clears n work h =
     let e : length zeros ≡ n = length-replicate n 0 in
     record {
       enough = h;
-      same-length = over-length n zeros work e h;
-      zero = λ p k. over-first n zeros work e h p k ∙ getD-replicate n p 0 0 k;
-      later = over-later n zeros work e h;
+      same_length = over_length n zeros work e h;
+      zero = λ p k. over_first n zeros work e h p k ∙ get_or-replicate n p 0 0 k;
+      later = over_later n zeros work e h;
     }
 
 -- a number beyond 3 other than 11
-other-number : (n : ℕ) → number-for LineOutOfPlace < n → ¬ (n ≡ number-for ShortWorkArea) → ¬ KeepsWork (refused n)
-other-number n h d (inl k) = omega arith
-other-number n h d (inr (inl k)) = omega arith
-other-number n h d (inr (inr (inl k))) = omega arith
-other-number n h d (inr (inr (inr k))) = d k
+other_number : (n : ℕ) → number_for LineOutOfPlace < n → ¬ (n ≡ number_for ShortWorkArea) → ¬ KeepsWork (refused n)
+other_number n h d (inl k) = omega arith
+other_number n h d (inr (inl k)) = omega arith
+other_number n h d (inr (inr (inl k))) = omega arith
+other_number n h d (inr (inr (inr k))) = d k
 
 module _ (s : Text) (work : List ℕ) where
-  keeps : (n : ℕ) → admitted s (length work) ≡ refused n → work-after s work ≡ work
-  unfolding work-after
+  keeps : (n : ℕ) → admitted s (length work) ≡ refused n → work_after s work ≡ work
+  unfolding work_after
   keeps n e = rw e
 
-  clears-needed : {sheet : Sheet} → Admitted s (length work) sheet → (h : Sheet) × (read-sheet s ≡ some h) × Cleared (words-needed s h) work (work-after s work)
-  unfolding work-after
-  clears-needed {sheet} a = (sheet, reads-form s sheet .1 (a .form), rw (admits s (length work) sheet a) (clears (words-needed s sheet) work (a .enough)))
+  clears_needed : {sheet : Sheet} → Admitted s (length work) sheet → (h : Sheet) × (read_sheet s ≡ some h) × Cleared (words_needed s h) work (work_after s work)
+  unfolding work_after
+  clears_needed {sheet} a = (sheet, (reads_form s sheet).1 a.form, rw (admits s (length work) sheet a) (clears (words_needed s sheet) work a.enough))
 
   module _ (room : ℕ) where
     -- after 1, 2, 3, 11 the work area is unchanged
-    pub work-kept : KeepsWork (call s (length work) room) → work-after s work ≡ work
-    work-kept = go (holds s (length work) room)
+    pub work_kept : KeepsWork (call s (length work) room) → work_after s work ≡ work
+    work_kept = go (holds s (length work) room)
       where
-        go : {r : Reply Text} → Outcome s (length work) room r → KeepsWork r → work-after s work ≡ work
-        go (too-long h) k = keeps (number-for TooLong) (refuses-1 s (length work) h)
-        go (foreign-byte h p l a) k = keeps (number-for ForeignByte) (refuses-2 s (length work) h (not-plain s p l a))
-        go (out-of-place h e) k = keeps (number-for LineOutOfPlace) (refuses-3 s (length work) h (unread-form s .1 e))
-        go (short-work {sheet} h e l) k = keeps (number-for ShortWorkArea) (refuses-11 s (length work) sheet h (reads-form s sheet .1 e) l)
-        go (unreadable h e) k = absurd (other-number (number-for UnreadableTerm) (omega arith) (λ i. omega arith) k)
-        go (short-output h e l) k = absurd (other-number (number-for ShortOutput) (omega arith) (λ i. omega arith) k)
+        go : {r : Reply Text} → Outcome s (length work) room r → KeepsWork r → work_after s work ≡ work
+        go (too_long h) k = keeps (number_for TooLong) (refuses_1 s (length work) h)
+        go (foreign_byte h p l a) k = keeps (number_for ForeignByte) (refuses_2 s (length work) h (not_plain s p l a))
+        go (out_of_place h e) k = keeps (number_for LineOutOfPlace) (refuses_3 s (length work) h ((unread_form s).1 e))
+        go (short_work {sheet} h e l) k = keeps (number_for ShortWorkArea) (refuses_11 s (length work) sheet h ((reads_form s sheet).1 e) l)
+        go (unreadable h e) k = absurd (other_number (number_for UnreadableTerm) (omega arith) (λ i. omega arith) k)
+        go (short_output h e l) k = absurd (other_number (number_for ShortOutput) (omega arith) (λ i. omega arith) k)
         go (answered h e l) k = absurd k
 
     -- after every other call the needed words are zero
-    pub needed-cleared : ¬ KeepsWork (call s (length work) room)
-        → (sheet : Sheet) × (read-sheet s ≡ some sheet) × Cleared (words-needed s sheet) work (work-after s work)
-    needed-cleared = go (holds s (length work) room)
+    pub needed_cleared : ¬ KeepsWork (call s (length work) room)
+        → (sheet : Sheet) × (read_sheet s ≡ some sheet) × Cleared (words_needed s sheet) work (work_after s work)
+    needed_cleared = go (holds s (length work) room)
       where
         go : {r : Reply Text} → Outcome s (length work) room r → ¬ KeepsWork r
-            → (sheet : Sheet) × (read-sheet s ≡ some sheet) × Cleared (words-needed s sheet) work (work-after s work)
-        go (too-long h) k = absurd (k (inl refl))
-        go (foreign-byte h p l a) k = absurd (k (inr (inl refl)))
-        go (out-of-place h e) k = absurd (k (inr (inr (inl refl))))
-        go (short-work h e l) k = absurd (k (inr (inr (inr refl))))
-        go (unreadable h e) k = clears-needed h
-        go (short-output h e l) k = clears-needed h
-        go (answered h e l) k = clears-needed h
+            → (sheet : Sheet) × (read_sheet s ≡ some sheet) × Cleared (words_needed s sheet) work (work_after s work)
+        go (too_long h) k = absurd (k (inl refl))
+        go (foreign_byte h p l a) k = absurd (k (inr (inl refl)))
+        go (out_of_place h e) k = absurd (k (inr (inr (inl refl))))
+        go (short_work h e l) k = absurd (k (inr (inr (inr refl))))
+        go (unreadable h e) k = clears_needed h
+        go (short_output h e l) k = clears_needed h
+        go (answered h e l) k = clears_needed h

@@ -1,28 +1,28 @@
 -- The texts of a sheet are parts of it, so the names of the trees that are read of them stand in the sheet.
 use Prim.Native.Nat.{ℕ, suc}
-use mathlib.Core.Path.{_≡_, refl, ap, subst}
-use mathlib.Core.List.{List, [], _∷_, map}
-use mathlib.Core.Option.{Option, some, none as nothing, Option·some-injective, Option·none-ne-some}
+use mathlib.Core.Path.{◌≡◌, refl, ap, subst}
+use mathlib.Core.List.{List, [], ◌∷◌, map}
+use mathlib.Core.Option.{Option, some, none as nothing, some-injective, none-ne-some}
 use mathlib.Core.Bool.{Bool, true, false}
 use lib.Dec.{eqb}
 use lib.ListN.{take}
-use Rattle·rules.specs.Bytes.{Text}
-use Rattle·rules.specs.Text.{bytes}
-use Rattle·rules.specs.Maybe.{_>>=_, guard, every}
-use Rattle·rules.specs.Decimal.{number-up-to}
-use Rattle·rules.specs.Lines.{on-first, lines, after-key, value}
-use Rattle·rules.specs.Tree.{Tree}
-use Rattle·rules.specs.Substitution.{Binding}
-use Rattle·rules.specs.Reading.{parse}
-use Rattle·rules.specs.Sheet.{Entry, Member, Members, Sheet, asks-equal, asks-unify, asks-match, asks-reduce, asks-cover, asks-sound, asks-complete, with-entry, pairs, entry-before, distinct-keys, member-before, members-from, none-waiting, at-end, one-member, Kind, Equal, Unify, Match, Reduce, Cover, Sound, Complete, kind-in, kinds, read-kind, read-sheet, entry-values, member-texts}
-use Rattle·rules.specs.Variants.{Variant, read-entry, read-member}
-use Rattle·laws·specs.specs.Memory.{side-texts, sheet-texts}
-use Rattle·laws·specs.specs.Parts.{PartOf}
-use Rattle·laws·proofs.proofs.Basics.Options.{bound}
-use Rattle·laws·proofs.proofs.Reading.Spelled.{part-self, part-later, later-parts, part-of-part}
-use Rattle·laws·proofs.proofs.Variants.Targets.{All, all-append}
-use Rattle·laws·proofs.proofs.Sheets.SheetTexts.{ended, the-member}
-use Rattle·laws·proofs.proofs.Renaming.Completing.{all-left, all-right}
+use Rattle.rules.specs.Bytes.{Text}
+use Rattle.rules.specs.Text.{bytes}
+use Rattle.rules.specs.Maybe.{◌>>=◌, guard, every}
+use Rattle.rules.specs.Decimal.{number_up_to}
+use Rattle.rules.specs.Lines.{on_first, lines, after_key, value}
+use Rattle.rules.specs.Tree.{Tree}
+use Rattle.rules.specs.Substitution.{Binding}
+use Rattle.rules.specs.Reading.{parse}
+use Rattle.rules.specs.Sheet.{Entry, Member, Members, Sheet, asks_equal, asks_unify, asks_match, asks_reduce, asks_cover, asks_sound, asks_complete, with_entry, pairs, entry_before, distinct_keys, member_before, members_from, none_waiting, at_end, one_member, Kind, Equal, Unify, Match, Reduce, Cover, Sound, Complete, kind_in, kinds, read_kind, read_sheet, entry_values, member_texts}
+use Rattle.rules.specs.Variants.{Variant, read_entry, read_member}
+use Rattle.laws.specs.Memory.{side_texts, sheet_texts}
+use Rattle.laws.specs.Parts.{PartOf}
+use Rattle.laws.proofs.Basics.Options.{bound}
+use Rattle.laws.proofs.Reading.Spelled.{part_self, part_later, later_parts, part_of_part}
+use Rattle.laws.proofs.Variants.Targets.{All, all_append}
+use Rattle.laws.proofs.Sheets.SheetTexts.{ended, the_member}
+use Rattle.laws.proofs.Renaming.Completing.{all_left, all_right}
 
 -- Lines
 
@@ -31,214 +31,214 @@ abbrev FirstLine : Text → List Text → Type 0
 FirstLine s [] = Unit {0}
 FirstLine s (l ∷ ls) = ((n : ℕ) × (take n s ≡ l)) × All (PartOf s) ls
 
-first-part : (s : Text) (ls : List Text) → FirstLine s ls → All (PartOf s) ls
-first-part s [] h = tt
-first-part s (l ∷ ls) ((n, e), h) = ((0, n, e), h)
+first_part : (s : Text) (ls : List Text) → FirstLine s ls → All (PartOf s) ls
+first_part s [] h = tt
+first_part s (l ∷ ls) ((n, e), h) = ((0, n, e), h)
 
-line-parts : (s : Text) (ls : List Text) → lines s ≡ some ls → FirstLine s ls
+line_parts : (s : Text) (ls : List Text) → lines s ≡ some ls → FirstLine s ls
 unfolding lines
-line-parts [] ls h = subst (FirstLine []) (Option·some-injective [] ls h) tt
-line-parts (b ∷ s) ls h = go (eqb b 10) (lines s) (λ ks e. line-parts s ks e) h
+line_parts [] ls h = subst (FirstLine []) (some-injective [] ls h) tt
+line_parts (b ∷ s) ls h = go (eqb b 10) (lines s) (λ ks e. line_parts s ks e) h
   where
-    go : (x : Bool) (o : Option (List Text)) → ((ks : List Text) → o ≡ some ks → FirstLine s ks) → on-first x b o ≡ some ls → FirstLine (b ∷ s) ls
-    go true nothing ih k = absurd (Option·none-ne-some ls k)
-    go true (some ks) ih k = subst (FirstLine (b ∷ s)) (Option·some-injective ([] ∷ ks) ls k) ((0, refl), later-parts b s ks (first-part s ks (ih ks refl)))
-    go false nothing ih k = absurd (Option·none-ne-some ls k)
-    go false (some []) ih k = absurd (Option·none-ne-some ls k)
+    go : (x : Bool) (o : Option (List Text)) → ((ks : List Text) → o ≡ some ks → FirstLine s ks) → on_first x b o ≡ some ls → FirstLine (b ∷ s) ls
+    go true nothing ih k = absurd (none-ne-some ls k)
+    go true (some ks) ih k = subst (FirstLine (b ∷ s)) (some-injective ([] ∷ ks) ls k) ((0, refl), later_parts b s ks (first_part s ks (ih ks refl)))
+    go false nothing ih k = absurd (none-ne-some ls k)
+    go false (some []) ih k = absurd (none-ne-some ls k)
     go false (some (l ∷ ks)) ih k =
         let ((n, e), r) = ih (l ∷ ks) refl in
-        subst (FirstLine (b ∷ s)) (Option·some-injective ((b ∷ l) ∷ ks) ls k) ((suc n, ap (λ (m : Text). b ∷ m) e), later-parts b s ks r)
+        subst (FirstLine (b ∷ s)) (some-injective ((b ∷ l) ∷ ks) ls k) ((suc n, ap (λ (m : Text). b ∷ m) e), later_parts b s ks r)
 
 module _ (s : Text) where
   abbrev Parts : List Text → Type 0
   Parts ls = All (PartOf s) ls
 
   -- the end of a part
-  key-part : (key l v : Text) → after-key key l ≡ some v → PartOf s l → PartOf s v
-  unfolding after-key
-  key-part [] l v h p = subst (PartOf s) (Option·some-injective l v h) p
-  key-part (k ∷ ks) [] v h p = absurd (Option·none-ne-some v h)
-  key-part (k ∷ ks) (b ∷ l) v h p = go (eqb k b) h (λ e. key-part ks l v e (part-of-part s (b ∷ l) l p (part-later b l l (part-self l))))
+  key_part : (key l v : Text) → after_key key l ≡ some v → PartOf s l → PartOf s v
+  unfolding after_key
+  key_part [] l v h p = subst (PartOf s) (some-injective l v h) p
+  key_part (k ∷ ks) [] v h p = absurd (none-ne-some v h)
+  key_part (k ∷ ks) (b ∷ l) v h p = go (eqb k b) h (λ e. key_part ks l v e (part_of_part s (b ∷ l) l p (part_later b l l (part_self l))))
     where
-      go : (x : Bool) → elim x [ true ↦ after-key ks l | false ↦ nothing ] ≡ some v → (after-key ks l ≡ some v → PartOf s v) → PartOf s v
+      go : (x : Bool) → elim x [ true ↦ after_key ks l | false ↦ nothing ] ≡ some v → (after_key ks l ≡ some v → PartOf s v) → PartOf s v
       go true e ih = ih e
-      go false e ih = absurd (Option·none-ne-some v e)
+      go false e ih = absurd (none-ne-some v e)
 
-  value-part : (key : Text) (ls : List Text) (r : Text × List Text) → value key ls ≡ some r → Parts ls → PartOf s (r .0) × Parts (r .1)
+  value_part : (key : Text) (ls : List Text) (r : Text × List Text) → value key ls ≡ some r → Parts ls → PartOf s r.0 × Parts r.1
   unfolding value
-  value-part key [] r h p = absurd (Option·none-ne-some r h)
-  value-part key (l ∷ ls) r h p =
-      let (v, e, h₁) = bound (after-key key l) (λ w. some (w, ls)) r h in
-      subst (λ (q : Text × List Text). PartOf s (q .0) × Parts (q .1)) (Option·some-injective (v, ls) r h₁) (key-part key l v e (p .0), p .1)
+  value_part key [] r h p = absurd (none-ne-some r h)
+  value_part key (l ∷ ls) r h p =
+      let (v, e, h₁) = bound (after_key key l) (λ w. some (w, ls)) r h in
+      subst (λ (q : Text × List Text). PartOf s q.0 × Parts q.1) (some-injective (v, ls) r h₁) (key_part key l v e p.0, p.1)
 
   -- Pairs
 
   abbrev Sides : List Entry × List Text → Type 0
-  Sides p = Parts (side-texts (p .0)) × Parts (p .1)
+  Sides p = Parts (side_texts p.0) × Parts p.1
 
-  no-sides : (ls : List Text) (p : List Entry × List Text) → some ([], ls) ≡ some p → Parts ls → Sides p
-  unfolding side-texts
-  no-sides ls p h k = subst Sides (Option·some-injective ([], ls) p h) (tt, k)
+  no_sides : (ls : List Text) (p : List Entry × List Text) → some ([], ls) ≡ some p → Parts ls → Sides p
+  unfolding side_texts
+  no_sides ls p h k = subst Sides (some-injective ([], ls) p h) (tt, k)
 
-  more-sides : (v w : Text) (o : Option (List Entry × List Text)) (p : List Entry × List Text) → ((q : List Entry × List Text) → o ≡ some q → Sides q)
-      → with-entry (v, w) o ≡ some p → PartOf s v → PartOf s w → Sides p
-  unfolding side-texts
-  more-sides v w nothing p ih h a b = absurd (Option·none-ne-some p h)
-  more-sides v w (some (es, ks)) p ih h a b =
+  more_sides : (v w : Text) (o : Option (List Entry × List Text)) (p : List Entry × List Text) → ((q : List Entry × List Text) → o ≡ some q → Sides q)
+      → with_entry (v, w) o ≡ some p → PartOf s v → PartOf s w → Sides p
+  unfolding side_texts
+  more_sides v w nothing p ih h a b = absurd (none-ne-some p h)
+  more_sides v w (some (es, ks)) p ih h a b =
       let i = ih (es, ks) refl in
-      subst Sides (Option·some-injective ((v, w) ∷ es, ks) p h) ((a, (b, i .0)), i .1)
+      subst Sides (some-injective ((v, w) ∷ es, ks) p h) ((a, (b, i.0)), i.1)
 
-  pair-parts : (ls : List Text) (p : List Entry × List Text) → pairs ls ≡ some p → Parts ls → Sides p
+  pair_parts : (ls : List Text) (p : List Entry × List Text) → pairs ls ≡ some p → Parts ls → Sides p
   unfolding pairs
-  pair-parts [] p h k = no-sides [] p h k
-  pair-parts (l ∷ []) p h k = go (after-key (bytes "left=") l) h
+  pair_parts [] p h k = no_sides [] p h k
+  pair_parts (l ∷ []) p h k = go (after_key (bytes "left=") l) h
     where
       go : (o : Option Text) → elim o [ nothing ↦ some ([], l ∷ []) | some v ↦ nothing ] ≡ some p → Sides p
-      go nothing e = no-sides (l ∷ []) p e k
-      go (some v) e = absurd (Option·none-ne-some p e)
-  pair-parts (l ∷ r ∷ ls) p h k = go (after-key (bytes "left=") l) refl (λ q e. pair-parts ls q e (k .1 .1)) h
+      go nothing e = no_sides (l ∷ []) p e k
+      go (some v) e = absurd (none-ne-some p e)
+  pair_parts (l ∷ r ∷ ls) p h k = go (after_key (bytes "left=") l) refl (λ q e. pair_parts ls q e k.1.1) h
     where
-      go : (o : Option Text) → after-key (bytes "left=") l ≡ o → ((q : List Entry × List Text) → pairs ls ≡ some q → Sides q)
-          → elim o [ nothing ↦ some ([], l ∷ r ∷ ls) | some v ↦ after-key (bytes "right=") r >>= λ w. with-entry (v, w) (pairs ls) ] ≡ some p → Sides p
-      go nothing e ih i = no-sides (l ∷ r ∷ ls) p i k
+      go : (o : Option Text) → after_key (bytes "left=") l ≡ o → ((q : List Entry × List Text) → pairs ls ≡ some q → Sides q)
+          → elim o [ nothing ↦ some ([], l ∷ r ∷ ls) | some v ↦ after_key (bytes "right=") r >>= λ w. with_entry (v, w) (pairs ls) ] ≡ some p → Sides p
+      go nothing e ih i = no_sides (l ∷ r ∷ ls) p i k
       go (some v) e ih i =
-          let (w, f, j) = bound (after-key (bytes "right=") r) (λ u. with-entry (v, u) (pairs ls)) p i in
-          more-sides v w (pairs ls) p ih j (key-part (bytes "left=") l v e (k .0)) (key-part (bytes "right=") r w f (k .1 .0))
+          let (w, f, j) = bound (after_key (bytes "right=") r) (λ u. with_entry (v, u) (pairs ls)) p i in
+          more_sides v w (pairs ls) p ih j (key_part (bytes "left=") l v e k.0) (key_part (bytes "right=") r w f k.1.0)
 
   -- Members
 
   abbrev Waiting : Members → Type 0
-  Waiting p = Parts (entry-values (p .0)) × Parts (member-texts (p .1))
+  Waiting p = Parts (entry_values p.0) × Parts (member_texts p.1)
 
-  before-entry : (k v : Text) (o : Option Members) (p : Members) → ((q : Members) → o ≡ some q → Waiting q) → entry-before (k, v) o ≡ some p → PartOf s v → Waiting p
-  unfolding entry-values
-  before-entry k v nothing p ih h a = absurd (Option·none-ne-some p h)
-  before-entry k v (some (es, ms)) p ih h a =
+  before_entry : (k v : Text) (o : Option Members) (p : Members) → ((q : Members) → o ≡ some q → Waiting q) → entry_before (k, v) o ≡ some p → PartOf s v → Waiting p
+  unfolding entry_values
+  before_entry k v nothing p ih h a = absurd (none-ne-some p h)
+  before_entry k v (some (es, ms)) p ih h a =
       let i = ih (es, ms) refl in
-      subst Waiting (Option·some-injective ((k, v) ∷ es, ms) p h) ((a, i .0), i .1)
+      subst Waiting (some-injective ((k, v) ∷ es, ms) p h) ((a, i.0), i.1)
 
-  before-member : (v : Text) (o : Option Members) (p : Members) → ((q : Members) → o ≡ some q → Waiting q) → member-before v o ≡ some p → PartOf s v → Waiting p
-  unfolding entry-values member-texts
-  before-member v nothing p ih h a = absurd (Option·none-ne-some p h)
-  before-member v (some (es, ms)) p ih h a =
-      let (x, g, h₁) = bound (guard (distinct-keys es [])) (λ _. some ([], (v, es) ∷ ms)) p h in
+  before_member : (v : Text) (o : Option Members) (p : Members) → ((q : Members) → o ≡ some q → Waiting q) → member_before v o ≡ some p → PartOf s v → Waiting p
+  unfolding entry_values member_texts
+  before_member v nothing p ih h a = absurd (none-ne-some p h)
+  before_member v (some (es, ms)) p ih h a =
+      let (x, g, h₁) = bound (guard (distinct_keys es [])) (λ _. some ([], (v, es) ∷ ms)) p h in
       let i = ih (es, ms) refl in
-      subst Waiting (Option·some-injective ([], (v, es) ∷ ms) p h₁) (tt, (a, all-append (PartOf s) (entry-values es) (member-texts ms) (i .0) (i .1)))
+      subst Waiting (some-injective ([], (v, es) ∷ ms) p h₁) (tt, (a, all_append (PartOf s) (entry_values es) (member_texts ms) i.0 i.1))
 
-  none-waits : (p : Members) → some ([], []) ≡ some p → Waiting p
-  unfolding entry-values member-texts
-  none-waits p h = subst Waiting (Option·some-injective ([], []) p h) (tt, tt)
+  none_waits : (p : Members) → some ([], []) ≡ some p → Waiting p
+  unfolding entry_values member_texts
+  none_waits p h = subst Waiting (some-injective ([], []) p h) (tt, tt)
 
-  members-parts : (ls : List Text) (p : Members) → members-from ls ≡ some p → Parts ls → Waiting p
-  unfolding members-from
-  members-parts [] p h k = none-waits p h
-  members-parts (l ∷ []) p h k =
-      let (v, e, h₁) = bound (after-key (bytes "member=") l) (λ w. member-before w (some ([], []))) p h in
-      before-member v (some ([], [])) p none-waits h₁ (key-part (bytes "member=") l v e (k .0))
-  members-parts (l ∷ r ∷ ls) p h k =
-      go (after-key (bytes "key=") l) (λ q e. members-parts (r ∷ ls) q e (k .1)) (λ q e. members-parts ls q e (k .1 .1)) h
+  members_parts : (ls : List Text) (p : Members) → members_from ls ≡ some p → Parts ls → Waiting p
+  unfolding members_from
+  members_parts [] p h k = none_waits p h
+  members_parts (l ∷ []) p h k =
+      let (v, e, h₁) = bound (after_key (bytes "member=") l) (λ w. member_before w (some ([], []))) p h in
+      before_member v (some ([], [])) p none_waits h₁ (key_part (bytes "member=") l v e k.0)
+  members_parts (l ∷ r ∷ ls) p h k =
+      go (after_key (bytes "key=") l) (λ q e. members_parts (r ∷ ls) q e k.1) (λ q e. members_parts ls q e k.1.1) h
     where
-      go : (o : Option Text) → ((q : Members) → members-from (r ∷ ls) ≡ some q → Waiting q) → ((q : Members) → members-from ls ≡ some q → Waiting q)
-          → elim o [ nothing ↦ after-key (bytes "member=") l >>= λ v. member-before v (members-from (r ∷ ls)) | some x ↦ after-key (bytes "value=") r >>= λ v. entry-before (x, v) (members-from ls) ] ≡ some p
+      go : (o : Option Text) → ((q : Members) → members_from (r ∷ ls) ≡ some q → Waiting q) → ((q : Members) → members_from ls ≡ some q → Waiting q)
+          → elim o [ nothing ↦ after_key (bytes "member=") l >>= λ v. member_before v (members_from (r ∷ ls)) | some x ↦ after_key (bytes "value=") r >>= λ v. entry_before (x, v) (members_from ls) ] ≡ some p
           → Waiting p
       go nothing ih ih₂ i =
-          let (v, f, j) = bound (after-key (bytes "member=") l) (λ w. member-before w (members-from (r ∷ ls))) p i in
-          before-member v (members-from (r ∷ ls)) p ih j (key-part (bytes "member=") l v f (k .0))
+          let (v, f, j) = bound (after_key (bytes "member=") l) (λ w. member_before w (members_from (r ∷ ls))) p i in
+          before_member v (members_from (r ∷ ls)) p ih j (key_part (bytes "member=") l v f k.0)
       go (some x) ih ih₂ i =
-          let (v, f, j) = bound (after-key (bytes "value=") r) (λ w. entry-before (x, w) (members-from ls)) p i in
-          before-entry x v (members-from ls) p ih₂ j (key-part (bytes "value=") r v f (k .1 .0))
+          let (v, f, j) = bound (after_key (bytes "value=") r) (λ w. entry_before (x, w) (members_from ls)) p i in
+          before_entry x v (members_from ls) p ih₂ j (key_part (bytes "value=") r v f k.1.0)
 
-  all-members : (ls : List Text) (ms : List Member) → none-waiting (members-from ls) ≡ some ms → Parts ls → Parts (member-texts ms)
-  all-members ls ms h k = go (members-from ls) (λ p e. members-parts ls p e k) h
+  all_members : (ls : List Text) (ms : List Member) → none_waiting (members_from ls) ≡ some ms → Parts ls → Parts (member_texts ms)
+  all_members ls ms h k = go (members_from ls) (λ p e. members_parts ls p e k) h
     where
-      go : (o : Option Members) → ((p : Members) → o ≡ some p → Waiting p) → none-waiting o ≡ some ms → Parts (member-texts ms)
-      go nothing ih e = absurd (Option·none-ne-some ms e)
-      go (some ([], ns)) ih e = subst (λ (l : List Member). Parts (member-texts l)) (Option·some-injective ns ms e) (ih ([], ns) refl .1)
-      go (some (x ∷ es, ns)) ih e = absurd (Option·none-ne-some ms e)
+      go : (o : Option Members) → ((p : Members) → o ≡ some p → Waiting p) → none_waiting o ≡ some ms → Parts (member_texts ms)
+      go nothing ih e = absurd (none-ne-some ms e)
+      go (some ([], ns)) ih e = subst (λ (l : List Member). Parts (member_texts l)) (some-injective ns ms e) (ih ([], ns) refl).1
+      go (some (x ∷ es, ns)) ih e = absurd (none-ne-some ms e)
 
   -- Sheets
 
   abbrev SheetParts : Sheet → Type 0
-  SheetParts sheet = Parts (sheet-texts sheet)
+  SheetParts sheet = Parts (sheet_texts sheet)
 
   -- the kinds with fuel
-  fuelled-parts : (asks : ℕ → List Entry → Sheet) → ((k : ℕ) (es : List Entry) → Parts (side-texts es) → SheetParts (asks k es)) → (ls : List Text) (sheet : Sheet)
-      → (value (bytes "fuel=") ls >>= λ v. number-up-to 65536 (v .0) >>= λ fuel. pairs (v .1) >>= λ p. at-end (p .1) (asks fuel (p .0))) ≡ some sheet
+  fuelled_parts : (asks : ℕ → List Entry → Sheet) → ((k : ℕ) (es : List Entry) → Parts (side_texts es) → SheetParts (asks k es)) → (ls : List Text) (sheet : Sheet)
+      → (value (bytes "fuel=") ls >>= λ v. number_up_to 65536 v.0 >>= λ fuel. pairs v.1 >>= λ p. at_end p.1 (asks fuel p.0)) ≡ some sheet
       → Parts ls → SheetParts sheet
-  fuelled-parts asks q ls sheet h k =
+  fuelled_parts asks q ls sheet h k =
       let (v, e, h₁) = bound (value (bytes "fuel=") ls) _ sheet h in
-      let (fuel, f, h₂) = bound (number-up-to 65536 (v .0)) (λ n. pairs (v .1) >>= λ p. at-end (p .1) (asks n (p .0))) sheet h₁ in
-      let (p, g, h₃) = bound (pairs (v .1)) (λ r. at-end (r .1) (asks fuel (r .0))) sheet h₂ in
-      subst SheetParts (ended (p .1) (asks fuel (p .0)) sheet h₃) (q fuel (p .0) (pair-parts (v .1) p g (value-part (bytes "fuel=") ls v e k .1) .0))
+      let (fuel, f, h₂) = bound (number_up_to 65536 v.0) (λ n. pairs v.1 >>= λ p. at_end p.1 (asks n p.0)) sheet h₁ in
+      let (p, g, h₃) = bound (pairs v.1) (λ r. at_end r.1 (asks fuel r.0)) sheet h₂ in
+      subst SheetParts (ended p.1 (asks fuel p.0) sheet h₃) (q fuel p.0 (pair_parts v.1 p g (value_part (bytes "fuel=") ls v e k).1).0)
 
-  kind-parts : (kind : Kind) (ls : List Text) (sheet : Sheet) → read-kind kind ls ≡ some sheet → Parts ls → SheetParts sheet
-  unfolding read-kind sheet-texts
-  kind-parts Equal ls sheet h k =
+  kind_parts : (kind : Kind) (ls : List Text) (sheet : Sheet) → read_kind kind ls ≡ some sheet → Parts ls → SheetParts sheet
+  unfolding read_kind sheet_texts
+  kind_parts Equal ls sheet h k =
       let (v, e, h₁) = bound (value (bytes "left=") ls) _ sheet h in
-      let (w, f, h₂) = bound (value (bytes "right=") (v .1)) (λ r. at-end (r .1) (asks-equal (v .0) (r .0))) sheet h₁ in
-      let i = value-part (bytes "left=") ls v e k in
-      let j = value-part (bytes "right=") (v .1) w f (i .1) in
-      subst SheetParts (ended (w .1) (asks-equal (v .0) (w .0)) sheet h₂) (i .0, (j .0, tt))
-  kind-parts Unify ls sheet h k = fuelled-parts asks-unify (λ n es p. p) ls sheet h k
-  kind-parts Match ls sheet h k = fuelled-parts asks-match (λ n es p. p) ls sheet h k
-  kind-parts Reduce ls sheet h k =
+      let (w, f, h₂) = bound (value (bytes "right=") v.1) (λ r. at_end r.1 (asks_equal v.0 r.0)) sheet h₁ in
+      let i = value_part (bytes "left=") ls v e k in
+      let j = value_part (bytes "right=") v.1 w f i.1 in
+      subst SheetParts (ended w.1 (asks_equal v.0 w.0) sheet h₂) (i.0, (j.0, tt))
+  kind_parts Unify ls sheet h k = fuelled_parts asks_unify (λ n es p. p) ls sheet h k
+  kind_parts Match ls sheet h k = fuelled_parts asks_match (λ n es p. p) ls sheet h k
+  kind_parts Reduce ls sheet h k =
       let (v, e, h₁) = bound (value (bytes "term=") ls) _ sheet h in
-      subst SheetParts (ended (v .1) (asks-reduce (v .0)) sheet h₁) (value-part (bytes "term=") ls v e k .0, tt)
-  kind-parts Cover ls sheet h k =
+      subst SheetParts (ended v.1 (asks_reduce v.0) sheet h₁) ((value_part (bytes "term=") ls v e k).0, tt)
+  kind_parts Cover ls sheet h k =
       let (p, e, h₁) = bound (pairs ls) _ sheet h in
-      let (ms, f, h₂) = bound (none-waiting (members-from (p .1))) (λ ns. some (asks-cover (p .0) ns)) sheet h₁ in
-      let i = pair-parts ls p e k in
-      subst SheetParts (Option·some-injective (asks-cover (p .0) ms) sheet h₂) (all-append (PartOf s) (side-texts (p .0)) (member-texts ms) (i .0) (all-members (p .1) ms f (i .1)))
-  kind-parts Sound ls sheet h k =
+      let (ms, f, h₂) = bound (none_waiting (members_from p.1)) (λ ns. some (asks_cover p.0 ns)) sheet h₁ in
+      let i = pair_parts ls p e k in
+      subst SheetParts (some-injective (asks_cover p.0 ms) sheet h₂) (all_append (PartOf s) (side_texts p.0) (member_texts ms) i.0 (all_members p.1 ms f i.1))
+  kind_parts Sound ls sheet h k =
       let (v, e, h₁) = bound (value (bytes "term=") ls) _ sheet h in
-      let (ms, f, h₂) = bound (none-waiting (members-from (v .1))) (λ ns. one-member ns >>= λ m. some (asks-sound (v .0) m)) sheet h₁ in
-      let (m, g, h₃) = bound (one-member ms) (λ n. some (asks-sound (v .0) n)) sheet h₂ in
-      let i = value-part (bytes "term=") ls v e k in
-      subst SheetParts (Option·some-injective (asks-sound (v .0) m) sheet h₃)
-      (i .0, subst (λ (l : List Member). Parts (member-texts l)) (the-member ms m g) (all-members (v .1) ms f (i .1)))
-  kind-parts Complete ls sheet h k =
+      let (ms, f, h₂) = bound (none_waiting (members_from v.1)) (λ ns. one_member ns >>= λ m. some (asks_sound v.0 m)) sheet h₁ in
+      let (m, g, h₃) = bound (one_member ms) (λ n. some (asks_sound v.0 n)) sheet h₂ in
+      let i = value_part (bytes "term=") ls v e k in
+      subst SheetParts (some-injective (asks_sound v.0 m) sheet h₃)
+      (i.0, subst (λ (l : List Member). Parts (member_texts l)) (the_member ms m g) (all_members v.1 ms f i.1))
+  kind_parts Complete ls sheet h k =
       let (v, e, h₁) = bound (value (bytes "term=") ls) _ sheet h in
-      let (ms, f, h₂) = bound (none-waiting (members-from (v .1))) (λ ns. some (asks-complete (v .0) ns)) sheet h₁ in
-      let i = value-part (bytes "term=") ls v e k in
-      subst SheetParts (Option·some-injective (asks-complete (v .0) ms) sheet h₂) (i .0, all-members (v .1) ms f (i .1))
+      let (ms, f, h₂) = bound (none_waiting (members_from v.1)) (λ ns. some (asks_complete v.0 ns)) sheet h₁ in
+      let i = value_part (bytes "term=") ls v e k in
+      subst SheetParts (some-injective (asks_complete v.0 ms) sheet h₂) (i.0, all_members v.1 ms f i.1)
 
   -- each text of the sheet that is read as a term is a part of the sheet
-  pub sheet-parts : (sheet : Sheet) → read-sheet s ≡ some sheet → All (PartOf s) (sheet-texts sheet)
-  unfolding read-sheet
-  sheet-parts sheet h =
+  pub sheet_parts : (sheet : Sheet) → read_sheet s ≡ some sheet → All (PartOf s) (sheet_texts sheet)
+  unfolding read_sheet
+  sheet_parts sheet h =
       let (ls, e, h₁) = bound (lines s) _ sheet h in
-      let (v, f, h₂) = bound (value (bytes "kind=") ls) (λ w. kind-in kinds (w .0) >>= λ kind. read-kind kind (w .1)) sheet h₁ in
-      let (kind, g, h₃) = bound (kind-in kinds (v .0)) (λ kind. read-kind kind (v .1)) sheet h₂ in
-      kind-parts kind (v .1) sheet h₃ (value-part (bytes "kind=") ls v f (first-part s ls (line-parts s ls e)) .1)
+      let (v, f, h₂) = bound (value (bytes "kind=") ls) (λ w. kind_in kinds w.0 >>= λ kind. read_kind kind w.1) sheet h₁ in
+      let (kind, g, h₃) = bound (kind_in kinds v.0) (λ kind. read_kind kind v.1) sheet h₂ in
+      kind_parts kind v.1 sheet h₃ (value_part (bytes "kind=") ls v f (first_part s ls (line_parts s ls e))).1
 
 -- Members that are read
 
 -- the trees of a member
 abbrev pub TreesOf : (Tree → Type 0) → Variant → Type 0
-TreesOf Q v = Q (v .0) × All (λ b. Q (b .1)) (v .1)
+TreesOf Q v = Q v.0 × All (λ b. Q b.1) v.1
 
 module _ (P : Text → Type 0) (Q : Tree → Type 0) (reads : (x : Text) (t : Tree) → P x → parse x ≡ some t → Q t) where
-  entries-all : (es : List Entry) (bs : List Binding) → every (map read-entry es) ≡ some bs → All P (entry-values es) → All (λ b. Q (b .1)) bs
-  unfolding every read-entry entry-values
-  entries-all [] bs h k = subst (All (λ b. Q (b .1))) (Option·some-injective [] bs h) tt
-  entries-all (e ∷ es) bs h k =
-      let (b, f, h₁) = bound (parse (e .1) >>= λ t. some (e .0, t)) _ bs h in
-      let (t, g, f₁) = bound (parse (e .1)) (λ u. some (e .0, u)) b f in
-      let (cs, i, h₂) = bound (every (map read-entry es)) (λ ds. some (b ∷ ds)) bs h₁ in
-      subst (All (λ c. Q (c .1))) (Option·some-injective (b ∷ cs) bs h₂)
-      (subst (λ (c : Binding). Q (c .1)) (Option·some-injective (e .0, t) b f₁) (reads (e .1) t (k .0) g), entries-all es cs i (k .1))
+  entries_all : (es : List Entry) (bs : List Binding) → every (map read_entry es) ≡ some bs → All P (entry_values es) → All (λ b. Q b.1) bs
+  unfolding every read_entry entry_values
+  entries_all [] bs h k = subst (All (λ b. Q b.1)) (some-injective [] bs h) tt
+  entries_all (e ∷ es) bs h k =
+      let (b, f, h₁) = bound (parse e.1 >>= λ t. some (e.0, t)) _ bs h in
+      let (t, g, f₁) = bound (parse e.1) (λ u. some (e.0, u)) b f in
+      let (cs, i, h₂) = bound (every (map read_entry es)) (λ ds. some (b ∷ ds)) bs h₁ in
+      subst (All (λ c. Q c.1)) (some-injective (b ∷ cs) bs h₂)
+      (subst (λ (c : Binding). Q c.1) (some-injective (e.0, t) b f₁) (reads e.1 t k.0 g), entries_all es cs i k.1)
 
   -- what holds of each tree of such a text holds of the members' trees
-  pub members-all : (ms : List Member) (vs : List Variant) → every (map read-member ms) ≡ some vs → All P (member-texts ms) → All (TreesOf Q) vs
-  unfolding every read-member member-texts
-  members-all [] vs h k = subst (All (TreesOf Q)) (Option·some-injective [] vs h) tt
-  members-all (m ∷ ms) vs h k =
-      let (v, e, h₁) = bound (read-member m) _ vs h in
-      let (t, f, e₁) = bound (parse (m .0)) _ v e in
-      let (bs, g, e₂) = bound (every (map read-entry (m .1))) (λ cs. some (t, cs)) v e₁ in
-      let (ws, i, h₂) = bound (every (map read-member ms)) (λ us. some (v ∷ us)) vs h₁ in
-      subst (All (TreesOf Q)) (Option·some-injective (v ∷ ws) vs h₂) (
-        subst (TreesOf Q) (Option·some-injective (t, bs) v e₂)
-            (reads (m .0) t (k .0) f, entries-all (m .1) bs g (all-left P (entry-values (m .1)) (member-texts ms) (k .1))),
-        members-all ms ws i (all-right P (entry-values (m .1)) (member-texts ms) (k .1)),
+  pub members_all : (ms : List Member) (vs : List Variant) → every (map read_member ms) ≡ some vs → All P (member_texts ms) → All (TreesOf Q) vs
+  unfolding every read_member member_texts
+  members_all [] vs h k = subst (All (TreesOf Q)) (some-injective [] vs h) tt
+  members_all (m ∷ ms) vs h k =
+      let (v, e, h₁) = bound (read_member m) _ vs h in
+      let (t, f, e₁) = bound (parse m.0) _ v e in
+      let (bs, g, e₂) = bound (every (map read_entry m.1)) (λ cs. some (t, cs)) v e₁ in
+      let (ws, i, h₂) = bound (every (map read_member ms)) (λ us. some (v ∷ us)) vs h₁ in
+      subst (All (TreesOf Q)) (some-injective (v ∷ ws) vs h₂) (
+        subst (TreesOf Q) (some-injective (t, bs) v e₂)
+            (reads m.0 t k.0 f, entries_all m.1 bs g (all_left P (entry_values m.1) (member_texts ms) k.1)),
+        members_all ms ws i (all_right P (entry_values m.1) (member_texts ms) k.1),
       )

@@ -1,66 +1,66 @@
 -- Substitution with a falling budget gives the instance exactly where its nodes fit the budget, also through all sides of a
 -- list of pairs.
-use mathlib.Core.Path.{_≡_, refl, ap, ap₂, sym, _∙_, fun-ext}
+use mathlib.Core.Path.{◌≡◌, refl, ap, ap₂, sym, ◌∙◌, fun_ext}
 use mathlib.Core.Bool.{Bool, true, false}
-use mathlib.Core.List.{List, [], _∷_}
+use mathlib.Core.List.{List, [], ◌∷◌}
 use mathlib.Core.Option.{Option, some, none as nothing}
-use Prim.Native.Nat.{ℕ, _+_, _-_, _≤_}
+use Prim.Native.Nat.{ℕ, ◌+◌, ◌-◌, ◌≤◌}
 use native.Mathlib.Omega.{arith}
 use lib.Dec.{leb}
-use Rattle·rules.specs.Tree.{Tree, variable, atom, apply, Trees, none, more, size, sizes}
-use Rattle·rules.specs.Substitution.{substitute, substitutes, Binding, Pair, lookup, instantiate, instantiate-pairs, size-pairs, flatten, charge, paid, and-then, substitute-within, substitutes-within}
-use Rattle·laws·proofs.proofs.Basics.Tests.{leb-true, leb-false, true-leb, false-leb}
+use Rattle.rules.specs.Tree.{Tree, variable, atom, apply, Trees, none, more, size, sizes}
+use Rattle.rules.specs.Substitution.{substitute, substitutes, Binding, Pair, lookup, instantiate, instantiate_pairs, size_pairs, flatten, charge, paid, and_then, substitute_within, substitutes_within}
+use Rattle.laws.proofs.Basics.Tests.{leb_true, leb_false, true_leb, false_leb}
 
 -- to pay twice is to pay the sum
-paid-twice : {A B C : Type 0} (m n k : ℕ) (a : A) (b : B) (f : A → B → C)
-    → and-then (paid m k a) (λ x j. and-then (paid n j b) (λ y i. some (f x y, i))) ≡ paid (m + n) k (f a b)
-paid-twice m n k a b f = go (leb m k) refl
+paid_twice : {A B C : Type 0} (m n k : ℕ) (a : A) (b : B) (f : A → B → C)
+    → and_then (paid m k a) (λ x j. and_then (paid n j b) (λ y i. some (f x y, i))) ≡ paid (m + n) k (f a b)
+paid_twice m n k a b f = go (leb m k) refl
   where
     refused : leb (m + n) k ≡ false → nothing ≡ paid (m + n) k (f a b)
     refused s = sym (ap (λ (c : Bool). charge c (m + n) k (f a b)) s)
 
-    second : m ≤ k → (c : Bool) → leb n (k - m) ≡ c → and-then (charge c n (k - m) b) (λ y i. some (f a y, i)) ≡ paid (m + n) k (f a b)
+    second : m ≤ k → (c : Bool) → leb n (k - m) ≡ c → and_then (charge c n (k - m) b) (λ y i. some (f a y, i)) ≡ paid (m + n) k (f a b)
     second h true e =
-        let l = leb-true n (k - m) e in
+        let l = leb_true n (k - m) e in
         let r : k - m - n ≡ k - (m + n) = omega arith in
-        let s : leb (m + n) k ≡ true = true-leb (m + n) k (omega arith) in
+        let s : leb (m + n) k ≡ true = true_leb (m + n) k (omega arith) in
         ap (λ i. some (f a b, i)) r ∙ sym (ap (λ (c : Bool). charge c (m + n) k (f a b)) s)
-    second h false e = let l = leb-false n (k - m) e in refused (false-leb (m + n) k (omega arith))
+    second h false e = let l = leb_false n (k - m) e in refused (false_leb (m + n) k (omega arith))
 
-    go : (c : Bool) → leb m k ≡ c → and-then (charge c m k a) (λ x j. and-then (paid n j b) (λ y i. some (f x y, i))) ≡ paid (m + n) k (f a b)
-    go true e = second (leb-true m k e) (leb n (k - m)) refl
-    go false e = let l = leb-false m k e in refused (false-leb (m + n) k (omega arith))
+    go : (c : Bool) → leb m k ≡ c → and_then (charge c m k a) (λ x j. and_then (paid n j b) (λ y i. some (f x y, i))) ≡ paid (m + n) k (f a b)
+    go true e = second (leb_true m k e) (leb n (k - m)) refl
+    go false e = let l = leb_false m k e in refused (false_leb (m + n) k (omega arith))
 
-paid-nothing : {A : Type 0} (k : ℕ) (a : A) → some (a, k) ≡ paid 0 k a
-paid-nothing k a = ap (λ i. some (a, i)) (omega arith) ∙ sym (ap (λ (c : Bool). charge c 0 k a) (true-leb 0 k (omega arith)))
+paid_nothing : {A : Type 0} (k : ℕ) (a : A) → some (a, k) ≡ paid 0 k a
+paid_nothing k a = ap (λ i. some (a, i)) (omega arith) ∙ sym (ap (λ (c : Bool). charge c 0 k a) (true_leb 0 k (omega arith)))
 
 mutual
-  unfolding substitute-within substitute size
+  unfolding substitute_within substitute size
 
-  pub substitute-within-is : (bs : List Binding) (t : Tree) (k : ℕ) → substitute-within bs t k ≡ paid (size (instantiate bs t)) k (instantiate bs t)
-  substitute-within-is bs (variable x) k = refl
-  substitute-within-is bs (atom c d) k = refl
-  substitute-within-is bs (apply f ts) k =
-      ap (λ (F : ℕ → Option (Trees × ℕ)). and-then (paid 1 k ts) (λ us j. and-then (F j) (λ vs i. some (apply f vs, i)))) (fun-ext (λ j. substitutes-within-are bs ts j))
-      ∙ paid-twice 1 (sizes (substitutes (lookup bs) ts)) k ts (substitutes (lookup bs) ts) (λ us vs. apply f vs)
+  pub substitute_within_is : (bs : List Binding) (t : Tree) (k : ℕ) → substitute_within bs t k ≡ paid (size (instantiate bs t)) k (instantiate bs t)
+  substitute_within_is bs (variable x) k = refl
+  substitute_within_is bs (atom c d) k = refl
+  substitute_within_is bs (apply f ts) k =
+      ap (λ (F : ℕ → Option (Trees × ℕ)). and_then (paid 1 k ts) (λ us j. and_then (F j) (λ vs i. some (apply f vs, i)))) (fun_ext (λ j. substitutes_within_are bs ts j))
+      ∙ paid_twice 1 (sizes (substitutes (lookup bs) ts)) k ts (substitutes (lookup bs) ts) (λ us vs. apply f vs)
 
-  pub substitutes-within-are : (bs : List Binding) (ts : Trees) (k : ℕ) → substitutes-within bs ts k ≡ paid (sizes (substitutes (lookup bs) ts)) k (substitutes (lookup bs) ts)
-  substitutes-within-are bs none k = paid-nothing k none
-  substitutes-within-are bs (more t ts) k =
-      ap₂ (λ (o : Option (Tree × ℕ)) (F : ℕ → Option (Trees × ℕ)). and-then o (λ u j. and-then (F j) (λ us i. some (more u us, i)))) (substitute-within-is bs t k) (fun-ext (λ j. substitutes-within-are bs ts j))
-      ∙ paid-twice (size (instantiate bs t)) (sizes (substitutes (lookup bs) ts)) k (instantiate bs t) (substitutes (lookup bs) ts) more
+  pub substitutes_within_are : (bs : List Binding) (ts : Trees) (k : ℕ) → substitutes_within bs ts k ≡ paid (sizes (substitutes (lookup bs) ts)) k (substitutes (lookup bs) ts)
+  substitutes_within_are bs none k = paid_nothing k none
+  substitutes_within_are bs (more t ts) k =
+      ap₂ (λ (o : Option (Tree × ℕ)) (F : ℕ → Option (Trees × ℕ)). and_then o (λ u j. and_then (F j) (λ us i. some (more u us, i)))) (substitute_within_is bs t k) (fun_ext (λ j. substitutes_within_are bs ts j))
+      ∙ paid_twice (size (instantiate bs t)) (sizes (substitutes (lookup bs) ts)) k (instantiate bs t) (substitutes (lookup bs) ts) more
 
-pub flatten-instance : (bs : List Binding) (ps : List Pair) → substitutes (lookup bs) (flatten ps) ≡ flatten (instantiate-pairs bs ps)
-unfolding flatten substitute instantiate-pairs
-flatten-instance bs [] = refl
-flatten-instance bs (p ∷ ps) = ap (λ (ts : Trees). more (instantiate bs (p .0)) (more (instantiate bs (p .1)) ts)) (flatten-instance bs ps)
+pub flatten_instance : (bs : List Binding) (ps : List Pair) → substitutes (lookup bs) (flatten ps) ≡ flatten (instantiate_pairs bs ps)
+unfolding flatten substitute instantiate_pairs
+flatten_instance bs [] = refl
+flatten_instance bs (p ∷ ps) = ap (λ (ts : Trees). more (instantiate bs p.0) (more (instantiate bs p.1) ts)) (flatten_instance bs ps)
 
-pub flatten-size : (ps : List Pair) → sizes (flatten ps) ≡ size-pairs ps
-unfolding flatten size size-pairs
-flatten-size [] = refl
-flatten-size (p ∷ ps) = let h = flatten-size ps in omega arith
+pub flatten_size : (ps : List Pair) → sizes (flatten ps) ≡ size_pairs ps
+unfolding flatten size size_pairs
+flatten_size [] = refl
+flatten_size (p ∷ ps) = let h = flatten_size ps in omega arith
 
-pub substitutes-within-pairs : (bs : List Binding) (ps : List Pair) (k : ℕ) → substitutes-within bs (flatten ps) k ≡ paid (size-pairs (instantiate-pairs bs ps)) k (flatten (instantiate-pairs bs ps))
-substitutes-within-pairs bs ps k =
-    substitutes-within-are bs (flatten ps) k ∙ ap (λ (ts : Trees). paid (sizes ts) k ts) (flatten-instance bs ps)
-    ∙ ap (λ (n : ℕ). paid n k (flatten (instantiate-pairs bs ps))) (flatten-size (instantiate-pairs bs ps))
+pub substitutes_within_pairs : (bs : List Binding) (ps : List Pair) (k : ℕ) → substitutes_within bs (flatten ps) k ≡ paid (size_pairs (instantiate_pairs bs ps)) k (flatten (instantiate_pairs bs ps))
+substitutes_within_pairs bs ps k =
+    substitutes_within_are bs (flatten ps) k ∙ ap (λ (ts : Trees). paid (sizes ts) k ts) (flatten_instance bs ps)
+    ∙ ap (λ (n : ℕ). paid n k (flatten (instantiate_pairs bs ps))) (flatten_size (instantiate_pairs bs ps))

@@ -1,23 +1,23 @@
 -- What steps of unify and moves of match leave of the trees: a predicate that goes from applications to their arguments, and from two
 -- trees to their sum, holds of what is left where it held of what was there.
-use mathlib.Core.Path.{_≡_, refl, sym}
+use mathlib.Core.Path.{◌≡◌, refl, sym}
 use mathlib.Core.Bool.{Bool, true, false}
-use mathlib.Core.List.{List, [], _∷_}
+use mathlib.Core.List.{List, [], ◌∷◌}
 use mathlib.Core.Option.{Option, some, none as nothing}
-use Prim.Native.Nat.{_≤_}
+use Prim.Native.Nat.{◌≤◌}
 use lib.Dec.{leb}
-use Rattle·rules.specs.Bytes.{Text, same}
-use Rattle·rules.specs.Tree.{Tree, variable, atom, apply, Trees, none, more, head, children, same-tree, occurs, tamtplus, plus}
-use Rattle·rules.specs.Substitution.{Binding, Pair, instantiate-pairs, size-pairs}
-use Rattle·rules.specs.Sums.{summands, summands-of, rebuild, equivalent}
-use Rattle·rules.specs.Sorts.{Sort, variable-sort, sorted, refinable, sort-refuted}
-use Rattle·rules.specs.Solving.{Step, goes-on, bind, fails, unknown, Rest, emptied, mismatch, stuck, equation, keep, remove-at, remove, cancel-at, cancel, remainder, cancel-sums, fits, bind-into, unless-refinable, swap-at, swap-for, swap-key, sort-check, occurs-check, eliminate-at, eliminate, push-children, if-refuted, sum-step, decompose-at, decompose, against, differ, step-at, step}
-use Rattle·rules.specs.Matching.{Move, onward, clash, beyond, bound, agree, bind-new, sort-new, match-key, match-rest, ground-eq, match-at, match-roots, move}
-use Rattle·laws·proofs.proofs.Basics.Tests.{leb-true, differ-of-ne, ne-of-differ}
-use Rattle·laws·proofs.proofs.Equality.Summands.{AllOf, all-append, all-unless}
+use Rattle.rules.specs.Bytes.{Text, same}
+use Rattle.rules.specs.Tree.{Tree, variable, atom, apply, Trees, none, more, head, children, same_tree, occurs, tamtplus, plus}
+use Rattle.rules.specs.Substitution.{Binding, Pair, instantiate_pairs, size_pairs}
+use Rattle.rules.specs.Sums.{summands, summands_of, rebuild, equivalent}
+use Rattle.rules.specs.Sorts.{Sort, variable_sort, sorted, refinable, sort_refuted}
+use Rattle.rules.specs.Solving.{Step, goes_on, bind, fails, unknown, Rest, emptied, mismatch, stuck, equation, keep, remove_at, remove, cancel_at, cancel, remainder, cancel_sums, fits, bind_into, unless_refinable, swap_at, swap_for, swap_key, sort_check, occurs_check, eliminate_at, eliminate, push_children, if_refuted, sum_step, decompose_at, decompose, against, differ, step_at, step}
+use Rattle.rules.specs.Matching.{Move, onward, clash, beyond, bound, agree, bind_new, sort_new, match_key, match_rest, ground_eq, match_at, match_roots, move}
+use Rattle.laws.proofs.Basics.Tests.{leb_true, differ_of_ne, ne_of_differ}
+use Rattle.laws.proofs.Equality.Summands.{AllOf, all_append, all_unless}
 
-pub other-way : (x y : Text) → same x y ≡ false → same y x ≡ false
-other-way x y e = differ-of-ne {x = y} {y = x} (λ d. ne-of-differ {x = x} {y = y} e (sym d))
+pub other_way : (x y : Text) → same x y ≡ false → same y x ≡ false
+other_way x y e = differ_of_ne {x = y} {y = x} (λ d. ne_of_differ {x = x} {y = y} e (sym d))
 
 abbrev pub AllIn : (Tree → Type 0) → Trees → Type 0
 AllIn P none = Unit {0}
@@ -26,7 +26,7 @@ AllIn P (more t ts) = P t × AllIn P ts
 -- of the left and of the right sides
 abbrev pub Sides : (Tree → Type 0) → (Tree → Type 0) → List Pair → Type 0
 Sides P Q [] = Unit {0}
-Sides P Q (p ∷ ps) = P (p .0) × Q (p .1) × Sides P Q ps
+Sides P Q (p ∷ ps) = P p.0 × Q p.1 × Sides P Q ps
 
 pub record Kept (P : Tree → Type 0) : Type 0 where
   pub parts : (f : Text) (ts : Trees) → P (apply f ts) → AllIn P ts
@@ -38,53 +38,53 @@ module _ (P : Tree → Type 0) (k : Kept P) where
   mutual
     unfolding summands
 
-    pub summands-keep : (t : Tree) → P t → AllOf P (summands t)
-    summands-keep (variable x) h = (h, tt)
-    summands-keep (atom c d) h = (h, tt)
-    summands-keep (apply f ts) h = all-unless P (same f tamtplus) (summands-of ts) (apply f ts) (summands-of-keep ts (k .parts f ts h)) h
+    pub summands_keep : (t : Tree) → P t → AllOf P (summands t)
+    summands_keep (variable x) h = (h, tt)
+    summands_keep (atom c d) h = (h, tt)
+    summands_keep (apply f ts) h = all_unless P (same f tamtplus) (summands_of ts) (apply f ts) (summands_of_keep ts (k.parts f ts h)) h
 
-    summands-of-keep : (ts : Trees) → AllIn P ts → AllOf P (summands-of ts)
-    summands-of-keep none h = tt
-    summands-of-keep (more t ts) h = all-append P (summands t) (summands-of ts) (summands-keep t (h .0)) (summands-of-keep ts (h .1))
+    summands_of_keep : (ts : Trees) → AllIn P ts → AllOf P (summands_of ts)
+    summands_of_keep none h = tt
+    summands_of_keep (more t ts) h = all_append P (summands t) (summands_of ts) (summands_keep t h.0) (summands_of_keep ts h.1)
 
-  rebuild-keep : (t : Tree) (ts : List Tree) → P t → AllOf P ts → P (rebuild t ts)
+  rebuild_keep : (t : Tree) (ts : List Tree) → P t → AllOf P ts → P (rebuild t ts)
   unfolding rebuild
-  rebuild-keep t [] h g = h
-  rebuild-keep t (u ∷ us) h g = k .sums t (rebuild u us) h (rebuild-keep u us (g .0) (g .1))
+  rebuild_keep t [] h g = h
+  rebuild_keep t (u ∷ us) h g = k.sums t (rebuild u us) h (rebuild_keep u us g.0 g.1)
 
-  children-keep : (t : Tree) → P t → AllIn P (children t)
+  children_keep : (t : Tree) → P t → AllIn P (children t)
   unfolding children
-  children-keep (variable x) h = tt
-  children-keep (atom c d) h = tt
-  children-keep (apply f ts) h = k .parts f ts h
+  children_keep (variable x) h = tt
+  children_keep (atom c d) h = tt
+  children_keep (apply f ts) h = k.parts f ts h
 
 abbrev pub AllMaybe : (Tree → Type 0) → Option (List Tree) → Type 0
 AllMaybe P nothing = Unit {0}
 AllMaybe P (some ts) = AllOf P ts
 
-pub remove-keep : (P : Tree → Type 0) (test : Tree → Tree → Bool) (t : Tree) (us : List Tree) → AllOf P us → AllMaybe P (remove test t us)
+pub remove_keep : (P : Tree → Type 0) (test : Tree → Tree → Bool) (t : Tree) (us : List Tree) → AllOf P us → AllMaybe P (remove test t us)
 unfolding remove
-remove-keep P test t [] h = tt
-remove-keep P test t (u ∷ us) h = go (test t u) (remove test t us) (remove-keep P test t us (h .1))
+remove_keep P test t [] h = tt
+remove_keep P test t (u ∷ us) h = go (test t u) (remove test t us) (remove_keep P test t us h.1)
   where
     kept : (o : Option (List Tree)) → AllMaybe P o → AllMaybe P (keep u o)
     kept nothing m = tt
-    kept (some vs) m = (h .0, m)
+    kept (some vs) m = (h.0, m)
 
-    go : (c : Bool) (o : Option (List Tree)) → AllMaybe P o → AllMaybe P (remove-at c u us o)
-    go true o m = h .1
+    go : (c : Bool) (o : Option (List Tree)) → AllMaybe P o → AllMaybe P (remove_at c u us o)
+    go true o m = h.1
     go false o m = kept o m
 
 module _ (P Q : Tree → Type 0) where
   -- what cancelling leaves of either side
-  pub cancel-keep : (test : Tree → Tree → Bool) (ts us : List Tree) → AllOf P ts → AllOf Q us → AllOf P (cancel test ts us .0) × AllOf Q (cancel test ts us .1)
+  pub cancel_keep : (test : Tree → Tree → Bool) (ts us : List Tree) → AllOf P ts → AllOf Q us → AllOf P (cancel test ts us).0 × AllOf Q (cancel test ts us).1
   unfolding cancel
-  cancel-keep test [] us p q = (tt, q)
-  cancel-keep test (t ∷ ts) us p q = go (remove test t us) (remove-keep Q test t us q) (λ vs m. cancel-keep test ts vs (p .1) m)
+  cancel_keep test [] us p q = (tt, q)
+  cancel_keep test (t ∷ ts) us p q = go (remove test t us) (remove_keep Q test t us q) (λ vs m. cancel_keep test ts vs p.1 m)
     where
-      go : (o : Option (List Tree)) → AllMaybe Q o → ((vs : List Tree) → AllOf Q vs → AllOf P (cancel test ts vs .0) × AllOf Q (cancel test ts vs .1))
-          → AllOf P (cancel-at o t (λ vs. cancel test ts vs) us .0) × AllOf Q (cancel-at o t (λ vs. cancel test ts vs) us .1)
-      go nothing m r = let c = r us q in ((p .0, c .0), c .1)
+      go : (o : Option (List Tree)) → AllMaybe Q o → ((vs : List Tree) → AllOf Q vs → AllOf P (cancel test ts vs).0 × AllOf Q (cancel test ts vs).1)
+          → AllOf P (cancel_at o t (λ vs. cancel test ts vs) us).0 × AllOf Q (cancel_at o t (λ vs. cancel test ts vs) us).1
+      go nothing m r = let c = r us q in ((p.0, c.0), c.1)
       go (some vs) m r = r vs m
 
   abbrev KeptRest : Rest → Type 0
@@ -93,28 +93,28 @@ module _ (P Q : Tree → Type 0) where
   KeptRest stuck = Unit {0}
   KeptRest (equation a b) = P a × Q b
 
-  pub push-keep : (ts us : Trees) (ps : List Pair) → AllIn P ts → AllIn Q us → Sides P Q ps → Sides P Q (push-children ts us ps)
-  unfolding push-children
-  push-keep none us ps p q h = h
-  push-keep (more t ts) none ps p q h = h
-  push-keep (more t ts) (more u us) ps p q h = (p .0, q .0, push-keep ts us ps (p .1) (q .1) h)
+  pub push_keep : (ts us : Trees) (ps : List Pair) → AllIn P ts → AllIn Q us → Sides P Q ps → Sides P Q (push_children ts us ps)
+  unfolding push_children
+  push_keep none us ps p q h = h
+  push_keep (more t ts) none ps p q h = h
+  push_keep (more t ts) (more u us) ps p q h = (p.0, q.0, push_keep ts us ps p.1 q.1 h)
 
   module _ (kp : Kept P) (kq : Kept Q) where
-    remainder-keep : (b : Bool) (ks os : List Tree) → AllOf P ks → AllOf Q os → KeptRest (remainder b ks os)
-    remainder-keep b [] [] p q = tt
-    remainder-keep b [] (o ∷ os) p q = tt
-    remainder-keep b (k ∷ ks) [] p q = tt
-    remainder-keep b (k ∷ []) (o ∷ os) p q = (p .0, rebuild-keep Q kq o os (q .0) (q .1))
-    remainder-keep true (k ∷ j ∷ ks) (o ∷ []) p q = (rebuild-keep P kp k (j ∷ ks) (p .0) (p .1), q .0)
-    remainder-keep false (k ∷ j ∷ ks) (o ∷ []) p q = tt
-    remainder-keep true (k ∷ j ∷ ks) (o ∷ n ∷ os) p q = tt
-    remainder-keep false (k ∷ j ∷ ks) (o ∷ n ∷ os) p q = tt
+    remainder_keep : (b : Bool) (ks os : List Tree) → AllOf P ks → AllOf Q os → KeptRest (remainder b ks os)
+    remainder_keep b [] [] p q = tt
+    remainder_keep b [] (o ∷ os) p q = tt
+    remainder_keep b (k ∷ ks) [] p q = tt
+    remainder_keep b (k ∷ []) (o ∷ os) p q = (p.0, rebuild_keep Q kq o os q.0 q.1)
+    remainder_keep true (k ∷ j ∷ ks) (o ∷ []) p q = (rebuild_keep P kp k (j ∷ ks) p.0 p.1, q.0)
+    remainder_keep false (k ∷ j ∷ ks) (o ∷ []) p q = tt
+    remainder_keep true (k ∷ j ∷ ks) (o ∷ n ∷ os) p q = tt
+    remainder_keep false (k ∷ j ∷ ks) (o ∷ n ∷ os) p q = tt
 
-    sums-keep : (b : Bool) (test : Tree → Tree → Bool) (l r : Tree) → P l → Q r → KeptRest (cancel-sums b test l r)
-    unfolding cancel-sums
-    sums-keep b test l r p q =
-        let c = cancel-keep test (summands l) (summands r) (summands-keep P kp l p) (summands-keep Q kq r q) in
-        remainder-keep b (cancel test (summands l) (summands r) .0) (cancel test (summands l) (summands r) .1) (c .0) (c .1)
+    sums_keep : (b : Bool) (test : Tree → Tree → Bool) (l r : Tree) → P l → Q r → KeptRest (cancel_sums b test l r)
+    unfolding cancel_sums
+    sums_keep b test l r p q =
+        let c = cancel_keep test (summands l) (summands r) (summands_keep P kp l p) (summands_keep Q kq r q) in
+        remainder_keep b (cancel test (summands l) (summands r)).0 (cancel test (summands l) (summands r)).1 c.0 c.1
 
 -- One step of unify
 
@@ -123,105 +123,105 @@ pub record Bound (P : Tree → Type 0) (ps : List Pair) (x : Text) (v : Tree) (q
   pub key : P (variable x)
   pub value : P v
   pub apart : occurs x v ≡ false
-  pub put : qs ≡ instantiate-pairs ((x, v) ∷ []) ps
-  pub limit : size-pairs qs ≤ 4096
+  pub put : qs ≡ instantiate_pairs ((x, v) ∷ []) ps
+  pub limit : size_pairs qs ≤ 4096
 
 -- some pairs stand before those that waited
 pub data OnTop (ps : List Pair) : List Pair → Type 0 where
-  all-waited : OnTop ps ps
-  one-before : {p : Pair} {qs : List Pair} → OnTop ps qs → OnTop ps (p ∷ qs)
+  all_waited : OnTop ps ps
+  one_before : {p : Pair} {qs : List Pair} → OnTop ps qs → OnTop ps (p ∷ qs)
 
-push-top : (ts us : Trees) (ps : List Pair) → OnTop ps (push-children ts us ps)
-unfolding push-children
-push-top none us ps = all-waited
-push-top (more t ts) none ps = all-waited
-push-top (more t ts) (more u us) ps = one-before (push-top ts us ps)
+push_top : (ts us : Trees) (ps : List Pair) → OnTop ps (push_children ts us ps)
+unfolding push_children
+push_top none us ps = all_waited
+push_top (more t ts) none ps = all_waited
+push_top (more t ts) (more u us) ps = one_before (push_top ts us ps)
 
 abbrev pub KeptStep : (Tree → Type 0) → List Pair → Step → Type 0
-KeptStep P ps (goes-on qs) = Sides P P qs × OnTop ps qs
+KeptStep P ps (goes_on qs) = Sides P P qs × OnTop ps qs
 KeptStep P ps (bind x v qs) = Bound P ps x v qs
 KeptStep P ps fails = Unit {0}
 KeptStep P ps unknown = Unit {0}
 
 module _ (P : Tree → Type 0) (k : Kept P) (ps : List Pair) (waiting : Sides P P ps) where
-  into-keep : (x : Text) (v : Tree) → P (variable x) → P v → occurs x v ≡ false → KeptStep P ps (bind-into x v ps)
-  unfolding bind-into
-  into-keep x v p q e = go (leb (size-pairs (instantiate-pairs ((x, v) ∷ []) ps)) 4096) refl
+  into_keep : (x : Text) (v : Tree) → P (variable x) → P v → occurs x v ≡ false → KeptStep P ps (bind_into x v ps)
+  unfolding bind_into
+  into_keep x v p q e = go (leb (size_pairs (instantiate_pairs ((x, v) ∷ []) ps)) 4096) refl
     where
-      go : (c : Bool) → leb (size-pairs (instantiate-pairs ((x, v) ∷ []) ps)) 4096 ≡ c → KeptStep P ps (fits c x v (instantiate-pairs ((x, v) ∷ []) ps))
-      go true f = record { key = p; value = q; apart = e; put = refl; limit = leb-true _ 4096 f }
+      go : (c : Bool) → leb (size_pairs (instantiate_pairs ((x, v) ∷ []) ps)) 4096 ≡ c → KeptStep P ps (fits c x v (instantiate_pairs ((x, v) ∷ []) ps))
+      go true f = record { key = p; value = q; apart = e; put = refl; limit = leb_true _ 4096 f }
       go false f = tt
 
-  unless-keep : (c : Bool) → KeptStep P ps (unless-refinable c)
-  unless-keep true = tt
-  unless-keep false = tt
+  unless_keep : (c : Bool) → KeptStep P ps (unless_refinable c)
+  unless_keep true = tt
+  unless_keep false = tt
 
-  swap-keep : (s : Sort) (x : Text) (v : Tree) → P (variable x) → P v → occurs x v ≡ false → KeptStep P ps (swap-key s x v ps)
+  swap_keep : (s : Sort) (x : Text) (v : Tree) → P (variable x) → P v → occurs x v ≡ false → KeptStep P ps (swap_key s x v ps)
   unfolding occurs
-  swap-keep s x (variable y) p q e = for (variable-sort y)
+  swap_keep s x (variable y) p q e = for (variable_sort y)
     where
-      at : (c : Bool) → KeptStep P ps (swap-at c s x y ps)
-      at true = into-keep y (variable x) q p (other-way y x e)
-      at false = unless-keep (refinable s (variable y))
+      at : (c : Bool) → KeptStep P ps (swap_at c s x y ps)
+      at true = into_keep y (variable x) q p (other_way y x e)
+      at false = unless_keep (refinable s (variable y))
 
-      for : (o : Option Sort) → KeptStep P ps (swap-for o s x y ps)
-      for nothing = unless-keep (refinable s (variable y))
+      for : (o : Option Sort) → KeptStep P ps (swap_for o s x y ps)
+      for nothing = unless_keep (refinable s (variable y))
       for (some r) = at (sorted r (variable x))
-  swap-keep s x (atom c d) p q e = unless-keep (refinable s (atom c d))
-  swap-keep s x (apply f ts) p q e = unless-keep (refinable s (apply f ts))
+  swap_keep s x (atom c d) p q e = unless_keep (refinable s (atom c d))
+  swap_keep s x (apply f ts) p q e = unless_keep (refinable s (apply f ts))
 
-  eliminate-keep : (x : Text) (v : Tree) → P (variable x) → P v → KeptStep P ps (eliminate x v ps)
+  eliminate_keep : (x : Text) (v : Tree) → P (variable x) → P v → KeptStep P ps (eliminate x v ps)
   unfolding eliminate
-  eliminate-keep x v p q = go (variable-sort x)
+  eliminate_keep x v p q = go (variable_sort x)
     where
-      sort : (c : Bool) (s : Sort) → occurs x v ≡ false → KeptStep P ps (sort-check c s x v ps)
-      sort true s e = into-keep x v p q e
-      sort false s e = swap-keep s x v p q e
+      sort : (c : Bool) (s : Sort) → occurs x v ≡ false → KeptStep P ps (sort_check c s x v ps)
+      sort true s e = into_keep x v p q e
+      sort false s e = swap_keep s x v p q e
 
-      check : (c : Bool) (s : Sort) → occurs x v ≡ c → KeptStep P ps (occurs-check c s x v ps)
+      check : (c : Bool) (s : Sort) → occurs x v ≡ c → KeptStep P ps (occurs_check c s x v ps)
       check true s e = tt
       check false s e = sort (sorted s v) s e
 
-      go : (o : Option Sort) → KeptStep P ps (eliminate-at o x v ps)
+      go : (o : Option Sort) → KeptStep P ps (eliminate_at o x v ps)
       go nothing = tt
       go (some s) = check (occurs x v) s refl
 
-  decompose-keep : (l r : Tree) → P l → P r → KeptStep P ps (decompose l r ps)
+  decompose_keep : (l r : Tree) → P l → P r → KeptStep P ps (decompose l r ps)
   unfolding decompose
-  decompose-keep l r p q = go (same (head l) (head r)) (same (head l) tamtplus)
+  decompose_keep l r p q = go (same (head l) (head r)) (same (head l) tamtplus)
     where
-      refuted : (c : Bool) → KeptStep P ps (if-refuted c)
+      refuted : (c : Bool) → KeptStep P ps (if_refuted c)
       refuted true = tt
       refuted false = tt
 
-      rest : (w : Rest) → KeptRest P P w → KeptStep P ps (sum-step w l r ps)
-      rest emptied m = (waiting, all-waited)
+      rest : (w : Rest) → KeptRest P P w → KeptStep P ps (sum_step w l r ps)
+      rest emptied m = (waiting, all_waited)
       rest mismatch m = tt
-      rest (equation a b) m = ((m .0, m .1, waiting), one-before all-waited)
-      rest stuck m = refuted (sort-refuted l r)
+      rest (equation a b) m = ((m.0, m.1, waiting), one_before all_waited)
+      rest stuck m = refuted (sort_refuted l r)
 
-      go : (b c : Bool) → KeptStep P ps (decompose-at b c l r ps)
+      go : (b c : Bool) → KeptStep P ps (decompose_at b c l r ps)
       go false c = tt
-      go true true = rest (cancel-sums true equivalent l r) (sums-keep P P k k true equivalent l r p q)
-      go true false = (push-keep P P (children l) (children r) ps (children-keep P k l p) (children-keep P k r q) waiting, push-top (children l) (children r) ps)
+      go true true = rest (cancel_sums true equivalent l r) (sums_keep P P k k true equivalent l r p q)
+      go true false = (push_keep P P (children l) (children r) ps (children_keep P k l p) (children_keep P k r q) waiting, push_top (children l) (children r) ps)
 
-  against-keep : (l r : Tree) → P l → P r → KeptStep P ps (against l r ps)
-  against-keep l (variable y) p q = eliminate-keep y l q p
-  against-keep l (atom c d) p q = decompose-keep l (atom c d) p q
-  against-keep l (apply g us) p q = decompose-keep l (apply g us) p q
+  against_keep : (l r : Tree) → P l → P r → KeptStep P ps (against l r ps)
+  against_keep l (variable y) p q = eliminate_keep y l q p
+  against_keep l (atom c d) p q = decompose_keep l (atom c d) p q
+  against_keep l (apply g us) p q = decompose_keep l (apply g us) p q
 
-  differ-keep : (l r : Tree) → P l → P r → KeptStep P ps (differ l r ps)
-  differ-keep (variable x) r p q = eliminate-keep x r p q
-  differ-keep (atom c d) r p q = against-keep (atom c d) r p q
-  differ-keep (apply f ts) r p q = against-keep (apply f ts) r p q
+  differ_keep : (l r : Tree) → P l → P r → KeptStep P ps (differ l r ps)
+  differ_keep (variable x) r p q = eliminate_keep x r p q
+  differ_keep (atom c d) r p q = against_keep (atom c d) r p q
+  differ_keep (apply f ts) r p q = against_keep (apply f ts) r p q
 
-  pub step-keep : (l r : Tree) → P l → P r → KeptStep P ps (step l r ps)
+  pub step_keep : (l r : Tree) → P l → P r → KeptStep P ps (step l r ps)
   unfolding step
-  step-keep l r p q = go (same-tree l r)
+  step_keep l r p q = go (same_tree l r)
     where
-      go : (c : Bool) → KeptStep P ps (step-at c l r ps)
-      go true = (waiting, all-waited)
-      go false = differ-keep l r p q
+      go : (c : Bool) → KeptStep P ps (step_at c l r ps)
+      go true = (waiting, all_waited)
+      go false = differ_keep l r p q
 
 -- One move of match
 
@@ -236,39 +236,39 @@ KeptMove P Q bs clash = Unit {0}
 KeptMove P Q bs beyond = Unit {0}
 
 module _ (P Q : Tree → Type 0) (kp : Kept P) (kq : Kept Q) (ps : List Pair) (waiting : Sides P Q ps) (bs : List Binding) where
-  key-keep : (x : Text) (u : Tree) → P (variable x) → Q u → (o : Option Tree) → bound x bs ≡ o → KeptMove P Q bs (match-key o x u ps bs)
-  key-keep x u p q (some v) e = go (equivalent v u)
+  key_keep : (x : Text) (u : Tree) → P (variable x) → Q u → (o : Option Tree) → bound x bs ≡ o → KeptMove P Q bs (match_key o x u ps bs)
+  key_keep x u p q (some v) e = go (equivalent v u)
     where
       go : (c : Bool) → KeptMove P Q bs (agree c ps bs)
       go true = (waiting, unchanged)
       go false = tt
-  key-keep x u p q nothing e = for (variable-sort x)
+  key_keep x u p q nothing e = for (variable_sort x)
     where
-      new : (c : Bool) → KeptMove P Q bs (bind-new c x u ps bs)
+      new : (c : Bool) → KeptMove P Q bs (bind_new c x u ps bs)
       new true = (waiting, added p q e)
       new false = tt
 
-      for : (o : Option Sort) → KeptMove P Q bs (sort-new o x u ps bs)
+      for : (o : Option Sort) → KeptMove P Q bs (sort_new o x u ps bs)
       for nothing = tt
       for (some r) = new (sorted r u)
 
-  roots-keep : (t u : Tree) → P t → Q u → KeptMove P Q bs (match-roots t u ps bs)
-  unfolding match-roots
-  roots-keep t u p q = go (same (head t) (head u)) (same (head t) tamtplus)
+  roots_keep : (t u : Tree) → P t → Q u → KeptMove P Q bs (match_roots t u ps bs)
+  unfolding match_roots
+  roots_keep t u p q = go (same (head t) (head u)) (same (head t) tamtplus)
     where
-      rest : (w : Rest) → KeptRest P Q w → KeptMove P Q bs (match-rest w ps bs)
+      rest : (w : Rest) → KeptRest P Q w → KeptMove P Q bs (match_rest w ps bs)
       rest emptied m = (waiting, unchanged)
       rest mismatch m = tt
-      rest (equation a b) m = ((m .0, m .1, waiting), unchanged)
+      rest (equation a b) m = ((m.0, m.1, waiting), unchanged)
       rest stuck m = tt
 
-      go : (b c : Bool) → KeptMove P Q bs (match-at b c t u ps bs)
+      go : (b c : Bool) → KeptMove P Q bs (match_at b c t u ps bs)
       go false c = tt
-      go true true = rest (cancel-sums false ground-eq t u) (sums-keep P Q kp kq false ground-eq t u p q)
-      go true false = (push-keep P Q (children t) (children u) ps (children-keep P kp t p) (children-keep Q kq u q) waiting, unchanged)
+      go true true = rest (cancel_sums false ground_eq t u) (sums_keep P Q kp kq false ground_eq t u p q)
+      go true false = (push_keep P Q (children t) (children u) ps (children_keep P kp t p) (children_keep Q kq u q) waiting, unchanged)
 
-  pub move-keep : (t u : Tree) → P t → Q u → KeptMove P Q bs (move t u ps bs)
+  pub move_keep : (t u : Tree) → P t → Q u → KeptMove P Q bs (move t u ps bs)
   unfolding move
-  move-keep (variable x) u p q = key-keep x u p q (bound x bs) refl
-  move-keep (atom c d) u p q = roots-keep (atom c d) u p q
-  move-keep (apply f ts) u p q = roots-keep (apply f ts) u p q
+  move_keep (variable x) u p q = key_keep x u p q (bound x bs) refl
+  move_keep (atom c d) u p q = roots_keep (atom c d) u p q
+  move_keep (apply f ts) u p q = roots_keep (apply f ts) u p q

@@ -1,193 +1,193 @@
 -- The order of the sorts: what has a sort has every sort above it, and sorts that share a tree meet.
-use mathlib.Core.Path.{_≡_, refl, ap, sym, subst, _∙_}
-use mathlib.Core.Bool.{Bool, true, false, cond, not, _&&_, _||_, false≢true}
-use mathlib.Core.Logic.{⊎-elim}
+use mathlib.Core.Path.{◌≡◌, refl, ap, sym, subst, ◌∙◌}
+use mathlib.Core.Bool.{Bool, true, false, cond, not, ◌&&◌, ◌||◌, false≢true}
+use mathlib.Core.Logic.{⊎_elim}
 use mathlib.Core.Option.{Option, some, none as nothing}
 use Prim.Native.Nat.{ℕ}
 use native.Mathlib.Omega.{arith}
 use lib.Dec.{eqb}
-use Rattle·rules.specs.Bytes.{Text, same}
-use Rattle·rules.specs.Names.{letter}
-use Rattle·rules.specs.Tree.{Tree, variable, atom, apply, Trees, none, more, count, tamtplus}
-use Rattle·rules.specs.Sorts.{Sort, Pub, Fresh, Msg, TamNat, Node, Sort-discrete, decided, same-sort, intersects, variable-sort, Symbol, addition, unit, frame, free, tone, is-frame, symbol, has-sort, has-message-sort, natural, naturals, natural-at, message, messages, message-at, basic, sorted}
-use Rattle·rules.specs.Tidy.{Arity, Tidy}
-use Rattle·laws·proofs.proofs.Basics.Tests.{and-left, and-right, and-both, or-cases, eqb-true, same-eq}
+use Rattle.rules.specs.Bytes.{Text, same}
+use Rattle.rules.specs.Names.{letter}
+use Rattle.rules.specs.Tree.{Tree, variable, atom, apply, Trees, none, more, count, tamtplus}
+use Rattle.rules.specs.Sorts.{Sort, Pub, Fresh, Msg, TamNat, Node, sort_discrete, decided, same_sort, intersects, variable_sort, Symbol, addition, unit, frame, free, tone, is_frame, symbol, has_sort, has_message_sort, natural, naturals, natural_at, message, messages, message_at, basic, sorted}
+use Rattle.rules.specs.Tidy.{Arity, Tidy}
+use Rattle.laws.proofs.Basics.Tests.{and_left, and_right, and_both, or_cases, eqb_true, same_eq}
 
 -- a test of all sorts at once
-abbrev pub all-sorts : (Sort → Bool) → Bool
-all-sorts p = p Pub && (p Fresh && (p Msg && (p TamNat && p Node)))
+abbrev pub all_sorts : (Sort → Bool) → Bool
+all_sorts p = p Pub && (p Fresh && (p Msg && (p TamNat && p Node)))
 
-pub at-sort : (p : Sort → Bool) → all-sorts p ≡ true → (s : Sort) → p s ≡ true
-at-sort p e s = go s
+pub at_sort : (p : Sort → Bool) → all_sorts p ≡ true → (s : Sort) → p s ≡ true
+at_sort p e s = go s
   where
-    from-fresh : (p Fresh && (p Msg && (p TamNat && p Node))) ≡ true
-    from-fresh = and-right (p Pub) (p Fresh && (p Msg && (p TamNat && p Node))) e
+    from_fresh : (p Fresh && (p Msg && (p TamNat && p Node))) ≡ true
+    from_fresh = and_right (p Pub) (p Fresh && (p Msg && (p TamNat && p Node))) e
 
-    from-msg : (p Msg && (p TamNat && p Node)) ≡ true
-    from-msg = and-right (p Fresh) (p Msg && (p TamNat && p Node)) from-fresh
+    from_msg : (p Msg && (p TamNat && p Node)) ≡ true
+    from_msg = and_right (p Fresh) (p Msg && (p TamNat && p Node)) from_fresh
 
-    from-nat : (p TamNat && p Node) ≡ true
-    from-nat = and-right (p Msg) (p TamNat && p Node) from-msg
+    from_nat : (p TamNat && p Node) ≡ true
+    from_nat = and_right (p Msg) (p TamNat && p Node) from_msg
 
     go : (r : Sort) → p r ≡ true
-    go Pub = and-left (p Pub) (p Fresh && (p Msg && (p TamNat && p Node))) e
-    go Fresh = and-left (p Fresh) (p Msg && (p TamNat && p Node)) from-fresh
-    go Msg = and-left (p Msg) (p TamNat && p Node) from-msg
-    go TamNat = and-left (p TamNat) (p Node) from-nat
-    go Node = and-right (p TamNat) (p Node) from-nat
+    go Pub = and_left (p Pub) (p Fresh && (p Msg && (p TamNat && p Node))) e
+    go Fresh = and_left (p Fresh) (p Msg && (p TamNat && p Node)) from_fresh
+    go Msg = and_left (p Msg) (p TamNat && p Node) from_msg
+    go TamNat = and_left (p TamNat) (p Node) from_nat
+    go Node = and_right (p TamNat) (p Node) from_nat
 
 -- whether what has the first sort has the second
 abbrev pub below : Sort → Sort → Bool
-below c Pub = same-sort c Pub
-below c Fresh = same-sort c Fresh
-below c Msg = not (same-sort c Node)
-below c TamNat = same-sort c TamNat
-below c Node = same-sort c Node
+below c Pub = same_sort c Pub
+below c Fresh = same_sort c Fresh
+below c Msg = not (same_sort c Node)
+below c TamNat = same_sort c TamNat
+below c Node = same_sort c Node
 
-pub below-self : (s : Sort) → below s s ≡ true
-below-self s = at-sort (λ r. below r r) refl s
+pub below_self : (s : Sort) → below s s ≡ true
+below_self s = at_sort (λ r. below r r) refl s
 
 pub implies : (a b : Bool) → (not a || b) ≡ true → a ≡ true → b ≡ true
 implies true b e h = e
 implies false b e h = absurd (false≢true h)
 
 -- sorts above one sort meet
-pub below-meet : (a b c : Sort) → below a b ≡ true → below a c ≡ true → intersects b c ≡ true
-below-meet a b c h k = implies (below a b && below a c) (intersects b c)
-    (at-sort (λ z. not (below a b && below a z) || intersects b z)
-    (at-sort (λ y. all-sorts (λ z. not (below a y && below a z) || intersects y z))
-    (at-sort (λ x. all-sorts (λ y. all-sorts (λ z. not (below x y && below x z) || intersects y z))) refl a) b) c)
-    (and-both (below a b) (below a c) h k)
+pub below_meet : (a b c : Sort) → below a b ≡ true → below a c ≡ true → intersects b c ≡ true
+below_meet a b c h k = implies (below a b && below a c) (intersects b c)
+    (at_sort (λ z. not (below a b && below a z) || intersects b z)
+    (at_sort (λ y. all_sorts (λ z. not (below a y && below a z) || intersects y z))
+    (at_sort (λ x. all_sorts (λ y. all_sorts (λ z. not (below x y && below x z) || intersects y z))) refl a) b) c)
+    (and_both (below a b) (below a c) h k)
 
-pub same-sort-eq : (a b : Sort) → same-sort a b ≡ true → a ≡ b
-same-sort-eq a b e = go (Sort-discrete a b) e
+pub same_sort_eq : (a b : Sort) → same_sort a b ≡ true → a ≡ b
+same_sort_eq a b e = go (sort_discrete a b) e
   where
     go : (d : Dec (a ≡ b)) → decided d ≡ true → a ≡ b
-    go (yes p) e′ = p
-    go (no h) e′ = absurd (false≢true e′)
+    go (yes p) e' = p
+    go (no h) e' = absurd (false≢true e')
 
 -- variables
 
-pub sorted-variable : (s c : Sort) (x : Text) → variable-sort x ≡ some c → sorted s (variable x) ≡ below c s
+pub sorted_variable : (s c : Sort) (x : Text) → variable_sort x ≡ some c → sorted s (variable x) ≡ below c s
 unfolding sorted natural message basic
-sorted-variable Pub c x e = ap (has-sort Pub) e
-sorted-variable Fresh c x e = ap (has-sort Fresh) e
-sorted-variable Msg c x e = ap has-message-sort e
-sorted-variable TamNat c x e = ap (has-sort TamNat) e
-sorted-variable Node c x e = ap (has-sort Node) e
+sorted_variable Pub c x e = ap (has_sort Pub) e
+sorted_variable Fresh c x e = ap (has_sort Fresh) e
+sorted_variable Msg c x e = ap has_message_sort e
+sorted_variable TamNat c x e = ap (has_sort TamNat) e
+sorted_variable Node c x e = ap (has_sort Node) e
 
-unnamed : (x : Text) → variable-sort x ≡ nothing → (s : Sort) → not (sorted s (variable x)) ≡ true
+unnamed : (x : Text) → variable_sort x ≡ nothing → (s : Sort) → not (sorted s (variable x)) ≡ true
 unfolding sorted natural message basic
-unnamed x e = at-sort (λ s. not (sorted s (variable x))) (rw e)
+unnamed x e = at_sort (λ s. not (sorted s (variable x))) (rw e)
 
-pub named : (s : Sort) (x : Text) → sorted s (variable x) ≡ true → (c : Sort) × (variable-sort x ≡ some c) × (below c s ≡ true)
-named s x e = go (variable-sort x) refl
+pub named : (s : Sort) (x : Text) → sorted s (variable x) ≡ true → (c : Sort) × (variable_sort x ≡ some c) × (below c s ≡ true)
+named s x e = go (variable_sort x) refl
   where
-    go : (o : Option Sort) → variable-sort x ≡ o → (c : Sort) × (variable-sort x ≡ some c) × (below c s ≡ true)
+    go : (o : Option Sort) → variable_sort x ≡ o → (c : Sort) × (variable_sort x ≡ some c) × (below c s ≡ true)
     go nothing p = absurd (false≢true (ap not (sym e) ∙ unnamed x p s))
-    go (some c) p = (c, p, sym (sorted-variable s c x p) ∙ e)
+    go (some c) p = (c, p, sym (sorted_variable s c x p) ∙ e)
 
 -- atoms: the least sort of a letter
 
-abbrev letter-sort : Bool → Bool → Bool → Bool → Sort
-letter-sort true b c d = Pub
-letter-sort false true c d = Fresh
-letter-sort false false true d = TamNat
-letter-sort false false false true = Node
-letter-sort false false false false = Msg
+abbrev letter_sort : Bool → Bool → Bool → Bool → Sort
+letter_sort true b c d = Pub
+letter_sort false true c d = Fresh
+letter_sort false false true d = TamNat
+letter_sort false false false true = Node
+letter_sort false false false false = Msg
 
-abbrev pub atom-sort : ℕ → Sort
-atom-sort c = letter-sort (eqb c 112) (eqb c 102) (eqb c 116) (eqb c 110)
+abbrev pub atom_sort : ℕ → Sort
+atom_sort c = letter_sort (eqb c 112) (eqb c 102) (eqb c 116) (eqb c 110)
 
-at-letter : (P : ℕ → Type 0) (c n : ℕ) → eqb c n ≡ true → P n → P c
-at-letter P c n e h = subst P (sym (eqb-true c n e)) h
+at_letter : (P : ℕ → Type 0) (c n : ℕ) → eqb c n ≡ true → P n → P c
+at_letter P c n e h = subst P (sym (eqb_true c n e)) h
 
 -- what holds of each of the five letters
-pub at-letters : (P : ℕ → Type 0) → P 112 → P 102 → P 99 → P 116 → P 110 → (c : ℕ) → letter c ≡ true → P c
+pub at_letters : (P : ℕ → Type 0) → P 112 → P 102 → P 99 → P 116 → P 110 → (c : ℕ) → letter c ≡ true → P c
 unfolding letter
-at-letters P p f k t n c = either (eqb c 112 || eqb c 102 || eqb c 99 || eqb c 116) (eqb c 110)
+at_letters P p f k t n c = either (eqb c 112 || eqb c 102 || eqb c 99 || eqb c 116) (eqb c 110)
     (either (eqb c 112 || eqb c 102 || eqb c 99) (eqb c 116)
     (either (eqb c 112 || eqb c 102) (eqb c 99)
-    (either (eqb c 112) (eqb c 102) (λ e. at-letter P c 112 e p) (λ e. at-letter P c 102 e f))
-    (λ e. at-letter P c 99 e k)) (λ e. at-letter P c 116 e t)) (λ e. at-letter P c 110 e n)
+    (either (eqb c 112) (eqb c 102) (λ e. at_letter P c 112 e p) (λ e. at_letter P c 102 e f))
+    (λ e. at_letter P c 99 e k)) (λ e. at_letter P c 116 e t)) (λ e. at_letter P c 110 e n)
   where
     either : (a b : Bool) → (a ≡ true → P c) → (b ≡ true → P c) → (a || b) ≡ true → P c
-    either a b g h e = ⊎-elim g h (or-cases a b e)
+    either a b g h e = ⊎_elim g h (or_cases a b e)
 
-message-letter : (a b c d : Bool) → not d ≡ true → below (letter-sort a b c d) Msg ≡ true
-message-letter true b c d h = refl
-message-letter false true c d h = refl
-message-letter false false true d h = refl
-message-letter false false false true h = h
-message-letter false false false false h = refl
+message_letter : (a b c d : Bool) → not d ≡ true → below (letter_sort a b c d) Msg ≡ true
+message_letter true b c d h = refl
+message_letter false true c d h = refl
+message_letter false false true d h = refl
+message_letter false false false true h = h
+message_letter false false false false h = refl
 
-pub sorted-atom : (s : Sort) (c : ℕ) (d : Text) → sorted s (atom c d) ≡ true → below (atom-sort c) s ≡ true
+pub sorted_atom : (s : Sort) (c : ℕ) (d : Text) → sorted s (atom c d) ≡ true → below (atom_sort c) s ≡ true
 unfolding sorted natural message basic
-sorted-atom Pub c d e = at-letter (λ b. below (atom-sort b) Pub ≡ true) c 112 e refl
-sorted-atom Fresh c d e = at-letter (λ b. below (atom-sort b) Fresh ≡ true) c 102 e refl
-sorted-atom Msg c d e = message-letter (eqb c 112) (eqb c 102) (eqb c 116) (eqb c 110) e
-sorted-atom TamNat c d e = at-letter (λ b. below (atom-sort b) TamNat ≡ true) c 116 e refl
-sorted-atom Node c d e = at-letter (λ b. below (atom-sort b) Node ≡ true) c 110 e refl
+sorted_atom Pub c d e = at_letter (λ b. below (atom_sort b) Pub ≡ true) c 112 e refl
+sorted_atom Fresh c d e = at_letter (λ b. below (atom_sort b) Fresh ≡ true) c 102 e refl
+sorted_atom Msg c d e = message_letter (eqb c 112) (eqb c 102) (eqb c 116) (eqb c 110) e
+sorted_atom TamNat c d e = at_letter (λ b. below (atom_sort b) TamNat ≡ true) c 116 e refl
+sorted_atom Node c d e = at_letter (λ b. below (atom_sort b) Node ≡ true) c 110 e refl
 
 -- applications: `sorted` from the symbol and the tests of the arguments
 
-abbrev pub sorted-at : Sort → Symbol → Bool → Bool → Bool
-sorted-at Pub h a b = false
-sorted-at Fresh h a b = false
-sorted-at Msg h a b = message-at h a b
-sorted-at TamNat h a b = natural-at h a
-sorted-at Node h a b = false
+abbrev pub sorted_at : Sort → Symbol → Bool → Bool → Bool
+sorted_at Pub h a b = false
+sorted_at Fresh h a b = false
+sorted_at Msg h a b = message_at h a b
+sorted_at TamNat h a b = natural_at h a
+sorted_at Node h a b = false
 
-pub sorted-apply : (s : Sort) (f : Text) (ts : Trees) → sorted s (apply f ts) ≡ sorted-at s (symbol f) (naturals ts) (messages ts)
+pub sorted_apply : (s : Sort) (f : Text) (ts : Trees) → sorted s (apply f ts) ≡ sorted_at s (symbol f) (naturals ts) (messages ts)
 unfolding sorted natural message basic
-sorted-apply Pub f ts = refl
-sorted-apply Fresh f ts = refl
-sorted-apply Msg f ts = refl
-sorted-apply TamNat f ts = refl
-sorted-apply Node f ts = refl
+sorted_apply Pub f ts = refl
+sorted_apply Fresh f ts = refl
+sorted_apply Msg f ts = refl
+sorted_apply TamNat f ts = refl
+sorted_apply Node f ts = refl
 
-abbrev pub symbol-sort : Symbol → Sort
-symbol-sort addition = TamNat
-symbol-sort unit = TamNat
-symbol-sort frame = Msg
-symbol-sort free = Msg
+abbrev pub symbol_sort : Symbol → Sort
+symbol_sort addition = TamNat
+symbol_sort unit = TamNat
+symbol_sort frame = Msg
+symbol_sort free = Msg
 
-pub sorted-symbol : (s : Sort) (h : Symbol) (a b : Bool) → sorted-at s h a b ≡ true → below (symbol-sort h) s ≡ true
-sorted-symbol Pub h a b e = absurd (false≢true e)
-sorted-symbol Fresh h a b e = absurd (false≢true e)
-sorted-symbol Msg addition a b e = refl
-sorted-symbol Msg unit a b e = refl
-sorted-symbol Msg frame a b e = refl
-sorted-symbol Msg free a b e = refl
-sorted-symbol TamNat addition a b e = refl
-sorted-symbol TamNat unit a b e = refl
-sorted-symbol TamNat frame a b e = e
-sorted-symbol TamNat free a b e = e
-sorted-symbol Node h a b e = absurd (false≢true e)
+pub sorted_symbol : (s : Sort) (h : Symbol) (a b : Bool) → sorted_at s h a b ≡ true → below (symbol_sort h) s ≡ true
+sorted_symbol Pub h a b e = absurd (false≢true e)
+sorted_symbol Fresh h a b e = absurd (false≢true e)
+sorted_symbol Msg addition a b e = refl
+sorted_symbol Msg unit a b e = refl
+sorted_symbol Msg frame a b e = refl
+sorted_symbol Msg free a b e = refl
+sorted_symbol TamNat addition a b e = refl
+sorted_symbol TamNat unit a b e = refl
+sorted_symbol TamNat frame a b e = e
+sorted_symbol TamNat free a b e = e
+sorted_symbol Node h a b e = absurd (false≢true e)
 
 -- the sorts of one tree are above one sort
-pub sorts-meet : (r s : Sort) (t : Tree) → sorted r t ≡ true → sorted s t ≡ true → intersects r s ≡ true
-sorts-meet r s (variable x) p q = let n = named r x p in below-meet (n .0) r s (n .2) (sym (sorted-variable s (n .0) x (n .1)) ∙ q)
-sorts-meet r s (atom c d) p q = below-meet (atom-sort c) r s (sorted-atom r c d p) (sorted-atom s c d q)
-sorts-meet r s (apply f ts) p q = below-meet (symbol-sort (symbol f)) r s
-    (sorted-symbol r (symbol f) (naturals ts) (messages ts) (sym (sorted-apply r f ts) ∙ p))
-    (sorted-symbol s (symbol f) (naturals ts) (messages ts) (sym (sorted-apply s f ts) ∙ q))
+pub sorts_meet : (r s : Sort) (t : Tree) → sorted r t ≡ true → sorted s t ≡ true → intersects r s ≡ true
+sorts_meet r s (variable x) p q = let n = named r x p in below_meet n.0 r s n.2 (sym (sorted_variable s n.0 x n.1) ∙ q)
+sorts_meet r s (atom c d) p q = below_meet (atom_sort c) r s (sorted_atom r c d p) (sorted_atom s c d q)
+sorts_meet r s (apply f ts) p q = below_meet (symbol_sort (symbol f)) r s
+    (sorted_symbol r (symbol f) (naturals ts) (messages ts) (sym (sorted_apply r f ts) ∙ p))
+    (sorted_symbol s (symbol f) (naturals ts) (messages ts) (sym (sorted_apply s f ts) ∙ q))
 
 -- what has a sort has every sort above
 
-is-unit : Symbol → Bool
-is-unit addition = false
-is-unit unit = true
-is-unit frame = false
-is-unit free = false
+is_unit : Symbol → Bool
+is_unit addition = false
+is_unit unit = true
+is_unit frame = false
+is_unit free = false
 
-symbol-unit : (f : Text) → is-unit (symbol f) ≡ true → f ≡ tone
-unfolding symbol is-unit
-symbol-unit f e = go (same f tamtplus) (same f tone) (is-frame f) refl e
+symbol_unit : (f : Text) → is_unit (symbol f) ≡ true → f ≡ tone
+unfolding symbol is_unit
+symbol_unit f e = go (same f tamtplus) (same f tone) (is_frame f) refl e
   where
-    go : (a b c : Bool) → same f tone ≡ b → is-unit (cond a addition (cond b unit (cond c frame free))) ≡ true → f ≡ tone
+    go : (a b c : Bool) → same f tone ≡ b → is_unit (cond a addition (cond b unit (cond c frame free))) ≡ true → f ≡ tone
     go true b c p z = absurd (false≢true z)
-    go false true c p z = same-eq f tone p
+    go false true c p z = same_eq f tone p
     go false false true p z = absurd (false≢true z)
     go false false false p z = absurd (false≢true z)
 
@@ -196,39 +196,39 @@ childless none e = refl
 childless (more t ts) e = absurd (omega arith)
 
 module _ (arity : Text → ℕ) (counts : Arity arity) where
-  pub unit-childless : (f : Text) (ts : Trees) → symbol f ≡ unit → Tidy arity (apply f ts) → ts ≡ none
-  unfolding is-unit
-  unit-childless f ts e d = childless ts (d .0 ∙ ap arity (symbol-unit f (ap is-unit e)) ∙ counts .ones)
+  pub unit_childless : (f : Text) (ts : Trees) → symbol f ≡ unit → Tidy arity (apply f ts) → ts ≡ none
+  unfolding is_unit
+  unit_childless f ts e d = childless ts (d.0 ∙ ap arity (symbol_unit f (ap is_unit e)) ∙ counts.ones)
 
-  natural-message : (t : Tree) → Tidy arity t → natural t ≡ true → message t ≡ true
+  natural_message : (t : Tree) → Tidy arity t → natural t ≡ true → message t ≡ true
   unfolding natural message
-  natural-message (variable x) d e =
-      ap has-message-sort (d .1) ∙ subst (λ (r : Sort). not (same-sort r Node) ≡ true) (sym (same-sort-eq (d .0) TamNat (sym (ap (has-sort TamNat) (d .1)) ∙ e))) refl
-  natural-message (atom c n) d e = at-letter (λ b. not (eqb b 110) ≡ true) c 116 e refl
-  natural-message (apply f ts) d e = go (symbol f) refl e
+  natural_message (variable x) d e =
+      ap has_message_sort d.1 ∙ subst (λ (r : Sort). not (same_sort r Node) ≡ true) (sym (same_sort_eq d.0 TamNat (sym (ap (has_sort TamNat) d.1) ∙ e))) refl
+  natural_message (atom c n) d e = at_letter (λ b. not (eqb b 110) ≡ true) c 116 e refl
+  natural_message (apply f ts) d e = go (symbol f) refl e
     where
-      go : (h : Symbol) → symbol f ≡ h → natural-at h (naturals ts) ≡ true → message-at h (naturals ts) (messages ts) ≡ true
+      go : (h : Symbol) → symbol f ≡ h → natural_at h (naturals ts) ≡ true → message_at h (naturals ts) (messages ts) ≡ true
       go addition p z = z
-      go unit p z = ap messages (unit-childless f ts p d)
+      go unit p z = ap messages (unit_childless f ts p d)
       go frame p z = z
       go free p z = absurd (false≢true z)
 
-  basic-message : (s : Sort) (k : ℕ) → not (eqb k 110) ≡ true → not (same-sort s Node) ≡ true → (t : Tree) → Tidy arity t → basic s k t ≡ true
+  basic_message : (s : Sort) (k : ℕ) → not (eqb k 110) ≡ true → not (same_sort s Node) ≡ true → (t : Tree) → Tidy arity t → basic s k t ≡ true
       → message t ≡ true
   unfolding basic message
-  basic-message s k p q (variable x) d e =
-      ap has-message-sort (d .1) ∙ subst (λ (r : Sort). not (same-sort r Node) ≡ true) (sym (same-sort-eq (d .0) s (sym (ap (has-sort s) (d .1)) ∙ e))) q
-  basic-message s k p q (atom c n) d e = at-letter (λ b. not (eqb b 110) ≡ true) c k e p
-  basic-message s k p q (apply f ts) d e = absurd (false≢true e)
+  basic_message s k p q (variable x) d e =
+      ap has_message_sort d.1 ∙ subst (λ (r : Sort). not (same_sort r Node) ≡ true) (sym (same_sort_eq d.0 s (sym (ap (has_sort s) d.1) ∙ e))) q
+  basic_message s k p q (atom c n) d e = at_letter (λ b. not (eqb b 110) ≡ true) c k e p
+  basic_message s k p q (apply f ts) d e = absurd (false≢true e)
 
   pub raise : (c s : Sort) → below c s ≡ true → (t : Tree) → Tidy arity t → sorted c t ≡ true → sorted s t ≡ true
   unfolding sorted
-  raise c Pub h t d e = subst (λ (z : Sort). sorted z t ≡ true) (same-sort-eq c Pub h) e
-  raise c Fresh h t d e = subst (λ (z : Sort). sorted z t ≡ true) (same-sort-eq c Fresh h) e
-  raise c TamNat h t d e = subst (λ (z : Sort). sorted z t ≡ true) (same-sort-eq c TamNat h) e
-  raise c Node h t d e = subst (λ (z : Sort). sorted z t ≡ true) (same-sort-eq c Node h) e
-  raise Pub Msg h t d e = basic-message Pub 112 refl refl t d e
-  raise Fresh Msg h t d e = basic-message Fresh 102 refl refl t d e
+  raise c Pub h t d e = subst (λ (z : Sort). sorted z t ≡ true) (same_sort_eq c Pub h) e
+  raise c Fresh h t d e = subst (λ (z : Sort). sorted z t ≡ true) (same_sort_eq c Fresh h) e
+  raise c TamNat h t d e = subst (λ (z : Sort). sorted z t ≡ true) (same_sort_eq c TamNat h) e
+  raise c Node h t d e = subst (λ (z : Sort). sorted z t ≡ true) (same_sort_eq c Node h) e
+  raise Pub Msg h t d e = basic_message Pub 112 refl refl t d e
+  raise Fresh Msg h t d e = basic_message Fresh 102 refl refl t d e
   raise Msg Msg h t d e = e
-  raise TamNat Msg h t d e = natural-message t d e
+  raise TamNat Msg h t d e = natural_message t d e
   raise Node Msg h t d e = absurd (false≢true h)

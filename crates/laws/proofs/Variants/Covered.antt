@@ -1,117 +1,118 @@
 -- What the answers of cover mean.
-use mathlib.Core.Path.{_≡_, refl, sym, _∙_, ap, subst}
+use mathlib.Core.Path.{◌≡◌, refl, sym, ◌∙◌, ap, subst}
 use mathlib.Core.Bool.{Bool, true, false, not, true≢false, false≢true}
-use mathlib.Core.List.{List, [], _∷_, map, List·Memᴰ, List·Memᴰ·head, List·Memᴰ·tail}
-use mathlib.Core.Logic.{_↔_}
-use mathlib.Core.Option.{Option, some, none as nothing, Option·some-injective, Option·none-ne-some}
-use Rattle·rules.specs.Bytes.{Text}
-use Rattle·rules.specs.Maybe.{_>>=_, every}
-use Rattle·rules.specs.Tree.{Tree, variable}
-use Rattle·rules.specs.Substitution.{Binding, Pair, lookup}
-use Rattle·rules.specs.Reading.{parse}
-use Rattle·rules.specs.Sheet.{Member}
-use Rattle·rules.specs.Solving.{Verdict, solved, failed, unsupported, unify}
-use Rattle·rules.specs.Matching.{matcher}
-use Rattle·rules.specs.Cover.{entry-at, general, is-failed, covering, pair-at, covers, any-covers, variables-of, covered}
-use Rattle·rules.specs.Families.{Against, nil, next, Covers, at-unreadable, not-failed, CoveredMeans, not-solved, some-covers, none-covers}
-use Rattle·laws·proofs.proofs.Basics.Options.{bound}
+use mathlib.Core.List.{List, [], ◌∷◌, map, Memᴰ}
+use mathlib.Core.Logic.{◌↔◌}
+use mathlib.Core.Option.{Option, some, none as nothing, some-injective, none-ne-some}
+use Rattle.rules.specs.Bytes.{Text}
+use Rattle.rules.specs.Maybe.{◌>>=◌, every}
+use Rattle.rules.specs.Tree.{Tree, variable}
+use Rattle.rules.specs.Substitution.{Binding, Pair, lookup}
+use Rattle.rules.specs.Reading.{parse}
+use Rattle.rules.specs.Sheet.{Member}
+use Rattle.rules.specs.Solving.{Verdict, solved, failed, unsupported, unify}
+use Rattle.rules.specs.Matching.{matcher}
+use Rattle.rules.specs.Cover.{entry_at, general, is_failed, covering, pair_at, covers, any_covers, variables_of, covered}
+use Rattle.rules.specs.Families.{Against, nil, next, Covers, at_unreadable, not_failed, CoveredMeans, not_solved, some_covers, none_covers}
+use Rattle.laws.proofs.Basics.Options.{bound}
 
 -- Verdicts
 
-abbrev is-solved : Verdict → Bool
-is-solved (solved bs) = true
-is-solved failed = false
-is-solved unsupported = false
+abbrev is_solved : Verdict → Bool
+is_solved (solved bs) = true
+is_solved failed = false
+is_solved unsupported = false
 
-pub is-failed-true : (v : Verdict) → is-failed v ≡ true → v ≡ failed
-is-failed-true (solved bs) e = absurd (false≢true e)
-is-failed-true failed e = refl
-is-failed-true unsupported e = absurd (false≢true e)
+pub is_failed_true : (v : Verdict) → is_failed v ≡ true → v ≡ failed
+is_failed_true (solved bs) e = absurd (false≢true e)
+is_failed_true failed e = refl
+is_failed_true unsupported e = absurd (false≢true e)
 
 -- everything but failed covers
-pub covering-is : (ps : List Pair) → (covering ps ≡ true) ↔ (¬ (matcher 65536 ps .0 ≡ failed))
+pub covering_is : (ps : List Pair) → (covering ps ≡ true) ↔ (¬ ((matcher 65536 ps).0 ≡ failed))
 unfolding covering
-covering-is ps = (λ e f. true≢false (sym e ∙ ap (λ (v : Verdict). not (is-failed v)) f), λ h. go (is-failed (matcher 65536 ps .0)) refl h)
+covering_is ps = (λ e f. true≢false (sym e ∙ ap (λ (v : Verdict). not (is_failed v)) f), λ h. go (is_failed (matcher 65536 ps).0) refl h)
   where
-    go : (b : Bool) → is-failed (matcher 65536 ps .0) ≡ b → ¬ (matcher 65536 ps .0 ≡ failed) → not b ≡ true
-    go true e h = absurd (h (is-failed-true (matcher 65536 ps .0) e))
+    go : (b : Bool) → is_failed (matcher 65536 ps).0 ≡ b → ¬ ((matcher 65536 ps).0 ≡ failed) → not b ≡ true
+    go true e h = absurd (h (is_failed_true (matcher 65536 ps).0 e))
     go false e h = refl
 
 -- One member
 
 module _ (bs : List Binding) (m : Member) where
-  pub paired : (xs : List Text) (ps : List Pair) → every (map (pair-at bs m) xs) ≡ some ps → Against bs m xs ps
-  unfolding every pair-at
-  paired [] ps h = subst (Against bs m []) (Option·some-injective [] ps h) nil
+  pub paired : (xs : List Text) (ps : List Pair) → every (map (pair_at bs m) xs) ≡ some ps → Against bs m xs ps
+  unfolding every pair_at
+  paired [] ps h = subst (Against bs m []) (some-injective [] ps h) nil
   paired (x ∷ xs) ps h =
-      let (p, e, h₁) = bound (pair-at bs m x) _ ps h in
+      let (p, e, h₁) = bound (pair_at bs m x) _ ps h in
       let (g, f, e₁) = bound (general m x) (λ t. some (t, lookup bs x)) p e in
-      let (qs, i, h₂) = bound (every (map (pair-at bs m) xs)) (λ rs. some (p ∷ rs)) ps h₁ in
-      let k = subst (λ (q : Pair). Against bs m (x ∷ xs) (q ∷ qs)) (Option·some-injective (g, lookup bs x) p e₁) (next f refl (paired xs qs i)) in
-      subst (Against bs m (x ∷ xs)) (Option·some-injective (p ∷ qs) ps h₂) k
+      let (qs, i, h₂) = bound (every (map (pair_at bs m) xs)) (λ rs. some (p ∷ rs)) ps h₁ in
+      let k = subst (λ (q : Pair). Against bs m (x ∷ xs) (q ∷ qs)) (some-injective (g, lookup bs x) p e₁) (next f refl (paired xs qs i)) in
+      subst (Against bs m (x ∷ xs)) (some-injective (p ∷ qs) ps h₂) k
 
-  pairs-of : (xs : List Text) (ps : List Pair) → Against bs m xs ps → every (map (pair-at bs m) xs) ≡ some ps
-  unfolding every pair-at
-  pairs-of [] ps nil = refl
-  pairs-of (x ∷ xs) ps (next {g} {u} {ps = qs} f e a) =
-      ap (λ (o : Option Tree). (_>>=_ {B = Pair} o (λ t. some (t, lookup bs x))) >>= λ p. every (map (pair-at bs m) xs) >>= λ rs. some (p ∷ rs)) f
-      ∙ ap (λ (o : Option (List Pair)). o >>= λ rs. some ((g, lookup bs x) ∷ rs)) (pairs-of xs qs a)
+  pairs_of : (xs : List Text) (ps : List Pair) → Against bs m xs ps → every (map (pair_at bs m) xs) ≡ some ps
+  unfolding every pair_at
+  pairs_of [] ps nil = refl
+  pairs_of (x ∷ xs) ps (next {g} {u} {ps = qs} f e a) =
+      ap (λ (o : Option Tree). (◌>>=◌ {B = Pair} o (λ t. some (t, lookup bs x))) >>= λ p. every (map (pair_at bs m) xs) >>= λ rs. some (p ∷ rs)) f
+      ∙ ap (λ (o : Option (List Pair)). o >>= λ rs. some ((g, lookup bs x) ∷ rs)) (pairs_of xs qs a)
       ∙ ap (λ (t : Tree). some ((g, t) ∷ qs)) e
 
   -- a text at a variable that does not read
-  unread-at : (x : Text) → general m x ≡ nothing → (s : Text) × (entry-at (m .1) x ≡ some s) × (parse s ≡ nothing)
+  unread_at : (x : Text) → general m x ≡ nothing → (s : Text) × (entry_at m.1 x ≡ some s) × (parse s ≡ nothing)
   unfolding general
-  unread-at x h = go (entry-at (m .1) x) h
+  unread_at x h = go (entry_at m.1 x) h
     where
-      go : (o : Option Text) → _≡_ {A = Option Tree} (elim o [ nothing ↦ some (variable x) | some text ↦ parse text ]) nothing → (s : Text) × (o ≡ some s) × (parse s ≡ nothing)
-      go nothing k = absurd (Option·none-ne-some (variable x) (sym k))
+      go : (o : Option Text) → ◌≡◌ {A = Option Tree} (elim o [ nothing ↦ some (variable x) | some text ↦ parse text ]) nothing → (s : Text) × (o ≡ some s) × (parse s ≡ nothing)
+      go nothing k = absurd (none-ne-some (variable x) (sym k))
       go (some s) k = (s, refl, k)
 
-  general-unread : (x s : Text) → entry-at (m .1) x ≡ some s → parse s ≡ nothing → general m x ≡ nothing
+  general_unread : (x s : Text) → entry_at m.1 x ≡ some s → parse s ≡ nothing → general m x ≡ nothing
   unfolding general
-  general-unread x s e f = ap {B = Option Tree} (λ (o : Option Text). elim o [ nothing ↦ some (variable x) | some text ↦ parse text ]) e ∙ f
+  general_unread x s e f = ap {B = Option Tree} (λ (o : Option Text). elim o [ nothing ↦ some (variable x) | some text ↦ parse text ]) e ∙ f
 
-  abbrev at-value : Text → Tree → Option Pair
-  at-value x t = some (t, lookup bs x)
+  abbrev at_value : Text → Tree → Option Pair
+  at_value x t = some (t, lookup bs x)
 
-  some-unread : (xs : List Text) → every (map (pair-at bs m) xs) ≡ nothing → (x : Text) × List·Memᴰ x xs × (general m x ≡ nothing)
-  unfolding every pair-at
-  some-unread [] h = absurd (Option·none-ne-some [] (sym h))
-  some-unread (x ∷ xs) h = go (general m x) refl (every (map (pair-at bs m) xs)) refl h (some-unread xs)
+  some_unread : (xs : List Text) → every (map (pair_at bs m) xs) ≡ nothing → (x : Text) × Memᴰ x xs × (general m x ≡ nothing)
+  unfolding every pair_at
+  some_unread [] h = absurd (none-ne-some [] (sym h))
+  some_unread (x ∷ xs) h = go (general m x) refl (every (map (pair_at bs m) xs)) refl h (some_unread xs)
     where
-      go : (o : Option Tree) → general m x ≡ o → (r : Option (List Pair)) → every (map (pair-at bs m) xs) ≡ r → ((o >>= at-value x) >>= λ p. r >>= λ rs. some (p ∷ rs)) ≡ nothing
-          → (every (map (pair-at bs m) xs) ≡ nothing → (y : Text) × List·Memᴰ y xs × (general m y ≡ nothing)) → (y : Text) × List·Memᴰ y (x ∷ xs) × (general m y ≡ nothing)
-      go nothing f r i k ih = (x, List·Memᴰ·head refl, f)
-      go (some t) f nothing i k ih = let (y, a, b) = ih i in (y, List·Memᴰ·tail a, b)
-      go (some t) f (some rs) i k ih = absurd (Option·none-ne-some ((t, lookup bs x) ∷ rs) (sym k))
+      go : (o : Option Tree) → general m x ≡ o → (r : Option (List Pair)) → every (map (pair_at bs m) xs) ≡ r → ((o >>= at_value x) >>= λ p. r >>= λ rs. some (p ∷ rs)) ≡ nothing
+          → (every (map (pair_at bs m) xs) ≡ nothing → (y : Text) × Memᴰ y xs × (general m y ≡ nothing)) → (y : Text) × Memᴰ y (x ∷ xs) × (general m y ≡ nothing)
+      go nothing f r i k ih = (x, Memᴰ.head refl, f)
+      go (some t) f nothing i k ih = let (y, a, b) = ih i in (y, Memᴰ.tail a, b)
+      go (some t) f (some rs) i k ih = absurd (none-ne-some ((t, lookup bs x) ∷ rs) (sym k))
 
-  none-paired : (xs : List Text) (x : Text) → List·Memᴰ x xs → general m x ≡ nothing → every (map (pair-at bs m) xs) ≡ nothing
-  unfolding every pair-at
-  none-paired (y ∷ xs) x (List·Memᴰ·head e) h =
-      ap (λ (o : Option Tree). (o >>= at-value y) >>= λ p. every (map (pair-at bs m) xs) >>= λ rs. some (p ∷ rs)) (ap (general m) (sym e) ∙ h)
-  none-paired (y ∷ xs) x (List·Memᴰ·tail a) h =
-      ap (λ (r : Option (List Pair)). (general m y >>= at-value y) >>= λ p. r >>= λ rs. some (p ∷ rs)) (none-paired xs x a h) ∙ none-after (general m y >>= at-value y)
+  none_paired : (xs : List Text) (x : Text) → Memᴰ x xs → general m x ≡ nothing → every (map (pair_at bs m) xs) ≡ nothing
+  unfolding every pair_at
+  none_paired [] x x4 h = elim x4 [ ]
+  none_paired (y ∷ xs) x (Memᴰ.head e) h =
+      ap (λ (o : Option Tree). (o >>= at_value y) >>= λ p. every (map (pair_at bs m) xs) >>= λ rs. some (p ∷ rs)) (ap (general m) (sym e) ∙ h)
+  none_paired (y ∷ xs) x (Memᴰ.tail a) h =
+      ap (λ (r : Option (List Pair)). (general m y >>= at_value y) >>= λ p. r >>= λ rs. some (p ∷ rs)) (none_paired xs x a h) ∙ none_after (general m y >>= at_value y)
     where
-      none-after : (o : Option Pair) → _>>=_ {B = List Pair} o (λ p. nothing) ≡ nothing
-      none-after nothing = refl
-      none-after (some p) = refl
+      none_after : (o : Option Pair) → ◌>>=◌ {B = List Pair} o (λ p. nothing) ≡ nothing
+      none_after nothing = refl
+      none_after (some p) = refl
 
-  pub covers-is : (xs : List Text) → (covers xs bs m ≡ true) ↔ Covers xs bs m
+  pub covers_is : (xs : List Text) → (covers xs bs m ≡ true) ↔ Covers xs bs m
   unfolding covers
-  covers-is xs = (λ e. go (every (map (pair-at bs m) xs)) refl e, λ c. back c)
+  covers_is xs = (λ e. go (every (map (pair_at bs m) xs)) refl e, λ c. back c)
     where
-      go : (o : Option (List Pair)) → every (map (pair-at bs m) xs) ≡ o → elim o [ nothing ↦ true | some ps ↦ covering ps ] ≡ true → Covers xs bs m
+      go : (o : Option (List Pair)) → every (map (pair_at bs m) xs) ≡ o → elim o [ nothing ↦ true | some ps ↦ covering ps ] ≡ true → Covers xs bs m
       go nothing e k =
-          let (x, a, h) = some-unread xs e in
-          let (s, f, g) = unread-at x h in
-          at-unreadable a f g
-      go (some ps) e k = not-failed (paired xs ps e) (covering-is ps .0 k)
+          let (x, a, h) = some_unread xs e in
+          let (s, f, g) = unread_at x h in
+          at_unreadable a f g
+      go (some ps) e k = not_failed (paired xs ps e) ((covering_is ps).0 k)
 
-      back : Covers xs bs m → elim (every (map (pair-at bs m) xs)) [ nothing ↦ true | some ps ↦ covering ps ] ≡ true
-      back (at-unreadable {x} {s} a f g) =
-          ap {B = Bool} (λ (o : Option (List Pair)). elim o [ nothing ↦ true | some ps ↦ covering ps ]) (none-paired xs x a (general-unread x s f g))
-      back (not-failed {ps} a h) =
-          ap {B = Bool} (λ (o : Option (List Pair)). elim o [ nothing ↦ true | some qs ↦ covering qs ]) (pairs-of xs ps a) ∙ covering-is ps .1 h
+      back : Covers xs bs m → elim (every (map (pair_at bs m) xs)) [ nothing ↦ true | some ps ↦ covering ps ] ≡ true
+      back (at_unreadable {x} {s} a f g) =
+          ap {B = Bool} (λ (o : Option (List Pair)). elim o [ nothing ↦ true | some ps ↦ covering ps ]) (none_paired xs x a (general_unread x s f g))
+      back (not_failed {ps} a h) =
+          ap {B = Bool} (λ (o : Option (List Pair)). elim o [ nothing ↦ true | some qs ↦ covering qs ]) (pairs_of xs ps a) ∙ (covering_is ps).1 h
 
 -- Some member
 
@@ -121,76 +122,77 @@ module _ {A : Type 0} (test : A → Bool) where
   any [] = false
   any (a ∷ l) = elim (test a) [ true ↦ true | false ↦ any l ]
 
-  pub any-some : (l : List A) → any l ≡ true → (a : A) × List·Memᴰ a l × (test a ≡ true)
+  pub any_some : (l : List A) → any l ≡ true → (a : A) × Memᴰ a l × (test a ≡ true)
   unfolding any
-  any-some [] e = absurd (false≢true e)
-  any-some (a ∷ l) e = go (test a) refl e (any-some l)
+  any_some [] e = absurd (false≢true e)
+  any_some (a ∷ l) e = go (test a) refl e (any_some l)
     where
-      go : (b : Bool) → test a ≡ b → elim b [ true ↦ true | false ↦ any l ] ≡ true → (any l ≡ true → (c : A) × List·Memᴰ c l × (test c ≡ true))
-          → (c : A) × List·Memᴰ c (a ∷ l) × (test c ≡ true)
-      go true f k ih = (a, List·Memᴰ·head refl, f)
-      go false f k ih = let (c, h, g) = ih k in (c, List·Memᴰ·tail h, g)
+      go : (b : Bool) → test a ≡ b → elim b [ true ↦ true | false ↦ any l ] ≡ true → (any l ≡ true → (c : A) × Memᴰ c l × (test c ≡ true))
+          → (c : A) × Memᴰ c (a ∷ l) × (test c ≡ true)
+      go true f k ih = (a, Memᴰ.head refl, f)
+      go false f k ih = let (c, h, g) = ih k in (c, Memᴰ.tail h, g)
 
-  pub some-any : (l : List A) (a : A) → List·Memᴰ a l → test a ≡ true → any l ≡ true
+  pub some_any : (l : List A) (a : A) → Memᴰ a l → test a ≡ true → any l ≡ true
   unfolding any
-  some-any (b ∷ l) a (List·Memᴰ·head e) h = ap {B = Bool} (λ (c : Bool). elim c [ true ↦ true | false ↦ any l ]) (ap test (sym e) ∙ h)
-  some-any (b ∷ l) a (List·Memᴰ·tail k) h = go (test b) (some-any l a k h)
+  some_any [] a x'' h = elim x'' [ ]
+  some_any (b ∷ l) a (Memᴰ.head e) h = ap {B = Bool} (λ (c : Bool). elim c [ true ↦ true | false ↦ any l ]) (ap test (sym e) ∙ h)
+  some_any (b ∷ l) a (Memᴰ.tail k) h = go (test b) (some_any l a k h)
     where
       go : (c : Bool) → any l ≡ true → elim c [ true ↦ true | false ↦ any l ] ≡ true
       go true i = refl
       go false i = i
 
-any-covers-is : (xs : List Text) (bs : List Binding) (ms : List Member) → any-covers xs bs ms ≡ any (covers xs bs) ms
-unfolding any-covers any
-any-covers-is xs bs [] = refl
-any-covers-is xs bs (m ∷ ms) = ap {B = Bool} (λ (b : Bool). elim (covers xs bs m) [ true ↦ true | false ↦ b ]) (any-covers-is xs bs ms)
+any_covers_is : (xs : List Text) (bs : List Binding) (ms : List Member) → any_covers xs bs ms ≡ any (covers xs bs) ms
+unfolding any_covers any
+any_covers_is xs bs [] = refl
+any_covers_is xs bs (m ∷ ms) = ap {B = Bool} (λ (b : Bool). elim (covers xs bs m) [ true ↦ true | false ↦ b ]) (any_covers_is xs bs ms)
 
 -- The answer
 
 module _ (ps : List Pair) (ms : List Member) where
-  solved-means : (bs : List Binding) → unify 65536 ps .0 ≡ solved bs → CoveredMeans ps ms (some (any-covers (variables-of ps) bs ms))
-  solved-means bs e = go (any-covers (variables-of ps) bs ms) (sym (any-covers-is (variables-of ps) bs ms))
+  solved_means : (bs : List Binding) → (unify 65536 ps).0 ≡ solved bs → CoveredMeans ps ms (some (any_covers (variables_of ps) bs ms))
+  solved_means bs e = go (any_covers (variables_of ps) bs ms) (sym (any_covers_is (variables_of ps) bs ms))
     where
-      go : (b : Bool) → any (covers (variables-of ps) bs) ms ≡ b → CoveredMeans ps ms (some b)
-      go true f = let (m, h, g) = any-some (covers (variables-of ps) bs) ms f in some-covers e h (covers-is bs m (variables-of ps) .0 g)
-      go false f = none-covers e (λ m h c. true≢false (sym (some-any (covers (variables-of ps) bs) ms m h (covers-is bs m (variables-of ps) .1 c)) ∙ f))
+      go : (b : Bool) → any (covers (variables_of ps) bs) ms ≡ b → CoveredMeans ps ms (some b)
+      go true f = let (m, h, g) = any_some (covers (variables_of ps) bs) ms f in some_covers e h ((covers_is bs m (variables_of ps)).0 g)
+      go false f = none_covers e (λ m h c. true≢false (sym (some_any (covers (variables_of ps) bs) ms m h ((covers_is bs m (variables_of ps)).1 c)) ∙ f))
 
   abbrev answered : Verdict → Option Bool
-  answered (solved bs) = some (any-covers (variables-of ps) bs ms)
+  answered (solved bs) = some (any_covers (variables_of ps) bs ms)
   answered failed = nothing
   answered unsupported = nothing
 
-  covered-answered : covered ps ms ≡ answered (unify 65536 ps .0)
+  covered_answered : covered ps ms ≡ answered (unify 65536 ps).0
   unfolding covered
-  covered-answered = go (unify 65536 ps .0)
+  covered_answered = go (unify 65536 ps).0
     where
-      go : (v : Verdict) → elim v [ solved bs ↦ some (any-covers (variables-of ps) bs ms) | failed ↦ nothing | unsupported ↦ nothing ] ≡ answered v
+      go : (v : Verdict) → elim v [ solved bs ↦ some (any_covers (variables_of ps) bs ms) | failed ↦ nothing | unsupported ↦ nothing ] ≡ answered v
       go (solved bs) = refl
       go failed = refl
       go unsupported = refl
 
-  covered-view : CoveredMeans ps ms (answered (unify 65536 ps .0))
-  covered-view = go (unify 65536 ps .0) refl
+  covered_view : CoveredMeans ps ms (answered (unify 65536 ps).0)
+  covered_view = go (unify 65536 ps).0 refl
     where
-      go : (v : Verdict) → unify 65536 ps .0 ≡ v → CoveredMeans ps ms (answered v)
-      go (solved bs) e = solved-means bs e
-      go failed e = not-solved (λ bs f. let z : failed ≡ solved bs = sym e ∙ f in false≢true (ap is-solved z))
-      go unsupported e = not-solved (λ bs f. let z : unsupported ≡ solved bs = sym e ∙ f in false≢true (ap is-solved z))
+      go : (v : Verdict) → (unify 65536 ps).0 ≡ v → CoveredMeans ps ms (answered v)
+      go (solved bs) e = solved_means bs e
+      go failed e = not_solved (λ bs f. let z : failed ≡ solved bs = sym e ∙ f in false≢true (ap is_solved z))
+      go unsupported e = not_solved (λ bs f. let z : unsupported ≡ solved bs = sym e ∙ f in false≢true (ap is_solved z))
 
-  only-covered : (r : Option Bool) → CoveredMeans ps ms r → answered (unify 65536 ps .0) ≡ r
-  only-covered r (not-solved h) = go (unify 65536 ps .0) refl
+  only_covered : (r : Option Bool) → CoveredMeans ps ms r → answered (unify 65536 ps).0 ≡ r
+  only_covered r (not_solved h) = go (unify 65536 ps).0 refl
     where
-      go : (v : Verdict) → unify 65536 ps .0 ≡ v → answered v ≡ nothing
+      go : (v : Verdict) → (unify 65536 ps).0 ≡ v → answered v ≡ nothing
       go (solved bs) e = absurd (h bs e)
       go failed e = refl
       go unsupported e = refl
-  only-covered r (some-covers {bs} {m} e h c) =
-      ap answered e ∙ ap some (any-covers-is (variables-of ps) bs ms ∙ some-any (covers (variables-of ps) bs) ms m h (covers-is bs m (variables-of ps) .1 c))
-  only-covered r (none-covers {bs} e h) = ap answered e ∙ ap some (any-covers-is (variables-of ps) bs ms ∙ go (any (covers (variables-of ps) bs) ms) refl)
+  only_covered r (some_covers {bs} {m} e h c) =
+      ap answered e ∙ ap some (any_covers_is (variables_of ps) bs ms ∙ some_any (covers (variables_of ps) bs) ms m h ((covers_is bs m (variables_of ps)).1 c))
+  only_covered r (none_covers {bs} e h) = ap answered e ∙ ap some (any_covers_is (variables_of ps) bs ms ∙ go (any (covers (variables_of ps) bs) ms) refl)
     where
-      go : (b : Bool) → any (covers (variables-of ps) bs) ms ≡ b → b ≡ false
-      go true f = absurd (let (m, k, g) = any-some (covers (variables-of ps) bs) ms f in h m k (covers-is bs m (variables-of ps) .0 g))
+      go : (b : Bool) → any (covers (variables_of ps) bs) ms ≡ b → b ≡ false
+      go true f = absurd (let (m, k, g) = any_some (covers (variables_of ps) bs) ms f in h m k ((covers_is bs m (variables_of ps)).0 g))
       go false f = refl
 
-  pub covered-is : (r : Option Bool) → (covered ps ms ≡ r) ↔ CoveredMeans ps ms r
-  covered-is r = (λ e. subst (CoveredMeans ps ms) (sym covered-answered ∙ e) covered-view, λ c. covered-answered ∙ only-covered r c)
+  pub covered_is : (r : Option Bool) → (covered ps ms ≡ r) ↔ CoveredMeans ps ms r
+  covered_is r = (λ e. subst (CoveredMeans ps ms) (sym covered_answered ∙ e) covered_view, λ c. covered_answered ∙ only_covered r c)

@@ -1,113 +1,113 @@
 -- The schemes made one at a time are the list of schemes.
-use Prim.Native.Nat.{ℕ, zero, suc, _+_, _*_, _/_, _%_, _<_}
-use native.Mathlib.Nat.{suc-mul, add-assoc, add-comm, zero-mul, zero-add, mod-lt, div-add-mod', div-lt-iff-lt-mul}
+use Prim.Native.Nat.{ℕ, zero, suc, ◌+◌, ◌*◌, ◌/◌, ◌%◌, ◌<◌}
+use native.Mathlib.Nat.{suc-mul, add_assoc, add_comm, zero-mul, zero-add, mod-lt, div-add-mod', div-lt_iff_lt-mul}
 use native.Mathlib.Omega.{arith}
-use mathlib.Core.Path.{_≡_, refl, sym, _∙_, ap, subst}
-use mathlib.Core.List.{List, [], _∷_, _++_, map, flatMap}
-use mathlib.Core.Option.{some, Option·none-ne-some, Option·some-injective}
-use lib.ListN.{length, length-map, getD, getElem?}
-use Rattle·rules.specs.Bytes.{Text}
-use Rattle·rules.specs.Tree.{Tree, variable, atom, apply, Trees, none, more}
-use Rattle·rules.specs.Variants.{root-schemes, schemes-from, joined, join-first, scheme-count, scheme-counts}
-use Rattle·laws·specs.specs.Schemes.{root-count, root-at, scheme-at, joined-at, listing}
-use Rattle·laws·proofs.proofs.Variants.SchemeCount.{Each, each, children-kept, roots-count, schemes-counted, joined-counted}
+use mathlib.Core.Path.{◌≡◌, refl, sym, ◌∙◌, ap, subst}
+use mathlib.Core.List.{List, [], ◌∷◌, ◌++◌, map, flat_map}
+use mathlib.Core.Option.{some, none-ne-some, some-injective}
+use lib.ListN.{length, length-map, get_or, get_elem?}
+use Rattle.rules.specs.Bytes.{Text}
+use Rattle.rules.specs.Tree.{Tree, variable, atom, apply, Trees, none, more}
+use Rattle.rules.specs.Variants.{root_schemes, schemes_from, joined, join_first, scheme_count, scheme_counts}
+use Rattle.laws.specs.Schemes.{root_count, root_at, scheme_at, joined_at, listing}
+use Rattle.laws.proofs.Variants.SchemeCount.{Each, each, children_kept, roots_count, schemes_counted, joined_counted}
 
 -- Elements of lists
 
 module _ {A : Type 0} where
-  at-left : (l r : List A) (i : ℕ) (a : A) → getElem? l i ≡ some a → getElem? (l ++ r) i ≡ some a
-  at-left [] r i a h = absurd (Option·none-ne-some a h)
-  at-left (b ∷ l) r zero a h = h
-  at-left (b ∷ l) r (suc i) a h = at-left l r i a h
+  at_left : (l r : List A) (i : ℕ) (a : A) → get_elem? l i ≡ some a → get_elem? (l ++ r) i ≡ some a
+  at_left [] r i a h = absurd (none-ne-some a h)
+  at_left (b ∷ l) r zero a h = h
+  at_left (b ∷ l) r (suc i) a h = at_left l r i a h
 
-  at-right : (l r : List A) (i : ℕ) → getElem? (l ++ r) (length l + i) ≡ getElem? r i
-  at-right [] r i = ap (getElem? r) (zero-add i)
-  at-right (b ∷ l) r i = ap (getElem? (b ∷ (l ++ r))) (let e : suc (length l) + i ≡ suc (length l + i) = omega arith in e) ∙ at-right l r i
+  at_right : (l r : List A) (i : ℕ) → get_elem? (l ++ r) (length l + i) ≡ get_elem? r i
+  at_right [] r i = ap (get_elem? r) (zero-add i)
+  at_right (b ∷ l) r i = ap (get_elem? (b ∷ (l ++ r))) (let e : suc (length l) + i ≡ suc (length l + i) = omega arith in e) ∙ at_right l r i
 
-  at-inside : (l : List A) (i : ℕ) (d : A) → i < length l → getElem? l i ≡ some (getD l i d)
-  at-inside [] i d h = absurd (omega arith)
-  at-inside (b ∷ l) zero d h = refl
-  at-inside (b ∷ l) (suc i) d h = at-inside l i d (omega arith)
+  at_inside : (l : List A) (i : ℕ) (d : A) → i < length l → get_elem? l i ≡ some (get_or l i d)
+  at_inside [] i d h = absurd (omega arith)
+  at_inside (b ∷ l) zero d h = refl
+  at_inside (b ∷ l) (suc i) d h = at_inside l i d (omega arith)
 
-  each-at : (m : A → ℕ) (k : ℕ) (l : List A) → Each m k l → (i : ℕ) (a : A) → getElem? l i ≡ some a → m a ≡ k
-  each-at m k [] e i a h = absurd (Option·none-ne-some a h)
-  each-at m k (b ∷ l) e zero a h = ap m (sym (Option·some-injective b a h)) ∙ e .0
-  each-at m k (b ∷ l) e (suc i) a h = each-at m k l (e .1) i a h
+  each_at : (m : A → ℕ) (k : ℕ) (l : List A) → Each m k l → (i : ℕ) (a : A) → get_elem? l i ≡ some a → m a ≡ k
+  each_at m k [] e i a h = absurd (none-ne-some a h)
+  each_at m k (b ∷ l) e zero a h = ap m (sym (some-injective b a h)) ∙ e.0
+  each_at m k (b ∷ l) e (suc i) a h = each_at m k l e.1 i a h
 
   -- a list is what gives its elements
-  listed : (l : List A) (f : ℕ → A) → ((i : ℕ) → i < length l → getElem? l i ≡ some (f i)) → listing (length l) f ≡ l
+  listed : (l : List A) (f : ℕ → A) → ((i : ℕ) → i < length l → get_elem? l i ≡ some (f i)) → listing (length l) f ≡ l
   unfolding listing
   listed [] f h = refl
   listed (a ∷ l) f h =
-      let e = Option·some-injective a (f 0) (h 0 (omega arith)) in
+      let e = some-injective a (f 0) (h 0 (omega arith)) in
       ap (λ (b : A). b ∷ listing (length l) (λ i. f (suc i))) (sym e)
       ∙ ap (λ (r : List A). a ∷ r) (listed l (λ i. f (suc i)) (λ i k. h (suc i) (omega arith)))
 
 module _ {A B : Type 0} where
-  at-map : (f : A → B) (l : List A) (i : ℕ) (a : A) → getElem? l i ≡ some a → getElem? (map f l) i ≡ some (f a)
-  at-map f [] i a h = absurd (Option·none-ne-some a h)
-  at-map f (b ∷ l) zero a h = ap (λ (c : A). some (f c)) (Option·some-injective b a h)
-  at-map f (b ∷ l) (suc i) a h = at-map f l i a h
+  at_map : (f : A → B) (l : List A) (i : ℕ) (a : A) → get_elem? l i ≡ some a → get_elem? (map f l) i ≡ some (f a)
+  at_map f [] i a h = absurd (none-ne-some a h)
+  at_map f (b ∷ l) zero a h = ap (λ (c : A). some (f c)) (some-injective b a h)
+  at_map f (b ∷ l) (suc i) a h = at_map f l i a h
 
   -- lists of k elements each, one after the other: the r-th of the q-th
-  at-flat : (f : A → List B) (k : ℕ) (l : List A) → Each (λ a. length (f a)) k l → (q r : ℕ) (a : A) (b : B) → getElem? l q ≡ some a → getElem? (f a) r ≡ some b
-      → getElem? (flatMap f l) (q * k + r) ≡ some b
-  unfolding flatMap
-  at-flat f k [] e q r a b g h = absurd (Option·none-ne-some a g)
-  at-flat f k (c ∷ l) e zero r a b g h =
-      ap (getElem? (f c ++ flatMap f l)) (rw (zero-mul k) (zero-add r))
-      ∙ at-left (f c) (flatMap f l) r b (subst (λ (x : A). getElem? (f x) r ≡ some b) (sym (Option·some-injective c a g)) h)
-  at-flat f k (c ∷ l) e (suc q) r a b g h =
-      let m : suc q * k + r ≡ length (f c) + (q * k + r) = (rw (suc-mul q k, e .0, add-comm (q * k) k) (add-assoc k (q * k) r)) in
-      ap (getElem? (f c ++ flatMap f l)) m ∙ at-right (f c) (flatMap f l) (q * k + r) ∙ at-flat f k l (e .1) q r a b g h
+  at_flat : (f : A → List B) (k : ℕ) (l : List A) → Each (λ a. length (f a)) k l → (q r : ℕ) (a : A) (b : B) → get_elem? l q ≡ some a → get_elem? (f a) r ≡ some b
+      → get_elem? (flat_map f l) (q * k + r) ≡ some b
+  unfolding flat_map
+  at_flat f k [] e q r a b g h = absurd (none-ne-some a g)
+  at_flat f k (c ∷ l) e zero r a b g h =
+      ap (get_elem? (f c ++ flat_map f l)) (rw (zero-mul k) (zero-add r))
+      ∙ at_left (f c) (flat_map f l) r b (subst (λ (x : A). get_elem? (f x) r ≡ some b) (sym (some-injective c a g)) h)
+  at_flat f k (c ∷ l) e (suc q) r a b g h =
+      let m : suc q * k + r ≡ length (f c) + (q * k + r) = (rw (suc-mul q k, e.0, add_comm (q * k) k) (add_assoc k (q * k) r)) in
+      ap (get_elem? (f c ++ flat_map f l)) m ∙ at_right (f c) (flat_map f l) (q * k + r) ∙ at_flat f k l e.1 q r a b g h
 
   -- the same by dividing
-  at-divided : (f : A → List B) (k : ℕ) (l : List A) → Each (λ a. length (f a)) k l → (i : ℕ) (a : A) (b : B) → getElem? l (i / k) ≡ some a
-      → getElem? (f a) (i % k) ≡ some b → getElem? (flatMap f l) i ≡ some b
-  at-divided f k l e i a b g h = subst (λ (j : ℕ). getElem? (flatMap f l) j ≡ some b) (div-add-mod' i k) (at-flat f k l e (i / k) (i % k) a b g h)
+  at_divided : (f : A → List B) (k : ℕ) (l : List A) → Each (λ a. length (f a)) k l → (i : ℕ) (a : A) (b : B) → get_elem? l (i / k) ≡ some a
+      → get_elem? (f a) (i % k) ≡ some b → get_elem? (flat_map f l) i ≡ some b
+  at_divided f k l e i a b g h = subst (λ (j : ℕ). get_elem? (flat_map f l) j ≡ some b) (div-add-mod' i k) (at_flat f k l e (i / k) (i % k) a b g h)
 
 -- an index below a product is divided into indices below its factors
-pub right-positive : (i m k : ℕ) → i < m * k → 0 < k
-right-positive i m zero h = absurd (omega arith)
-right-positive i m (suc k) h = omega arith
+pub right_positive : (i m k : ℕ) → i < m * k → 0 < k
+right_positive i m zero h = absurd (omega arith)
+right_positive i m (suc k) h = omega arith
 
 quotient : (i m k : ℕ) → i < m * k → i / k < m
-quotient i m k h = div-lt-iff-lt-mul (right-positive i m k h) .1 h
+quotient i m k h = (div-lt_iff_lt-mul (right_positive i m k h)).1 h
 
 -- The schemes, by the names of their fresh variables
 
 module _ (name : ℕ → Text) where
   mutual
-    unfolding schemes-from scheme-count scheme-at root-count root-at
+    unfolding schemes_from scheme_count scheme_at root_count root_at
 
-    pub scheme-found : (t : Tree) (n i : ℕ) → i < scheme-count t → getElem? (schemes-from name t n) i ≡ some (scheme-at name t n i)
-    scheme-found (variable x) n zero h = refl
-    scheme-found (variable x) n (suc i) h = absurd (omega arith)
-    scheme-found (atom c d) n zero h = refl
-    scheme-found (atom c d) n (suc i) h = absurd (omega arith)
-    scheme-found (apply f ts) n i h =
-        let k = root-count f ts in
-        let j = joined-at name ts n (i / k) in
-        let q = joined-found ts n (i / k) (quotient i (scheme-counts ts) k h) in
-        let e = roots-count name f ts (joined name ts n) (children-kept name ts n) in
-        let l = each-at (λ x. length (root-schemes name f x)) k (joined name ts n) e (i / k) j q in
-        let p : i % k < length (root-schemes name f j) = subst (λ (m : ℕ). i % k < m) (sym l) (mod-lt i (right-positive i (scheme-counts ts) k h)) in
-        at-divided (root-schemes name f) k (joined name ts n) e i j (scheme-at name (apply f ts) n i) q (at-inside (root-schemes name f j) (i % k) _ p)
+    pub scheme_found : (t : Tree) (n i : ℕ) → i < scheme_count t → get_elem? (schemes_from name t n) i ≡ some (scheme_at name t n i)
+    scheme_found (variable x) n zero h = refl
+    scheme_found (variable x) n (suc i) h = absurd (omega arith)
+    scheme_found (atom c d) n zero h = refl
+    scheme_found (atom c d) n (suc i) h = absurd (omega arith)
+    scheme_found (apply f ts) n i h =
+        let k = root_count f ts in
+        let j = joined_at name ts n (i / k) in
+        let q = joined_found ts n (i / k) (quotient i (scheme_counts ts) k h) in
+        let e = roots_count name f ts (joined name ts n) (children_kept name ts n) in
+        let l = each_at (λ x. length (root_schemes name f x)) k (joined name ts n) e (i / k) j q in
+        let p : i % k < length (root_schemes name f j) = subst (λ (m : ℕ). i % k < m) (sym l) (mod-lt i (right_positive i (scheme_counts ts) k h)) in
+        at_divided (root_schemes name f) k (joined name ts n) e i j (scheme_at name (apply f ts) n i) q (at_inside (root_schemes name f j) (i % k) _ p)
 
-    joined-found : (ts : Trees) (n i : ℕ) → i < scheme-counts ts → getElem? (joined name ts n) i ≡ some (joined-at name ts n i)
-    joined-found none n zero h = refl
-    joined-found none n (suc i) h = absurd (omega arith)
-    joined-found (more t ts) n i h =
-        let k = scheme-counts ts in
-        let s = scheme-at name t n (i / k) in
-        let p = right-positive i (scheme-count t) k h in
-        at-divided (λ r. map (join-first r) (joined name ts (r .next))) k (schemes-from name t n)
-        (each (λ r. length (map (join-first r) (joined name ts (r .next)))) k (λ r. length-map (joined name ts (r .next)) (join-first r) ∙ joined-counted name ts (r .next)) (schemes-from name t n))
-        i s (joined-at name (more t ts) n i) (scheme-found t n (i / k) (quotient i (scheme-count t) k h))
-        (at-map (join-first s) (joined name ts (s .next)) (i % k) (joined-at name ts (s .next) (i % k)) (joined-found ts (s .next) (i % k) (mod-lt i p)))
+    joined_found : (ts : Trees) (n i : ℕ) → i < scheme_counts ts → get_elem? (joined name ts n) i ≡ some (joined_at name ts n i)
+    joined_found none n zero h = refl
+    joined_found none n (suc i) h = absurd (omega arith)
+    joined_found (more t ts) n i h =
+        let k = scheme_counts ts in
+        let s = scheme_at name t n (i / k) in
+        let p = right_positive i (scheme_count t) k h in
+        at_divided (λ r. map (join_first r) (joined name ts r.next)) k (schemes_from name t n)
+        (each (λ r. length (map (join_first r) (joined name ts r.next))) k (λ r. length-map (joined name ts r.next) (join_first r) ∙ joined_counted name ts r.next) (schemes_from name t n))
+        i s (joined_at name (more t ts) n i) (scheme_found t n (i / k) (quotient i (scheme_count t) k h))
+        (at_map (join_first s) (joined name ts s.next) (i % k) (joined_at name ts s.next (i % k)) (joined_found ts s.next (i % k) (mod-lt i p)))
 
   -- made one at a time, the schemes of a term are its schemes in order
-  pub schemes-listed : (t : Tree) (n : ℕ) → listing (scheme-count t) (scheme-at name t n) ≡ schemes-from name t n
-  schemes-listed t n =
-      ap (λ (k : ℕ). listing k (scheme-at name t n)) (sym (schemes-counted name t n))
-      ∙ listed (schemes-from name t n) (scheme-at name t n) (λ i h. scheme-found t n i (subst (λ (k : ℕ). i < k) (schemes-counted name t n) h))
+  pub schemes_listed : (t : Tree) (n : ℕ) → listing (scheme_count t) (scheme_at name t n) ≡ schemes_from name t n
+  schemes_listed t n =
+      ap (λ (k : ℕ). listing k (scheme_at name t n)) (sym (schemes_counted name t n))
+      ∙ listed (schemes_from name t n) (scheme_at name t n) (λ i h. scheme_found t n i (subst (λ (k : ℕ). i < k) (schemes_counted name t n) h))

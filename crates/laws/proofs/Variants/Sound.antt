@@ -1,79 +1,79 @@
 -- What the answers of sound mean.
-use mathlib.Core.Path.{_≡_, refl, sym, _∙_, ap, subst}
+use mathlib.Core.Path.{◌≡◌, refl, sym, ◌∙◌, ap, subst}
 use mathlib.Core.Bool.{Bool, true, false, true≢false}
-use mathlib.Core.Logic.{_↔_}
+use mathlib.Core.Logic.{◌↔◌}
 use mathlib.Core.Option.{Option, some, none as nothing}
-use Prim.Native.Nat.{_≤_}
+use Prim.Native.Nat.{◌≤◌}
 use lib.Dec.{leb}
-use Rattle·rules.specs.Maybe.{_>>=_, guard}
-use Rattle·rules.specs.Tree.{Tree, size}
-use Rattle·rules.specs.Substitution.{instantiate}
-use Rattle·rules.specs.Sums.{equivalent}
-use Rattle·rules.specs.Equality.{AC}
-use Rattle·rules.specs.Sheet.{Member}
-use Rattle·rules.specs.Reduction.{normalize}
-use Rattle·rules.specs.Variants.{Variant, read-member, instance-of, sound}
-use Rattle·rules.specs.Tidy.{Built}
-use Rattle·rules.specs.Families.{SoundMeans, text-unreadable, instance-over, is-variant, is-other}
-use Rattle·laws·proofs.proofs.Basics.Tests.{leb-true, leb-false, true-leb, false-leb}
-use Rattle·laws·proofs.proofs.Equality.Canonical.{equivalent-sound, equivalent-complete}
-use Rattle·laws·proofs.proofs.Reduction.Reaching.{built-normal}
-use Rattle·laws·proofs.proofs.Variants.Readable.{member-unread, unread-member, member-built}
+use Rattle.rules.specs.Maybe.{◌>>=◌, guard}
+use Rattle.rules.specs.Tree.{Tree, size}
+use Rattle.rules.specs.Substitution.{instantiate}
+use Rattle.rules.specs.Sums.{equivalent}
+use Rattle.rules.specs.Equality.{Ac}
+use Rattle.rules.specs.Sheet.{Member}
+use Rattle.rules.specs.Reduction.{normalize}
+use Rattle.rules.specs.Variants.{Variant, read_member, instance_of, sound}
+use Rattle.rules.specs.Tidy.{Built}
+use Rattle.rules.specs.Families.{SoundMeans, text_unreadable, instance_over, is_variant, is_other}
+use Rattle.laws.proofs.Basics.Tests.{leb_true, leb_false, true_leb, false_leb}
+use Rattle.laws.proofs.Equality.Canonical.{equivalent_sound, equivalent_complete}
+use Rattle.laws.proofs.Reduction.Reaching.{built_normal}
+use Rattle.laws.proofs.Variants.Readable.{member_unread, unread_member, member_built}
 
 module _ (term : Tree) (built : Built term) (m : Member) where
   abbrev judged : Variant → Option Bool
-  judged v = instance-of (v .1) term >>= λ i. some (equivalent (normalize i) (v .0))
+  judged v = instance_of v.1 term >>= λ i. some (equivalent (normalize i) v.0)
 
   -- where the instance is within the limit
-  abbrev judged-if : Bool → Variant → Option Bool
-  judged-if b v = (guard b >>= λ _. some (instantiate (v .1) term)) >>= λ i. some (equivalent (normalize i) (v .0))
+  abbrev judged_if : Bool → Variant → Option Bool
+  judged_if b v = (guard b >>= λ _. some (instantiate v.1 term)) >>= λ i. some (equivalent (normalize i) v.0)
 
-  -- the test decides AC equality of what is compared
-  decides : (v : Variant) → read-member m ≡ some v → AC (normalize (instantiate (v .1) term)) (v .0) ↔ (equivalent (normalize (instantiate (v .1) term)) (v .0) ≡ true)
+  -- the test decides Ac equality of what is compared
+  decides : (v : Variant) → read_member m ≡ some v → Ac (normalize (instantiate v.1 term)) v.0 ↔ (equivalent (normalize (instantiate v.1 term)) v.0 ≡ true)
   decides v e =
-      let (b, c) = member-built m v e in
-      (equivalent-complete, equivalent-sound (built-normal (instantiate (v .1) term) (c term built)) b)
+      let (b, c) = member_built m v e in
+      (equivalent_complete, equivalent_sound (built_normal (instantiate v.1 term) (c term built)) b)
 
-  judged-means : (v : Variant) → read-member m ≡ some v → SoundMeans term m (judged v)
-  unfolding instance-of
-  judged-means v e = go (leb (size (instantiate (v .1) term)) 4096) refl
+  judged_means : (v : Variant) → read_member m ≡ some v → SoundMeans term m (judged v)
+  unfolding instance_of
+  judged_means v e = go (leb (size (instantiate v.1 term)) 4096) refl
     where
-      test : (b : Bool) → equivalent (normalize (instantiate (v .1) term)) (v .0) ≡ b → size (instantiate (v .1) term) ≤ 4096 → SoundMeans term m (some b)
-      test true f l = is-variant e l (decides v e .1 f)
-      test false f l = is-other e l (λ a. true≢false (sym (decides v e .0 a) ∙ f))
+      test : (b : Bool) → equivalent (normalize (instantiate v.1 term)) v.0 ≡ b → size (instantiate v.1 term) ≤ 4096 → SoundMeans term m (some b)
+      test true f l = is_variant e l ((decides v e).1 f)
+      test false f l = is_other e l (λ a. true≢false (sym ((decides v e).0 a) ∙ f))
 
-      go : (b : Bool) → leb (size (instantiate (v .1) term)) 4096 ≡ b
-          → SoundMeans term m (judged-if b v)
-      go true f = test (equivalent (normalize (instantiate (v .1) term)) (v .0)) refl (leb-true _ 4096 f)
-      go false f = instance-over e (leb-false _ 4096 f)
+      go : (b : Bool) → leb (size (instantiate v.1 term)) 4096 ≡ b
+          → SoundMeans term m (judged_if b v)
+      go true f = test (equivalent (normalize (instantiate v.1 term)) v.0) refl (leb_true _ 4096 f)
+      go false f = instance_over e (leb_false _ 4096 f)
 
-  sound-view : SoundMeans term m (sound term m)
+  sound_view : SoundMeans term m (sound term m)
   unfolding sound
-  sound-view = go (read-member m) refl
+  sound_view = go (read_member m) refl
     where
-      go : (o : Option Variant) → read-member m ≡ o → SoundMeans term m (o >>= judged)
-      go nothing e = text-unreadable (member-unread m e)
-      go (some v) e = judged-means v e
+      go : (o : Option Variant) → read_member m ≡ o → SoundMeans term m (o >>= judged)
+      go nothing e = text_unreadable (member_unread m e)
+      go (some v) e = judged_means v e
 
-  judged-is : (v : Variant) → read-member m ≡ some v → sound term m ≡ judged v
+  judged_is : (v : Variant) → read_member m ≡ some v → sound term m ≡ judged v
   unfolding sound
-  judged-is v e = ap (λ (o : Option Variant). o >>= judged) e
+  judged_is v e = ap (λ (o : Option Variant). o >>= judged) e
 
-  judged-within : (v : Variant) → size (instantiate (v .1) term) ≤ 4096 → judged v ≡ some (equivalent (normalize (instantiate (v .1) term)) (v .0))
-  unfolding instance-of
-  judged-within v l = ap (λ (b : Bool). judged-if b v) (true-leb _ 4096 l)
+  judged_within : (v : Variant) → size (instantiate v.1 term) ≤ 4096 → judged v ≡ some (equivalent (normalize (instantiate v.1 term)) v.0)
+  unfolding instance_of
+  judged_within v l = ap (λ (b : Bool). judged_if b v) (true_leb _ 4096 l)
 
-  only-sound : (r : Option Bool) → SoundMeans term m r → sound term m ≡ r
-  unfolding sound instance-of
-  only-sound r (text-unreadable u) = ap (λ (o : Option Variant). o >>= judged) (unread-member m u)
-  only-sound r (instance-over {v} e l) =
-      judged-is v e ∙ ap (λ (b : Bool). judged-if b v) (false-leb _ 4096 l)
-  only-sound r (is-variant {v} e l a) = judged-is v e ∙ judged-within v l ∙ ap some (decides v e .0 a)
-  only-sound r (is-other {v} e l a) = judged-is v e ∙ judged-within v l ∙ ap some (no (equivalent (normalize (instantiate (v .1) term)) (v .0)) refl)
+  only_sound : (r : Option Bool) → SoundMeans term m r → sound term m ≡ r
+  unfolding sound instance_of
+  only_sound r (text_unreadable u) = ap (λ (o : Option Variant). o >>= judged) (unread_member m u)
+  only_sound r (instance_over {v} e l) =
+      judged_is v e ∙ ap (λ (b : Bool). judged_if b v) (false_leb _ 4096 l)
+  only_sound r (is_variant {v} e l a) = judged_is v e ∙ judged_within v l ∙ ap some ((decides v e).0 a)
+  only_sound r (is_other {v} e l a) = judged_is v e ∙ judged_within v l ∙ ap some (no (equivalent (normalize (instantiate v.1 term)) v.0) refl)
     where
-      no : (b : Bool) → equivalent (normalize (instantiate (v .1) term)) (v .0) ≡ b → b ≡ false
-      no true f = absurd (a (decides v e .1 f))
+      no : (b : Bool) → equivalent (normalize (instantiate v.1 term)) v.0 ≡ b → b ≡ false
+      no true f = absurd (a ((decides v e).1 f))
       no false f = refl
 
-  pub sound-is : (r : Option Bool) → (sound term m ≡ r) ↔ SoundMeans term m r
-  sound-is r = (λ e. subst (SoundMeans term m) e sound-view, only-sound r)
+  pub sound_is : (r : Option Bool) → (sound term m ≡ r) ↔ SoundMeans term m r
+  sound_is r = (λ e. subst (SoundMeans term m) e sound_view, only_sound r)

@@ -1,128 +1,129 @@
 -- A tree that waits beside itself, last on the stack, during every binding of unify: its instance under the bindings is within the
 -- limit of nodes.
-use Prim.Native.Nat.{ℕ, zero, suc, _≤_}
+use Prim.Native.Nat.{ℕ, zero, suc, ◌≤◌}
 use native.Mathlib.Omega.{arith}
-use mathlib.Core.Path.{_≡_, refl, sym, _∙_, ap, subst, fun-ext}
+use mathlib.Core.Path.{◌≡◌, refl, sym, ◌∙◌, ap, subst, fun_ext}
 use mathlib.Core.Bool.{Bool, true, false}
-use mathlib.Core.List.{List, [], _∷_, _++_}
-use mathlib.Core.Option.{Option, some, none as nothing, Option·some-injective, Option·none-ne-some}
+use mathlib.Core.List.{List, [], ◌∷◌, ◌++◌}
+use mathlib.Core.Option.{Option, some, none as nothing, some-injective, none-ne-some}
 use lib.Dec.{leb}
-use Rattle·rules.specs.Bytes.{Text, same}
-use Rattle·rules.specs.Tree.{Tree, variable, Trees, none, more, size}
-use Rattle·rules.specs.Substitution.{Substitution, substitute, Binding, Pair, pick, lookup, instantiate, instantiate-pairs, size-pairs}
-use Rattle·rules.specs.Solving.{Step, goes-on, bind, fails, unknown, step-at, step, Verdict, solved, failed, unsupported, with-binding, after, run, extended, compose-over, compose, composed, finish, unify}
-use Rattle·laws·proofs.proofs.Solving.Substituting.{substitute-twice, substitute-nothing}
-use Rattle·laws·proofs.proofs.Solving.Rules.{same-tree-self}
-use Rattle·laws·proofs.proofs.Solving.Keeping.{AllIn, Sides, Kept, OnTop, all-waited, one-before, KeptStep, step-keep}
+use Rattle.rules.specs.Bytes.{Text, same}
+use Rattle.rules.specs.Tree.{Tree, variable, Trees, none, more, size}
+use Rattle.rules.specs.Substitution.{Substitution, substitute, Binding, Pair, pick, lookup, instantiate, instantiate_pairs, size_pairs}
+use Rattle.rules.specs.Solving.{Step, goes_on, bind, fails, unknown, step_at, step, Verdict, solved, failed, unsupported, with_binding, after, run, extended, compose_over, compose, composed, finish, unify}
+use Rattle.laws.proofs.Solving.Substituting.{substitute_twice, substitute_nothing}
+use Rattle.laws.proofs.Solving.Rules.{same_tree_self}
+use Rattle.laws.proofs.Solving.Keeping.{AllIn, Sides, Kept, OnTop, all_waited, one_before, KeptStep, step_keep}
 
 -- w beside itself is last
 pub data Waits (w : Tree) : List Pair → Type 0 where
   last : Waits w ((w, w) ∷ [])
   under : {p : Pair} {ps : List Pair} → Waits w ps → Waits w (p ∷ ps)
 
-pub waits-after : (w : Tree) (es : List Pair) (p : Pair) → Waits w (es ++ (p ∷ (w, w) ∷ []))
-waits-after w [] p = under last
-waits-after w (e ∷ es) p = under (waits-after w es p)
+pub waits_after : (w : Tree) (es : List Pair) (p : Pair) → Waits w (es ++ (p ∷ (w, w) ∷ []))
+waits_after w [] p = under last
+waits_after w (e ∷ es) p = under (waits_after w es p)
 
-waits-top : {w : Tree} {ps qs : List Pair} → Waits w ps → OnTop ps qs → Waits w qs
-waits-top h all-waited = h
-waits-top h (one-before t) = under (waits-top h t)
+waits_top : {w : Tree} {ps qs : List Pair} → Waits w ps → OnTop ps qs → Waits w qs
+waits_top h all_waited = h
+waits_top h (one_before t) = under (waits_top h t)
 
-waits-put : {w : Tree} {ps : List Pair} (bs : List Binding) → Waits w ps → Waits (instantiate bs w) (instantiate-pairs bs ps)
-unfolding instantiate-pairs
-waits-put bs last = last
-waits-put bs (under h) = under (waits-put bs h)
+waits_put : {w : Tree} {ps : List Pair} (bs : List Binding) → Waits w ps → Waits (instantiate bs w) (instantiate_pairs bs ps)
+unfolding instantiate_pairs
+waits_put bs last = last
+waits_put bs (under h) = under (waits_put bs h)
 
-waits-size : {w : Tree} {ps : List Pair} → Waits w ps → size w ≤ size-pairs ps
-unfolding size-pairs
-waits-size last = omega arith
-waits-size (under h) = let k = waits-size h in omega arith
+waits_size : {w : Tree} {ps : List Pair} → Waits w ps → size w ≤ size_pairs ps
+unfolding size_pairs
+waits_size last = omega arith
+waits_size (under h) = let k = waits_size h in omega arith
 
 -- the bindings put in one after the other, as they are made
-unfoldable in-turn : List Binding → Tree → Tree
-in-turn [] w = w
-in-turn (b ∷ bs) w = in-turn bs (instantiate (b ∷ []) w)
+unfoldable in_turn : List Binding → Tree → Tree
+in_turn [] w = w
+in_turn (b ∷ bs) w = in_turn bs (instantiate (b ∷ []) w)
 
 abbrev WithinLimit : Tree → Verdict → Type 0
-WithinLimit w (solved bs) = size (in-turn bs w) ≤ 4096
+WithinLimit w (solved bs) = size (in_turn bs w) ≤ 4096
 WithinLimit w failed = Unit {0}
 WithinLimit w unsupported = Unit {0}
 
 abbrev Any : Tree → Type 0
 Any t = Unit {0}
 
-every-one : (ts : Trees) → AllIn Any ts
-every-one none = tt
-every-one (more t ts) = (tt, every-one ts)
+every_one : (ts : Trees) → AllIn Any ts
+every_one none = tt
+every_one (more t ts) = (tt, every_one ts)
 
-any-kept : Kept Any
-any-kept = record { parts = λ f ts h. every-one ts; sums = λ a b p q. tt }
+any_kept : Kept Any
+any_kept = record { parts = λ f ts h. every_one ts; sums = λ a b p q. tt }
 
-any-sides : (ps : List Pair) → Sides Any Any ps
-any-sides [] = tt
-any-sides (p ∷ ps) = (tt, tt, any-sides ps)
+any_sides : (ps : List Pair) → Sides Any Any ps
+any_sides [] = tt
+any_sides (p ∷ ps) = (tt, tt, any_sides ps)
 
-bound-within : (x : Text) (v w : Tree) (r : Verdict) → WithinLimit (instantiate ((x, v) ∷ []) w) r → WithinLimit w (with-binding x v r)
-unfolding in-turn
-bound-within x v w (solved bs) h = h
-bound-within x v w failed h = tt
-bound-within x v w unsupported h = tt
+bound_within : (x : Text) (v w : Tree) (r : Verdict) → WithinLimit (instantiate ((x, v) ∷ []) w) r → WithinLimit w (with_binding x v r)
+unfolding in_turn
+bound_within x v w (solved bs) h = h
+bound_within x v w failed h = tt
+bound_within x v w unsupported h = tt
 
-dropped : (w : Tree) → step w w [] ≡ goes-on []
+dropped : (w : Tree) → step w w [] ≡ goes_on []
 unfolding step
-dropped w = ap (λ (b : Bool). step-at b w w []) (same-tree-self w)
+dropped w = ap (λ (b : Bool). step_at b w w []) (same_tree_self w)
 
-ended : (k : ℕ) (w : Tree) → size w ≤ 4096 → WithinLimit w (run k [] .0)
-unfolding run in-turn
+ended : (k : ℕ) (w : Tree) → size w ≤ 4096 → WithinLimit w (run k []).0
+unfolding run in_turn
 ended zero w l = tt
 ended (suc k) w l = l
 
-run-limit : (k : ℕ) (ps : List Pair) (w : Tree) → Waits w ps → size w ≤ 4096 → WithinLimit w (run k ps .0)
+run_limit : (k : ℕ) (ps : List Pair) (w : Tree) → Waits w ps → size w ≤ 4096 → WithinLimit w (run k ps).0
 unfolding run
-run-limit zero ps w h l = tt
-run-limit (suc k) (p ∷ ps) w last l = subst (λ (s : Step). WithinLimit w (after s (λ qs. run k qs) .0)) (sym (dropped w)) (ended k w l)
-run-limit (suc k) (p ∷ ps) w (under h) l = go (step (p .0) (p .1) ps) (step-keep Any any-kept ps (any-sides ps) (p .0) (p .1) tt tt) (λ qs u i j. run-limit k qs u i j)
+run_limit zero ps w h l = tt
+run_limit (suc k) [] w h l = elim h [ ]
+run_limit (suc k) (p ∷ ps) w last l = subst (λ (s : Step). WithinLimit w (after s (λ qs. run k qs)).0) (sym (dropped w)) (ended k w l)
+run_limit (suc k) (p ∷ ps) w (under h) l = go (step p.0 p.1 ps) (step_keep Any any_kept ps (any_sides ps) p.0 p.1 tt tt) (λ qs u i j. run_limit k qs u i j)
   where
-    go : (s : Step) → KeptStep Any ps s → ((qs : List Pair) (u : Tree) → Waits u qs → size u ≤ 4096 → WithinLimit u (run k qs .0)) → WithinLimit w (after s (λ qs. run k qs) .0)
-    go (goes-on qs) t ih = ih qs w (waits-top h (t .1)) l
+    go : (s : Step) → KeptStep Any ps s → ((qs : List Pair) (u : Tree) → Waits u qs → size u ≤ 4096 → WithinLimit u (run k qs).0) → WithinLimit w (after s (λ qs. run k qs)).0
+    go (goes_on qs) t ih = ih qs w (waits_top h t.1) l
     go (bind x v qs) t ih =
-        let i = subst (Waits (instantiate ((x, v) ∷ []) w)) (sym (t .put)) (waits-put ((x, v) ∷ []) h) in
-        let j = waits-size i in
-        let m = t .limit in
-        bound-within x v w (run k qs .0) (ih qs (instantiate ((x, v) ∷ []) w) i (omega arith))
+        let i = subst (Waits (instantiate ((x, v) ∷ []) w)) (sym t.put) (waits_put ((x, v) ∷ []) h) in
+        let j = waits_size i in
+        let m = t.limit in
+        bound_within x v w (run k qs).0 (ih qs (instantiate ((x, v) ∷ []) w) i (omega arith))
     go fails t ih = tt
     go unknown t ih = tt
 
 -- composing gives what the bindings give one after the other
-composed-over : (x : Text) (v : Tree) (cs : List Binding) (w : Tree) → instantiate ((x, instantiate cs v) ∷ cs) w ≡ instantiate cs (instantiate ((x, v) ∷ []) w)
+composed_over : (x : Text) (v : Tree) (cs : List Binding) (w : Tree) → instantiate ((x, instantiate cs v) ∷ cs) w ≡ instantiate cs (instantiate ((x, v) ∷ []) w)
 unfolding lookup substitute
-composed-over x v cs w = sym (substitute-twice (lookup cs) (lookup ((x, v) ∷ [])) w ∙ ap (λ (σ : Substitution). substitute σ w) (fun-ext (λ y. at y (same x y))))
+composed_over x v cs w = sym (substitute_twice (lookup cs) (lookup ((x, v) ∷ [])) w ∙ ap (λ (σ : Substitution). substitute σ w) (fun_ext (λ y. at y (same x y))))
   where
     at : (y : Text) (b : Bool) → substitute (lookup cs) (pick b v (variable y)) ≡ pick b (substitute (lookup cs) v) (lookup cs y)
     at y true = refl
     at y false = refl
 
-nothing-put : (w : Tree) → instantiate [] w ≡ w
+nothing_put : (w : Tree) → instantiate [] w ≡ w
 unfolding lookup
-nothing-put w = substitute-nothing (lookup []) (λ x. refl) w
+nothing_put w = substitute_nothing (lookup []) (λ x. refl) w
 
-compose-turn : (es cs : List Binding) (w : Tree) → compose es ≡ some cs → instantiate cs w ≡ in-turn es w
-unfolding compose in-turn
-compose-turn [] cs w h = subst (λ (bs : List Binding). instantiate bs w ≡ w) (Option·some-injective [] cs h) (nothing-put w)
-compose-turn (e ∷ es) cs w h = go (compose es) refl h (λ ds k. compose-turn es ds (instantiate (e ∷ []) w) k)
+compose_turn : (es cs : List Binding) (w : Tree) → compose es ≡ some cs → instantiate cs w ≡ in_turn es w
+unfolding compose in_turn
+compose_turn [] cs w h = subst (λ (bs : List Binding). instantiate bs w ≡ w) (some-injective [] cs h) (nothing_put w)
+compose_turn (e ∷ es) cs w h = go (compose es) refl h (λ ds k. compose_turn es ds (instantiate (e ∷ []) w) k)
   where
-    fit : (ds : List Binding) (c : Bool) → extended c (e .0) (instantiate ds (e .1)) ds ≡ some cs → instantiate ds (instantiate (e ∷ []) w) ≡ in-turn es (instantiate (e ∷ []) w)
-        → instantiate cs w ≡ in-turn es (instantiate (e ∷ []) w)
+    fit : (ds : List Binding) (c : Bool) → extended c e.0 (instantiate ds e.1) ds ≡ some cs → instantiate ds (instantiate (e ∷ []) w) ≡ in_turn es (instantiate (e ∷ []) w)
+        → instantiate cs w ≡ in_turn es (instantiate (e ∷ []) w)
     fit ds true k i =
-        subst (λ (bs : List Binding). instantiate bs w ≡ in-turn es (instantiate (e ∷ []) w)) (Option·some-injective ((e .0, instantiate ds (e .1)) ∷ ds) cs k)
-        (composed-over (e .0) (e .1) ds w ∙ i)
-    fit ds false k i = absurd (Option·none-ne-some cs k)
+        subst (λ (bs : List Binding). instantiate bs w ≡ in_turn es (instantiate (e ∷ []) w)) (some-injective ((e.0, instantiate ds e.1) ∷ ds) cs k)
+        (composed_over e.0 e.1 ds w ∙ i)
+    fit ds false k i = absurd (none-ne-some cs k)
 
-    go : (o : Option (List Binding)) → compose es ≡ o → compose-over (e .0) (e .1) o ≡ some cs
-        → ((ds : List Binding) → compose es ≡ some ds → instantiate ds (instantiate (e ∷ []) w) ≡ in-turn es (instantiate (e ∷ []) w))
-        → instantiate cs w ≡ in-turn es (instantiate (e ∷ []) w)
-    go nothing f k ih = absurd (Option·none-ne-some cs k)
-    go (some ds) f k ih = fit ds (leb (size (instantiate ds (e .1))) 4096) k (ih ds f)
+    go : (o : Option (List Binding)) → compose es ≡ o → compose_over e.0 e.1 o ≡ some cs
+        → ((ds : List Binding) → compose es ≡ some ds → instantiate ds (instantiate (e ∷ []) w) ≡ in_turn es (instantiate (e ∷ []) w))
+        → instantiate cs w ≡ in_turn es (instantiate (e ∷ []) w)
+    go nothing f k ih = absurd (none-ne-some cs k)
+    go (some ds) f k ih = fit ds (leb (size (instantiate ds e.1)) 4096) k (ih ds f)
 
 -- what solved says of the run
 abbrev solution : Verdict → Option (List Binding)
@@ -130,19 +131,19 @@ solution (solved bs) = some bs
 solution failed = nothing
 solution unsupported = nothing
 
-composed-solved : (o : Option (List Binding)) (bs : List Binding) → composed o ≡ solved bs → o ≡ some bs
-composed-solved nothing bs h = ap solution h
-composed-solved (some cs) bs h = ap solution h
+composed_solved : (o : Option (List Binding)) (bs : List Binding) → composed o ≡ solved bs → o ≡ some bs
+composed_solved nothing bs h = ap solution h
+composed_solved (some cs) bs h = ap solution h
 
-finish-solved : (v : Verdict) (bs : List Binding) → finish v ≡ solved bs → (es : List Binding) × (v ≡ solved es) × (compose es ≡ some bs)
-finish-solved (solved es) bs h = (es, refl, composed-solved (compose es) bs h)
-finish-solved failed bs h = absurd (Option·none-ne-some bs (ap solution h))
-finish-solved unsupported bs h = absurd (Option·none-ne-some bs (ap solution h))
+finish_solved : (v : Verdict) (bs : List Binding) → finish v ≡ solved bs → (es : List Binding) × (v ≡ solved es) × (compose es ≡ some bs)
+finish_solved (solved es) bs h = (es, refl, composed_solved (compose es) bs h)
+finish_solved failed bs h = absurd (none-ne-some bs (ap solution h))
+finish_solved unsupported bs h = absurd (none-ne-some bs (ap solution h))
 
-pub unify-limit : (k : ℕ) (ps : List Pair) (w : Tree) → Waits w ps → size w ≤ 4096 → (bs : List Binding) → unify k ps .0 ≡ solved bs → size (instantiate bs w) ≤ 4096
+pub unify_limit : (k : ℕ) (ps : List Pair) (w : Tree) → Waits w ps → size w ≤ 4096 → (bs : List Binding) → (unify k ps).0 ≡ solved bs → size (instantiate bs w) ≤ 4096
 unfolding unify
-unify-limit k ps w h l bs e =
-    let (es, f, g) = finish-solved (run k ps .0) bs e in
-    let i = subst (WithinLimit w) f (run-limit k ps w h l) in
-    let j = ap size (compose-turn es bs w g) in
+unify_limit k ps w h l bs e =
+    let (es, f, g) = finish_solved (run k ps).0 bs e in
+    let i = subst (WithinLimit w) f (run_limit k ps w h l) in
+    let j = ap size (compose_turn es bs w g) in
     omega arith

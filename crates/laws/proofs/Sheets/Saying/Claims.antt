@@ -1,74 +1,75 @@
 -- A line that claims yes, no or none says so exactly where that is meant.
-use mathlib.Core.Path.{_≡_, refl, sym, _∙_, ap, subst}
+use mathlib.Core.Path.{◌≡◌, refl, sym, ◌∙◌, ap, subst}
 use mathlib.Core.Bool.{Bool, true, false, false≢true}
-use mathlib.Core.List.{[], _∷_, _++_, append-assoc}
-use mathlib.Core.Logic.{_↔_, _⊎_, inl, inr}
+use mathlib.Core.List.{[], ◌∷◌, ◌++◌, append_assoc}
+use mathlib.Core.Logic.{◌↔◌, ◌⊎◌, inl, inr}
 use mathlib.Core.Option.{Option, some, none as nothing}
 use native.Mathlib.Omega.{arith}
 use lib.ListN.{length, length-append}
-use Rattle·rules.specs.Bytes.{Text}
-use Rattle·rules.specs.Text.{bytes}
-use Rattle·rules.specs.Answer.{line, claim}
-use Rattle·rules.specs.Saying.{Says, Decides, holds, fails}
+use Rattle.rules.specs.Bytes.{Text}
+use Rattle.rules.specs.Text.{bytes}
+use Rattle.rules.specs.Answer.{line, claim}
+use Rattle.rules.specs.Saying.{Says, Decides, holds, fails}
 
 abbrev ended : Option Bool → Text
 ended r = claim r ++ (10 ∷ [])
 
 -- the three lines differ in length
-one-claim : (r q : Option Bool) → length (ended r) ≡ length (ended q) → r ≡ q
-one-claim nothing nothing e = refl
-one-claim nothing (some true) e = absurd (omega arith)
-one-claim nothing (some false) e = absurd (omega arith)
-one-claim (some true) nothing e = absurd (omega arith)
-one-claim (some true) (some true) e = refl
-one-claim (some true) (some false) e = absurd (omega arith)
-one-claim (some false) nothing e = absurd (omega arith)
-one-claim (some false) (some true) e = absurd (omega arith)
-one-claim (some false) (some false) e = refl
+one_claim : (r q : Option Bool) → length (ended r) ≡ length (ended q) → r ≡ q
+one_claim nothing nothing e = refl
+one_claim nothing (some true) e = absurd (omega arith)
+one_claim nothing (some false) e = absurd (omega arith)
+one_claim (some true) nothing e = absurd (omega arith)
+one_claim (some true) (some true) e = refl
+one_claim (some true) (some false) e = absurd (omega arith)
+one_claim (some false) nothing e = absurd (omega arith)
+one_claim (some false) (some true) e = absurd (omega arith)
+one_claim (some false) (some false) e = refl
 
 module _ (key : Text) (Means : Option Bool → Type 0) (answer : Text) (r : Option Bool) (e : line key (claim r) ≡ answer) (means : (q : Option Bool) → (r ≡ q) ↔ Means q) where
   told : answer ≡ key ++ ended r
-  told = sym e ∙ append-assoc key (claim r) (10 ∷ [])
+  told = sym e ∙ append_assoc key (claim r) (10 ∷ [])
 
   said : (q : Option Bool) → answer ≡ key ++ ended q → r ≡ q
   said q h =
       let k = ap length (sym told ∙ h) in
-      one-claim r q (omega (arith, k, length-append key (ended r), length-append key (ended q)))
+      one_claim r q (omega (arith, k, length-append key (ended r), length-append key (ended q)))
 
   exactly : (q : Option Bool) → (answer ≡ key ++ ended q) ↔ Means q
-  exactly q = (λ h. means q .0 (said q h), λ h. told ∙ ap (λ (z : Option Bool). key ++ ended z) (means q .1 h))
+  exactly q = (λ h. (means q).0 (said q h), λ h. told ∙ ap (λ (z : Option Bool). key ++ ended z) ((means q).1 h))
 
-  says-one-of : (q : Option Bool) → answer ≡ key ++ ended q → (answer ≡ key ++ bytes "yes\n") ⊎ (answer ≡ key ++ bytes "no\n") ⊎ (answer ≡ key ++ bytes "none\n")
-  says-one-of nothing h = inr (inr h)
-  says-one-of (some true) h = inl h
-  says-one-of (some false) h = inr (inl h)
+  says_one_of : (q : Option Bool) → answer ≡ key ++ ended q → (answer ≡ key ++ bytes "yes\n") ⊎ (answer ≡ key ++ bytes "no\n") ⊎ (answer ≡ key ++ bytes "none\n")
+  says_one_of nothing h = inr (inr h)
+  says_one_of (some true) h = inl h
+  says_one_of (some false) h = inr (inl h)
 
-  pub claim-says : Says key Means answer
-  claim-says = record { says-yes = exactly (some true); says-no = exactly (some false); says-none = exactly nothing; says-one = says-one-of r told }
+  pub claim_says : Says key Means answer
+  claim_says = record { says_yes = exactly (some true); says_no = exactly (some false); says_none = exactly nothing; says_one = says_one_of r told }
 
 -- a test decides
-pub test-decides : (b : Bool) {P : Type 0} → (P ↔ (b ≡ true)) → (q : Option Bool) → (some b ≡ q) ↔ Decides P q
-test-decides b {P} h q = (λ e. subst (Decides P) e (go b h), back b h q)
+pub test_decides : (b : Bool) {P : Type 0} → (P ↔ (b ≡ true)) → (q : Option Bool) → (some b ≡ q) ↔ Decides P q
+test_decides b {P} h q = (λ e. subst (Decides P) e (go b h), back b h q)
   where
     go : (c : Bool) → (P ↔ (c ≡ true)) → Decides P (some c)
-    go true k = holds (k .1 refl)
-    go false k = fails (λ p. false≢true (k .0 p))
+    go true k = holds (k.1 refl)
+    go false k = fails (λ p. false≢true (k.0 p))
 
     back : (c : Bool) → (P ↔ (c ≡ true)) → (q : Option Bool) → Decides P q → some c ≡ q
-    back c k (some true) (holds p) = ap some (k .0 p)
-    back true k (some false) (fails n) = absurd (n (k .1 refl))
+    back c k nothing x' = elim x' [ ]
+    back c k (some true) (holds p) = ap some (k.0 p)
+    back true k (some false) (fails n) = absurd (n (k.1 refl))
     back false k (some false) (fails n) = refl
 
 -- what holds exactly where another thing holds is decided alike
 module _ {P Q : Type 0} (h : P ↔ Q) where
-  decides-also : {q : Option Bool} → Decides P q → Decides Q q
-  decides-also (holds p) = holds (h .0 p)
-  decides-also (fails n) = fails (λ z. n (h .1 z))
+  decides_also : {q : Option Bool} → Decides P q → Decides Q q
+  decides_also (holds p) = holds (h.0 p)
+  decides_also (fails n) = fails (λ z. n (h.1 z))
 
-pub says-also : {P Q : Type 0} → (P ↔ Q) → {key answer : Text} → Says key (Decides P) answer → Says key (Decides Q) answer
-says-also h k = record {
-  says-yes = (λ e. decides-also h (k .says-yes .0 e), λ d. k .says-yes .1 (decides-also (h .1, h .0) d));
-  says-no = (λ e. decides-also h (k .says-no .0 e), λ d. k .says-no .1 (decides-also (h .1, h .0) d));
-  says-none = (λ e. decides-also h (k .says-none .0 e), λ d. k .says-none .1 (decides-also (h .1, h .0) d));
-  says-one = k .says-one;
+pub says_also : {P Q : Type 0} → (P ↔ Q) → {key answer : Text} → Says key (Decides P) answer → Says key (Decides Q) answer
+says_also h k = record {
+  says_yes = (λ e. decides_also h (k.says_yes.0 e), λ d. k.says_yes.1 (decides_also (h.1, h.0) d));
+  says_no = (λ e. decides_also h (k.says_no.0 e), λ d. k.says_no.1 (decides_also (h.1, h.0) d));
+  says_none = (λ e. decides_also h (k.says_none.0 e), λ d. k.says_none.1 (decides_also (h.1, h.0) d));
+  says_one = k.says_one;
 }

@@ -1,26 +1,26 @@
 -- Answered sheets of kind `cover`: yes, no and none each exactly where that is meant.
-use mathlib.Core.Path.{_≡_}
+use mathlib.Core.Path.{◌≡◌}
 use mathlib.Core.List.{List}
-use mathlib.Core.Option.{some, Option·some-injective}
+use mathlib.Core.Option.{some, some-injective}
 use Prim.Native.Nat.{ℕ}
-use Rattle·rules.specs.Bytes.{Text}
-use Rattle·rules.specs.Text.{bytes}
-use Rattle·rules.specs.Substitution.{Pair}
-use Rattle·rules.specs.Cover.{covered}
-use Rattle·rules.specs.Families.{CoveredMeans}
-use Rattle·rules.specs.Sheet.{Entry, Member, asks-cover, read-sheet}
-use Rattle·rules.specs.Answer.{read-pairs, answer-of}
-use Rattle·rules.specs.Call.{passed, call}
-use Rattle·rules.specs.Saying.{Says}
-use Rattle·laws·proofs.proofs.Basics.Options.{bound}
-use Rattle·laws·proofs.proofs.Variants.Covered.{covered-is}
-use Rattle·laws·proofs.proofs.Sheets.Calls.{call-answer}
-use Rattle·laws·proofs.proofs.Sheets.Saying.Claims.{claim-says}
+use Rattle.rules.specs.Bytes.{Text}
+use Rattle.rules.specs.Text.{bytes}
+use Rattle.rules.specs.Substitution.{Pair}
+use Rattle.rules.specs.Cover.{covered}
+use Rattle.rules.specs.Families.{CoveredMeans}
+use Rattle.rules.specs.Sheet.{Entry, Member, asks_cover, read_sheet}
+use Rattle.rules.specs.Answer.{read_pairs, answer_of}
+use Rattle.rules.specs.Call.{passed, call}
+use Rattle.rules.specs.Saying.{Says}
+use Rattle.laws.proofs.Basics.Options.{bound}
+use Rattle.laws.proofs.Variants.Covered.{covered_is}
+use Rattle.laws.proofs.Sheets.Calls.{call_answer}
+use Rattle.laws.proofs.Sheets.Saying.Claims.{claim_says}
 
 module _ (s : Text) (words room : ℕ) (a : Text) (c : call s words room ≡ passed a) where
-  pub cover-said : (texts : List Entry) (ms : List Member) → read-sheet s ≡ some (asks-cover texts ms)
-      → (ps : List Pair) × (read-pairs texts ≡ some ps) × Says (bytes "covered=") (CoveredMeans ps ms) a
-  unfolding answer-of
-  cover-said texts ms h =
-      let (ps, f, e) = bound (read-pairs texts) _ a (call-answer s words room (asks-cover texts ms) a h c) in
-      (ps, f, claim-says (bytes "covered=") (CoveredMeans ps ms) a (covered ps ms) (Option·some-injective _ a e) (covered-is ps ms))
+  pub cover_said : (texts : List Entry) (ms : List Member) → read_sheet s ≡ some (asks_cover texts ms)
+      → (ps : List Pair) × (read_pairs texts ≡ some ps) × Says (bytes "covered=") (CoveredMeans ps ms) a
+  unfolding answer_of
+  cover_said texts ms h =
+      let (ps, f, e) = bound (read_pairs texts) _ a (call_answer s words room (asks_cover texts ms) a h c) in
+      (ps, f, claim_says (bytes "covered=") (CoveredMeans ps ms) a (covered ps ms) (some-injective _ a e) (covered_is ps ms))

@@ -1,27 +1,27 @@
 -- Answered sheets of kind `sound`: yes, no and none each exactly where that is meant.
-use mathlib.Core.Path.{_≡_}
-use mathlib.Core.Option.{some, Option·some-injective}
+use mathlib.Core.Path.{◌≡◌}
+use mathlib.Core.Option.{some, some-injective}
 use Prim.Native.Nat.{ℕ}
-use Rattle·rules.specs.Bytes.{Text}
-use Rattle·rules.specs.Text.{bytes}
-use Rattle·rules.specs.Tree.{Tree}
-use Rattle·rules.specs.Reading.{parse}
-use Rattle·rules.specs.Variants.{sound}
-use Rattle·rules.specs.Families.{SoundMeans}
-use Rattle·rules.specs.Sheet.{Member, asks-sound, read-sheet}
-use Rattle·rules.specs.Answer.{answer-of}
-use Rattle·rules.specs.Call.{passed, call}
-use Rattle·rules.specs.Saying.{Says}
-use Rattle·laws·proofs.proofs.Basics.Options.{bound}
-use Rattle·laws·proofs.proofs.Reading.Builds.{builds}
-use Rattle·laws·proofs.proofs.Variants.Sound.{sound-is}
-use Rattle·laws·proofs.proofs.Sheets.Calls.{call-answer}
-use Rattle·laws·proofs.proofs.Sheets.Saying.Claims.{claim-says}
+use Rattle.rules.specs.Bytes.{Text}
+use Rattle.rules.specs.Text.{bytes}
+use Rattle.rules.specs.Tree.{Tree}
+use Rattle.rules.specs.Reading.{parse}
+use Rattle.rules.specs.Variants.{sound}
+use Rattle.rules.specs.Families.{SoundMeans}
+use Rattle.rules.specs.Sheet.{Member, asks_sound, read_sheet}
+use Rattle.rules.specs.Answer.{answer_of}
+use Rattle.rules.specs.Call.{passed, call}
+use Rattle.rules.specs.Saying.{Says}
+use Rattle.laws.proofs.Basics.Options.{bound}
+use Rattle.laws.proofs.Reading.Builds.{builds}
+use Rattle.laws.proofs.Variants.Sound.{sound_is}
+use Rattle.laws.proofs.Sheets.Calls.{call_answer}
+use Rattle.laws.proofs.Sheets.Saying.Claims.{claim_says}
 
 module _ (s : Text) (words room : ℕ) (a : Text) (c : call s words room ≡ passed a) where
-  pub sound-said : (text : Text) (m : Member) → read-sheet s ≡ some (asks-sound text m)
+  pub sound_said : (text : Text) (m : Member) → read_sheet s ≡ some (asks_sound text m)
       → (t : Tree) × (parse text ≡ some t) × Says (bytes "sound=") (SoundMeans t m) a
-  unfolding answer-of
-  sound-said text m h =
-      let (t, f, e) = bound (parse text) _ a (call-answer s words room (asks-sound text m) a h c) in
-      (t, f, claim-says (bytes "sound=") (SoundMeans t m) a (sound t m) (Option·some-injective _ a e) (sound-is t (builds text t f) m))
+  unfolding answer_of
+  sound_said text m h =
+      let (t, f, e) = bound (parse text) _ a (call_answer s words room (asks_sound text m) a h c) in
+      (t, f, claim_says (bytes "sound=") (SoundMeans t m) a (sound t m) (some-injective _ a e) (sound_is t (builds text t f) m))

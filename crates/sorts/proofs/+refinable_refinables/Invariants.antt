@@ -1,0 +1,10 @@
+use Prim.Native.Nat.{◌+◌, ◌*◌}
+use Rattle.rules.specs.Tree.{size, sizes}
+use Rattle.tree.specs.Cells.{tree_at, trees_at}
+use Rattle.sorts.proofs.+refinable_refinables.Given as goal
+
+abbrev pub decreases-refinable : goal.decreases-refinable
+decreases-refinable l = 2 * size (tree_at l.sheet.now l.work.now l.i)
+
+abbrev pub decreases-refinables : goal.decreases-refinables
+decreases-refinables l = 2 * sizes (trees_at l.sheet.now l.work.now l.i) + 1

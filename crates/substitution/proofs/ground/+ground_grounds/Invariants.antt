@@ -1,0 +1,10 @@
+use Prim.Native.Nat.{◌+◌, ◌*◌}
+use Rattle.rules.specs.Tree.{size, sizes}
+use Rattle.tree.specs.Cells.{tree_at, trees_at}
+use Rattle.substitution.proofs.ground.+ground_grounds.Given as goal
+
+abbrev pub decreases-ground : goal.decreases-ground
+decreases-ground l = 2 * size (tree_at l.sheet.now l.work.now l.i)
+
+abbrev pub decreases-grounds : goal.decreases-grounds
+decreases-grounds l = 2 * sizes (trees_at l.sheet.now l.work.now l.i) + 1
