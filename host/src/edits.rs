@@ -64,6 +64,11 @@ const MISFITS: [&str; 4] = [
     "which was not admitted",
 ];
 
+// Whether a folder of functions that call each other, named after all of them, is one of this function.
+fn in_cycle(cycle: &str, name: &str) -> bool {
+    format!("_{cycle}_").contains(&format!("_{name}_"))
+}
+
 // Of a line of a prover's log that stands at a place in the proof files of a function: whether a goal is refused there. In the files of
 // functions that call each other a goal begins with its function's name.
 fn goal_refused(line: &str, module: &str, name: &str) -> Option<bool> {
@@ -76,9 +81,9 @@ fn goal_refused(line: &str, module: &str, name: &str) -> Option<bool> {
         .and_then(|rest| rest.split_once("`: "));
     let goal = goal.map_or("", |(goal, _)| goal);
     let own = last == name
-        || last
-            .strip_prefix('+')
-            .is_some_and(|cycle| cycle == name || goal.starts_with(&format!("{name}-")));
+        || last.strip_prefix('+').is_some_and(|cycle| {
+            cycle == name || in_cycle(cycle, name) && goal.starts_with(&format!("{name}-"))
+        });
     let refused = !goal.is_empty() && !MISFITS.iter().any(|misfit| said.contains(misfit));
     (above == module && own).then_some(refused)
 }

@@ -28,6 +28,7 @@ hold() {
 echo "rt $*" | sed 's/ --jobs [1-9][0-9]*$//' >>asked
 echo "== below"
 [ ! -e waiting ] || until [ -e go ]; do sleep 0.01; done
+[ ! -e unneeded ] || [ "$1" != all ] || { echo "rt: the program is not proved"; exit 1; }
 [ ! -e failing ] || { echo "rt: the library below did not build"; exit 1; }
 hold early
 [ "$folder/$1" = "$PWD/crates/yukhtsami_c/lib" ] || exit 0
@@ -202,6 +203,13 @@ fn what_is_no_change_of_a_source_starts_no_proof() {
         tree.shell(line);
         tree.asks(&[]);
     }
+}
+
+#[test]
+fn a_crate_that_the_library_does_not_need_may_fail() {
+    let tree = Tree::built("unneeded");
+    tree.shell("touch unneeded; echo more >>crates/below/src/lib.rt");
+    tree.asks(&FIRST);
 }
 
 #[test]
