@@ -59,7 +59,8 @@ fn each_wrong_program_is_refused_by_its_own_proof() {
 
 #[test]
 fn a_caller_of_a_wrong_function_is_not_refused_by_itself() {
-    let log = "./proofs/m/+f+g/Answers.antt:41:15: error: `f-returns-2`: no\n\
+    let log = "./proofs/m/+f_g/Answers.antt:41:15: error: `f-returns-2`: no\n\
+        ./proofs/m/+f_g/Answers.antt:47:15: error: `e-returns`: no\n\
         ./proofs/m/+own/Invariants.antt:4:1: error: `shape_of-work`: no\n\
         ./proofs/m/i/Answers.antt:9:3: note: no\n\
         fn c::m::f: not proved\n\
@@ -75,7 +76,7 @@ fn a_caller_of_a_wrong_function_is_not_refused_by_itself() {
     for function in ["m::f", "m::own", "k", "n"] {
         assert!(edits::refused_by_itself(log, "c", function), "{function}");
     }
-    for function in ["l", "f", "m::g", "m::h", "m::i", "i", "own"] {
+    for function in ["l", "f", "m::e", "m::g", "m::h", "m::i", "i", "own"] {
         assert!(!edits::refused_by_itself(log, "c", function), "{function}");
     }
 }
