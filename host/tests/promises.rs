@@ -41,7 +41,8 @@ fn public_functions(source: &str) -> Vec<String> {
     let (mut found, mut of) = (Vec::new(), String::new());
     for line in source.lines() {
         if let Some(rest) = line.strip_prefix("impl ") {
-            of = format!("{}::", rest.trim_end_matches([' ', '{']));
+            let name = rest.split([' ', '<', '{']).next().unwrap_or_default();
+            of = format!("{name}::");
         } else if line == "}" {
             of.clear();
         }

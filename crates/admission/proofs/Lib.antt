@@ -1,3 +1,2 @@
 pub mod Zeroing
-pub mod Screening
 pub mod Admitting

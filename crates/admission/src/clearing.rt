@@ -7,9 +7,5 @@ pub fn clear(work: &mut [u32], needed: usize)
     requires { needed ≤ length work.old }
     ensures { work.new ≡ zeroed needed work.old }
 {
-    let mut i = 0;
-    while i < needed {
-        work[i] = 0;
-        i += 1;
-    }
+    work[..needed].fill(0);
 }

@@ -2,45 +2,30 @@
 #![tactic(auto)]
 
 pub mod clearing; // clearing.rt: the work area set to zero
-pub mod refusal; // refusal.rt: the refusals
 
-ghost use Rattle.admission.specs.Admission.{Fine, Admits};
+ghost use Rattle.admission.specs.Admission.{Admits};
 
-use forms::form::{Form, ReadForm, read_sheet, words_needed};
-use refusal::Refusal;
-use text::{Screened, screen};
+use forms::form::{Form, read_sheet, words_needed};
+use rules::Refusal;
+use text::screen;
 
-// A sheet that is admitted, with the words that it needs, or a refusal.
-#[derive(Clone, Copy)]
-pub enum Admitted {
-    Sheet { form: Form, needed: usize },
-    Refused(Refusal),
-}
-
-// A sheet without a foreign byte, against the number of words lent.
-fn admit_screened(sheet: &[u8], words: usize) -> Admitted
-    requires { Fine sheet.now }
-    ensures { Admits sheet.now words result }
-{
-    let read = read_sheet(sheet);
-    let ReadForm::Sheet(form) = read else {
-        return Admitted::Refused(Refusal::LineOutOfPlace);
-    };
-    let needed = words_needed(sheet, form);
-    if words < needed {
-        return Admitted::Refused(Refusal::ShortWorkArea);
-    }
-    Admitted::Sheet { form, needed }
+// A sheet that is admitted, as a form, and the words that it needs.
+#[derive(Clone, Copy, Debug, PartialEq, Eq)]
+pub struct Admitted {
+    pub form: Form,
+    pub needed: usize,
 }
 
 // A sheet against the number of words lent.
-pub fn admit(sheet: &[u8], words: usize) -> Admitted
+#[tactic(auto, using(crate::proofs::Admitting::admits))]
+pub fn admit(sheet: &[u8], words: usize) -> Result<Admitted, Refusal>
     ensures { Admits sheet.now words result }
 {
-    let screened = screen(sheet);
-    match screened {
-        Screened::Long => Admitted::Refused(Refusal::TooLong),
-        Screened::Foreign => Admitted::Refused(Refusal::ForeignByte),
-        Screened::Fine => admit_screened(sheet, words),
+    screen(sheet)?;
+    let form = read_sheet(sheet)?;
+    let needed = words_needed(sheet, form);
+    if words < needed {
+        return Err(Refusal::ShortWorkArea);
     }
+    Ok(Admitted { form, needed })
 }

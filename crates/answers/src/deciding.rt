@@ -1,12 +1,11 @@
 // What is decided of a sheet that is admitted: a refusal, or the lines of its answer. Trees and bindings stand in the work area.
 ghost use Rattle.std.specs.Prelude.{◌≡◌};
-ghost use Rattle.answers.specs.Deciding.{claim_decision};
+ghost use Rattle.answers.specs.Deciding.{key_text};
 
-use admission::refusal::Refusal;
-use sheet::claims::Claim;
+use rules::Refusal;
 
 // The key of a line.
-#[derive(Clone, Copy)]
+#[derive(Clone, Copy, Debug, PartialEq, Eq)]
 pub enum Key {
     Equal,
     Normal,
@@ -15,20 +14,27 @@ pub enum Key {
     Complete,
 }
 
-// The value of a line with a constant text.
-#[derive(Clone, Copy)]
-pub enum Word {
-    Yes,
-    No,
-    Nothing,
+impl Key {
+    // The line up to its value.
+    pub(crate) fn text(self) -> &'static [u8]
+        ensures { result.now ≡ key_text self }
+    {
+        match self {
+            Key::Equal => b"equal=",
+            Key::Normal => b"normal=",
+            Key::Sound => b"sound=",
+            Key::Covered => b"covered=",
+            Key::Complete => b"complete=",
+        }
+    }
 }
 
-// The lines of an answer: a key and a word, a key and the term of a cell, or a verdict, `solved` with the bindings from a cell on.
-#[derive(Clone, Copy)]
+// The lines of an answer: a key and what is claimed, a key and the term of a cell, or a verdict, `solved` with the bindings from a cell on.
+#[derive(Clone, Copy, Debug, PartialEq, Eq)]
 pub enum Lines {
-    Constant {
+    Claim {
         key: Key,
-        word: Word,
+        claim: Option<bool>,
     },
     Term {
         key: Key,
@@ -48,29 +54,5 @@ pub enum Lines {
     },
 }
 
-// A refusal, or an answer.
-#[derive(Clone, Copy)]
-pub enum Decision {
-    Refused(Refusal),
-    Given(Lines),
-}
-
-// The line that tells what is claimed.
-pub fn claimed(key: Key, claim: Claim) -> Decision
-    ensures { result ≡ claim_decision key claim }
-{
-    match claim {
-        Claim::Yes => Decision::Given(Lines::Constant {
-            key,
-            word: Word::Yes,
-        }),
-        Claim::No => Decision::Given(Lines::Constant {
-            key,
-            word: Word::No,
-        }),
-        Claim::Nothing => Decision::Given(Lines::Constant {
-            key,
-            word: Word::Nothing,
-        }),
-    }
-}
+// An answer, or a refusal.
+pub type Decision = Result<Lines, Refusal>;

@@ -3,4 +3,4 @@
 
 pub mod deciding; // deciding.rt: what is decided of a sheet
 pub mod giving; // giving.rt: a decision measured, and written where it fits
-mod lines; // lines.rt: lines of a key
+mod lines; // lines.rt: the line of a claim

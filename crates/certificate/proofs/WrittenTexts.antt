@@ -2,7 +2,7 @@
 use Prim.Native.Nat.{ℕ, suc, ◌<◌, ◌≤◌}
 use mathlib.Core.Path.{◌≡◌, refl, sym, ap, subst, ◌∙◌}
 use mathlib.Core.List.{List, [], ◌∷◌, map, append-nil}
-use mathlib.Core.Option.{Option, some, none as nothing}
+use Rattle.std.specs.Prelude.{Option, Some, None}
 use lib.ListN.{length, take, drop}
 use native.Mathlib.Omega.{arith}
 use Rattle.rules.specs.Bytes.{Text}
@@ -10,6 +10,7 @@ use Rattle.rules.specs.Maybe.{◌>>=◌}
 use Rattle.rules.specs.Tree.{Tree}
 use Rattle.rules.specs.Reading.{as_written, read_term, read_text, wholly, canonical_text}
 use Rattle.rules.specs.Sums.{canonical}
+use Rattle.runs.specs.declared.TheConstants.{PLUS}
 use Rattle.runs.specs.Texts.{texts}
 use Rattle.settling.specs.Settle.{sums_sorted}
 use Rattle.flattening.specs.Terms.{Term, words}
@@ -30,25 +31,25 @@ module _ (s : Text) where
 
   -- the tree that reading gives, and the words that are written
   abbrev Agree : Option Tree → Option (List ℕ) → Type 0
-  Agree nothing nothing = Unit
-  Agree nothing (some ws) = ⊥
-  Agree (some t) nothing = ⊥
-  Agree (some t) (some ws) = (u : Term) × NamedTerm s u × (tree_of s u ≡ t) × (words (flatten s u) ≡ ws)
+  Agree None None = Unit
+  Agree None (Some ws) = ⊥
+  Agree (Some t) None = ⊥
+  Agree (Some t) (Some ws) = (u : Term) × NamedTerm s u × (tree_of s u ≡ t) × (words (flatten s u) ≡ ws)
 
-  agree_by : (n : ℕ) (o : Read Term) → GoodTerm s n o → Agree (wholly (o >>= λ (t, is). some (tree_of s t, map (item_text s) is))) (after_term s o [])
+  agree_by : (n : ℕ) (o : Read Term) → GoodTerm s n o → Agree (wholly (o >>= λ (t, is). Some (tree_of s t, map (item_text s) is))) (after_term s o [])
   unfolding write
-  agree_by n nothing g = tt
-  agree_by n (some (t, [])) g = (t, g.0, refl, sym (append-nil (words (flatten s t))))
-  agree_by n (some (t, begin ∷ is)) g = tt
-  agree_by n (some (t, shut ∷ is)) g = tt
-  agree_by n (some (t, comma ∷ is)) g = tt
-  agree_by n (some (t, name x ∷ is)) g = tt
+  agree_by n None g = tt
+  agree_by n (Some (t, [])) g = (t, g.0, refl, sym (append-nil (words (flatten s t))))
+  agree_by n (Some (t, begin ∷ is)) g = tt
+  agree_by n (Some (t, shut ∷ is)) g = tt
+  agree_by n (Some (t, comma ∷ is)) g = tt
+  agree_by n (Some (t, name x ∷ is)) g = tt
 
   agree_items : (is : List Item) → Proper s is → Agree (wholly (read_term as_written (length (map (item_text s) is)) (map (item_text s) is))) (write s is wanting [])
   agree_items is p =
       subst (λ (o : Option Tree). Agree o (write s is wanting []))
       (sym (ap (λ (k : ℕ). wholly (read_term as_written k (map (item_text s) is))) (length_texts is) ∙ ap wholly (term_read s (length is) is p)))
-      (subst (Agree (wholly (item_term (length is) is >>= λ (t, js). some (tree_of s t, map (item_text s) js)))) (sym (term_written s (length is) is [] p (omega arith)))
+      (subst (Agree (wholly (item_term (length is) is >>= λ (t, js). Some (tree_of s t, map (item_text s) js)))) (sym (term_written s (length is) is [] p (omega arith)))
       (agree_by (length is) (item_term (length is) is) (good_term s (length is) is p)))
 
   module _ (to at : ℕ) (fits : to ≤ length s) (small : to < 65536) where
@@ -56,33 +57,33 @@ module _ (s : Text) where
     unfolding read_text text_words
     agree = subst (λ (o : Option (List Text)). Agree (o >>= λ ts. wholly (read_term as_written (length ts) ts)) (writes s (items_at (take to s) at) wanting [])) (sym (tokens_items s to fits small at)) (go (items_at (take to s) at) (λ is e. items_proper s to fits small at is e))
       where
-        go : (o : Option (List Item)) → ((is : List Item) → o ≡ some is → Proper s is)
-            → Agree ((o >>= λ is. some (map (item_text s) is)) >>= λ ts. wholly (read_term as_written (length ts) ts)) (writes s o wanting [])
-        go nothing h = tt
-        go (some is) h = agree_items is (h is refl)
+        go : (o : Option (List Item)) → ((is : List Item) → o ≡ Some is → Proper s is)
+            → Agree ((o >>= λ is. Some (map (item_text s) is)) >>= λ ts. wholly (read_term as_written (length ts) ts)) (writes s o wanting [])
+        go None h = tt
+        go (Some is) h = agree_items is (h is refl)
 
     -- the words, sorted, have the canonical text; no words, no canonical text
-    canonical_of : (o : Option Tree) (p : Option (List ℕ)) → Agree o p → (ws : List ℕ) → p ≡ some ws → length ws < 65536 → (base : ℕ)
-        → (o >>= λ t. some (canonical t)) ≡ some (texts s (sums_sorted s 16777216 base (length ws) ws))
+    canonical_of : (o : Option Tree) (p : Option (List ℕ)) → Agree o p → (ws : List ℕ) → p ≡ Some ws → length ws < 65536 → (base : ℕ)
+        → (o >>= λ t. Some (canonical t)) ≡ Some (texts s (sums_sorted s PLUS base (length ws) ws))
     unfolding canonical
-    canonical_of nothing nothing a ws e l base = let z : ◌≡◌ {A = ℕ} 0 1 = cc in absurd (omega arith)
-    canonical_of nothing (some vs) a ws e l base = absurd a
-    canonical_of (some t) nothing a ws e l base = absurd a
-    canonical_of (some t) (some vs) (u, h, f, g) ws e l base =
+    canonical_of None None a ws e l base = let z : ◌≡◌ {A = ℕ} 0 1 = cc in absurd (omega arith)
+    canonical_of None (Some vs) a ws e l base = absurd a
+    canonical_of (Some t) None a ws e l base = absurd a
+    canonical_of (Some t) (Some vs) (u, h, f, g) ws e l base =
         let z : words (flatten s u) ≡ ws = cc in
         let k : length (words (flatten s u)) < 65536 = rw z l in
-        ap some (ap canonical (sym f) ∙ sym (spelled_settled s (named_spells s h) k base) ∙ rw z)
+        ap Some (ap canonical (sym f) ∙ sym (spelled_settled s (named_spells s h) k base) ∙ rw z)
 
-    pub readable : (ws : List ℕ) → text_words s (take to s) at ≡ some ws → length ws < 65536 → (base : ℕ)
-        → canonical_text (drop at (take to s)) ≡ some (texts s (sums_sorted s 16777216 base (length ws) ws))
+    pub readable : (ws : List ℕ) → text_words s (take to s) at ≡ Some ws → length ws < 65536 → (base : ℕ)
+        → canonical_text (drop at (take to s)) ≡ Some (texts s (sums_sorted s PLUS base (length ws) ws))
     unfolding canonical_text
     readable ws e l base = canonical_of (read_text as_written (drop at (take to s))) (text_words s (take to s) at) agree ws e l base
 
-    none_of : (o : Option Tree) (p : Option (List ℕ)) → Agree o p → p ≡ nothing → (o >>= λ t. some (canonical t)) ≡ nothing
-    none_of nothing p a e = refl
-    none_of (some t) nothing a e = absurd a
-    none_of (some t) (some ws) a e = let z : ◌≡◌ {A = ℕ} 0 1 = cc in absurd (omega arith)
+    none_of : (o : Option Tree) (p : Option (List ℕ)) → Agree o p → p ≡ None → (o >>= λ t. Some (canonical t)) ≡ None
+    none_of None p a e = refl
+    none_of (Some t) None a e = absurd a
+    none_of (Some t) (Some ws) a e = let z : ◌≡◌ {A = ℕ} 0 1 = cc in absurd (omega arith)
 
-    pub unreadable : text_words s (take to s) at ≡ nothing → canonical_text (drop at (take to s)) ≡ nothing
+    pub unreadable : text_words s (take to s) at ≡ None → canonical_text (drop at (take to s)) ≡ None
     unfolding canonical_text
     unreadable e = none_of (read_text as_written (drop at (take to s))) (text_words s (take to s) at) agree e

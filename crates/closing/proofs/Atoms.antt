@@ -1,78 +1,34 @@
 -- Atoms: a letter around one application of digits.
-use Prim.Native.Nat.{ℕ, zero, suc, ◌+◌, ◌*◌, ◌-◌, ◌<◌, ◌≤◌}
+use Prim.Native.Nat.{ℕ, ◌+◌, ◌*◌, ◌-◌, ◌<◌, ◌≤◌}
 use native.Mathlib.Omega.{arith}
-use mathlib.Core.Path.{◌≡◌, refl, sym, ap, ap₂, ◌∙◌, subst}
+use mathlib.Core.Path.{◌≡◌, sym, ap, ap₂, ◌∙◌, subst}
 use mathlib.Core.List.{List, [], ◌∷◌}
-use mathlib.Core.Option.{Option, some, none as nothing, none-ne-some}
-use mathlib.Core.Bool.{Bool, true, false, not, false≢true}
+use Rattle.std.specs.Prelude.{Some, None}
+use mathlib.Core.Bool.{Bool, true, false}
 use lib.ListN.{length, get_or, take, drop}
-use borrow.Author.Tests.{not-true, ne_eqb}
-use native.Mathlib.Decide.{dec_lt}
-use mathlib.Core.Logic.{⊎_elim}
-use types.Run.{OneOf}
+use borrow.Author.Tests.{ne_eqb}
 use Rattle.rules.specs.Bytes.{Text}
 use Rattle.rules.specs.Maybe.{◌>>=◌, guard}
-use Rattle.rules.specs.Names.{digit, all, letter_name}
+use Rattle.rules.specs.Names.{digit, all}
 use Rattle.rules.specs.Tree.{Tree, atom, apply, Trees, none, more, size}
 use Rattle.rules.specs.Reading.{single, constant_name, atom_of}
-use Rattle.laws.specs.Unspelled.{unspelled}
-use Rattle.tree.specs.Cells.{start_of, length_of, kind_of, fixed_name, named, name_at, first_of, next_of, made, tree_at, trees_at}
+use Rattle.tree.specs.Cells.{start_of, length_of, kind_of, named, name_at, first_of, next_of, made, tree_at, trees_at}
 use Rattle.tree.specs.Arena.{Place, Arena, WroteCell, Linked}
-use Rattle.tree.proofs.Bounded.{every_below, below_holds}
-use Rattle.tree.proofs.FixedNames.{fixed_unspelled}
 use Rattle.tree.proofs.Decoding.{Kind, application, a_variable, an_atom, kind, tree_variable, tree_atom, tree_apply, trees_none, trees_more, made_atom}
 use Rattle.tree.proofs.Areas.{grown_same}
 use Rattle.closing.specs.Machine.{back}
-use Rattle.closing.specs.Closing.{Alone, Done, NoTree}
-use Rattle.leaves.proofs.LeafLaws.{other_letter}
+use Rattle.closing.specs.Closing.{Alone, Done}
+use Rattle.closing.proofs.AtomTrees.{around, atom_back, no_digits}
 use Rattle.closing.proofs.Making.{linked_at, made_on}
-
--- the order of the trees does not make one of several
-two_back : (ts : Trees) (t u : Tree) (us : Trees) → single (back ts (more t (more u us))) ≡ nothing
-unfolding back
-two_back none t u us = refl
-two_back (more v ts) t u us = two_back ts v t (more u us)
-
-single_back : (ts : Trees) → single (back ts none) ≡ single ts
-unfolding back
-single_back none = refl
-single_back (more t none) = refl
-single_back (more t (more u us)) = two_back us u t none
-
--- what an atom is made of
-abbrev around : Text → Option Text → Option Tree
-around n o = o >>= λ d. guard (all digit d) >>= λ _. some (atom (get_or n 0 0) d)
-
-atom_back : (n : Text) (ts : Trees) → atom_of n (back ts none) ≡ atom_of n ts
-unfolding atom_of
-atom_back n ts = ap (λ (o : Option Tree). o >>= λ t. around n (constant_name t)) (single_back ts)
-
-pub no_atom : (n : Text) (ts : Trees) → atom_of n ts ≡ nothing → NoTree (atom_of n (back ts none))
-no_atom n ts e t h = absurd (none-ne-some t (sym (atom_back n ts ∙ e) ∙ h))
 
 -- The tests of a list, one after another
 
-pub none_alone : (s : Text) (w : List ℕ) (k : ℕ) → k ≡ 0 → (n : Text) → atom_of n (trees_at s w k) ≡ nothing
+pub none_alone : (s : Text) (w : List ℕ) (k : ℕ) → k ≡ 0 → (n : Text) → atom_of n (trees_at s w k) ≡ None
 unfolding atom_of
 none_alone s w k e n = rw (trees_none s w k e)
 
-few_digits : (a : ℕ) → 0 < a → a < 7 → all digit (fixed_name a) ≡ false
-unfolding all digit every_below
-few_digits zero p q = absurd (omega arith)
-few_digits (suc a) p q = not-true (all digit (fixed_name (suc a))) (below_holds 6 (λ m. not (all digit (fixed_name (suc m)))) refl a (omega arith))
-
-unspelled_digits : (n : ℕ) → all digit (unspelled n) ≡ false
-unfolding all digit unspelled
-unspelled_digits n = refl
-
-no_digits : (a : ℕ) → 0 < a → all digit (fixed_name a) ≡ false
-no_digits a p = elim (dec_lt a 7) [
-  | yes q ↦ few_digits a p q
-  | no q ↦ ap (all digit) (fixed_unspelled a (omega arith)) ∙ unspelled_digits (a - 7)
-]
-
 module _ (s : Text) {w : List ℕ} {free : ℕ} (a : Arena s w free) (k : ℕ) (p : 0 < k) (q : k < free) where
-  pub several : {r : ℕ} → r ≡ next_of w k → 0 < r → (n : Text) → atom_of n (trees_at s w k) ≡ nothing
+  pub several : {r : ℕ} → r ≡ next_of w k → 0 < r → (n : Text) → atom_of n (trees_at s w k) ≡ None
   unfolding atom_of
   several {r} e h n =
       let l = a.links.next k p q in
@@ -86,10 +42,10 @@ module _ (s : Text) {w : List ℕ} {free : ℕ} (a : Arena s w free) (k : ℕ) (
     unfolding atom_of
     atom_one n = ap (λ (ts : Trees). single ts >>= λ t. around n (constant_name t)) one_tree
 
-    pub no_constant : {x : ℕ} → x ≡ kind_of w k → 0 < x → (n : Text) → atom_of n (trees_at s w k) ≡ nothing
+    pub no_constant : {x : ℕ} → x ≡ kind_of w k → 0 < x → (n : Text) → atom_of n (trees_at s w k) ≡ None
     no_constant f g n = atom_one n ∙ go (kind (kind_of w k))
       where
-        go : Kind (kind_of w k) → around n (constant_name (tree_at s w k)) ≡ nothing
+        go : Kind (kind_of w k) → around n (constant_name (tree_at s w k)) ≡ None
         go (application z) = absurd (omega arith)
         go (a_variable x y) = ap (λ (t : Tree). around n (constant_name t)) (tree_variable s w k x y)
         go (an_atom x) = ap (λ (t : Tree). around n (constant_name t)) (tree_atom s w k x)
@@ -98,7 +54,7 @@ module _ (s : Text) {w : List ℕ} {free : ℕ} (a : Arena s w free) (k : ℕ) (
       applied : tree_at s w k ≡ apply (name_at s w k) (trees_at s w (first_of w k))
       applied = tree_apply s w k (omega arith)
 
-      pub with_children : {y : ℕ} → y ≡ first_of w k → 0 < y → (n : Text) → atom_of n (trees_at s w k) ≡ nothing
+      pub with_children : {y : ℕ} → y ≡ first_of w k → 0 < y → (n : Text) → atom_of n (trees_at s w k) ≡ None
       with_children {y} i j n =
           let l = a.links.first k p q in
           atom_one n
@@ -108,10 +64,10 @@ module _ (s : Text) {w : List ℕ} {free : ℕ} (a : Arena s w free) (k : ℕ) (
         constant : tree_at s w k ≡ apply (name_at s w k) none
         constant = applied ∙ ap (apply (name_at s w k)) (trees_none s w (first_of w k) (omega arith))
 
-        atom_name : (n : Text) → atom_of n (trees_at s w k) ≡ around n (some (name_at s w k))
+        atom_name : (n : Text) → atom_of n (trees_at s w k) ≡ around n (Some (name_at s w k))
         atom_name n = atom_one n ∙ ap (λ (t : Tree). around n (constant_name t)) constant
 
-        pub fixed_alone : {z : ℕ} → z ≡ length_of w k → z ≡ 0 → (n : Text) → atom_of n (trees_at s w k) ≡ nothing
+        pub fixed_alone : {z : ℕ} → z ≡ length_of w k → z ≡ 0 → (n : Text) → atom_of n (trees_at s w k) ≡ None
         unfolding name_at named
         fixed_alone f g n =
             let l = (a.cell k p q).placed.code (sym f ∙ g) in
@@ -128,7 +84,7 @@ module _ (s : Text) {w : List ℕ} {free : ℕ} (a : Arena s w free) (k : ℕ) (
 
             go : (b : Bool) → b ≡ all digit (name_at s w k) → Alone s w k b
             go true e = (p, one_tree ∙ ap (λ (t : Tree). more t none) constant, sym e)
-            go false e = λ n. atom_name n ∙ ap (λ (b : Bool). guard b >>= λ _. some (atom (get_or n 0 0) (name_at s w k))) (sym e)
+            go false e = λ n. atom_name n ∙ ap (λ (b : Bool). guard b >>= λ _. Some (atom (get_or n 0 0) (name_at s w k))) (sym e)
 
 -- the cell of an atom
 pub atom_done : (s : Text) {w v : List ℕ} {free limit letter chain next r x y : ℕ} → Arena s w free → chain < free → next < free → free + 1 ≤ limit → 4 * limit ≤ length w → 7 ≤ letter → letter < 256
@@ -147,16 +103,6 @@ atom_done s {w} {v} {free} {limit} {letter} {chain} {next} {r} {x} {y} a q g o r
       made = made_on s a.links g (omega arith) (grown_same w free free) i (subst (Linked s w v free next) t b);
       room = omega arith;
     }
-
--- the letters of atoms
-pub letter_only : (n : Text) → letter_name n ≡ true → (n ≡ get_or n 0 0 ∷ []) × (7 ≤ get_or n 0 0)
-unfolding letter_name
-letter_only [] h = absurd (false≢true h)
-letter_only (b ∷ []) h = (refl, elim (dec_lt b 7) [ no q ↦ omega arith | yes q ↦ absurd (false≢true (other_letter b (low q) ∙ h)) ])
-  where
-    low : b < 7 → OneOf (99 ∷ 102 ∷ 110 ∷ 112 ∷ 116 ∷ []) b → ⊥
-    low q o = ⊎_elim (λ e. omega arith) (⊎_elim (λ e. omega arith) (⊎_elim (λ e. omega arith) (⊎_elim (λ e. omega arith) (λ e. omega arith)))) o
-letter_only (b ∷ c ∷ n) h = absurd (false≢true h)
 
 -- what the test says, once it is known
 pub alone_is : (s : Text) (w : List ℕ) (k : ℕ) (b : Bool) {q : Bool} → Alone s w k b → b ≡ q → Alone s w k q

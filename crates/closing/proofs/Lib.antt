@@ -4,3 +4,9 @@ pub mod Making
 pub mod Atoms
 pub mod Summing
 pub mod Shutting
+pub mod Orders
+pub mod SumTrees
+pub mod Shuts
+pub mod Sums
+pub mod AtomTrees
+pub mod Numbers

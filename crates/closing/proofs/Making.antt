@@ -3,7 +3,8 @@ use Prim.Native.Nat.{ℕ, ◌+◌, ◌*◌, ◌<◌, ◌≤◌}
 use native.Mathlib.Omega.{arith}
 use mathlib.Core.Path.{◌≡◌, refl, sym, ap, ◌∙◌, subst}
 use mathlib.Core.List.{List}
-use mathlib.Core.Option.{Option, some, some-injective}
+use Rattle.std.specs.Prelude.{Option, Some}
+use Rattle.laws.proofs.Basics.Somes.{some_injective}
 use lib.ListN.{length, get_or}
 use borrow.Author.Tests.{ne_eqb}
 use Rattle.rules.specs.Bytes.{Text}
@@ -61,7 +62,7 @@ made_on s {w} {v} {u} {n} {m} {r} {next} {t} l q f g e x =
 
 -- the trees in order make an application
 module _ (s : Text) {w v u : List ℕ} {n m limit chain first next nodes a l : ℕ} (h : Arena s w n) (q : next < n) (i : InOrder s w v n m chain first nodes) (p : NamePlaced s a l) where
-  pub list_done : {r : ℕ} → 4 * m + 4 ≤ length v → m + 1 ≤ limit → r ≡ m + 1 → WroteCell v u m a l 0 first next (nodes + 1) → Done s w u n r limit next (some (apply (part s a l) (back (trees_at s w chain) none)))
+  pub list_done : {r : ℕ} → 4 * m + 4 ≤ length v → m + 1 ≤ limit → r ≡ m + 1 → WroteCell v u m a l 0 first next (nodes + 1) → Done s w u n r limit next (Some (apply (part s a l) (back (trees_at s w chain) none)))
   unfolding size
   list_done {r} room o e x =
       let c = i.counted in
@@ -76,10 +77,10 @@ module _ (s : Text) {w v u : List ℕ} {n m limit chain first next nodes a l : �
         room = omega arith;
       }
 
-pub list_over : (s : Text) (w : List ℕ) (chain a l : ℕ) → 4095 < sizes (trees_at s w chain) → NoTree (some (apply (part s a l) (back (trees_at s w chain) none)))
+pub list_over : (s : Text) (w : List ℕ) (chain a l : ℕ) → 4095 < sizes (trees_at s w chain) → NoTree (Some (apply (part s a l) (back (trees_at s w chain) none)))
 unfolding size
 list_over s w chain a l o t e =
-    let z : 1 + sizes (back (trees_at s w chain) none) ≡ size t = ap size (some-injective (apply (part s a l) (back (trees_at s w chain) none)) t e) in
+    let z : 1 + sizes (back (trees_at s w chain) none) ≡ size t = ap size (some_injective (apply (part s a l) (back (trees_at s w chain) none)) t e) in
     omega (arith, back_sizes (trees_at s w chain) none)
 
 -- what an answer says, once it is known

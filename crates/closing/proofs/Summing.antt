@@ -4,11 +4,12 @@ use native.Mathlib.Omega.{arith}
 use mathlib.Core.Path.{◌≡◌, refl, sym, ap, ap₂, ◌∙◌, subst}
 use mathlib.Core.Logic.{◌⊎◌, inl, inr, ⊎_elim}
 use mathlib.Core.List.{List}
-use mathlib.Core.Option.{some, some-injective, none-ne-some}
+use Rattle.std.specs.Prelude.{Some}
+use Rattle.laws.proofs.Basics.Somes.{some_injective, none_ne_some}
 use lib.ListN.{length}
 use Rattle.rules.specs.Bytes.{Text}
 use Rattle.rules.specs.Tree.{Tree, Trees, apply, none, more, size, sizes, count, tamtplus, plus}
-use Rattle.rules.specs.Reading.{nested, sum_of}
+use Rattle.rules.specs.Reading.{sum_of}
 use Rattle.tree.specs.Cells.{part, nodes_of, next_of, tree_at, trees_at}
 use Rattle.tree.specs.Arena.{Links, Arena, Grown, WroteCell, Linked}
 use Rattle.tree.proofs.Decoding.{frame_tree, frame_trees, trees_none, trees_more, same_next}
@@ -17,34 +18,18 @@ use Rattle.closing.specs.Machine.{back}
 use Rattle.closing.specs.Words.{NamePlaced}
 use Rattle.closing.specs.Closing.{summed, Done, NoTree}
 use Rattle.closing.proofs.Ordering.{count_more}
+use Rattle.closing.proofs.SumTrees.{summed_size, sum_is}
 use Rattle.closing.proofs.Making.{linked_apply, made_on}
-
--- On trees
-
-summed_size : (t : Tree) (us : Trees) → size t ≤ size (summed t us)
-unfolding summed size
-summed_size t none = omega arith
-summed_size t (more u us) = let h = summed_size (plus u t) us in omega arith
-
-sum_back : (ts : Trees) (t u : Tree) (us : Trees) → sum_of (back ts (more t (more u us))) ≡ some (summed (nested t (more u us)) ts)
-unfolding sum_of back summed nested
-sum_back none t u us = refl
-sum_back (more v ts) t u us = sum_back ts v t (more u us)
-
--- two summands or more
-pub sum_is : (t u : Tree) (us : Trees) → sum_of (back (more t (more u us)) none) ≡ some (summed t (more u us))
-unfolding back summed nested
-sum_is t u us = sum_back us u t none
 
 pub sum_none : (s : Text) (w : List ℕ) (k : ℕ) → k ≡ 0 → NoTree (sum_of (back (trees_at s w k) none))
 unfolding sum_of back
-sum_none s w k e t h = absurd (none-ne-some t (sym (ap (λ (x : Trees). sum_of (back x none)) (trees_none s w k e)) ∙ h))
+sum_none s w k e t h = absurd (none_ne_some t (sym (ap (λ (x : Trees). sum_of (back x none)) (trees_none s w k e)) ∙ h))
 
 pub sum_one : (s : Text) {w : List ℕ} {n : ℕ} → Links w n → (k : ℕ) {next : ℕ} → 0 < k → k < n → next ≡ next_of w k → next ≡ 0 → NoTree (sum_of (back (trees_at s w k) none))
 unfolding sum_of back
 sum_one s {w} l k p q e f t h =
     let z = trees_more s l k p q ∙ ap (more (tree_at s w k)) (trees_none s w (next_of w k) (sym e ∙ f)) in
-    absurd (none-ne-some t (sym (ap (λ (x : Trees). sum_of (back x none)) z) ∙ h))
+    absurd (none_ne_some t (sym (ap (λ (x : Trees). sum_of (back x none)) z) ∙ h))
 
 -- the only tree of a cell's list
 pub only_tree : (s : Text) {w : List ℕ} {n : ℕ} {t : Tree} → Links w n → (k : ℕ) → 0 < k → k < n → trees_at s w k ≡ more t none → tree_at s w k ≡ t
@@ -83,14 +68,14 @@ module _ (s : Text) (w₀ : List ℕ) (tail chain : ℕ) (a : Arena s w₀ (tail
         let f = h.from in
         e ∙ (h.arena.cell last (omega arith) (omega arith)).counted ∙ ap size (only_tree s h.arena.links last (omega arith) (omega arith) h.trees)
 
-    pub summing_ends : k ≡ 0 → Done s w₀ w (tail + 1) (last + 1) (tail + 1 + 2 * count (trees_at s w₀ chain)) 0 (some (summed (tree_at s w₀ tail) (trees_at s w₀ chain)))
+    pub summing_ends : k ≡ 0 → Done s w₀ w (tail + 1) (last + 1) (tail + 1 + 2 * count (trees_at s w₀ chain)) 0 (Some (summed (tree_at s w₀ tail) (trees_at s w₀ chain)))
     unfolding summed
     summing_ends e =
         let o = h.room in
         let b : (size h.tree ≤ 4096) × (tail < last) = ⊎_elim (λ b. absurd (omega arith)) (λ b. b) h.small in
         record {
           tree = h.tree;
-          is = ap some (sym h.sum ∙ ap (summed h.tree) (trees_none s w₀ k e));
+          is = ap Some (sym h.sum ∙ ap (summed h.tree) (trees_none s w₀ k e));
           small = b.0;
           made = record {
             some = omega arith;
@@ -117,12 +102,12 @@ module _ (s : Text) (w₀ : List ℕ) (tail chain : ℕ) (a : Arena s w₀ (tail
       summing_room = let r = h.room in omega (arith, count_more s a.links k p h.at)
 
       -- too many nodes
-      pub summing_over : {x y : ℕ} → x ≡ nodes_of w k → y ≡ nodes_of w last → 4096 < 1 + x + y → NoTree (some (summed (tree_at s w₀ tail) (trees_at s w₀ chain)))
+      pub summing_over : {x y : ℕ} → x ≡ nodes_of w k → y ≡ nodes_of w last → 4096 < 1 + x + y → NoTree (Some (summed (tree_at s w₀ tail) (trees_at s w₀ chain)))
       unfolding summed size
       summing_over {x} {y} e f o t g =
           let b = summand_count e in
           let c = last_count f in
-          let n : summed (tree_at s w₀ tail) (trees_at s w₀ chain) ≡ t = some-injective _ t g in
+          let n : summed (tree_at s w₀ tail) (trees_at s w₀ chain) ≡ t = some_injective _ t g in
           let m = ap size (sym (ap (summed h.tree) next_summand) ∙ h.sum ∙ n) in
           omega (arith, summed_size (plus (tree_at s w₀ k) h.tree) (trees_at s w₀ (next_of w₀ k)))
 
@@ -170,18 +155,18 @@ module _ (s : Text) (w : List ℕ) (start chain : ℕ) (a : Arena s w start) (c 
   pub front_count : 1 + count (trees_at s v k) ≡ count (trees_at s w chain)
   front_count = omega (arith, ap count front, count_more s a.links chain c at)
 
-  whole : sum_of (back (trees_at s w chain) none) ≡ some (summed (tree_at s v start) (trees_at s v k))
+  whole : sum_of (back (trees_at s w chain) none) ≡ Some (summed (tree_at s v start) (trees_at s v k))
   whole =
       let q = a.links.next chain c at in
       let f = trees_more s a.links (next_of w chain) (omega arith) (omega arith) in
       ap (λ (y : Trees). sum_of (back y none)) (trees_more s a.links chain c at ∙ ap (more (tree_at s w chain)) f)
       ∙ sum_is (tree_at s w chain) (tree_at s w (next_of w chain)) (trees_at s w (next_of w (next_of w chain)))
-      ∙ ap₂ (λ (t : Tree) (y : Trees). some (summed t y)) (sym x.tree) (sym (front ∙ f))
+      ∙ ap₂ (λ (t : Tree) (y : Trees). Some (summed t y)) (sym x.tree) (sym (front ∙ f))
 
-  pub sum_over : NoTree (some (summed (tree_at s v start) (trees_at s v k))) → NoTree (sum_of (back (trees_at s w chain) none))
+  pub sum_over : NoTree (Some (summed (tree_at s v start) (trees_at s v k))) → NoTree (sum_of (back (trees_at s w chain) none))
   sum_over h t g = h t (sym whole ∙ g)
 
-  pub sum_done : {u z : List ℕ} {m r limit next most : ℕ} (j : ℕ) → Done s v u (start + 1) m most 0 (some (summed (tree_at s v start) (trees_at s v k))) → j + 1 ≡ m → next < start
+  pub sum_done : {u z : List ℕ} {m r limit next most : ℕ} (j : ℕ) → Done s v u (start + 1) m most 0 (Some (summed (tree_at s v start) (trees_at s v k))) → j + 1 ≡ m → next < start
       → Linked s u z m next (tree_at s u j) → r ≡ m + 1 → most < limit → Done s w z start r limit next (sum_of (back (trees_at s w chain) none))
   sum_done {u} {z} {m} {r} {limit} {next} {most} j d f q y g o =
       let n = d.made.some in

@@ -4,7 +4,8 @@ use Prim.Native.Nat.{ℕ, ◌+◌, ◌-◌, ◌≤◌, ◌<◌}
 use native.Mathlib.Omega.{arith}
 use mathlib.Core.Path.{◌≡◌, refl, sym, ap, ◌∙◌}
 use mathlib.Core.List.{List, [], ◌∷◌}
-use mathlib.Core.Option.{Option, some, none as nothing, some-injective, none-ne-some}
+use Rattle.std.specs.Prelude.{Option, Some, None}
+use Rattle.laws.proofs.Basics.Somes.{some_injective, none_ne_some}
 use mathlib.Core.Bool.{Bool, true, false, cond, not}
 use lib.Dec.{leb}
 use lib.ListN.{take, drop}
@@ -28,21 +29,21 @@ use Rattle.closing.specs.Machine.{Stack, bottom, level, add, back, State, wants,
 -- One token
 
 module _ (s : Text) (at to : ℕ) (m : Text) (first : tokens (drop at s) ≡ joined m (tokens (drop to s))) where
-  pub turn : (st st' : State) → machine_step st m ≡ some st' → machine_reading s at st ≡ machine_reading s to st'
+  pub turn : (st st' : State) → machine_step st m ≡ Some st' → machine_reading s at st ≡ machine_reading s to st'
   unfolding machine
   turn st st' e = ap (λ (o : Option (List Text)). o >>= λ ts. machine ts st) first ∙ go (tokens (drop to s))
     where
       go : (o : Option (List Text)) → (joined m o >>= λ ts. machine ts st) ≡ (o >>= λ ts. machine ts st')
-      go nothing = refl
-      go (some ts) = ap (λ (x : Option State). x >>= machine ts) e
+      go None = refl
+      go (Some ts) = ap (λ (x : Option State). x >>= machine ts) e
 
-  pub refused : (st : State) → machine_step st m ≡ nothing → machine_reading s at st ≡ nothing
+  pub refused : (st : State) → machine_step st m ≡ None → machine_reading s at st ≡ None
   unfolding machine
   refused st e = ap (λ (o : Option (List Text)). o >>= λ ts. machine ts st) first ∙ go (tokens (drop to s))
     where
-      go : (o : Option (List Text)) → (joined m o >>= λ ts. machine ts st) ≡ nothing
-      go nothing = refl
-      go (some ts) = ap (λ (x : Option State). x >>= machine ts) e
+      go : (o : Option (List Text)) → (joined m o >>= λ ts. machine ts st) ≡ None
+      go None = refl
+      go (Some ts) = ap (λ (x : Option State). x >>= machine ts) e
 
   -- two states that the token makes one
   pub alike : (st st' : State) → machine_step st m ≡ machine_step st' m → machine_reading s at st ≡ machine_reading s at st'
@@ -50,8 +51,8 @@ module _ (s : Text) (at to : ℕ) (m : Text) (first : tokens (drop at s) ≡ joi
   alike st st' e = ap (λ (o : Option (List Text)). o >>= λ ts. machine ts st) first ∙ go (tokens (drop to s)) ∙ sym (ap (λ (o : Option (List Text)). o >>= λ ts. machine ts st') first)
     where
       go : (o : Option (List Text)) → (joined m o >>= λ ts. machine ts st) ≡ (joined m o >>= λ ts. machine ts st')
-      go nothing = refl
-      go (some ts) = ap (λ (x : Option State). x >>= machine ts) e
+      go None = refl
+      go (Some ts) = ap (λ (x : Option State). x >>= machine ts) e
 
 -- a token that is no mark
 record NoMark (n : Text) : Type 0 where
@@ -73,7 +74,7 @@ no_mark n e =
     swap : (m : Text) → same n m ≡ false → same m n ≡ false
     swap m h = differ_of_ne {x = m} {y = n} (λ p. ne_of_differ {x = n} {y = m} h (sym p))
 
-not_given : (k : Stack) (n : Text) → same (bytes ",") n ≡ false → same (bytes ")") n ≡ false → machine_after k n ≡ nothing
+not_given : (k : Stack) (n : Text) → same (bytes ",") n ≡ false → same (bytes ")") n ≡ false → machine_after k n ≡ None
 not_given (bottom ts) n a b = refl
 not_given (level m ts k) n a b = rw (a, b)
 
@@ -93,19 +94,19 @@ module _ (s : Text) (at : ℕ) {r : Symbol} (e : r ≡ symbol_at s at) where
   unfolding same
   comma_turn t n ts k q = turn s at t (bytes ",") (means_is s at e (Comma t) q).first (has (level n ts k)) (wants (level n ts k)) refl
 
-  pub shut_turn : (t : ℕ) (n : Text) (ts : Trees) (k : Stack) (u : Tree) → r ≡ Shut t → close n (back ts none) ≡ some u → machine_reading s at (has (level n ts k)) ≡ machine_reading s t (has (add u k))
+  pub shut_turn : (t : ℕ) (n : Text) (ts : Trees) (k : Stack) (u : Tree) → r ≡ Shut t → close n (back ts none) ≡ Some u → machine_reading s at (has (level n ts k)) ≡ machine_reading s t (has (add u k))
   unfolding same
   shut_turn t n ts k u q c =
-      turn s at t (bytes ")") (means_is s at e (Shut t) q).first (has (level n ts k)) (has (add u k)) (ap (λ (o : Option Tree). o >>= λ t. some (has (add t k))) c)
+      turn s at t (bytes ")") (means_is s at e (Shut t) q).first (has (level n ts k)) (has (add u k)) (ap (λ (o : Option Tree). o >>= λ t. Some (has (add t k))) c)
 
-  pub shut_none : (t : ℕ) (n : Text) (ts : Trees) (k : Stack) → r ≡ Shut t → close n (back ts none) ≡ nothing → machine_reading s at (has (level n ts k)) ≡ nothing
+  pub shut_none : (t : ℕ) (n : Text) (ts : Trees) (k : Stack) → r ≡ Shut t → close n (back ts none) ≡ None → machine_reading s at (has (level n ts k)) ≡ None
   unfolding same
-  shut_none t n ts k q c = refused s at t (bytes ")") (means_is s at e (Shut t) q).first (has (level n ts k)) (ap (λ (o : Option Tree). o >>= λ t. some (has (add t k))) c)
+  shut_none t n ts k q c = refused s at t (bytes ")") (means_is s at e (Shut t) q).first (has (level n ts k)) (ap (λ (o : Option Tree). o >>= λ t. Some (has (add t k))) c)
 
-  pub comma_bare : (t : ℕ) (ts : Trees) → r ≡ Comma t → machine_reading s at (has (bottom ts)) ≡ nothing
+  pub comma_bare : (t : ℕ) (ts : Trees) → r ≡ Comma t → machine_reading s at (has (bottom ts)) ≡ None
   comma_bare t ts q = refused s at t (bytes ",") (means_is s at e (Comma t) q).first (has (bottom ts)) refl
 
-  pub shut_bare : (t : ℕ) (ts : Trees) → r ≡ Shut t → machine_reading s at (has (bottom ts)) ≡ nothing
+  pub shut_bare : (t : ℕ) (ts : Trees) → r ≡ Shut t → machine_reading s at (has (bottom ts)) ≡ None
   shut_bare t ts q = refused s at t (bytes ")") (means_is s at e (Shut t) q).first (has (bottom ts)) refl
 
   pub stop_turn : (st : State) → r ≡ Stop → machine_reading s at st ≡ machine_end st
@@ -113,11 +114,11 @@ module _ (s : Text) (at : ℕ) {r : Symbol} (e : r ≡ symbol_at s at) where
   stop_turn st q = ap (λ (o : Option (List Text)). o >>= λ ts. machine ts st) (means_is s at e Stop q)
 
   -- where a branch is left to several variants
-  pub not_name : (k : Stack) → ((f t : ℕ) → r ≡ Name f t → ⊥) → machine_reading s at (wants k) ≡ nothing
+  pub not_name : (k : Stack) → ((f t : ℕ) → r ≡ Name f t → ⊥) → machine_reading s at (wants k) ≡ None
   unfolding is_one_of same machine
   not_name k o = go r refl
     where
-      go : (q : Symbol) → r ≡ q → machine_reading s at (wants k) ≡ nothing
+      go : (q : Symbol) → r ≡ q → machine_reading s at (wants k) ≡ None
       go (Begin t) q = refused s at t (bytes "(") (means_is s at e (Begin t) q).first (wants k) refl
       go (Shut t) q = refused s at t (bytes ")") (means_is s at e (Shut t) q).first (wants k) refl
       go (Comma t) q = refused s at t (bytes ",") (means_is s at e (Comma t) q).first (wants k) refl
@@ -125,11 +126,11 @@ module _ (s : Text) (at : ℕ) {r : Symbol} (e : r ≡ symbol_at s at) where
       go Stop q = stop_turn (wants k) q
       go Bad q = ap (λ (o : Option (List Text)). o >>= λ ts. machine ts (wants k)) (means_is s at e Bad q)
 
-  pub no_delimiter : (k : Stack) → (r ≡ Stop → ⊥) → ((t : ℕ) → r ≡ Comma t → ⊥) → ((t : ℕ) → r ≡ Shut t → ⊥) → machine_reading s at (has k) ≡ nothing
+  pub no_delimiter : (k : Stack) → (r ≡ Stop → ⊥) → ((t : ℕ) → r ≡ Comma t → ⊥) → ((t : ℕ) → r ≡ Shut t → ⊥) → machine_reading s at (has k) ≡ None
   unfolding machine same
   no_delimiter k no_stop no_comma no_shut = go r refl
     where
-      go : (q : Symbol) → r ≡ q → machine_reading s at (has k) ≡ nothing
+      go : (q : Symbol) → r ≡ q → machine_reading s at (has k) ≡ None
       go (Begin t) q = refused s at t (bytes "(") (means_is s at e (Begin t) q).first (has k) (not_given k (bytes "(") refl refl)
       go (Shut t) q = absurd (no_shut t q)
       go (Comma t) q = absurd (no_comma t q)
@@ -164,11 +165,11 @@ unfolding nested size
 nested_size t none = omega arith
 nested_size t (more u us) = let h = nested_size u us in omega arith
 
-pub close_size : (n : Text) (ts : Trees) (t : Tree) → close n ts ≡ some t → sizes ts ≤ size t
+pub close_size : (n : Text) (ts : Trees) (t : Tree) → close n ts ≡ Some t → sizes ts ≤ size t
 unfolding close atom_of sum_of size
 close_size n ts t h = go (letter_name n) (same n tamtplus) h
   where
-    atoms : atom_of n ts ≡ some t → sizes ts ≤ size t
+    atoms : atom_of n ts ≡ Some t → sizes ts ≤ size t
     atoms k =
         let (u, e, k₁) = bound (single ts) _ t k in
         let (d, f, k₂) = bound (constant_name u) _ t k₁ in
@@ -181,17 +182,17 @@ close_size n ts t h = go (letter_name n) (same n tamtplus) h
         size_some (atom c d) = omega arith
         size_some (apply f ts) = omega arith
 
-    sums : (ts : Trees) → sum_of ts ≡ some t → sizes ts ≤ size t
-    sums none k = absurd (none-ne-some t k)
-    sums (more a none) k = absurd (none-ne-some t k)
+    sums : (ts : Trees) → sum_of ts ≡ Some t → sizes ts ≤ size t
+    sums none k = absurd (none_ne_some t k)
+    sums (more a none) k = absurd (none_ne_some t k)
     sums (more a (more b us)) k =
-        let e : size (nested a (more b us)) ≡ size t = ap size (some-injective (nested a (more b us)) t k) in
+        let e : size (nested a (more b us)) ≡ size t = ap size (some_injective (nested a (more b us)) t k) in
         omega (arith, nested_size a (more b us))
 
-    go : (b c : Bool) → elim b [ true ↦ atom_of n ts | false ↦ elim c [ true ↦ sum_of ts | false ↦ some (apply n ts) ] ] ≡ some t → sizes ts ≤ size t
+    go : (b c : Bool) → elim b [ true ↦ atom_of n ts | false ↦ elim c [ true ↦ sum_of ts | false ↦ Some (apply n ts) ] ] ≡ Some t → sizes ts ≤ size t
     go true c k = atoms k
     go false true k = sums ts k
-    go false false k = let e : 1 + sizes ts ≡ size t = ap size (some-injective (apply n ts) t k) in omega arith
+    go false false k = let e : 1 + sizes ts ≡ size t = ap size (some_injective (apply n ts) t k) in omega arith
 
 pub back_sizes : (ts us : Trees) → sizes (back ts us) ≡ sizes ts + sizes us
 unfolding back size
@@ -208,40 +209,40 @@ held (wants k) = total k
 held (named n k) = total k
 held (has k) = total k
 
-given_grows : (k : Stack) (x : Text) (st : State) → machine_after k x ≡ some st → total k ≤ held st
+given_grows : (k : Stack) (x : Text) (st : State) → machine_after k x ≡ Some st → total k ≤ held st
 unfolding size
-given_grows (bottom ts) x st h = absurd (none-ne-some st h)
+given_grows (bottom ts) x st h = absurd (none_ne_some st h)
 given_grows (level n ts k) x st h = go (same (bytes ",") x) (same (bytes ")") x) h
   where
-    go : (b c : Bool) → cond b (some (wants (level n ts k))) (cond c (close n (back ts none) >>= λ t. some (has (add t k))) nothing) ≡ some st → sizes ts + total k ≤ held st
-    go true c g = let e = ap held (some-injective _ st g) in omega arith
+    go : (b c : Bool) → cond b (Some (wants (level n ts k))) (cond c (close n (back ts none) >>= λ t. Some (has (add t k))) None) ≡ Some st → sizes ts + total k ≤ held st
+    go true c g = let e = ap held (some_injective _ st g) in omega arith
     go false true g =
         let (t, e, f) = bound (close n (back ts none)) _ st g in
-        let p = ap held (some-injective _ st f) in
+        let p = ap held (some_injective _ st f) in
         omega (arith, close_size n (back ts none) t e, back_sizes ts none, add_total t k)
-    go false false g = absurd (none-ne-some st g)
+    go false false g = absurd (none_ne_some st g)
 
-step_grows : (st st' : State) (x : Text) → machine_step st x ≡ some st' → held st ≤ held st'
+step_grows : (st st' : State) (x : Text) → machine_step st x ≡ Some st' → held st ≤ held st'
 unfolding size
 step_grows (wants k) st x h =
     let (u, e, f) = bound (guard (not (is_one_of (bytes "(" ∷ bytes ")" ∷ bytes "," ∷ []) x))) _ st h in
-    let p = ap held (some-injective _ st f) in
+    let p = ap held (some_injective _ st f) in
     omega arith
 step_grows (named n k) st x h = go (same (bytes "(") x) h
   where
-    go : (b : Bool) → cond b (some (wants (level n none k))) (machine_after (add (leaf n) k) x) ≡ some st → total k ≤ held st
-    go true g = let p = ap held (some-injective _ st g) in omega arith
+    go : (b : Bool) → cond b (Some (wants (level n none k))) (machine_after (add (leaf n) k) x) ≡ Some st → total k ≤ held st
+    go true g = let p = ap held (some_injective _ st g) in omega arith
     go false g = omega (arith, given_grows (add (leaf n) k) x st g, add_total (leaf n) k)
 step_grows (has k) st x h = given_grows k x st h
 
-ended_size : (k : Stack) (t : Tree) → finished_stack k ≡ some t → total k ≤ size t
+ended_size : (k : Stack) (t : Tree) → finished_stack k ≡ Some t → total k ≤ size t
 unfolding size
 ended_size (bottom ts) t h = let e : sizes ts ≡ size t + 0 = ap sizes (the_only ts t h) in omega arith
-ended_size (level n ts k) t h = absurd (none-ne-some t h)
+ended_size (level n ts k) t h = absurd (none_ne_some t h)
 
-machine_size : (ts : List Text) (st : State) (t : Tree) → machine ts st ≡ some t → held st ≤ size t
+machine_size : (ts : List Text) (st : State) (t : Tree) → machine ts st ≡ Some t → held st ≤ size t
 unfolding machine
-machine_size [] (wants k) t h = absurd (none-ne-some t h)
+machine_size [] (wants k) t h = absurd (none_ne_some t h)
 machine_size [] (named n k) t h = omega (arith, ended_size (add (leaf n) k) t h, add_total (leaf n) k)
 machine_size [] (has k) t h = ended_size k t h
 machine_size (x ∷ ts) st t h =
@@ -253,30 +254,30 @@ machine_size (x ∷ ts) st t h =
 -- Within the limit of nodes
 
 abbrev pub limited : Option Tree → Option Tree
-limited o = o >>= λ t. guard (leb (size t) 4096) >>= λ _. some t
+limited o = o >>= λ t. guard (leb (size t) 4096) >>= λ _. Some t
 
-over : (o : Option Tree) → ((t : Tree) → o ≡ some t → 4096 < size t) → limited o ≡ nothing
-over nothing h = refl
-over (some t) h = ap (λ (b : Bool). guard b >>= λ _. some t) (false_leb (size t) 4096 (h t refl))
+over : (o : Option Tree) → ((t : Tree) → o ≡ Some t → 4096 < size t) → limited o ≡ None
+over None h = refl
+over (Some t) h = ap (λ (b : Bool). guard b >>= λ _. Some t) (false_leb (size t) 4096 (h t refl))
 
-pub too_big : (s : Text) (at : ℕ) (k : Stack) → 4096 < total k → limited (machine_reading s at (has k)) ≡ nothing
+pub too_big : (s : Text) (at : ℕ) (k : Stack) → 4096 < total k → limited (machine_reading s at (has k)) ≡ None
 too_big s at k h = go (tokens (drop at s))
   where
-    go : (o : Option (List Text)) → limited (o >>= λ ts. machine ts (has k)) ≡ nothing
-    go nothing = refl
-    go (some ts) = over (machine ts (has k)) (λ t e. (let p = machine_size ts (has k) t e in omega arith))
+    go : (o : Option (List Text)) → limited (o >>= λ ts. machine ts (has k)) ≡ None
+    go None = refl
+    go (Some ts) = over (machine ts (has k)) (λ t e. (let p = machine_size ts (has k) t e in omega arith))
 
-pub small_enough : (t : Tree) → size t ≤ 4096 → limited (some t) ≡ some t
-small_enough t h = ap (λ (b : Bool). guard b >>= λ _. some t) (true_leb (size t) 4096 h)
+pub small_enough : (t : Tree) → size t ≤ 4096 → limited (Some t) ≡ Some t
+small_enough t h = ap (λ (b : Bool). guard b >>= λ _. Some t) (true_leb (size t) 4096 h)
 
 -- a list that closes as nothing, or as too large a tree
 pub shut_out : (s : Text) (at : ℕ) {r : Symbol} → r ≡ symbol_at s at → (t : ℕ) (n : Text) (ts : Trees) (k : Stack) → r ≡ Shut t
-    → ((u : Tree) → close n (back ts none) ≡ some u → 4096 < size u) → limited (machine_reading s at (has (level n ts k))) ≡ nothing
+    → ((u : Tree) → close n (back ts none) ≡ Some u → 4096 < size u) → limited (machine_reading s at (has (level n ts k))) ≡ None
 shut_out s at e t n ts k q h = go (close n (back ts none)) refl
   where
-    go : (o : Option Tree) → close n (back ts none) ≡ o → limited (machine_reading s at (has (level n ts k))) ≡ nothing
-    go nothing f = ap limited (shut_none s at e t n ts k q f)
-    go (some u) f = ap limited (shut_turn s at e t n ts k u q f) ∙ too_big s t (add u k) (omega (arith, h u f, add_total u k))
+    go : (o : Option Tree) → close n (back ts none) ≡ o → limited (machine_reading s at (has (level n ts k))) ≡ None
+    go None f = ap limited (shut_none s at e t n ts k q f)
+    go (Some u) f = ap limited (shut_turn s at e t n ts k u q f) ∙ too_big s t (add u k) (omega (arith, h u f, add_total u k))
 
 pub parse_limited : (s : Text) → parse s ≡ limited (read_text close s)
 unfolding parse

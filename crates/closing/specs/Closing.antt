@@ -1,6 +1,6 @@
 -- What closing a list makes of its trees, which stand as cells, the last first. Definitions only.
 use Rattle.std.specs.Prelude.{ℕ, ◌+◌, ◌*◌, ◌≤◌, ◌<◌, ◌≡◌, List, Bool, true, false, get_or}
-use Rattle.std.proofs.Math.Option.{Option, some, none as nothing}
+use Rattle.std.specs.Prelude.{Option, Some, None}
 use Rattle.rules.specs.Bytes.{Text}
 use Rattle.rules.specs.Names.{digit, all}
 use Rattle.rules.specs.Tree.{Tree, Trees, apply, none, more, size, sizes, plus, count}
@@ -37,14 +37,14 @@ Orders s w v n limit chain Over = (4095 < sizes (trees_at s w chain)) × Grown w
 -- the tree that a closed list is
 pub record Done (s : Text) (w v : List ℕ) (n m limit next : ℕ) (o : Option Tree) : Type 0 where
   pub tree : Tree
-  pub is : o ≡ some tree
+  pub is : o ≡ Some tree
   pub small : size tree ≤ 4096
   pub made : LastCell s w v n m next tree
   pub room : m ≤ limit
 
 -- no tree, or too large a one
 abbrev pub NoTree : Option Tree → Type 0
-NoTree o = (t : Tree) → o ≡ some t → 4096 < size t
+NoTree o = (t : Tree) → o ≡ Some t → 4096 < size t
 
 abbrev pub Closes : Text → List ℕ → List ℕ → ℕ → ℕ → ℕ → Option Tree → Closed → Type 0
 Closes s w v n limit next o (At m) = Done s w v n m limit next o
@@ -58,7 +58,7 @@ summed t (more u us) = summed (plus u t) us
 -- whether a list is one application of digits without children
 abbrev pub Alone : Text → List ℕ → ℕ → Bool → Type 0
 Alone s w k true = (0 < k) × (trees_at s w k ≡ more (apply (name_at s w k) none) none) × (all digit (name_at s w k) ≡ true)
-Alone s w k false = (n : Text) → atom_of n (trees_at s w k) ≡ nothing
+Alone s w k false = (n : Text) → atom_of n (trees_at s w k) ≡ None
 
 -- the name and the trees of the level d + 1, closed
 abbrev pub closed_level : Text → List ℕ → ℕ → ℕ → Option Tree
@@ -67,7 +67,7 @@ closed_level s w limit d = close (part s (get_or w (4 * limit + 3 * d + 1) 0) (g
 -- that tree put on the level d
 pub record Popped (s : Text) (w v : List ℕ) (n m limit d : ℕ) : Type 0 where
   pub tree : Tree
-  pub is : closed_level s w limit d ≡ some tree
+  pub is : closed_level s w limit d ≡ Some tree
   pub small : size tree ≤ 4096
   pub grows : n < m
   pub room : m ≤ most s w n (get_or w (4 * limit + 3 * d + 3) 0)

@@ -1,3 +1,4 @@
 pub mod Machine
 pub mod Words
 pub mod Closing
+pub mod Areas

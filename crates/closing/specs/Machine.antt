@@ -1,7 +1,7 @@
 -- The machine that reads a term one token at a time. The stack has a level for each list that is open, and one below for the whole
 -- term; a level holds the trees read so far, the last first. Definitions only.
 use Rattle.std.specs.Prelude.{ℕ, ◌+◌, ◌*◌, ◌≤◌, ◌≡◌, List, [], ◌∷◌, cond, not, drop}
-use Rattle.std.proofs.Math.Option.{Option, some, none as nothing}
+use Rattle.std.specs.Prelude.{Option, Some, None}
 use Rattle.rules.specs.Bytes.{Text, same}
 use Rattle.rules.specs.Text.{bytes, is_one_of}
 use Rattle.rules.specs.Maybe.{◌>>=◌, guard}
@@ -31,21 +31,21 @@ pub data State : Type 0 where
 
 -- a token where a term is there
 abbrev pub machine_after : Stack → Text → Option State
-machine_after (bottom ts) x = nothing
-machine_after (level n ts k) x = cond (same (bytes ",") x) (some (wants (level n ts k))) (cond (same (bytes ")") x) (close n (back ts none) >>= λ t. some (has (add t k))) nothing)
+machine_after (bottom ts) x = None
+machine_after (level n ts k) x = cond (same (bytes ",") x) (Some (wants (level n ts k))) (cond (same (bytes ")") x) (close n (back ts none) >>= λ t. Some (has (add t k))) None)
 
 abbrev pub machine_step : State → Text → Option State
-machine_step (wants k) x = guard (not (is_one_of (bytes "(" ∷ bytes ")" ∷ bytes "," ∷ []) x)) >>= λ _. some (named x k)
-machine_step (named n k) x = cond (same (bytes "(") x) (some (wants (level n none k))) (machine_after (add (leaf n) k) x)
+machine_step (wants k) x = guard (not (is_one_of (bytes "(" ∷ bytes ")" ∷ bytes "," ∷ []) x)) >>= λ _. Some (named x k)
+machine_step (named n k) x = cond (same (bytes "(") x) (Some (wants (level n none k))) (machine_after (add (leaf n) k) x)
 machine_step (has k) x = machine_after k x
 
 -- at the end the only tree of the bottom is the term
 abbrev pub finished_stack : Stack → Option Tree
 finished_stack (bottom ts) = single ts
-finished_stack (level n ts k) = nothing
+finished_stack (level n ts k) = None
 
 abbrev pub machine_end : State → Option Tree
-machine_end (wants k) = nothing
+machine_end (wants k) = None
 machine_end (named n k) = finished_stack (add (leaf n) k)
 machine_end (has k) = finished_stack k
 

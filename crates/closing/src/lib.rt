@@ -1,8 +1,9 @@
 // Closing a list: its trees in their order, and the application, the sum or the atom that they make.
 #![tactic(auto)]
 
+pub mod areas; // areas.rt: closing a list of an area
+
 ghost use Rattle.std.specs.Prelude.{◌≡◌, [], ◌∷◌, ◌+◌, ◌*◌, ◌<◌, ◌≤◌, ◌^◌, length};
-ghost use Rattle.std.proofs.Math.Option.{some};
 ghost use Rattle.rules.specs.Names.{digit, all, letter_name};
 ghost use Rattle.rules.specs.Tree.{apply, none, more, count, tamtplus};
 ghost use Rattle.rules.specs.Reading.{close, atom_of, sum_of};
@@ -71,7 +72,7 @@ fn list(
     requires chain_lt_free { (chain < free) × (next < free) }
     requires chain_in_bounds { (4 * most sheet.now work.old free chain ≤ length work.old) × (most sheet.now work.old free chain < 2 ^ 32) }
     requires name_placed { NamePlaced sheet.now start len × (length sheet.now ≤ 65536) }
-    ensures { Closes sheet.now work.old work.new free (most sheet.now work.old free chain) next (some (apply (part sheet.now start len) (back (trees_at sheet.now work.old chain) none))) result }
+    ensures { Closes sheet.now work.old work.new free (most sheet.now work.old free chain) next (Some (apply (part sheet.now start len) (back (trees_at sheet.now work.old chain) none))) result }
 {
     let children = in_order(sheet, work, free, chain);
     let Ordered::Upto(first, end, nodes) = children else {
@@ -86,7 +87,7 @@ fn nest(sheet: &[u8], work: &mut [u32], tail: usize, at: usize, len: usize, chai
     requires tail_nonzero { (0 < tail) × (next_of work.old tail ≡ 0) × (0 < chain) × (chain < tail + 1) }
     requires chain_in_bounds { (4 * (tail + 1 + 2 * count (trees_at sheet.now work.old chain)) ≤ length work.old) × (tail + 1 + 2 * count (trees_at sheet.now work.old chain) < 2 ^ 32) }
     requires name_placed { NamePlaced sheet.now at len × (length sheet.now ≤ 65536) × (part sheet.now at len ≡ tamtplus) }
-    ensures { Closes sheet.now work.old work.new (tail + 1) (tail + 1 + 2 * count (trees_at sheet.now work.old chain)) 0 (some (summed (tree_at sheet.now work.old tail) (trees_at sheet.now work.old chain))) result }
+    ensures { Closes sheet.now work.old work.new (tail + 1) (tail + 1 + 2 * count (trees_at sheet.now work.old chain)) 0 (Some (summed (tree_at sheet.now work.old tail) (trees_at sheet.now work.old chain))) result }
 {
     let mut last = tail;
     let mut k = chain;

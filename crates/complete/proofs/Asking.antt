@@ -4,7 +4,8 @@ use mathlib.Core.Path.{◌≡◌, refl, sym, ap, subst, ◌∙◌}
 use mathlib.Core.Bool.{true}
 use mathlib.Core.List.Memᴰ
 use mathlib.Core.List.{List, [], ◌∷◌, map, reverse, reverse_aux, Memᴰ}
-use mathlib.Core.Option.{some, some-injective}
+use Rattle.std.specs.Prelude.{Some}
+use Rattle.laws.proofs.Basics.Somes.{some_injective}
 use lib.ListN.{length}
 use native.Mathlib.Omega.{arith}
 use Rattle.rules.specs.Bytes.{Text}
@@ -47,17 +48,17 @@ use Rattle.complete.proofs.Rooms.{fuel_few, match_words, match_room}
 
 -- ---- members that are read
 
-read_from : (ms : List Member) (us : List Variant) → every (map read_member ms) ≡ some us → (v : Variant) → Memᴰ v us → (m : Member) × Memᴰ m ms × (read_member m ≡ some v)
+read_from : (ms : List Member) (us : List Variant) → every (map read_member ms) ≡ Some us → (v : Variant) → Memᴰ v us → (m : Member) × Memᴰ m ms × (read_member m ≡ Some v)
 unfolding every
-read_from [] us e v l = absurd (Memᴰ.not-nil (subst (Memᴰ v) (sym (some-injective [] us e)) l))
+read_from [] us e v l = absurd (Memᴰ.not-nil (subst (Memᴰ v) (sym (some_injective [] us e)) l))
 read_from (m ∷ ms) us e v l =
     let (u, f, e₁) = bound (read_member m) _ us e in
-    let (rest, g, e₂) = bound (every (map read_member ms)) (λ r. some (u ∷ r)) us e₁ in
-    go u rest f g (subst (Memᴰ v) (sym (some-injective (u ∷ rest) us e₂)) l) (read_from ms rest g v)
+    let (rest, g, e₂) = bound (every (map read_member ms)) (λ r. Some (u ∷ r)) us e₁ in
+    go u rest f g (subst (Memᴰ v) (sym (some_injective (u ∷ rest) us e₂)) l) (read_from ms rest g v)
   where
-    go : (u : Variant) (rest : List Variant) → read_member m ≡ some u → every (map read_member ms) ≡ some rest → Memᴰ v (u ∷ rest)
-        → (Memᴰ v rest → (m : Member) × Memᴰ m ms × (read_member m ≡ some v)) → (n : Member) × Memᴰ n (m ∷ ms) × (read_member n ≡ some v)
-    go u rest f g (Memᴰ.head h) later = (m, Memᴰ.head refl, f ∙ ap some (sym h))
+    go : (u : Variant) (rest : List Variant) → read_member m ≡ Some u → every (map read_member ms) ≡ Some rest → Memᴰ v (u ∷ rest)
+        → (Memᴰ v rest → (m : Member) × Memᴰ m ms × (read_member m ≡ Some v)) → (n : Member) × Memᴰ n (m ∷ ms) × (read_member n ≡ Some v)
+    go u rest f g (Memᴰ.head h) later = (m, Memᴰ.head refl, f ∙ ap Some (sym h))
     go u rest f g (Memᴰ.tail h) later = let (n, k, i) = later h in (n, Memᴰ.tail k, i)
 
 turned_listed : (v : Variant) (vs us : List Variant) → Memᴰ v us → Memᴰ v (reverse_aux vs us)
@@ -158,7 +159,7 @@ module _ {s : Text} {w : List ℕ} {free term named at : ℕ} (k : CompleteInput
       value = instantiate bs (scheme_at name tree 0 i).value
 
       -- a member that is read can be matched
-      asked_member : (m : Member) → Memᴰ m k.members → (u : Variant) → read_member m ≡ some u
+      asked_member : (m : Member) → Memᴰ m k.members → (u : Variant) → read_member m ≡ Some u
           → Matched s v (top + 4098 + 2 * length (variables tree [])) (member_pairs (variables tree []) u bs value)
       unfolding member_pairs
       asked_member m h u f =
@@ -170,7 +171,7 @@ module _ {s : Text} {w : List ℕ} {free term named at : ℕ} (k : CompleteInput
                 r.weighs;
           }
 
-      asked_members : {ts : Trees} {vs : List Variant} → Family ts vs → ((u : Variant) → Memᴰ u vs → (m : Member) × Memᴰ m k.members × (read_member m ≡ some u))
+      asked_members : {ts : Trees} {vs : List Variant} → Family ts vs → ((u : Variant) → Memᴰ u vs → (m : Member) × Memᴰ m k.members × (read_member m ≡ Some u))
           → AllMatched s v (top + 4098 + 2 * length (variables tree [])) (variables tree []) bs value ts
       asked_members nil h = tt
       asked_members (next {v = u} st f) h =
@@ -181,7 +182,7 @@ module _ {s : Text} {w : List ℕ} {free term named at : ℕ} (k : CompleteInput
           )
 
     -- each scheme can be judged
-    pub asked_judgeable : {ts : Trees} {vs : List Variant} → Family ts vs → every (map read_member k.members) ≡ some (reverse vs) → Judgeable name s v stop named (variables tree []) ts tree i
+    pub asked_judgeable : {ts : Trees} {vs : List Variant} → Family ts vs → every (map read_member k.members) ≡ Some (reverse vs) → Judgeable name s v stop named (variables tree []) ts tree i
     asked_judgeable {ts} {vs} f r =
         let (ms, few, over) = asked_over in
         let left = words_left 0 0 0 (omega (arith, asked_colons)) (omega (arith, asked_bytes)) (omega arith) in

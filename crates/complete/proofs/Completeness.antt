@@ -3,7 +3,8 @@ use Prim.Native.Nat.{ℕ, ◌+◌, ◌*◌, ◌<◌, ◌≤◌, ◌^◌}
 use mathlib.Core.Path.{◌≡◌, refl, sym, ap, subst, ◌∙◌}
 use mathlib.Core.Bool.{Bool, true, false, cond}
 use mathlib.Core.List.{List, [], map, reverse}
-use mathlib.Core.Option.{some, none as nothing, some-injective}
+use Rattle.std.specs.Prelude.{Option, Some, None}
+use Rattle.laws.proofs.Basics.Somes.{some_injective}
 use lib.Dec.{leb}
 use lib.ListN.{length}
 use native.Mathlib.Omega.{arith}
@@ -28,9 +29,6 @@ use Rattle.tree.proofs.Areas.{below_then, below_grown}
 use Rattle.forms.specs.Members.{members_at}
 use Rattle.forms.proofs.WordLaws.{count_bound}
 use Rattle.variants.specs.Members.{TextsRoom}
-use Rattle.sheet.specs.Claims.{truth}
-use Rattle.sheet.specs.declared.claims.Claim.{Claim}
-use Rattle.sheet.specs.declared.claims.Claim.TheVariants.{Nothing}
 use Rattle.schemes.specs.Counting.{counted_schemes}
 use Rattle.schemes.specs.declared.counting.Counted.TheVariants.{Schemes, Over}
 use Rattle.schemes.specs.Building.{Fresh}
@@ -81,18 +79,18 @@ module _ {s : Text} {w : List ℕ} {free term named at : ℕ} (k : CompleteInput
   pub term_fits : size (tree_at s w term) ≤ length s
   term_fits = omega (arith, asked_bytes k)
 
-  claims : {z : List ℕ} (r : Claim) → truth r ≡ complete (tree_at s w term) k.members → Below w z free → ClaimsComplete s w z free term at r
-  claims r e b = ((λ ms f. e ∙ ap (complete (tree_at s w term)) (some-injective k.members ms (sym k.later ∙ f))), b)
+  claims : {z : List ℕ} (r : Option Bool) → r ≡ complete (tree_at s w term) k.members → Below w z free → ClaimsComplete s w z free term at r
+  claims r e b = ((λ ms f. e ∙ ap (complete (tree_at s w term)) (some_injective k.members ms (sym k.later ∙ f))), b)
 
   -- no claim: a variable has no index, there are too many schemes, or a member is unreadable
-  pub claims_unindexed : {z : List ℕ} → (fresh_base (tree_at s w term) 0 ≡ nothing) × Below w z free → ClaimsComplete s w z free term at Nothing
-  claims_unindexed x = claims Nothing (sym (complete_unindexed (tree_at s w term) k.members x.0)) x.1
+  pub claims_unindexed : {z : List ℕ} → (fresh_base (tree_at s w term) 0 ≡ None) × Below w z free → ClaimsComplete s w z free term at None
+  claims_unindexed x = claims None (sym (complete_unindexed (tree_at s w term) k.members x.0)) x.1
 
-  claims_over : {z : List ℕ} → 4096 < scheme_count (tree_at s w term) → Below w z free → ClaimsComplete s w z free term at Nothing
-  claims_over l b = claims Nothing (sym (complete_over (tree_at s w term) k.members l)) b
+  claims_over : {z : List ℕ} → 4096 < scheme_count (tree_at s w term) → Below w z free → ClaimsComplete s w z free term at None
+  claims_over l b = claims None (sym (complete_over (tree_at s w term) k.members l)) b
 
-  claims_unread : {z : List ℕ} → ((ms : List Member) → members_at s at ≡ some ms → every (map read_member ms) ≡ nothing) → Below w z free → ClaimsComplete s w z free term at Nothing
-  claims_unread e b = claims Nothing (sym (complete_unread (tree_at s w term) k.members (e k.members k.later))) b
+  claims_unread : {z : List ℕ} → ((ms : List Member) → members_at s at ≡ Some ms → every (map read_member ms) ≡ None) → Below w z free → ClaimsComplete s w z free term at None
+  claims_unread e b = claims None (sym (complete_unread (tree_at s w term) k.members (e k.members k.later))) b
 
   -- the words for the term's variables
   pub term_room : (4 * (free + 1 + length s) + 2 * length s ≤ length w) × (free + 1 + length s < 2 ^ 32)
@@ -108,7 +106,7 @@ module _ {s : Text} {w : List ℕ} {free term named at : ℕ} (k : CompleteInput
     term_now : tree_at s w term ≡ tree_at s v term
     term_now = frame_tree s v a.links t.below.words term tp tb
 
-    pub over_claims : Over ≡ counted_schemes (scheme_count (tree_at s v term)) → ClaimsComplete s w v free term at Nothing
+    pub over_claims : Over ≡ counted_schemes (scheme_count (tree_at s v term)) → ClaimsComplete s w v free term at None
     over_claims e = claims_over (omega (arith, counted_over (scheme_count (tree_at s v term)) e, ap scheme_count term_now)) t.below
 
     pub count_now : (c : ℕ) → Schemes c ≡ counted_schemes (scheme_count (tree_at s v term)) → (c ≡ scheme_count (tree_at s w term)) × (c ≤ 4096)
@@ -168,17 +166,17 @@ module _ {s : Text} {w : List ℕ} {free term named at : ℕ} (k : CompleteInput
         }
 
         -- the answer, where judging by these names gives it
-        judged_complete : Arena s u end → ((ms : List Variant) → every (map read_member k.members) ≡ some ms → complete (tree_at s w term) k.members ≡ judged_from name (tree_at s w term) (variables (tree_at s w term) []) ms 0 pending)
-            → {z : List ℕ} (r : Claim) → JudgesAll s x z stop top names index term r → ClaimsComplete s w z free term at r
+        judged_complete : Arena s u end → ((ms : List Variant) → every (map read_member k.members) ≡ Some ms → complete (tree_at s w term) k.members ≡ judged_from name (tree_at s w term) (variables (tree_at s w term) []) ms 0 pending)
+            → {z : List ℕ} (r : Option Bool) → JudgesAll s x z stop top names index term r → ClaimsComplete s w z free term at r
         judged_complete b by r j =
-            let g : truth r ≡ judged_from name (tree_at s w term) (variables (tree_at s w term) []) (variants_at s x index) 0 pending = j.0 name (fresh_kept b) ∙ rw (names_are, sym term_kept) refl in
+            let g : r ≡ judged_from name (tree_at s w term) (variables (tree_at s w term) []) (variants_at s x index) 0 pending = j.0 name (fresh_kept b) ∙ rw (names_are, sym term_kept) refl in
             let h =
             g ∙ family_judges name (tree_at s w term) (variables (tree_at s w term) []) (asked_tokens k) members_read.vs members_read.family 0 pending
             ∙ sym (by (reverse members_read.vs) members_read.read) in
             claims r h (below_then all_kept j.1 (omega (arith, read.grew, t.used)))
 
     -- a member's text is unreadable
-    pub unread_claims : {u x : List ℕ} {end : ℕ} → WritesFresh s v u top base end → ReadsMembers s u x end at Unreadable → ClaimsComplete s w x free term at Nothing
+    pub unread_claims : {u x : List ℕ} {end : ℕ} → WritesFresh s v u top base end → ReadsMembers s u x end at Unreadable → ClaimsComplete s w x free term at None
     unread_claims f r =
         claims_unread r.0
         (below_then (below_then t.below (below_grown f.grown) (omega (arith, t.used))) r.1 (omega (arith, t.used, f.end)))
@@ -204,7 +202,7 @@ module _ {s : Text} {w : List ℕ} {free term named at : ℕ} (k : CompleteInput
       pub chosen_inside : (term < stop) × (names < stop) × (index < stop)
       chosen_inside = cells_inside f.end fresh_below read
 
-      pub chosen_claims : {z : List ℕ} (r : Claim) → scheme_count (tree_at s w term) ≤ 4096 → JudgesAll s x z stop top names index term r → ClaimsComplete s w z free term at r
+      pub chosen_claims : {z : List ℕ} (r : Option Bool) → scheme_count (tree_at s w term) ≤ 4096 → JudgesAll s x z stop top names index term r → ClaimsComplete s w z free term at r
       chosen_claims r few j =
           judged_complete f.end fresh_below read (chosen_in s base) chosen_cells f.arena
           (λ ms e. complete_chosen s k.short k.text k.members k.reads base (λ n. spells s (fresh_from base n)) (λ n q. part_is_spelled s (fresh_from base n) q) (tree_at s w term) ms k.parsed e t.based few)

@@ -1,9 +1,10 @@
 -- The schemes one after the other: what each makes of what was decided before it.
 use Prim.Native.Nat.{ℕ, ◌+◌, ◌<◌, ◌≤◌}
 use mathlib.Core.Path.{◌≡◌, refl, sym, ap, ap₂, subst, ◌∙◌}
-use mathlib.Core.Bool.{Bool, false}
+use mathlib.Core.Bool.{Bool, true, false}
 use mathlib.Core.List.{List, [], ◌∷◌}
-use mathlib.Core.Option.{Option, some, none as nothing, some-injective, none-ne-some}
+use Rattle.std.specs.Prelude.{Option, Some, None}
+use Rattle.laws.proofs.Basics.Somes.{some_injective, none_ne_some}
 use lib.ListN.{length}
 use native.Mathlib.Omega.{arith}
 use denote.Enum.Declared.{tag_of}
@@ -23,9 +24,6 @@ use Rattle.tree.proofs.Areas.{below_same, below_then}
 use Rattle.unifier.proofs.Tops.{pairs_are}
 use Rattle.schemes.specs.Building.{Fresh, Systems}
 use Rattle.schemes.specs.declared.systems.System.{System}
-use Rattle.sheet.specs.Claims.{truth}
-use Rattle.sheet.specs.declared.claims.Claim.{Claim}
-use Rattle.sheet.specs.declared.claims.Claim.TheVariants.{Yes, No, Nothing}
 use Rattle.variables.specs.Pairing.{names_at, OfVariables}
 use Rattle.families.specs.Generalizing.{variants_at}
 use Rattle.complete.specs.Judging.{judgement, system_of, Judgeable, CanJudge, CanJudgeAll, DecidesScheme, Judges, Ends, JudgesAll}
@@ -36,26 +34,26 @@ use Rattle.families.proofs.Generals.{all_matched_same}
 
 -- ---- the answer
 
-ends_at : (state : Judged) (r : Claim) (k : Judgement) → judgement state ≡ some k → truth r ≡ answered k → Ends state r
-ends_at state r k e f j g = f ∙ ap answered (some-injective k j (sym e ∙ g))
+ends_at : (state : Judged) (r : Option Bool) (k : Judgement) → judgement state ≡ Some k → r ≡ answered k → Ends state r
+ends_at state r k e f j g = f ∙ ap answered (some_injective k j (sym e ∙ g))
 
-pub ends_pending : Ends Pending Yes
-ends_pending = ends_at Pending Yes pending refl refl
+pub ends_pending : Ends Pending (Some true)
+ends_pending = ends_at Pending (Some true) pending refl refl
 
-pub ends_missing : Ends Missing No
-ends_missing = ends_at Missing No (settled (some false)) refl refl
+pub ends_missing : Ends Missing (Some false)
+ends_missing = ends_at Missing (Some false) (settled (Some false)) refl refl
 
-pub ends_over : Ends Over Nothing
-ends_over = ends_at Over Nothing (settled nothing) refl refl
+pub ends_over : Ends Over None
+ends_over = ends_at Over None (settled None) refl refl
 
-pub ends_unsupported : Ends Unsupported Nothing
-ends_unsupported j g = absurd (none-ne-some j g)
+pub ends_unsupported : Ends Unsupported None
+ends_unsupported j g = absurd (none_ne_some j g)
 
 -- ---- one scheme
 
 module _ (name : ℕ → Text) (xs : List Text) (ms : List Variant) (term : Tree) (i : ℕ) (before : Judged) where
   verdict_by : {v : Verdict} → (unify 65536 (system_of name term i)).0 ≡ v → (r : Judged)
-      → ((j : Judgement) → judgement before ≡ some j → judgement r ≡ judge_verdict xs ms (scheme_at name term 0 i).value v j) → DecidesScheme name xs ms term i before r
+      → ((j : Judgement) → judgement before ≡ Some j → judgement r ≡ judge_verdict xs ms (scheme_at name term 0 i).value v j) → DecidesScheme name xs ms term i before r
   verdict_by e r h j f = h j f ∙ ap (λ (v : Verdict). judge_verdict xs ms (scheme_at name term 0 i).value v j) (sym e)
 
   unsupported_ends : (unify 65536 (system_of name term i)).0 ≡ unsupported → DecidesScheme name xs ms term i before Unsupported
@@ -68,20 +66,20 @@ module _ (name : ℕ → Text) (xs : List Text) (ms : List Variant) (term : Tree
   unfolding judge
   settled_stays bs e o = verdict_by e before (λ j f. f ∙ go before o j f)
     where
-      stays : (r : Option Bool) (j : Judgement) → some (settled r) ≡ some j → some j ≡ some (judge xs ms bs (scheme_at name term 0 i).value j)
-      stays r j g = subst (λ (k : Judgement). some k ≡ some (judge xs ms bs (scheme_at name term 0 i).value k)) (some-injective (settled r) j g) refl
+      stays : (r : Option Bool) (j : Judgement) → Some (settled r) ≡ Some j → Some j ≡ Some (judge xs ms bs (scheme_at name term 0 i).value j)
+      stays r j g = subst (λ (k : Judgement). Some k ≡ Some (judge xs ms bs (scheme_at name term 0 i).value k)) (some_injective (settled r) j g) refl
 
-      go : (b : Judged) → OneOf (1 ∷ 2 ∷ 3 ∷ []) (tag_of the_type b) → (j : Judgement) → judgement b ≡ some j → some j ≡ some (judge xs ms bs (scheme_at name term 0 i).value j)
+      go : (b : Judged) → OneOf (1 ∷ 2 ∷ 3 ∷ []) (tag_of the_type b) → (j : Judgement) → judgement b ≡ Some j → Some j ≡ Some (judge xs ms bs (scheme_at name term 0 i).value j)
       go Pending o j g = absurd (miss (1 ∷ 2 ∷ 3 ∷ []) 0 tt o)
-      go Missing o j g = stays (some false) j g
-      go Over o j g = stays nothing j g
-      go Unsupported o j g = absurd (none-ne-some j g)
+      go Missing o j g = stays (Some false) j g
+      go Over o j g = stays None j g
+      go Unsupported o j g = absurd (none_ne_some j g)
 
   solved_decides : (bs : List Binding) → (unify 65536 (system_of name term i)).0 ≡ solved bs → before ≡ Pending → (r : Judged)
-      → judgement r ≡ some (judge xs ms bs (scheme_at name term 0 i).value pending) → DecidesScheme name xs ms term i before r
+      → judgement r ≡ Some (judge xs ms bs (scheme_at name term 0 i).value pending) → DecidesScheme name xs ms term i before r
   solved_decides bs e b r h = verdict_by e r (λ j f. (
-      let k : pending ≡ j = some-injective pending j (sym (ap judgement b) ∙ f) in
-      h ∙ ap (λ (j : Judgement). some (judge xs ms bs (scheme_at name term 0 i).value j)) k
+      let k : pending ≡ j = some_injective pending j (sym (ap judgement b) ∙ f) in
+      h ∙ ap (λ (j : Judgement). Some (judge xs ms bs (scheme_at name term 0 i).value j)) k
       ))
 
 -- a scheme decides the same by all names that its cells have
@@ -110,7 +108,7 @@ module _ {s : Text} {w v : List ℕ} {n fresh named names members term i : ℕ} 
   judged_settled bs e o b = judged_by before (settled_stays k.name (names_at s w names) (variants_at s w members) (tree_at s w term) i before bs e o) b
 
   pub judged_solved : {u : List ℕ} (bs : List Binding) → its_verdict ≡ solved bs → before ≡ Pending → (r : Judged)
-      → (judgement r ≡ some (judge (names_at s w names) (variants_at s w members) bs (scheme_at k.name (tree_at s w term) 0 i).value pending)) × Below w u n → Judges s w u n fresh names members term i before r
+      → (judgement r ≡ Some (judge (names_at s w names) (variants_at s w members) bs (scheme_at k.name (tree_at s w term) 0 i).value pending)) × Below w u n → Judges s w u n fresh names members term i before r
   judged_solved bs e p r x = judged_by r (solved_decides k.name (names_at s w names) (variants_at s w members) (tree_at s w term) i before bs e p r x.0) x.1
 
 -- ---- all schemes
@@ -133,17 +131,17 @@ pub record Going (s : Text) (w v : List ℕ) (n fresh term names members count i
   pub below : Below w v n
   pub most : i ≤ count
   pub so_far : Judgement
-  pub is : judgement state ≡ some so_far
+  pub is : judgement state ≡ Some so_far
   pub are : (name : ℕ → Text) → Fresh s w n fresh name
       → judged_from name (tree_at s w term) (names_at s w names) (variants_at s w members) 0 pending ≡ judged_from name (tree_at s w term) (names_at s w names) (variants_at s w members) i so_far
 
 pub going_starts : (s : Text) (w : List ℕ) (n fresh term names members count : ℕ) → Going s w w n fresh term names members count 0 Pending
 going_starts s w n fresh term names members count = record { below = below_same w n; most = omega arith; so_far = pending; is = refl; are = λ name f. refl }
 
-some_judgement : (r : Judged) → OneOf (0 ∷ 1 ∷ 2 ∷ []) (tag_of the_type r) → (k : Judgement) × (judgement r ≡ some k)
+some_judgement : (r : Judged) → OneOf (0 ∷ 1 ∷ 2 ∷ []) (tag_of the_type r) → (k : Judgement) × (judgement r ≡ Some k)
 some_judgement Pending o = (pending, refl)
-some_judgement Missing o = (settled (some false), refl)
-some_judgement Over o = (settled nothing, refl)
+some_judgement Missing o = (settled (Some false), refl)
+some_judgement Over o = (settled None, refl)
 some_judgement Unsupported o = absurd (miss (0 ∷ 1 ∷ 2 ∷ []) 3 tt o)
 
 module _ (s : Text) (w : List ℕ) (n fresh term names members count : ℕ) (a : Arena s w n) (tp : 0 < term) (tb : term < n) (nb : names < n) (mb : members < n) where
@@ -177,7 +175,7 @@ module _ (s : Text) (w : List ℕ) (n fresh term names members count : ℕ) (a :
       scheme = rw (sym (list_now names nb), sym (list_now members mb), sym term_now) (judgeable_same g.name h.below.len (g.schemes i l));
     }
 
-    pub going_ends : count ≡ scheme_count (tree_at s w term) → count ≤ i → (r : Claim) → Ends state r → JudgesAll s w v n fresh names members term r
+    pub going_ends : count ≡ scheme_count (tree_at s w term) → count ≤ i → (r : Option Bool) → Ends state r → JudgesAll s w v n fresh names members term r
     going_ends e l r f = (
       (λ name g. f h.so_far h.is
           ∙ sym (h.are name g ∙ judged_end name (tree_at s w term) (names_at s w names) (variants_at s w members) i h.so_far (omega arith))),
@@ -198,7 +196,7 @@ module _ (s : Text) (w : List ℕ) (n fresh term names members count : ℕ) (a :
       pub going_kept : Below w u n
       going_kept = below_then h.below y.1 (omega arith)
 
-      pub going_unsupported : r ≡ Unsupported → JudgesAll s w u n fresh names members term Nothing
+      pub going_unsupported : r ≡ Unsupported → JudgesAll s w u n fresh names members term None
       going_unsupported f = ((λ name g. sym (onward name g ∙ ap (λ (x : Judged). judgement x >>= λ k. judging name (i + 1) k) f)), going_kept)
 
       pub going_turn : OneOf (0 ∷ 1 ∷ 2 ∷ []) (tag_of the_type r) → Going s w u n fresh term names members count (i + 1) r

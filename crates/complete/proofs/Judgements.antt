@@ -3,7 +3,7 @@ use Prim.Native.Nat.{ℕ, ◌+◌, ◌*◌, ◌<◌, ◌≤◌, ◌^◌}
 use mathlib.Core.Path.{◌≡◌, refl, sym, ap, ap₂, subst, ◌∙◌}
 use mathlib.Core.Bool.{Bool, true, false, cond}
 use mathlib.Core.List.{List, [], ◌∷◌, ◌++◌}
-use mathlib.Core.Option.{Option, some, none as nothing}
+use Rattle.std.specs.Prelude.{Option, Some, None}
 use lib.Dec.{leb}
 use lib.ListN.{length, take, drop}
 use lib.Seq.{length-take-le}
@@ -51,14 +51,14 @@ use Rattle.complete.proofs.Rooms.{fuel_few}
 -- ---- the instance of a solved scheme
 
 module _ (xs : List Text) (ms : List Variant) (bs : List Binding) (value : Tree) where
-  pub judge_over : 4096 < size (instantiate bs value) → judge xs ms bs value pending ≡ settled nothing
+  pub judge_over : 4096 < size (instantiate bs value) → judge xs ms bs value pending ≡ settled None
   unfolding judge judge_instance instance_of
-  judge_over h = ap (λ (b : Bool). judge_instance xs ms bs (guard b >>= λ _. some (instantiate bs value))) (false_leb (size (instantiate bs value)) 4096 h)
+  judge_over h = ap (λ (b : Bool). judge_instance xs ms bs (guard b >>= λ _. Some (instantiate bs value))) (false_leb (size (instantiate bs value)) 4096 h)
 
   judge_there : size (instantiate bs value) ≤ 4096
       → judge xs ms bs value pending ≡ judge_tests (equivalent (instantiate bs value) (normalize (instantiate bs value))) (generalized xs ms bs (instantiate bs value))
   unfolding judge judge_instance instance_of
-  judge_there h = ap (λ (b : Bool). judge_instance xs ms bs (guard b >>= λ _. some (instantiate bs value))) (true_leb (size (instantiate bs value)) 4096 h)
+  judge_there h = ap (λ (b : Bool). judge_instance xs ms bs (guard b >>= λ _. Some (instantiate bs value))) (true_leb (size (instantiate bs value)) 4096 h)
 
 module _ {s : Text} {w v u : List ℕ} {n index end left i stop : ℕ} (value bindings names members : ℕ) (a : Arena s w n) (bb : bindings < n) (nb : names < n) (mb : members < n)
     (one : Placed s w v n 4096 0 (instance_at s w bindings value) index end left) (two : NewTree s v u end (size (tree_at s v index)) 0 (normalize (tree_at s v index)) i stop) where
@@ -98,9 +98,9 @@ module _ {s : Text} {w v u : List ℕ} {n index end left i stop : ℕ} (value bi
 
     -- the instance is not normal
     pub not_normal : (r : Bool) → r ≡ equivalent (tree_at s u index) (tree_at s u i) → r ≡ false
-        → (some pending ≡ some (judge xs ms bs (tree_at s w value) pending)) × Below w x n
+        → (Some pending ≡ Some (judge xs ms bs (tree_at s w value) pending)) × Below w x n
     not_normal r e f =
-        (ap some (sym (judge_there xs ms bs (tree_at s w value) made_small ∙ ap (λ (b : Bool). judge_tests b (generalized xs ms bs made_tree)) (normal_is r e ∙ f))), below_free)
+        (ap Some (sym (judge_there xs ms bs (tree_at s w value) made_small ∙ ap (λ (b : Bool). judge_tests b (generalized xs ms bs made_tree)) (normal_is r e ∙ f))), below_free)
 
     pub end_arena : Arena s x end
     end_arena = arena_below one.before.arena below_end
@@ -124,10 +124,10 @@ module _ {s : Text} {w v u : List ℕ} {n index end left i stop : ℕ} (value bi
     -- it is, and the members are gone through
     pub searched : (r g : Bool) → r ≡ equivalent (tree_at s u index) (tree_at s u i) → r ≡ true → {z : List ℕ}
         → (g ≡ generalized (names_at s x names) (variants_at s x members) (bindings_at s x bindings) (tree_at s x index)) × Below x z end
-        → (some (judge_tests true g) ≡ some (judge xs ms bs (tree_at s w value) pending)) × Below w z n
+        → (Some (judge_tests true g) ≡ Some (judge xs ms bs (tree_at s w value) pending)) × Below w z n
     searched r g e f y =
         let q : g ≡ generalized xs ms bs made_tree = y.0 ∙ rw (sym instance_now, list_now names nb, list_now bindings bb, list_now members mb) refl in (
-          ap some (sym (judge_there xs ms bs (tree_at s w value) made_small ∙ ap₂ judge_tests (normal_is r e ∙ f) (sym q))),
+          ap Some (sym (judge_there xs ms bs (tree_at s w value) made_small ∙ ap₂ judge_tests (normal_is r e ∙ f) (sym q))),
           below_then below_free y.1 one.before.grew,
         )
 
@@ -293,6 +293,6 @@ module _ {name : ℕ → Text} {s : Text} {w v : List ℕ} {n named i : ℕ} {xs
 
           -- what the solved scheme decides
           pub solved_judged : {r : Option Judgement} {u₂ : List ℕ}
-              → (r ≡ some (judge (names_at s area names) (variants_at s area members) (bindings_at s area b) (tree_at s area c.value) pending)) × Below area u₂ top
-              → (r ≡ some (judge xs (variants_of ts) (bindings_at s area b) (scheme_at name term 0 i).value pending)) × Below w u₂ n
+              → (r ≡ Some (judge (names_at s area names) (variants_at s area members) (bindings_at s area b) (tree_at s area c.value) pending)) × Below area u₂ top
+              → (r ≡ Some (judge xs (variants_of ts) (bindings_at s area b) (scheme_at name term 0 i).value pending)) × Below w u₂ n
           solved_judged x = (x.0 ∙ rw (sym names_kept, sym members_kept, value_now) refl, below_then solved_kept x.1 top_grew)

@@ -1,6 +1,6 @@
 -- What kind `complete` is asked: the term and the members of a sheet, and the words lent for them. Definitions only.
 use Rattle.std.specs.Prelude.{ℕ, ◌+◌, ◌*◌, ◌≤◌, ◌≡◌, List, length}
-use Rattle.std.proofs.Math.Option.{some}
+use Rattle.std.specs.Prelude.{Bool, Option, Some}
 use Rattle.rules.specs.Bytes.{Text}
 use Rattle.rules.specs.Text.{count_of}
 use Rattle.rules.specs.Sheet.{Member, asks_complete, read_sheet}
@@ -9,23 +9,21 @@ use Rattle.rules.specs.Variants.{complete}
 use Rattle.tree.specs.Cells.{tree_at}
 use Rattle.tree.specs.Arena.{Below}
 use Rattle.forms.specs.Members.{members_at}
-use Rattle.sheet.specs.Claims.{truth}
-use Rattle.sheet.specs.declared.claims.Claim.{Claim}
 
 -- the sheet is one of kind `complete`: its term is that of cell term, read before `at`; its members stand from `at` on. At most `named`
 -- names are in a scheme.
 pub record CompleteInput (s : Text) (w : List ℕ) (free term named at : ℕ) : Type 0 where
   pub text : Text
   pub members : List Member
-  pub reads : read_sheet s ≡ some (asks_complete text members)
+  pub reads : read_sheet s ≡ Some (asks_complete text members)
   pub short : length s ≤ 65536
-  pub parsed : parse text ≡ some (tree_at s w term)
-  pub later : members_at s at ≡ some members
+  pub parsed : parse text ≡ Some (tree_at s w term)
+  pub later : members_at s at ≡ Some members
   pub inside : at ≤ length s
   pub used : free ≤ 1 + 2 * at
   pub named_is : named ≡ count_of 58 text + 2 * count_of 40 text
   pub words : 65536 * (count_of 58 s + 2 * count_of 40 text + 16) + 16 * length s ≤ length w
 
 -- whether the members from `at` on are complete for the term
-abbrev pub ClaimsComplete : Text → List ℕ → List ℕ → ℕ → ℕ → ℕ → Claim → Type 0
-ClaimsComplete s w v n term at r = ((ms : List Member) → members_at s at ≡ some ms → truth r ≡ complete (tree_at s w term) ms) × Below w v n
+abbrev pub ClaimsComplete : Text → List ℕ → List ℕ → ℕ → ℕ → ℕ → Option Bool → Type 0
+ClaimsComplete s w v n term at r = ((ms : List Member) → members_at s at ≡ Some ms → r ≡ complete (tree_at s w term) ms) × Below w v n

@@ -1,6 +1,6 @@
 -- What the schemes so far decide, and what judging a scheme needs. Definitions only.
-use Rattle.std.specs.Prelude.{ℕ, ◌+◌, ◌*◌, ◌<◌, ◌≤◌, ◌≡◌, false, cond, List, leb, length}
-use Rattle.std.proofs.Math.Option.{Option, some, none as nothing}
+use Rattle.std.specs.Prelude.{ℕ, ◌+◌, ◌*◌, ◌<◌, ◌≤◌, ◌≡◌, Bool, false, cond, List, leb, length}
+use Rattle.std.specs.Prelude.{Option, Some, None}
 use Rattle.rules.specs.Bytes.{Text}
 use Rattle.rules.specs.Tree.{Tree, Trees, size}
 use Rattle.rules.specs.Substitution.{Binding, Pair, instantiate, size_pairs}
@@ -12,8 +12,6 @@ use Rattle.tree.specs.Cells.{tree_at, trees_at}
 use Rattle.tree.specs.Arena.{Below}
 use Rattle.elimination.specs.Stack.{FitPairs}
 use Rattle.elimination.specs.Area.{Room}
-use Rattle.sheet.specs.Claims.{truth}
-use Rattle.sheet.specs.declared.claims.Claim.{Claim}
 use Rattle.schemes.specs.Building.{Fresh}
 use Rattle.variables.specs.Pairing.{names_at}
 use Rattle.families.specs.Generalizing.{variants_at, AllMatched}
@@ -21,10 +19,10 @@ use Rattle.complete.specs.declared.judging.Judged.{Judged}
 use Rattle.complete.specs.declared.judging.Judged.TheVariants.{Pending, Missing, Over, Unsupported}
 
 abbrev pub judgement : Judged → Option Judgement
-judgement Pending = some pending
-judgement Missing = some (settled (some false))
-judgement Over = some (settled nothing)
-judgement Unsupported = nothing
+judgement Pending = Some pending
+judgement Missing = Some (settled (Some false))
+judgement Over = Some (settled None)
+judgement Unsupported = None
 
 -- fuel that no run over so many nodes and names uses up, at most 65,536
 unfoldable pub fuel_for : ℕ → ℕ → ℕ
@@ -70,7 +68,7 @@ pub record CanJudgeAll (s : Text) (w : List ℕ) (n fresh named names members te
 -- what the i-th scheme makes of what was decided before it
 abbrev pub DecidesScheme : (ℕ → Text) → List Text → List Variant → Tree → ℕ → Judged → Judged → Type 0
 DecidesScheme name xs ms term i before r =
-    (j : Judgement) → judgement before ≡ some j → judgement r ≡ judge_verdict xs ms (scheme_at name term 0 i).value (unify 65536 (system_of name term i)).0 j
+    (j : Judgement) → judgement before ≡ Some j → judgement r ≡ judge_verdict xs ms (scheme_at name term 0 i).value (unify 65536 (system_of name term i)).0 j
 
 -- by any names that the fresh variables from cell `fresh` on have
 abbrev pub Judges : Text → List ℕ → List ℕ → ℕ → ℕ → ℕ → ℕ → ℕ → ℕ → Judged → Judged → Type 0
@@ -78,10 +76,10 @@ Judges s w v n fresh names members term i before r =
     ((name : ℕ → Text) → Fresh s w n fresh name → DecidesScheme name (names_at s w names) (variants_at s w members) (tree_at s w term) i before r) × Below w v n
 
 -- the answer after the last scheme
-abbrev pub Ends : Judged → Claim → Type 0
-Ends state r = (j : Judgement) → judgement state ≡ some j → truth r ≡ answered j
+abbrev pub Ends : Judged → Option Bool → Type 0
+Ends state r = (j : Judgement) → judgement state ≡ Some j → r ≡ answered j
 
 -- the answer of all schemes, by any such names
-abbrev pub JudgesAll : Text → List ℕ → List ℕ → ℕ → ℕ → ℕ → ℕ → ℕ → Claim → Type 0
+abbrev pub JudgesAll : Text → List ℕ → List ℕ → ℕ → ℕ → ℕ → ℕ → ℕ → Option Bool → Type 0
 JudgesAll s w v n fresh names members term r =
-    ((name : ℕ → Text) → Fresh s w n fresh name → truth r ≡ judged_from name (tree_at s w term) (names_at s w names) (variants_at s w members) 0 pending) × Below w v n
+    ((name : ℕ → Text) → Fresh s w n fresh name → r ≡ judged_from name (tree_at s w term) (names_at s w names) (variants_at s w members) 0 pending) × Below w v n

@@ -9,7 +9,6 @@ use fresh::cells::fresh_cells;
 use fresh::naming::{Named, name_variables};
 use schemes::counting::{Counted, count_schemes};
 use sheet::Cursor;
-use sheet::claims::Claim;
 
 // Whether the members from a cursor on are complete for the tree of cell term; no claim where a text is unreadable, a variable has no
 // index, there are over 4,096 schemes or one of them is not supported. `named` is how many names a scheme has at most.
@@ -20,7 +19,7 @@ pub fn complete(
     term: usize,
     named: usize,
     members: Cursor,
-) -> Claim
+) -> Option<bool>
     requires arena { Arena sheet.now work.old free }
     requires term_nonzero { (0 < term) × (term < free) × CompleteInput sheet.now work.old free term named members.at }
     ensures { ClaimsComplete sheet.now work.old work.new free term members.at result }
@@ -32,16 +31,16 @@ pub fn complete(
         free: top,
     } = found
     else {
-        return Claim::Nothing;
+        return None;
     };
     let counted = count_schemes(sheet, work, top, term);
     let Counted::Schemes(count) = counted else {
-        return Claim::Nothing;
+        return None;
     };
     let end = fresh_cells(sheet, work, top, base);
     let read = read_members(sheet, work, end, members);
     let Members::List { index, free: stop } = read else {
-        return Claim::Nothing;
+        return None;
     };
     judge(sheet, work, stop, term, top, count, named, names, index)
 }

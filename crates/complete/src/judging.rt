@@ -1,6 +1,5 @@
 // What the schemes decide: the system of each is unified, and a member is looked for that generalizes its solution and value.
 ghost use Rattle.std.specs.Prelude.{◌≡◌, ◌+◌, ◌*◌, ◌<◌, ◌≤◌, length};
-ghost use Rattle.std.proofs.Math.Option.{some};
 ghost use Rattle.rules.specs.Tree.{size};
 ghost use Rattle.rules.specs.Substitution.{instantiate};
 ghost use Rattle.rules.specs.Variants.{scheme_count};
@@ -17,7 +16,6 @@ use families::generalizing::generalized;
 use reduction::building::nodes_in;
 use reduction::normalizing::normalize;
 use schemes::systems::system_at;
-use sheet::claims::Claim;
 use substitution::instances::{Built, substitute};
 use unifier::room::{NAME_CELLS, STEP_WORDS};
 use unifier::unifying::{Outcome, unify};
@@ -46,7 +44,7 @@ fn judge_solved(
     requires value_nonzero { (0 < value) × (value < free) × (bindings < free) × (names < free) × (members < free) × OfVariables (trees_at sheet.now work.old names) }
     requires free_in_bounds { (4 * free + 155648 ≤ length work.old) × (free < 4294959104) }
     requires all_matched { AllMatched sheet.now work.old (free + 4098 + 2 * length (names_at sheet.now work.old names)) (names_at sheet.now work.old names) (bindings_at sheet.now work.old bindings) (instantiate (bindings_at sheet.now work.old bindings) (tree_at sheet.now work.old value)) (trees_at sheet.now work.old members) }
-    ensures { (judgement result ≡ some (judge (names_at sheet.now work.old names) (variants_at sheet.now work.old members) (bindings_at sheet.now work.old bindings) (tree_at sheet.now work.old value) pending)) × Below work.old work.new free }
+    ensures { (judgement result ≡ Some (judge (names_at sheet.now work.old names) (variants_at sheet.now work.old members) (bindings_at sheet.now work.old bindings) (tree_at sheet.now work.old value) pending)) × Below work.old work.new free }
 {
     let built = substitute(sheet, work, free, value, bindings, 0, 4096);
     let Built::Done {
@@ -124,14 +122,13 @@ fn judge_scheme(
 }
 
 // The answer after the last scheme.
-fn claim_of(state: Judged) -> Claim
+fn claim_of(state: Judged) -> Option<bool>
     ensures { Ends state result }
 {
     match state {
-        Judged::Pending => Claim::Yes,
-        Judged::Missing => Claim::No,
-        Judged::Over => Claim::Nothing,
-        Judged::Unsupported => Claim::Nothing,
+        Judged::Pending => Some(true),
+        Judged::Missing => Some(false),
+        Judged::Over | Judged::Unsupported => None,
     }
 }
 
@@ -146,7 +143,7 @@ pub(crate) fn judge(
     named: usize,
     names: usize,
     members: usize,
-) -> Claim
+) -> Option<bool>
     requires arena { Arena sheet.now work.old free × (length sheet.now ≤ 65536) }
     requires term_nonzero { (0 < term) × (term < free) × (names < free) × (members < free) × OfVariables (trees_at sheet.now work.old names) }
     requires term_bound { (size (tree_at sheet.now work.old term) ≤ 4096) × (count ≡ scheme_count (tree_at sheet.now work.old term)) × (count ≤ 4096) }
@@ -160,7 +157,7 @@ pub(crate) fn judge(
             sheet, work, free, term, fresh, count, i, named, names, members, state,
         );
         if let Judged::Unsupported = state {
-            return Claim::Nothing;
+            return None;
         }
         i += 1;
     }

@@ -3,7 +3,7 @@ use Prim.Native.Nat.{ℕ, ◌+◌, ◌*◌, ◌-◌, ◌<◌, ◌≤◌}
 use mathlib.Core.Path.{◌≡◌, refl, sym, ap, subst, ◌∙◌}
 use mathlib.Core.Bool.{Bool, true, false, not}
 use mathlib.Core.List.{List, [], ◌∷◌, Memᴰ}
-use mathlib.Core.Option.{some}
+use Rattle.std.specs.Prelude.{Some, None}
 use lib.ListN.{length}
 use native.Mathlib.Omega.{arith}
 use denote.Enum.Declared.{tag_of}
@@ -23,10 +23,11 @@ use Rattle.tree.specs.Arena.{Arena, Below}
 use Rattle.tree.proofs.Decoding.{frame_trees}
 use Rattle.tree.proofs.Areas.{below_same, below_then}
 use Rattle.substitution.specs.Bindings.{bindings_of, bindings_at}
-use Rattle.sheet.specs.Lines.{part_of, value_at}
+use Rattle.sheet.specs.Lines.{value_at}
 use Rattle.forms.specs.Members.{members_at}
+use Rattle.forms.specs.Form.{text_of}
 use Rattle.sheet.specs.declared.Cursor.{Cursor}
-use Rattle.sheet.specs.declared.Line.TheVariants.{Whole as a_line, Missing}
+use Rattle.sheet.specs.declared.Line.{Line}
 use Rattle.sheet.proofs.LineLaws.{keyed}
 use Rattle.forms.proofs.WalkLaws.{FirstMember, member_end, member_next, members_later}
 use Rattle.elimination.specs.Stack.{pairs_at, Whole, FitPairs}
@@ -110,11 +111,11 @@ pub record Deciding (s : Text) (w : List ℕ) (n names bindings : ℕ) (ms : Lis
   pub low : at ≤ c
   pub high : c ≤ length s
   pub left : List Member
-  pub reads : members_at s c ≡ some left
+  pub reads : members_at s c ≡ Some left
   pub are : any_covers (names_at s w names) (bindings_at s w bindings) ms ≡ any_covers (names_at s w names) (bindings_at s w bindings) left
   pub some_are : (m : Member) → Memᴰ m left → Memᴰ m ms
 
-pub deciding_starts : (s : Text) (w : List ℕ) (n names bindings : ℕ) (ms : List Member) (at : ℕ) → at ≤ length s → members_at s at ≡ some ms → Deciding s w n names bindings ms w at at
+pub deciding_starts : (s : Text) (w : List ℕ) (n names bindings : ℕ) (ms : List Member) (at : ℕ) → at ≤ length s → members_at s at ≡ Some ms → Deciding s w n names bindings ms w at at
 deciding_starts s w n names bindings ms at p e = record { below = below_same w n; low = omega arith; high = p; left = ms; reads = e; are = refl; some_are = λ m k. k }
 
 module _ {s : Text} {w v : List ℕ} {n names bindings : ℕ} {ms : List Member} {at c : ℕ} (a : Arena s w n) (p : names < n) (q : bindings < n) (h : Deciding s w n names bindings ms v at c) where
@@ -130,19 +131,19 @@ module _ {s : Text} {w v : List ℕ} {n names bindings : ℕ} {ms : List Member}
   abbrev bs : List Binding
   bs = bindings_at s w bindings
 
-  pub deciding_ends : Missing ≡ value_at s (bytes "member=") c → any_covers xs bs ms ≡ false
+  pub deciding_ends : None ≡ value_at s (bytes "member=") c → any_covers xs bs ms ≡ false
   unfolding any_covers
   deciding_ends e = h.are ∙ ap (any_covers xs bs) (member_end s c h.left h.reads e)
 
-  module _ (f t : ℕ) (nx : Cursor) (e : a_line f t nx ≡ value_at s (bytes "member=") c) where
-    first : FirstMember s (part_of f t s) nx.at h.left
-    first = member_next s c h.left h.reads f t nx e
+  module _ (line : Line) (e : Some line ≡ value_at s (bytes "member=") c) where
+    first : FirstMember s (text_of s line.value) line.next.at h.left
+    first = member_next s c h.left h.reads line e
 
-    pub next_after : (c < nx.at) × (nx.at ≤ length s)
-    next_after = let k = keyed s (bytes "member=") c f t nx e in let x = k.ends in (omega (arith, k.begins, k.after, x.0), omega (arith, k.after, x.1))
+    pub next_after : (c < line.next.at) × (line.next.at ≤ length s)
+    next_after = let k = keyed s (bytes "member=") c line e in let x = k.ends in (omega (arith, k.begins, k.after, x.0), omega (arith, k.after, x.1))
 
     abbrev its : Member
-    its = (part_of f t s, first.es)
+    its = (text_of s line.value, first.es)
 
     is_member : Memᴰ its ms
     is_member = h.some_are its (subst (λ (l : List Member). Memᴰ its l) (sym first.members) (Memᴰ.head refl))
@@ -150,9 +151,9 @@ module _ {s : Text} {w v : List ℕ} {n names bindings : ℕ} {ms : List Member}
     now_are : (m : Member) → covers (names_at s v names) (bindings_at s v bindings) m ≡ covers xs bs m
     now_are m = rw (names_now, bindings_now)
 
-    pub next_matchable : ((m : Member) → Memᴰ m ms → (qs : List Pair) → PairsOf s w names bindings m qs → Matched s w (member_end_of s w n names at) qs) → Matchable s v (member_end_of s v n names nx.at) names bindings nx.at
+    pub next_matchable : ((m : Member) → Memᴰ m ms → (qs : List Pair) → PairsOf s w names bindings m qs → Matched s w (member_end_of s w n names at) qs) → Matchable s v (member_end_of s v n names line.next.at) names bindings line.next.at
     next_matchable g = record {
-      value = part_of f t s;
+      value = text_of s line.value;
       entries = first.es;
       reads = (first.rest, first.entries);
       matched = λ qs d. (
@@ -173,10 +174,10 @@ module _ {s : Text} {w v : List ℕ} {n names bindings : ℕ} {ms : List Member}
     unfolding any_covers
     decided d = first_by ∙ ap {B = Bool} (λ (b : Bool). elim b [ true ↦ true | false ↦ any_covers xs bs first.others ]) (sym (now_are its) ∙ d)
 
-    pub deciding_yes : {u : List ℕ} → CoversMember s v u n names bindings nx.at it.Yes → (any_covers xs bs ms ≡ true) × Below w u n
-    deciding_yes y = (decided (y.0 (part_of f t s) first.es (first.rest, first.entries)), below_then h.below y.1 (omega arith))
+    pub deciding_yes : {u : List ℕ} → CoversMember s v u n names bindings line.next.at it.Yes → (any_covers xs bs ms ≡ true) × Below w u n
+    deciding_yes y = (decided (y.0 (text_of s line.value) first.es (first.rest, first.entries)), below_then h.below y.1 (omega arith))
 
-    pub deciding_no : {u : List ℕ} (d : Cursor) → CoversMember s v u n names bindings nx.at (it.No d) → Deciding s w n names bindings ms u at d.at
+    pub deciding_no : {u : List ℕ} (d : Cursor) → CoversMember s v u n names bindings line.next.at (it.No d) → Deciding s w n names bindings ms u at d.at
     deciding_no d y =
         let x = next_after in
         let l = h.low in
@@ -186,6 +187,6 @@ module _ {s : Text} {w v : List ℕ} {n names bindings : ℕ} {ms : List Member}
           high = y.0.high;
           left = first.others;
           reads = members_later s d.at first.rest first.others (y.0.ends first.es first.rest first.entries) first.later;
-          are = decided (y.0.is (part_of f t s) first.es (first.rest, first.entries));
+          are = decided (y.0.is (text_of s line.value) first.es (first.rest, first.entries));
           some_are = λ m k. h.some_are m (subst (λ (l : List Member). Memᴰ m l) (sym first.members) (Memᴰ.tail k));
         }

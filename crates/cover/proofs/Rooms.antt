@@ -5,7 +5,7 @@ use mathlib.Core.Path.{◌≡◌, refl, sym, ap, subst, ◌∙◌}
 use mathlib.Core.List.Memᴰ
 use mathlib.Core.List.{List, [], ◌∷◌, ◌++◌, map, Memᴰ}
 use mathlib.Core.Logic.{inl, inr}
-use mathlib.Core.Option.{some}
+use Rattle.std.specs.Prelude.{Some}
 use lib.ListN.{length}
 use native.Mathlib.Omega.{arith}
 use native.Mathlib.Decide.{dec_lt}
@@ -56,7 +56,7 @@ flatten_built (p ∷ ps) h = both h.0 (both h.1 (flatten_built ps h.2))
 short_append : (xs ys : List Text) → Short xs → Short ys → Short (xs ++ ys)
 short_append xs ys p q x m = elim (Memᴰ.append_cases xs m) [ inl a ↦ p x a | inr b ↦ q x b ]
 
-flatten_short : (s : Text) → length s ≤ 65536 → (es : List Entry) (ps : List Pair) → read_pairs es ≡ some ps → All (PartOf s) (side_texts es) → Short (variable_names_in (flatten ps))
+flatten_short : (s : Text) → length s ≤ 65536 → (es : List Entry) (ps : List Pair) → read_pairs es ≡ Some ps → All (PartOf s) (side_texts es) → Short (variable_names_in (flatten ps))
 unfolding flatten variable_names side_texts
 flatten_short s l = pairs_read_by (λ es ps. All (PartOf s) (side_texts es) → Short (variable_names_in (flatten ps))) (λ h x m. absurd (Memᴰ.not-nil m))
     (λ e es p ps f g ih h. short_append (variable_names p.0) (variable_names p.1 ++ variable_names_in (flatten ps)) (short_read s e.0 p.0 l h.0 f)
@@ -72,7 +72,7 @@ against_length : {bs : List Binding} {m : Member} {xs : List Text} {qs : List Pa
 against_length no_more = refl
 against_length (next f e a) = ap suc (against_length a)
 
-texts_bytes : (es : List Entry) (ps : List Pair) → read_pairs es ≡ some ps → size_pairs ps ≤ total length (side_texts es)
+texts_bytes : (es : List Entry) (ps : List Pair) → read_pairs es ≡ Some ps → size_pairs ps ≤ total length (side_texts es)
 unfolding size_pairs total side_texts
 texts_bytes = pairs_read_by (λ es ps. size_pairs ps ≤ total length (side_texts es)) (omega arith)
     (λ e es p ps l r h. omega (arith, h, parse_size e.0 p.0 l, parse_size e.1 p.1 r))
@@ -145,7 +145,7 @@ module _ {s : Text} {w : List ℕ} {free stack at : ℕ} (k : CoverInput s w fre
   -- after the run each member can be matched
   pub asked_matched : (bs : List Binding) → (unify 65536 ps).0 ≡ solved bs → (top : ℕ) → top ≤ run_end at (length (variables_of ps)) (size_pairs ps) (count_of 58 s)
       → {v : List ℕ} → length v ≡ length w → (n : ℕ) → n ≡ top + 2 * (length s - at) + 2 * length (variables_of ps)
-      → (m : Member) → Memᴰ m k.members → (qs : List Pair) → every (map (pair_at bs m) (variables_of ps)) ≡ some qs → Matched s v n qs
+      → (m : Member) → Memᴰ m k.members → (qs : List Pair) → every (map (pair_at bs m) (variables_of ps)) ≡ Some qs → Matched s v n qs
   asked_matched bs e top u {v} z n f m l qs d =
       let r = cover_room s k.entries k.members k.reads ps k.pairs 65536 bs e m l qs d in
       let x = length (variables_of ps) in

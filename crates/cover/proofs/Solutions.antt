@@ -3,7 +3,7 @@ use Prim.Native.Nat.{ℕ, ◌+◌, ◌*◌, ◌-◌, ◌<◌, ◌≤◌, ◌^◌
 use mathlib.Core.Path.{◌≡◌, sym, ap, subst, ◌∙◌}
 use mathlib.Core.Bool.{Bool}
 use mathlib.Core.List.{List, [], ◌∷◌, ◌++◌, map}
-use mathlib.Core.Option.{Option, some, none as nothing}
+use Rattle.std.specs.Prelude.{Option, Some, None}
 use lib.ListN.{length, take, drop}
 use lib.Seq.{length-take-le}
 use native.Mathlib.Omega.{arith}
@@ -41,10 +41,10 @@ use Rattle.cover.proofs.Rooms.{run_end, asked_nodes, asked_few, asked_names, ask
 
 -- what is covered, by the verdict over the pairs
 covered_by : (ps : List Pair) (ms : List Member) {v : Verdict} → (unify 65536 ps).0 ≡ v
-    → covered ps ms ≡ elim v [ solved bs ↦ some (any_covers (variables_of ps) bs ms) | failed ↦ nothing | unsupported ↦ nothing ]
+    → covered ps ms ≡ elim v [ solved bs ↦ Some (any_covers (variables_of ps) bs ms) | failed ↦ None | unsupported ↦ None ]
 unfolding covered
 covered_by ps ms e =
-    ap {B = Option Bool} (λ (v : Verdict). elim v [ solved bs ↦ some (any_covers (variables_of ps) bs ms) | failed ↦ nothing | unsupported ↦ nothing ]) e
+    ap {B = Option Bool} (λ (v : Verdict). elim v [ solved bs ↦ Some (any_covers (variables_of ps) bs ms) | failed ↦ None | unsupported ↦ None ]) e
 
 -- the words lent for the run
 abbrev pub run_words : ℕ → ℕ → ℕ → ℕ
@@ -116,7 +116,7 @@ module _ {s : Text} {w v : List ℕ} {free stack at names end : ℕ} (a : Arena 
 
       -- the pairs are not solved
       pub unsolved : (y : Outcome) → OneOf (1 ∷ 2 ∷ []) (tag_of the_type y) → Answers s part u end (unify 65536 (pairs_at s part stack)) y
-          → ((ms : List Member) → nothing ≡ covered ps ms) × Below w area free
+          → ((ms : List Member) → None ≡ covered ps ms) × Below w area free
       unsolved (outcome.Solved b m spent) o g = absurd (miss (1 ∷ 2 ∷ []) 0 tt o)
       unsolved (outcome.Failed spent) o g =
           ((λ ms. sym (covered_by ps ms (ap (λ (ts : Trees). (unify 65536 (pairs_of ts)).0) part_stack ∙ ap (λ (a : Answer). a.0) g.0))), kept_area g.1)
@@ -172,8 +172,8 @@ module _ {s : Text} {w v : List ℕ} {free stack at names end : ℕ} (a : Arena 
               (ap (λ (x : ℕ). top + 2 * (length s - at) + 2 * x) names_many) m l qs (ap (λ (xs : List Text). every (map (pair_at (bindings_at s area b) m) xs)) (sym names_are) ∙ e);
         }
 
-        pub claimed : {z : List ℕ} (r : Bool) → CoversAny s area z top names b at r → ((ms : List Member) → members_at s at ≡ some ms → some r ≡ covered ps ms) × Below w z free
+        pub claimed : {z : List ℕ} (r : Bool) → CoversAny s area z top names b at r → ((ms : List Member) → members_at s at ≡ Some ms → Some r ≡ covered ps ms) × Below w z free
         claimed r c = (
-          (λ ms f. ap some (c.0 ms f ∙ ap (λ (xs : List Text). any_covers xs (bindings_at s area b) ms) names_are) ∙ sym (covered_by ps ms is_solved)),
+          (λ ms f. ap Some (c.0 ms f ∙ ap (λ (xs : List Text). any_covers xs (bindings_at s area b) ms) names_are) ∙ sym (covered_by ps ms is_solved)),
           below_then (kept_area g.1.below) c.1 (omega (arith, h.used, g.1.grew)),
         )

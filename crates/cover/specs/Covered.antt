@@ -1,6 +1,6 @@
 -- What kind `cover` is asked: the pairs and the members of a sheet, and the words lent for them. Definitions only.
 use Rattle.std.specs.Prelude.{ℕ, ◌+◌, ◌*◌, ◌<◌, ◌≤◌, ◌≡◌, List, length}
-use Rattle.std.proofs.Math.Option.{some}
+use Rattle.std.specs.Prelude.{Bool, Option, Some}
 use Rattle.rules.specs.Bytes.{Text}
 use Rattle.rules.specs.Text.{count_of}
 use Rattle.rules.specs.Tree.{count}
@@ -11,8 +11,6 @@ use Rattle.tree.specs.Cells.{trees_at}
 use Rattle.tree.specs.Arena.{Arena, Below}
 use Rattle.forms.specs.Members.{members_at}
 use Rattle.elimination.specs.Stack.{Whole, pairs_at}
-use Rattle.sheet.specs.Claims.{truth}
-use Rattle.sheet.specs.declared.claims.Claim.{Claim}
 use Rattle.variables.specs.Pairing.{names_at, OfVariables}
 
 -- from w, with the free end n, to v, with the free end m: the list from cell i on is that of the variables of the pairs, the last first
@@ -28,15 +26,15 @@ pub record Names (s : Text) (w v : List ℕ) (n stack i m : ℕ) : Type 0 where
 pub record CoverInput (s : Text) (w : List ℕ) (free stack at : ℕ) : Type 0 where
   pub entries : List Entry
   pub members : List Member
-  pub reads : read_sheet s ≡ some (asks_cover entries members)
+  pub reads : read_sheet s ≡ Some (asks_cover entries members)
   pub short : length s ≤ 65536
-  pub pairs : read_pairs entries ≡ some (pairs_at s w stack)
+  pub pairs : read_pairs entries ≡ Some (pairs_at s w stack)
   pub whole : Whole (trees_at s w stack)
-  pub later : members_at s at ≡ some members
+  pub later : members_at s at ≡ Some members
   pub inside : at ≤ length s
   pub used : free ≤ 1 + 2 * at
   pub words : 65536 * (count_of 58 s + 16) + 16 * length s ≤ length w
 
 -- whether one of the members from `at` on covers the solution of the pairs
-abbrev pub ClaimsCovered : Text → List ℕ → List ℕ → ℕ → ℕ → ℕ → Claim → Type 0
-ClaimsCovered s w v n stack at r = ((ms : List Member) → members_at s at ≡ some ms → truth r ≡ covered (pairs_at s w stack) ms) × Below w v n
+abbrev pub ClaimsCovered : Text → List ℕ → List ℕ → ℕ → ℕ → ℕ → Option Bool → Type 0
+ClaimsCovered s w v n stack at r = ((ms : List Member) → members_at s at ≡ Some ms → r ≡ covered (pairs_at s w stack) ms) × Below w v n

@@ -1,7 +1,7 @@
 -- Whether members cover: the pairs of each can be matched with the fuel and the room there are. Definitions only.
 use Rattle.std.specs.Prelude.{ℕ, ◌≤◌, ◌≡◌, Bool, true, false, length}
 use mathlib.Core.List.{List, map, Memᴰ}
-use Rattle.std.proofs.Math.Option.{some}
+use Rattle.std.specs.Prelude.{Some}
 use Rattle.rules.specs.Bytes.{Text}
 use Rattle.rules.specs.Maybe.{every}
 use Rattle.rules.specs.Substitution.{Pair}
@@ -18,7 +18,7 @@ use Rattle.cover.specs.declared.covering.Covering.{Covering}
 use Rattle.cover.specs.declared.covering.Covering.TheVariants.{Yes, No}
 
 abbrev pub PairsOf : Text → List ℕ → ℕ → ℕ → Member → List Pair → Type 0
-PairsOf s w names bindings m qs = every (map (pair_at (bindings_at s w bindings) m) (names_at s w names)) ≡ some qs
+PairsOf s w names bindings m qs = every (map (pair_at (bindings_at s w bindings) m) (names_at s w names)) ≡ Some qs
 
 -- those of the member with the entries from a position on
 pub record Matchable (s : Text) (w : List ℕ) (n names bindings at : ℕ) : Type 0 where
@@ -30,14 +30,14 @@ pub record Matchable (s : Text) (w : List ℕ) (n names bindings at : ℕ) : Typ
 -- those of all members from a position on
 pub record AllMatchable (s : Text) (w : List ℕ) (n names bindings at : ℕ) : Type 0 where
   pub members : List Member
-  pub reads : members_at s at ≡ some members
+  pub reads : members_at s at ≡ Some members
   pub matched : (m : Member) → Memᴰ m members → (qs : List Pair) → PairsOf s w names bindings m qs → Matched s w n qs
 
 -- the member with the entries from `at` on covers; or it does not, and its entries end at c
 pub record Uncovered (s : Text) (w : List ℕ) (names bindings at c : ℕ) : Type 0 where
   pub low : at ≤ c
   pub high : c ≤ length s
-  pub ends : (es : List Entry) (rest : List Text) → EntriesThen s at es rest → lines_at s c ≡ some rest
+  pub ends : (es : List Entry) (rest : List Text) → EntriesThen s at es rest → lines_at s c ≡ Some rest
   pub is : (x : Text) (es : List Entry) → EntriesFrom s at es → covers (names_at s w names) (bindings_at s w bindings) (x, es) ≡ false
 
 abbrev pub CoversMember : Text → List ℕ → List ℕ → ℕ → ℕ → ℕ → ℕ → Covering → Type 0
@@ -47,4 +47,4 @@ CoversMember s w v n names bindings at (No c) = Uncovered s w names bindings at 
 
 -- whether one of the members from `at` on covers
 abbrev pub CoversAny : Text → List ℕ → List ℕ → ℕ → ℕ → ℕ → ℕ → Bool → Type 0
-CoversAny s w v n names bindings at r = ((ms : List Member) → members_at s at ≡ some ms → r ≡ any_covers (names_at s w names) (bindings_at s w bindings) ms) × Below w v n
+CoversAny s w v n names bindings at r = ((ms : List Member) → members_at s at ≡ Some ms → r ≡ any_covers (names_at s w names) (bindings_at s w bindings) ms) × Below w v n

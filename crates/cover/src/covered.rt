@@ -10,7 +10,6 @@ ghost use Rattle.cover.specs.Covered.{Names, CoverInput, ClaimsCovered};
 use crate::covering::any_covers;
 use reduction::building::nodes_in;
 use sheet::Cursor;
-use sheet::claims::Claim;
 use substitution::bindings::Pushed;
 use text::count_of;
 use unifier::room::{NAME_CELLS, STEP_WORDS};
@@ -32,7 +31,13 @@ fn names_of(sheet: &[u8], work: &mut [u32], free: usize, stack: usize) -> Pushed
 
 // Whether one of the members from a cursor on covers the solution of the pairs from cell stack on; no claim where they are not solved. The
 // words above those that the unification needs are left for the matches.
-pub fn covered(sheet: &[u8], work: &mut [u32], free: usize, stack: usize, members: Cursor) -> Claim
+pub fn covered(
+    sheet: &[u8],
+    work: &mut [u32],
+    free: usize,
+    stack: usize,
+    members: Cursor,
+) -> Option<bool>
     requires arena { Arena sheet.now work.old free }
     requires stack_lt_free { (stack < free) × CoverInput sheet.now work.old free stack members.at }
     ensures { ClaimsCovered sheet.now work.old work.new free stack members.at result }
@@ -49,10 +54,7 @@ pub fn covered(sheet: &[u8], work: &mut [u32], free: usize, stack: usize, member
         spent: _,
     } = outcome
     else {
-        return Claim::Nothing;
+        return None;
     };
-    if any_covers(sheet, work, top, names, bindings, members) {
-        return Claim::Yes;
-    }
-    Claim::No
+    Some(any_covers(sheet, work, top, names, bindings, members))
 }

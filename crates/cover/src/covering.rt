@@ -7,7 +7,7 @@ ghost use Rattle.variables.specs.Pairing.{OfVariables};
 ghost use Rattle.cover.specs.Covering.{Matchable, AllMatchable, CoversMember, CoversAny};
 
 use matching::matcher;
-use sheet::{Cursor, Line, next_member};
+use sheet::{Cursor, next_member};
 use unifier::unifying::Outcome;
 use values::members::{Sides, member_pairs};
 
@@ -68,20 +68,12 @@ pub(crate) fn any_covers(
     ensures { CoversAny sheet.now work.old work.new free names bindings start.at result }
 {
     let mut cursor = start;
-    loop {
-        let line = next_member(sheet, cursor);
-        let Line::Whole {
-            from: _,
-            to: _,
-            next,
-        } = line
-        else {
-            return false;
-        };
-        let found = covers(sheet, work, free, names, bindings, next);
-        let Covering::No { next: after } = found else {
+    while let Some(line) = next_member(sheet, cursor) {
+        let found = covers(sheet, work, free, names, bindings, line.next);
+        let Covering::No { next } = found else {
             return true;
         };
-        cursor = after;
+        cursor = next;
     }
+    false
 }

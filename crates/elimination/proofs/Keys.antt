@@ -3,13 +3,14 @@ use Prim.Native.Nat.{ℕ, ◌-◌, ◌<◌}
 use mathlib.Core.Path.{◌≡◌, refl, sym, ap, ◌∙◌}
 use mathlib.Core.Bool.{Bool, true, false}
 use mathlib.Core.List.{List}
-use mathlib.Core.Option.{Option, some, none as nothing}
+use Rattle.std.specs.Prelude.{Option, Some, None}
 use native.Mathlib.Omega.{arith}
 use native.Mathlib.Decide.{dec_lt}
 use Rattle.rules.specs.Bytes.{Text}
 use Rattle.rules.specs.Tree.{Tree, variable, occurs}
 use Rattle.rules.specs.Substitution.{Pair}
-use Rattle.rules.specs.Sorts.{Sort, variable_sort, sorted, refinable}
+use Rattle.rules.specs.declared.Sort.{Sort}
+use Rattle.rules.specs.Sorts.{variable_sort, sorted, refinable}
 use Rattle.rules.specs.Solving.{unknown, bind_into, unless_refinable, swap_key, sort_check, occurs_check, eliminate_at, eliminate}
 use Rattle.tree.specs.Cells.{kind_of, name_at, tree_at}
 use Rattle.tree.specs.Arena.{Cell, Arena}
@@ -38,14 +39,14 @@ binds_put {s} {w} {v} key value a p q p₁ q₁ k₀ k₁ d = record {
 
 -- the key turned round
 module _ (a : Sort) (x : Text) (ps : List Pair) where
-  turned : (b : Sort) (y : Text) → variable_sort y ≡ some b → sorted b (variable x) ≡ true → swap_key a x (variable y) ps ≡ bind_into y (variable x) ps
+  turned : (b : Sort) (y : Text) → variable_sort y ≡ Some b → sorted b (variable x) ≡ true → swap_key a x (variable y) ps ≡ bind_into y (variable x) ps
   turned b y e f = rw (e, f)
 
   -- a variable of no sort, and one whose sort the key does not have
-  sortless : (y : Text) → variable_sort y ≡ nothing → swap_key a x (variable y) ps ≡ unless_refinable (refinable a (variable y))
+  sortless : (y : Text) → variable_sort y ≡ None → swap_key a x (variable y) ps ≡ unless_refinable (refinable a (variable y))
   sortless y e = rw e
 
-  not_turned : (b : Sort) (y : Text) → variable_sort y ≡ some b → sorted b (variable x) ≡ false → swap_key a x (variable y) ps ≡ unless_refinable (refinable a (variable y))
+  not_turned : (b : Sort) (y : Text) → variable_sort y ≡ Some b → sorted b (variable x) ≡ false → swap_key a x (variable y) ps ≡ unless_refinable (refinable a (variable y))
   not_turned b y e f = rw (e, f)
 
 -- the cell value, with its kind r as the code holds it, against the variable of cell key

@@ -1,6 +1,6 @@
 -- The waiting pairs as one list of trees in the work area: left, right, left, right. Definitions only.
 use Rattle.std.specs.Prelude.{ℕ, ◌≤◌, ◌≡◌, List, [], ◌∷◌}
-use Rattle.std.proofs.Math.Option.{Option, some, none as nothing}
+use Rattle.std.specs.Prelude.{Option, Some, None}
 use Rattle.rules.specs.Bytes.{Text}
 use Rattle.rules.specs.Tree.{Tree, Trees, none, more, size}
 use Rattle.rules.specs.Substitution.{Binding, Pair, flatten}
@@ -10,12 +10,12 @@ use Rattle.tree.specs.Cells.{trees_at}
 -- the pairs of a list, after a left side that waits for its right
 unfoldable pub pairing : Trees → Option Tree → List Pair
 pairing none o = []
-pairing (more t ts) nothing = pairing ts (some t)
-pairing (more t ts) (some l) = (l, t) ∷ pairing ts nothing
+pairing (more t ts) None = pairing ts (Some t)
+pairing (more t ts) (Some l) = (l, t) ∷ pairing ts None
 
 unfoldable pub pairs_of : Trees → List Pair
 unfolding pairing
-pairs_of ts = pairing ts nothing
+pairs_of ts = pairing ts None
 
 -- a list of pairs and nothing else
 abbrev pub Whole : Trees → Type 0

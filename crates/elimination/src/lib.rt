@@ -1,6 +1,8 @@
 // A variable against a tree: bound, turned round, or refused.
 #![tactic(auto)]
 
+pub mod areas; // areas.rt: the same in an area
+
 ghost use Rattle.std.specs.Prelude.{◌+◌, ◌*◌, ◌<◌, ◌≤◌};
 ghost use Rattle.rules.specs.Solving.{bind_into, swap_key, eliminate};
 ghost use Rattle.sorts.specs.Numbers.{numbered};

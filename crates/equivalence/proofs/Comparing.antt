@@ -1,15 +1,12 @@
 -- Two trees are equivalent where the texts of their canonical words are one.
 use Prim.Native.Nat.{ℕ, ◌+◌, ◌*◌, ◌<◌, ◌≤◌}
 use mathlib.Core.Path.{◌≡◌, refl, sym, ap, ap₂, ◌∙◌}
-use mathlib.Core.Bool.{Bool, true, false}
-use mathlib.Core.Logic.{⊎_elim}
-use mathlib.Core.List.{List, [], ◌∷◌}
+use mathlib.Core.Bool.{Bool, true}
+use mathlib.Core.List.{List}
 use lib.ListN.{length}
 use lib.Seq.{slice}
 use native.Mathlib.Omega.{arith}
-use denote.Enum.Declared.{tag_of}
-use types.Run.{OneOf}
-use Rattle.rules.specs.Bytes.{Text, same}
+use Rattle.rules.specs.Bytes.{same}
 use Rattle.rules.specs.Tree.{Tree, size, same_tree}
 use Rattle.rules.specs.Sums.{canonical, equivalent}
 use Rattle.laws.proofs.Basics.Tests.{same_self, tree_eq}
@@ -18,27 +15,9 @@ use Rattle.tree.specs.Cells.{tree_at}
 use Rattle.tree.specs.Arena.{Arena}
 use Rattle.tree.proofs.Decoding.{Agree, frame_tree}
 use Rattle.tree.proofs.Areas.{arena_frame}
-use Rattle.runs.specs.Texts.{texts, Tokens, lex}
+use Rattle.runs.specs.Texts.{texts, Tokens}
 use Rattle.text.specs.Frames.{Outside}
-use Rattle.runs.specs.declared.order.Order.{Order}
-use Rattle.runs.specs.contracts.order.Order.{the_type}
-use Rattle.runs.specs.declared.order.Order.TheVariants.{Less, Equal, Greater}
-use Rattle.runs.proofs.RunLaws.{equal_as, same_lex}
 use Rattle.equivalence.specs.Words.{Canon}
-
--- ---- the order of two texts
-
-module _ (a b : Text) {r : Order} (e : r ≡ lex a b) where
-  pub order_equal : r ≡ Equal → true ≡ same a b
-  order_equal f = ap equal_as (sym f ∙ e) ∙ sym (same_lex a b)
-
-  pub order_other : OneOf (0 ∷ 2 ∷ []) (tag_of the_type r) → false ≡ same a b
-  order_other k = go r k ∙ ap equal_as e ∙ sym (same_lex a b)
-    where
-      go : (q : Order) → OneOf (0 ∷ 2 ∷ []) (tag_of the_type q) → false ≡ equal_as q
-      go Less h = refl
-      go Equal h = absurd (⊎_elim (λ a. omega arith) (λ a. omega arith) h)
-      go Greater h = refl
 
 -- ---- trees that are one
 

@@ -2,3 +2,5 @@ pub mod Scratch
 pub mod Wording
 pub mod Canons
 pub mod Comparing
+pub mod TreeWords
+pub mod TwoTexts

@@ -1,9 +1,8 @@
 -- The words of a tree by its cells.
 use Prim.Native.Nat.{ℕ, ◌+◌, ◌-◌, ◌*◌, ◌<◌, ◌≤◌, ◌/◌, ◌%◌}
-use mathlib.Core.Path.{◌≡◌, refl, sym, ap, ap₂, subst, ◌∙◌}
-use mathlib.Core.Bool.{Bool, true, false, cond, not}
+use mathlib.Core.Path.{◌≡◌, refl, sym, ap, subst, ◌∙◌}
+use mathlib.Core.Bool.{Bool, true, false}
 use mathlib.Core.List.{List, [], ◌∷◌, ◌++◌, append_assoc}
-use lib.Dec.{eqb}
 use lib.ListN.{length, get_or, set, length-append, length-set}
 use native.Mathlib.Omega.{arith}
 use borrow.Author.Tests.{eq-eqb, ne_eqb}
@@ -16,12 +15,14 @@ use Rattle.tree.specs.Arena.{Cell, Arena}
 use Rattle.tree.proofs.Decoding.{Kind, application, a_variable, an_atom, kind, same_next, trees_none, trees_more, tree_variable, tree_atom, tree_apply, size_pos, size_apply, sizes_more, frame_trees}
 use Rattle.runs.specs.Texts.{word_text}
 use Rattle.flattening.specs.Terms.{node, none, more}
-use Rattle.flattening.specs.Items.{adds, opening, bracket, closing}
+use Rattle.flattening.specs.declared.Bracket.{Bracket}
+use Rattle.flattening.specs.Items.{adds, of_sum, opening, bracket, closing}
 use Rattle.flattening.specs.Spelling.{Word, Spells, as_variable, as_atom, as_apply, SpellsAll, spell_none, spell_more, term_words, list_words}
-use Rattle.runs.proofs.WordTexts.{name_fixed, code_named, code_byte, text_mark, text_place}
+use Rattle.runs.proofs.Pieces.{name_fixed}
+use Rattle.runs.proofs.WordTexts.{code_named, code_byte, text_mark, text_place}
 use Rattle.flattening.proofs.Flattening.{atom_adds}
 use Rattle.flattening.proofs.ItemWords.{leaf_words, one_words, more_words, node_words}
-use Rattle.flattening.proofs.WriterSteps.{opening_short, wrote_one}
+use Rattle.flattening.proofs.WriterSteps.{opening_short, closing_short, wrote_one}
 use Rattle.equivalence.specs.Words.{TermWritten, TermsWritten}
 use Rattle.equivalence.proofs.Scratch.{wrote_agree, wrote_arena, wrote_append}
 
@@ -127,21 +128,14 @@ module _ (s w : List ℕ) (n i out x : ℕ) (a : Arena s w n) (p : 0 < i) (q : i
 
 -- ---- a name with its list
 
-closing_short : (c : ℕ) → length (closing c) ≤ 1
-closing_short c = go (eqb c 2)
-  where
-    go : (b : Bool) → length {A = ℕ} (cond b [] (2686976 ∷ [])) ≤ 1
-    go true = omega arith
-    go false = omega arith
-
-in_list : (a b : Bool) → not (eqb (bracket a b) 0) ≡ a
+pub in_list : (a b : Bool) → of_sum (bracket a b) ≡ a
 in_list true true = refl
 in_list true false = refl
 in_list false b = refl
 
 module _ (s w v : List ℕ) (n i first x out start : ℕ) (sum inside : Bool) (a : Arena s w n) (p : 0 < i) (q : i < n) (l : 4 * n ≤ out) (room : out + 5 * size (tree_at s w i) ≤ length w)
     (k : kind_of w i ≡ 0) (f : first ≡ first_of w i) (is : sum ≡ same (name_at s w i) tamtplus) (h : Word s x) (e : word_text s x ≡ name_at s w i)
-    (op : Wrote w v out (opening sum inside x)) (st : start ≡ out + length (opening sum inside x)) where
+    (br : Bracket) (eb : br ≡ bracket sum inside) (op : Wrote w v out (opening br x)) (st : start ≡ out + length (opening br x)) where
   children_size : size (tree_at s w i) ≡ 1 + sizes (trees_at s w first)
   children_size = size_apply s w i k ∙ ap (λ (j : ℕ). 1 + sizes (trees_at s w j)) (sym f)
 
@@ -153,30 +147,30 @@ module _ (s w v : List ℕ) (n i first x out start : ℕ) (sum inside : Bool) (a
   children_kept = let m = a.links.first i p q in sym (frame_trees s v a.links (wrote_agree op n l) first (omega arith))
 
   pub list_room : start + 5 * sizes (trees_at s v first) ≤ length v
-  list_room = omega (arith, children_size, ap sizes children_kept, opening_short sum inside x, op.len)
+  list_room = omega (arith, children_size, ap sizes children_kept, opening_short br x, op.len)
 
   module _ (u : List ℕ) (end : ℕ) (g : TermsWritten s v u sum (trees_at s v first) start end) where
-    pub close_room : end + 1 ≤ length u
+    pub close_room : end < length u
     close_room = omega (arith, g.end, g.short, g.wrote.len, list_room)
 
-    pub node_spelled : (y : List ℕ) (c r : ℕ) → c ≡ bracket sum inside → Wrote u y end (closing c) → r ≡ end + length (closing c) → TermWritten s w y inside (tree_at s w i) out r
-    node_spelled y c r ec cl er =
+    pub node_spelled : (y : List ℕ) (r : ℕ) → Wrote u y end (closing br) → r ≡ end + length (closing br) → TermWritten s w y inside (tree_at s w i) out r
+    node_spelled y r cl er =
         let t = g.term in
         let ts = g.terms in
-        let o = opening sum inside x in
+        let o = opening br x in
         let m = list_words s sum t ts in
         let ad : adds s x ≡ sum = adds_is in
-        let z : o ++ (m ++ closing c) ≡ term_words s inside (node x (more t ts)) =
-        ap₂ (λ (b : Bool) (c : ℕ). o ++ (list_words s b t ts ++ closing c)) (sym (in_list sum inside)) ec ∙ node_words s sum inside x t ts ad in
-        let lz : length (o ++ (m ++ closing c)) ≡ length (term_words s inside (node x (more t ts))) = ap length z in
-        let l₁ = length-append o (m ++ closing c) in
-        let l₂ = length-append m (closing c) in
+        let z : o ++ (m ++ closing br) ≡ term_words s inside (node x (more t ts)) =
+        rw eb (ap (λ (b : Bool). opening (bracket sum inside) x ++ (list_words s b t ts ++ closing (bracket sum inside))) (sym (in_list sum inside)) ∙ node_words s sum inside x t ts ad) in
+        let lz : length (o ++ (m ++ closing br)) ≡ length (term_words s inside (node x (more t ts))) = ap length z in
+        let l₁ = length-append o (m ++ closing br) in
+        let l₂ = length-append m (closing br) in
         let e₁ = g.end in
         let e₂ = g.short in
         let e₃ = g.wrote.len in
         let e₄ = op.len in
-        let e₅ = opening_short sum inside x in
-        let e₆ = closing_short c in
+        let e₅ = opening_short br x in
+        let e₆ = closing_short br in
         let e₇ = children_size in
         let e₈ = ap sizes children_kept in
         record {

@@ -1,7 +1,9 @@
 // Equality of trees up to order and grouping of sums (unifier.rs, `equivalent`).
 #![tactic(auto)]
 
+pub mod areas; // areas.rt: the same in an area
 pub mod words; // words.rt: the words of a tree
+pub mod words_area; // words_area.rt: the words of a tree of an area
 
 ghost use Rattle.std.specs.Prelude.{◌≡◌, ◌+◌, ◌*◌, ◌<◌, ◌≤◌, length};
 ghost use Rattle.rules.specs.Tree.{size};

@@ -9,8 +9,8 @@ ghost use Rattle.runs.specs.Texts.{word_text, texts, Tokens};
 ghost use Rattle.flattening.specs.Spelling.{Word};
 ghost use Rattle.equivalence.specs.Words.{TermWritten, TermsWritten, Canon};
 
-use flattening::{bracket_of, put_closing, put_opening};
-use runs::order::{BYTES, Order, compare};
+use flattening::Bracket;
+use runs::order::{BYTES, compare};
 use runs::{COMMA, OPEN, PLUS, SHUT};
 use settling::settle;
 use tree::cells::{ATOMS, kind_of, next_of};
@@ -71,9 +71,10 @@ fn put_term(
     }
     let sum = name_is(sheet, work, free, i, b"tamtplus");
     let word = word_of(sheet, work, free, i);
-    let start = put_opening(work, out, sum, inside, word);
+    let bracket = Bracket::of(sum, inside);
+    let start = bracket.open(work, out, word);
     let end = put_list(sheet, work, free, first, sum, start);
-    put_closing(work, end, bracket_of(sum, inside))
+    bracket.close(work, end)
 }
 
 // Writes the words of the trees of the list from cell i on, with commas between them.
@@ -128,9 +129,5 @@ pub fn same_text(
     requires tokens_2 { Tokens sheet.now work.now start end }
     ensures { result ≡ same (texts sheet.now (slice from to work.now)) (texts sheet.now (slice start end work.now)) }
 {
-    let order = compare(sheet, work, from, to, start, end);
-    match order {
-        Order::Equal => true,
-        _ => false,
-    }
+    compare(sheet, &work[from..to], &work[start..end]).is_eq()
 }

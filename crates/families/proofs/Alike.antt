@@ -4,7 +4,7 @@ use Prim.Native.Nat.{ℕ}
 use mathlib.Core.Path.{◌≡◌, refl, sym, ap, ap₂, ◌∙◌}
 use mathlib.Core.Bool.{Bool, true, false, not, false≢true}
 use mathlib.Core.List.{List, [], ◌∷◌, ◌++◌, map, reverse}
-use mathlib.Core.Option.{Option, some, none as nothing}
+use Rattle.std.specs.Prelude.{Option, Some, None}
 use lib.ListN.{get_or, drop}
 use borrow.Author.Tests.{ne_eqb}
 use Rattle.rules.specs.Bytes.{Text}
@@ -64,8 +64,8 @@ module _ (xs : List Text) (o : All Token xs) (bs : List Binding) (value : Tree) 
 module _ (xs : List Text) (us vs : List Variant) (h : (bs : List Binding) (value : Tree) → generalized xs us bs value ≡ generalized xs vs bs value) where
   instance_alike : (bs : List Binding) (o : Option Tree) → judge_instance xs us bs o ≡ judge_instance xs vs bs o
   unfolding judge_instance
-  instance_alike bs nothing = refl
-  instance_alike bs (some v) = ap (judge_tests (equivalent v (normalize v))) (h bs v)
+  instance_alike bs None = refl
+  instance_alike bs (Some v) = ap (judge_tests (equivalent v (normalize v))) (h bs v)
 
   judge_alike : (bs : List Binding) (value : Tree) (j : Judgement) → judge xs us bs value j ≡ judge xs vs bs value j
   unfolding judge

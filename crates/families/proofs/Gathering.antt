@@ -3,7 +3,7 @@ use Prim.Native.Nat.{ℕ, ◌+◌, ◌*◌, ◌-◌, ◌<◌, ◌≤◌}
 use native.Mathlib.Omega.{arith}
 use mathlib.Core.Path.{◌≡◌, refl, sym, ap, ap₂, ◌∙◌}
 use mathlib.Core.List.{List, [], ◌∷◌, map, reverse_aux}
-use mathlib.Core.Option.{Option, some, none as nothing}
+use Rattle.std.specs.Prelude.{Option, Some, None}
 use lib.ListN.{length}
 use Rattle.rules.specs.Bytes.{Text}
 use Rattle.rules.specs.Text.{bytes}
@@ -19,8 +19,7 @@ use Rattle.substitution.specs.Building.{Made}
 use Rattle.reduction.proofs.Placing.{linked_fixed_over}
 use Rattle.sheet.specs.Lines.{value_at}
 use Rattle.forms.specs.Members.{members_at}
-use Rattle.sheet.specs.declared.Cursor.{Cursor}
-use Rattle.sheet.specs.declared.Line.TheVariants.{Whole, Missing}
+use Rattle.sheet.specs.declared.Line.{Line}
 use Rattle.forms.proofs.WalkLaws.{member_end, member_next}
 use Rattle.variants.specs.Members.{texts_end, MemberThere, ReadMember, ReadsMember}
 use Rattle.variants.specs.declared.members.Variant.TheVariants as variant
@@ -59,25 +58,25 @@ abbrev read_all : List Member → Option (List Variant)
 read_all ms = every (map read_member ms)
 
 abbrev after : List Variant → Option (List Variant) → Option (List Variant)
-after vs o = o >>= λ us. some (reverse_aux vs us)
+after vs o = o >>= λ us. Some (reverse_aux vs us)
 
-after_more : (v : Variant) (vs : List Variant) (o : Option (List Variant)) → after vs (o >>= λ us. some (v ∷ us)) ≡ after (v ∷ vs) o
-after_more v vs nothing = refl
-after_more v vs (some us) = refl
+after_more : (v : Variant) (vs : List Variant) (o : Option (List Variant)) → after vs (o >>= λ us. Some (v ∷ us)) ≡ after (v ∷ vs) o
+after_more v vs None = refl
+after_more v vs (Some us) = refl
 
-read_first : (m : Member) (ms : List Member) (o : Option Variant) → read_member m ≡ o → read_all (m ∷ ms) ≡ (o >>= λ v. read_all ms >>= λ us. some (v ∷ us))
+read_first : (m : Member) (ms : List Member) (o : Option Variant) → read_member m ≡ o → read_all (m ∷ ms) ≡ (o >>= λ v. read_all ms >>= λ us. Some (v ∷ us))
 unfolding every
-read_first m ms o e = ap (λ (o : Option Variant). o >>= λ v. read_all ms >>= λ us. some (v ∷ us)) e
+read_first m ms o e = ap (λ (o : Option Variant). o >>= λ v. read_all ms >>= λ us. Some (v ∷ us)) e
 
 pub record Seen (s : Text) (v : List ℕ) (c list : ℕ) (ms : List Member) : Type 0 where
   pub rest : List Member
   pub vs : List Variant
-  pub later : members_at s c ≡ some rest
+  pub later : members_at s c ≡ Some rest
   pub read : read_all ms ≡ after vs (read_all rest)
   pub family : Family (trees_at s v list) vs
 
 pub record Gathering (s : Text) (w : List ℕ) (n at : ℕ) (v : List ℕ) (c list m : ℕ) : Type 0 where
-  pub seen : (ms : List Member) → members_at s at ≡ some ms → Seen s v c list ms
+  pub seen : (ms : List Member) → members_at s at ≡ Some ms → Seen s v c list ms
   pub arena : Arena s v m
   pub kept : Below w v n
   pub grew : n ≤ m
@@ -86,8 +85,8 @@ pub record Gathering (s : Text) (w : List ℕ) (n at : ℕ) (v : List ℕ) (c li
   pub inside : list < m
 
 self : (o : Option (List Variant)) → o ≡ after [] o
-self nothing = refl
-self (some us) = refl
+self None = refl
+self (Some us) = refl
 
 no_sizes : (s : Text) (w : List ℕ) → sizes (trees_at s w 0) ≡ 0
 unfolding size
@@ -105,7 +104,7 @@ gathering_starts s w n at a = record {
 }
 
 module _ {s : Text} {w : List ℕ} {n at : ℕ} {v : List ℕ} {c list m : ℕ} (h : Gathering s w n at v c list m) where
-  pub gathering_ends : Missing ≡ value_at s (bytes "member=") c → ReadMembers s w v n at list m
+  pub gathering_ends : None ≡ value_at s (bytes "member=") c → ReadMembers s w v n at list m
   unfolding every
   gathering_ends e = record {
     reads = all;
@@ -117,29 +116,29 @@ module _ {s : Text} {w : List ℕ} {n at : ℕ} {v : List ℕ} {c list m : ℕ} 
     inside = h.inside;
   }
     where
-      all : (ms : List Member) → members_at s at ≡ some ms → ReadAll s v list ms
+      all : (ms : List Member) → members_at s at ≡ Some ms → ReadAll s v list ms
       all ms k =
           let x = h.seen ms k in
           let z = member_end s c x.rest x.later e in
           record { vs = x.vs; read = x.read ∙ ap (λ (l : List Member). after x.vs (read_all l)) z; family = x.family }
 
-  module _ (f t : ℕ) (d : Cursor) (e : Whole f t d ≡ value_at s (bytes "member=") c) where
+  module _ (line : Line) (e : Some line ≡ value_at s (bytes "member=") c) where
     -- the next of the members
     pub gathering_next : MembersThere s at → MemberThere s c
     gathering_next o =
         let y = h.seen o.ms o.are in
-        let z = member_next s c y.rest y.later f t d e in
-        record { member = _; later = z.others; are = y.later ∙ ap some z.members }
+        let z = member_next s c y.rest y.later line e in
+        record { member = _; later = z.others; are = y.later ∙ ap Some z.members }
 
     pub gathering_unread : {u : List ℕ} → ReadsMember s v u m c variant.Unreadable → ReadsMembers s w u n at members.Unreadable
     gathering_unread {u} x = (all, below_then h.kept x.1 h.grew)
       where
-        all : (ms : List Member) → members_at s at ≡ some ms → read_all ms ≡ nothing
+        all : (ms : List Member) → members_at s at ≡ Some ms → read_all ms ≡ None
         all ms k =
             let y = h.seen ms k in
-            let z = member_next s c y.rest y.later f t d e in
+            let z = member_next s c y.rest y.later line e in
             y.read ∙ ap (λ (l : List Member). after y.vs (read_all l)) z.members
-            ∙ ap (after y.vs) (read_first _ z.others nothing (x.0 _ z.others (y.later ∙ ap some z.members)))
+            ∙ ap (after y.vs) (read_first _ z.others None (x.0 _ z.others (y.later ∙ ap Some z.members)))
 
     module _ {u₁ u : List ℕ} {value bindings middle k index end : ℕ} (x : ReadMember s v u₁ m c value bindings middle k)
         (y : Made s u₁ u middle end index (more (member_tree (tree_at s u₁ value) (trees_at s u₁ bindings)) (trees_at s u₁ list))) (g : end ≡ middle + 2) where
@@ -150,18 +149,18 @@ module _ {s : Text} {w : List ℕ} {n at : ℕ} {v : List ℕ} {c list m : ℕ} 
       unfolding size
       more_sizes = ap sizes now_trees
 
-      more_seen : (ms : List Member) → members_at s at ≡ some ms → Seen s u k index ms
+      more_seen : (ms : List Member) → members_at s at ≡ Some ms → Seen s u k index ms
       more_seen ms q =
           let o = h.seen ms q in
-          let z = member_next s c o.rest o.later f t d e in
-          let r = x.reads _ z.others (o.later ∙ ap some z.members) in
+          let z = member_next s c o.rest o.later line e in
+          let r = x.reads _ z.others (o.later ∙ ap Some z.members) in
           record {
             rest = z.others;
             vs = (tree_at s u₁ value, r.bs) ∷ o.vs;
             later = r.later;
             read =
                 o.read ∙ ap (λ (l : List Member). after o.vs (read_all l)) z.members
-                ∙ ap (after o.vs) (read_first _ z.others (some (tree_at s u₁ value, r.bs)) r.read)
+                ∙ ap (after o.vs) (read_first _ z.others (Some (tree_at s u₁ value, r.bs)) r.read)
                 ∙ after_more (tree_at s u₁ value, r.bs) o.vs (read_all z.others);
             family = rw now_trees (next (record { bindings = trees_at s u₁ bindings; is = refl; chain = x.chain; alike = r.alike }) o.family);
           }

@@ -1,6 +1,6 @@
 -- The members of a sheet as one list of trees, the last first. Definitions only.
 use Rattle.std.specs.Prelude.{ℕ, ◌-◌, ◌<◌, ◌≤◌, ◌≡◌, List, [], ◌∷◌, map, reverse, length}
-use Rattle.std.proofs.Math.Option.{some, none as nothing}
+use Rattle.std.specs.Prelude.{Some, None}
 use Rattle.rules.specs.Bytes.{Text}
 use Rattle.rules.specs.Maybe.{every}
 use Rattle.rules.specs.Tree.{Tree, apply, Trees, none, more, sizes}
@@ -33,17 +33,17 @@ pub data Family : Trees → List Variant → Type 0 where
 -- all of the members ms read; the list from cell i on stands for them, the last first
 pub record ReadAll (s : Text) (v : List ℕ) (i : ℕ) (ms : List Member) : Type 0 where
   pub vs : List Variant
-  pub read : every (map read_member ms) ≡ some (reverse vs)
+  pub read : every (map read_member ms) ≡ Some (reverse vs)
   pub family : Family (trees_at s v i) vs
 
 -- members stand from a position on, to the end of the sheet
 pub record MembersThere (s : Text) (at : ℕ) : Type 0 where
   pub ms : List Member
-  pub are : members_at s at ≡ some ms
+  pub are : members_at s at ≡ Some ms
 
 -- the members at a position
 pub record ReadMembers (s : Text) (w v : List ℕ) (n at i m : ℕ) : Type 0 where
-  pub reads : (ms : List Member) → members_at s at ≡ some ms → ReadAll s v i ms
+  pub reads : (ms : List Member) → members_at s at ≡ Some ms → ReadAll s v i ms
   pub arena : Arena s v m
   pub kept : Below w v n
   pub grew : n ≤ m
@@ -53,4 +53,4 @@ pub record ReadMembers (s : Text) (w v : List ℕ) (n at i m : ℕ) : Type 0 whe
 
 abbrev pub ReadsMembers : Text → List ℕ → List ℕ → ℕ → ℕ → Members → Type 0
 ReadsMembers s w v n at (members.List i m) = ReadMembers s w v n at i m
-ReadsMembers s w v n at members.Unreadable = ((ms : List Member) → members_at s at ≡ some ms → every (map read_member ms) ≡ nothing) × Below w v n
+ReadsMembers s w v n at members.Unreadable = ((ms : List Member) → members_at s at ≡ Some ms → every (map read_member ms) ≡ None) × Below w v n

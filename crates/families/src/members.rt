@@ -8,7 +8,7 @@ ghost use Rattle.variants.specs.Members.{TextsRoom};
 ghost use Rattle.families.specs.Families.{member_tree, MembersThere, ReadsMembers};
 
 use reduction::building::nodes_in;
-use sheet::{Cursor, Line, next_member};
+use sheet::{Cursor, next_member};
 use substitution::bindings::Pushed;
 use tree::cells::{APPLICATION, push_cell, share};
 use variants::members::{Variant, read_member};
@@ -54,19 +54,7 @@ pub fn read_members(sheet: &[u8], work: &mut [u32], free: usize, start: Cursor) 
     let mut cursor = start;
     let mut list: usize = 0;
     let mut end = free;
-    loop {
-        let line = next_member(sheet, cursor);
-        let Line::Whole {
-            from: _,
-            to: _,
-            next: _,
-        } = line
-        else {
-            return Members::List {
-                index: list,
-                free: end,
-            };
-        };
+    while let Some(_) = next_member(sheet, cursor) {
         let member = read_member(sheet, work, end, cursor);
         let Variant::Read {
             value,
@@ -81,5 +69,9 @@ pub fn read_members(sheet: &[u8], work: &mut [u32], free: usize, start: Cursor) 
         cursor = next;
         list = pushed.index;
         end = pushed.free;
+    }
+    Members::List {
+        index: list,
+        free: end,
     }
 }

@@ -1,35 +1,43 @@
 -- Fingerprints, carried on through a text byte by byte and word by word.
-use Prim.Native.Nat.{ℕ, zero, suc, ◌+◌, ◌*◌, ◌<◌, ◌≤◌, ◌%◌}
+use Prim.Native.Nat.{ℕ, zero, suc, ◌+◌, ◌*◌, ◌<◌, ◌%◌}
 use mathlib.Core.Path.{◌≡◌, refl, sym, ap, ◌∙◌}
-use mathlib.Core.List.{List, [], ◌∷◌, ◌++◌}
-use lib.ListN.{length, get_or, drop, set, drop_of_length-le}
-use lib.Seq.{slice, drop-cons}
+use mathlib.Core.List.{List, [], ◌∷◌, ◌++◌, append_assoc, append-nil}
+use lib.ListN.{length, get_or, take, set}
+use lib.Seq.{slice}
 use native.Mathlib.Omega.{arith}
-use native.Mathlib.Numerals.{add-one}
 use borrow.Author.Tests.{eq-eqb, ne_eqb}
+use Rattle.std.proofs.lemmas.List.{take_more}
 use Rattle.rules.specs.Text.{bytes}
 use Rattle.rules.specs.Tree.{Tree}
 use Rattle.laws.specs.Unspelled.{zeros, zeros_name}
-use Rattle.text.proofs.Slices.{slice_none}
-use Rattle.runs.specs.Texts.{word_text, width_of, texts, Token, Tokens}
-use Rattle.runs.proofs.WordTexts.{width_text, width_pos, rest_split}
+use Rattle.runs.specs.Texts.{word_text, texts}
 use Rattle.equivalence.specs.Words.{Canon}
 use Rattle.fingerprints.specs.Fingerprints.{mixed_byte, mixed, fingerprint, Marked}
 
+-- through one text after another, and through one byte more
 pub mixed_append : (h : ℕ) (a b : List ℕ) → mixed h (a ++ b) ≡ mixed (mixed h a) b
 unfolding mixed
 mixed_append h [] b = refl
 mixed_append h (x ∷ a) b = mixed_append (mixed_byte h x) a b
 
+pub mixed_more : (h : ℕ) (t : List ℕ) (i : ℕ) → i < length t → mixed h (take (i + 1) t) ≡ mixed_byte (mixed h (take i t)) (get_or t i 0)
+unfolding mixed
+mixed_more h t i l = ap (mixed h) (take_more t i 0 l) ∙ mixed_append h (take i t) (get_or t i 0 ∷ [])
+
+-- through no byte
+pub mixed_none : (h : ℕ) → h ≡ mixed h []
+unfolding mixed
+mixed_none h = refl
+
 -- ---- a byte
 
-pub byte_zero : (h b : ℕ) → b ≡ 48 → ((h + 2654435769) % 4294967296 < 4294967296) × ((h + 2654435769) % 4294967296 ≡ mixed_byte h b)
+pub byte_zero : (h b : ℕ) → b ≡ 48 → (h + 2654435769) % 4294967296 ≡ mixed_byte h b
 unfolding mixed_byte
-byte_zero h b e = (omega arith, rw (eq-eqb b 48 e))
+byte_zero h b e = rw (eq-eqb b 48 e)
 
-pub byte_other : (h b : ℕ) → (b ≡ 48 → ⊥) → ((h * 16777619 + b) % 4294967296 < 4294967296) × ((h * 16777619 + b) % 4294967296 ≡ mixed_byte h b)
+pub byte_other : (h b w : ℕ) → (b ≡ 48 → ⊥) → w ≡ b → (h * 16777619 % 4294967296 + w) % 4294967296 ≡ mixed_byte h b
 unfolding mixed_byte
-byte_other h b e = (omega arith, rw (ne_eqb b 48 e))
+byte_other h b w n e = let m : (h * 16777619 % 4294967296 + w) % 4294967296 ≡ (h * 16777619 + b) % 4294967296 = omega arith in m ∙ rw (ne_eqb b 48 n)
 
 -- ---- a run of zeros
 
@@ -41,73 +49,34 @@ mixed_zeros (suc n) h t l =
     let e : (k + n * 2654435769) % 4294967296 ≡ (h + suc n * 2654435769) % 4294967296 = omega arith in
     mixed_zeros n k t (omega arith) ∙ ap (λ (h : ℕ). mixed h t) e
 
-pub mixed_name : (n h f z c m g r : ℕ) → f < 4294967296 → f ≡ mixed_byte h 120 → z ≡ (f + n * 2654435769) % 4294967296 → c ≡ mixed_byte z 58 → m ≡ mixed_byte c 77 → g ≡ mixed_byte m 115 → r ≡ mixed_byte g 103
-    → r ≡ mixed h (zeros_name n)
+pub mixed_name : (n h f r : ℕ) → f < 4294967296 → f ≡ mixed_byte h 120 → r ≡ mixed ((f + n * 2654435769 % 4294967296) % 4294967296) (bytes ":Msg") → r ≡ mixed h (zeros_name n)
 unfolding mixed
-mixed_name n h f z c m g r l e₁ e₂ e₃ e₄ e₅ e₆ =
-    let k : mixed f (zeros n ++ bytes ":Msg") ≡ mixed z (bytes ":Msg") = mixed_zeros n f (bytes ":Msg") l ∙ ap (λ (z : ℕ). mixed z (bytes ":Msg")) (sym e₂) in
-    let p : r ≡ mixed z (bytes ":Msg") = rw (e₆, e₅, e₄, e₃) in
-    p ∙ sym k ∙ ap (λ (f : ℕ). mixed f (zeros n ++ bytes ":Msg")) e₁
-
--- ---- the text of a word
-
-module _ (s : List ℕ) (x h : ℕ) where
-  pub record Mixing (a r : ℕ) : Type 0 where
-    pub high : a ≤ width_of x
-    pub small : r < 4294967296
-    pub rest : mixed r (drop a (word_text s x)) ≡ mixed h (word_text s x)
-
-  pub mixing_starts : h < 4294967296 → Mixing 0 h
-  mixing_starts l = record { high = omega arith; small = l; rest = refl }
-
-  module _ (t : Token s x) (a r : ℕ) (m : Mixing a r) where
-    pub mixing_next : (b r₁ : ℕ) → b ≡ get_or (word_text s x) a 0 → (r₁ < 4294967296) × (r₁ ≡ mixed_byte r b) → a < width_of x → Mixing (a + 1) r₁
-    unfolding mixed
-    mixing_next b r₁ e f l =
-        let n = width_text s x t in
-        let z : drop a (word_text s x) ≡ get_or (word_text s x) a 0 ∷ drop (a + 1) (word_text s x) = rw (add-one a) (drop-cons (word_text s x) a 0 (omega arith)) in
-        record {
-          high = omega arith;
-          small = f.0;
-          rest = ap (λ (r : ℕ). mixed r (drop (a + 1) (word_text s x))) (f.1 ∙ ap (mixed_byte r) e) ∙ sym (ap (mixed r) z) ∙ m.rest;
-        }
-
-    pub mixing_ends : width_of x ≤ a → (r < 4294967296) × (r ≡ mixed h (word_text s x))
-    unfolding mixed
-    mixing_ends l =
-        let n = width_text s x t in
-        (m.small, sym (ap (mixed r) (drop_of_length-le (word_text s x) {i = a} (omega arith))) ∙ m.rest)
+mixed_name n h f r l e g =
+    let z : (f + n * 2654435769 % 4294967296) % 4294967296 ≡ (f + n * 2654435769) % 4294967296 = omega arith in
+    g ∙ ap (λ (z : ℕ). mixed z (bytes ":Msg")) z ∙ sym (mixed_zeros n f (bytes ":Msg") l) ∙ ap (λ (f : ℕ). mixed f (zeros n ++ bytes ":Msg")) e
 
 -- ---- the text of a run of words
 
-module _ (s w : List ℕ) (from to : ℕ) where
-  pub record Printing (p r : ℕ) : Type 0 where
-    pub low : from ≤ p
-    pub high : p ≤ to
-    pub small : r < 4294967296
-    pub rest : mixed r (texts s (slice p to w)) ≡ fingerprint (texts s (slice from to w))
+texts_append : (s l m : List ℕ) → texts s (l ++ m) ≡ texts s l ++ texts s m
+unfolding texts
+texts_append s [] m = refl
+texts_append s (x ∷ l) m = ap (λ (t : List ℕ). word_text s x ++ t) (texts_append s l m) ∙ sym (append_assoc (word_text s x) (texts s l) (texts s m))
 
-  pub printing_starts : from ≤ to → Printing from 2166136261
-  printing_starts l = record { low = omega arith; high = l; small = omega arith; rest = refl }
+texts_one : (s : List ℕ) (x : ℕ) → texts s (x ∷ []) ≡ word_text s x
+unfolding texts
+texts_one s x = append-nil (word_text s x)
 
-  module _ (room : to ≤ length w) (ts : Tokens s w from to) (p r : ℕ) (h : Printing p r) where
-    pub word_token : p < to → Token s (get_or w p 0)
-    word_token l = ts p h.low l
+pub texts_none : (h : ℕ) (s : List ℕ) → h ≡ mixed h (texts s [])
+unfolding mixed texts
+texts_none h s = refl
 
-    pub printing_next : (r₁ : ℕ) → p < to → (r₁ < 4294967296) × (r₁ ≡ mixed r (word_text s (get_or w p 0))) → Printing (p + 1) r₁
-    printing_next r₁ l e =
-        let k = h.low in
-        let z : texts s (slice p to w) ≡ word_text s (get_or w p 0) ++ texts s (slice (p + 1) to w) = rest_split s w to room p 0 l (word_token l) (width_pos (get_or w p 0)) in
-        record {
-          low = omega arith;
-          high = omega arith;
-          small = e.0;
-          rest = ap (λ (r : ℕ). mixed r (texts s (slice (p + 1) to w))) e.1 ∙ sym (ap (mixed r) z ∙ mixed_append r (word_text s (get_or w p 0)) (texts s (slice (p + 1) to w))) ∙ h.rest;
-        }
-
-    pub printing_ends : to ≤ p → r ≡ fingerprint (texts s (slice from to w))
-    unfolding mixed texts
-    printing_ends l = sym (ap (λ (c : List ℕ). mixed r (texts s c)) (slice_none p to w l)) ∙ h.rest
+pub texts_more : (h : ℕ) (s w : List ℕ) (i : ℕ) → i < length w → mixed h (texts s (take (i + 1) w)) ≡ mixed (mixed h (texts s (take i w))) (word_text s (get_or w i 0))
+texts_more h s w i l =
+    let x = get_or w i 0 in
+    ap (λ (t : List ℕ). mixed h (texts s t)) (take_more w i 0 l)
+    ∙ ap (mixed h) (texts_append s (take i w) (x ∷ []))
+    ∙ mixed_append h (texts s (take i w)) (texts s (x ∷ []))
+    ∙ ap (mixed (mixed h (texts s (take i w)))) (texts_one s x)
 
 -- ---- words with their fingerprint
 

@@ -1,8 +1,9 @@
 // Fingerprints of texts: texts that are one have one fingerprint.
 #![tactic(auto)]
 
+pub mod areas; // areas.rt: the canonical words of a tree of an area, with their fingerprint
+
 ghost use Rattle.std.specs.Prelude.{◌≡◌, ◌+◌, ◌*◌, ◌<◌, ◌≤◌, length};
-ghost use Rattle.std.proofs.Math.Seq.{slice};
 ghost use Rattle.rules.specs.Tree.{size};
 ghost use Rattle.laws.specs.Unspelled.{zeros_name};
 ghost use Rattle.tree.specs.Cells.{tree_at};
@@ -12,74 +13,69 @@ ghost use Rattle.fingerprints.specs.Fingerprints.{mixed_byte, mixed, fingerprint
 
 use equivalence::words::tree_words;
 use runs::order::{byte_of, width_of, zeros_of};
-use text::places::wide;
 
 // The fingerprint of no bytes, what it is multiplied by at each byte, and what a zero adds to it.
-const BASIS: usize = 2166136261;
+const BASIS: u32 = 2166136261;
 
-const PRIME: usize = 16777619;
+const PRIME: u32 = 16777619;
 
-const ZERO: usize = 2654435769;
+const ZERO: u32 = 2654435769;
 
 // The fingerprint h, carried on through the byte b.
-fn mix_byte(h: usize, b: u8) -> usize
-    requires { h < 4294967296 }
-    ensures { (result < 4294967296) × (result ≡ mixed_byte h b) }
+fn mix_byte(h: u32, b: u8) -> u32
+    ensures { result ≡ mixed_byte h b }
 {
-    if b == 48 {
-        return (h + ZERO) % 4294967296;
+    if b == b'0' {
+        return h.wrapping_add(ZERO);
     }
-    let wide = b as usize;
-    (h * PRIME + wide) % 4294967296
+    h.wrapping_mul(PRIME).wrapping_add(u32::from(b))
+}
+
+// The same through a text.
+fn mix_bytes(h: u32, text: &[u8]) -> u32
+    ensures { result ≡ mixed h text.now }
+{
+    let mut mixed = h;
+    for b in text {
+        mixed = mix_byte(mixed, *b);
+    }
+    mixed
 }
 
 // The same through an x, n zeros, a colon and Msg.
-fn mix_zeros(n: usize, h: usize) -> usize
-    requires { (n < 131072) × (h < 4294967296) }
-    ensures { (result < 4294967296) × (result ≡ mixed h (zeros_name n)) }
+fn mix_zeros(h: u32, n: usize) -> u32
+    requires { n < 131072 }
+    ensures { result ≡ mixed h (zeros_name n) }
 {
-    let first = mix_byte(h, 120);
-    let zeros = (first + n * ZERO) % 4294967296;
-    let colon = mix_byte(zeros, 58);
-    let m = mix_byte(colon, 77);
-    let s = mix_byte(m, 115);
-    mix_byte(s, 103)
+    let zeros = (n as u32).wrapping_mul(ZERO);
+    mix_bytes(mix_byte(h, b'x').wrapping_add(zeros), b":Msg")
 }
 
 // The same through the text of the word x.
-fn mix(sheet: &[u8], x: usize, h: usize) -> usize
-    requires token { Token sheet.now x }
-    requires h_bound { h < 4294967296 }
-    ensures { (result < 4294967296) × (result ≡ mixed h (word_text sheet.now x)) }
+fn mix(sheet: &[u8], h: u32, x: u32) -> u32
+    requires { Token sheet.now x }
+    ensures { result ≡ mixed h (word_text sheet.now x) }
 {
-    let zeros = zeros_of(x);
-    if 0 < zeros {
-        return mix_zeros(zeros, h);
+    if let Some(zeros) = zeros_of(x) {
+        return mix_zeros(h, zeros);
     }
-    let width = width_of(x);
-    let mut a = 0;
-    let mut r = h;
-    while a < width {
-        let b = byte_of(sheet, x, a);
-        r = mix_byte(r, b);
-        a += 1;
+    let mut mixed = h;
+    for i in 0..width_of(x) {
+        mixed = mix_byte(mixed, byte_of(sheet, x, i));
     }
-    r
+    mixed
 }
 
-// The fingerprint of the text of the words from `from` to `to`.
-fn fingerprint(sheet: &[u8], work: &[u32], from: usize, to: usize) -> u32
-    requires from_le_to { (from ≤ to) × (to ≤ length work.now) }
-    requires tokens { Tokens sheet.now work.now from to }
-    ensures { result ≡ fingerprint (texts sheet.now (slice from to work.now)) }
+// The fingerprint of the text of the words.
+fn fingerprint(sheet: &[u8], words: &[u32]) -> u32
+    requires { Tokens sheet.now words.now 0 (length words.now) }
+    ensures { result ≡ fingerprint (texts sheet.now words.now) }
 {
-    let mut p = from;
-    let mut r: usize = BASIS;
-    while p < to {
-        r = mix(sheet, wide(work[p]), r);
-        p += 1;
+    let mut mixed = BASIS;
+    for word in words {
+        mixed = mix(sheet, mixed, *word);
     }
-    r as u32
+    mixed
 }
 
 // Writes the canonical words of the tree of cell i from `base` on and their fingerprint into the word k, and answers where they end.
@@ -97,6 +93,6 @@ pub fn marked_words(
     ensures { Marked sheet.now work.old work.new (tree_at sheet.now work.old i) base result k }
 {
     let end = tree_words(sheet, work, free, i, base);
-    work[k] = fingerprint(sheet, work, base, end);
+    work[k] = fingerprint(sheet, &work[base..end]);
     end
 }

@@ -17,6 +17,7 @@ use Rattle.rules.specs.Reading.{leaf}
 use Rattle.rules.specs.Sums.{Canonical, shown, parts, flat, gather, canon, canons}
 use Rattle.laws.proofs.Basics.Order.{sort_same, sort_perm}
 use Rattle.runs.specs.Texts.{word_text}
+use Rattle.runs.specs.declared.TheConstants.{PLUS}
 use Rattle.flattening.specs.Terms.{Term, node, Terms, none, more, canon_text, canon_texts}
 use Rattle.flattening.specs.Items.{adds}
 use Rattle.flattening.specs.Spelling.{flat_by, splice_by, flatten, flattens, splice, splices, Word, Spells, as_variable, as_atom, as_apply, SpellsAll, spell_none, spell_more}
@@ -27,17 +28,17 @@ module _ (s : Text) where
   -- ---- canonical texts
 
   abbrev pub text_of : Term → Text
-  text_of t = canon_text s 16777216 t
+  text_of t = canon_text s PLUS t
 
   abbrev pub texts_of : Terms → List Text
-  texts_of ts = canon_texts s 16777216 ts
+  texts_of ts = canon_texts s PLUS ts
 
-  not_plus : (x : ℕ) → Word s x → eqb x 16777216 ≡ false
-  not_plus x h = ne_eqb x 16777216 h.other
+  not_plus : (x : ℕ) → Word s x → eqb x PLUS ≡ false
+  not_plus x h = ne_eqb x PLUS h.other
 
   leaf_text : (x : ℕ) → text_of (node x none) ≡ word_text s x
   unfolding canon_text listed sort
-  leaf_text x = go (eqb x 16777216)
+  leaf_text x = go (eqb x PLUS)
     where
       go : (b : Bool) → listed (word_text s x) (cond b (sort []) []) ≡ word_text s x
       go true = refl

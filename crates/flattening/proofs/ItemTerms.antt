@@ -4,7 +4,7 @@ use Prim.Native.Nat.{ℕ, zero, suc, ◌<◌}
 use mathlib.Core.Path.{◌≡◌, refl, sym, ap, ◌∙◌}
 use mathlib.Core.Bool.{Bool, true, false, not, ◌||◌}
 use mathlib.Core.List.{List, [], ◌∷◌, map}
-use mathlib.Core.Option.{Option, some, none as nothing}
+use Rattle.std.specs.Prelude.{Option, Some, None}
 use lib.ListN.{length}
 use native.Mathlib.Omega.{arith}
 use Rattle.rules.specs.Bytes.{Text, same}
@@ -50,15 +50,15 @@ module _ {A : Type 0} where
 -- a list is its first term and the others
 unfoldable mutual
   pub item_term : ℕ → List Item → Read Term
-  item_term zero is = nothing
+  item_term zero is = None
   item_term (suc k) is =
-      named is (λ x js. opened js (λ ks. item_list k ks >>= λ ((t, ts), ls). some (node x (more t ts), ls)) (some (node x none, js))) nothing
+      named is (λ x js. opened js (λ ks. item_list k ks >>= λ ((t, ts), ls). Some (node x (more t ts), ls)) (Some (node x none, js))) None
 
   pub item_list : ℕ → List Item → Read (Term × Terms)
-  item_list zero is = nothing
+  item_list zero is = None
   item_list (suc k) is =
       item_term k is >>= λ (t, js).
-      delimited js (λ ks. item_list k ks >>= λ ((u, us), ls). some ((t, more u us), ls)) (λ ks. some ((t, none), ks)) nothing
+      delimited js (λ ks. item_list k ks >>= λ ((u, us), ls). Some ((t, more u us), ls)) (λ ks. Some ((t, none), ks)) None
 
 -- the tree of a term
 unfoldable pub tree_by : Text → Trees → Tree
@@ -81,10 +81,10 @@ module _ (s : Text) where
   texts_of = map (item_text s)
 
   abbrev as_tree : Read Term → Option (Tree × List Text)
-  as_tree o = o >>= λ (t, is). some (tree_of t, texts_of is)
+  as_tree o = o >>= λ (t, is). Some (tree_of t, texts_of is)
 
   abbrev as_trees : Read (Term × Terms) → Option (Trees × List Text)
-  as_trees o = o >>= λ ((t, ts), is). some (T.more (tree_of t) (trees_of ts), texts_of is)
+  as_trees o = o >>= λ ((t, ts), is). Some (T.more (tree_of t) (trees_of ts), texts_of is)
 
   -- ---- the tests of reading on the texts of items
 
@@ -102,7 +102,7 @@ module _ (s : Text) where
   mark_differs : (m x : Text) → same x m ≡ false → same m x ≡ false
   mark_differs m x e = differ_of_ne (λ f. ne_of_differ e (sym f))
 
-  after_begin : (is : List Item) → Proper s is → after_token (bytes "(") (texts_of is) ≡ opened is (λ js. some (texts_of js)) nothing
+  after_begin : (is : List Item) → Proper s is → after_token (bytes "(") (texts_of is) ≡ opened is (λ js. Some (texts_of js)) None
   unfolding after_token same
   after_begin [] p = refl
   after_begin (begin ∷ is) p = refl
@@ -110,7 +110,7 @@ module _ (s : Text) where
   after_begin (comma ∷ is) p = refl
   after_begin (name x ∷ is) (names h p) = rw (mark_differs (bytes "(") (word_text s x) (name_is x h).0)
 
-  after_comma : (is : List Item) → Proper s is → after_token (bytes ",") (texts_of is) ≡ delimited is (λ js. some (texts_of js)) (λ js. nothing) nothing
+  after_comma : (is : List Item) → Proper s is → after_token (bytes ",") (texts_of is) ≡ delimited is (λ js. Some (texts_of js)) (λ js. None) None
   unfolding after_token same
   after_comma [] p = refl
   after_comma (begin ∷ is) p = refl
@@ -118,7 +118,7 @@ module _ (s : Text) where
   after_comma (comma ∷ is) p = refl
   after_comma (name x ∷ is) (names h p) = rw (mark_differs (bytes ",") (word_text s x) (name_is x h).2)
 
-  after_shut : (is : List Item) → Proper s is → after_token (bytes ")") (texts_of is) ≡ delimited is (λ js. nothing) (λ js. some (texts_of js)) nothing
+  after_shut : (is : List Item) → Proper s is → after_token (bytes ")") (texts_of is) ≡ delimited is (λ js. None) (λ js. Some (texts_of js)) None
   unfolding after_token same
   after_shut [] p = refl
   after_shut (begin ∷ is) p = refl
@@ -137,29 +137,29 @@ module _ (s : Text) where
       both : {t : Term} {ts : Terms} → NamedTerm t → NamedTerms ts → NamedTerms (more t ts)
 
   abbrev pub GoodTerm : ℕ → Read Term → Type 0
-  GoodTerm n nothing = Unit
-  GoodTerm n (some (t, is)) = NamedTerm t × Proper s is × (length is < n)
+  GoodTerm n None = Unit
+  GoodTerm n (Some (t, is)) = NamedTerm t × Proper s is × (length is < n)
 
   abbrev pub GoodList : ℕ → Read (Term × Terms) → Type 0
-  GoodList n nothing = Unit
-  GoodList n (some ((t, ts), is)) = NamedTerm t × NamedTerms ts × Proper s is × (length is < n)
+  GoodList n None = Unit
+  GoodList n (Some ((t, ts), is)) = NamedTerm t × NamedTerms ts × Proper s is × (length is < n)
 
-  good_node : (x n : ℕ) → Named s x → (o : Read (Term × Terms)) → GoodList n o → GoodTerm (suc (suc n)) (o >>= λ ((t, ts), is). some (node x (more t ts), is))
-  good_node x n h nothing g = tt
-  good_node x n h (some ((t, ts), is)) (p, q, r, l) = (of h (both p q), r, omega arith)
+  good_node : (x n : ℕ) → Named s x → (o : Read (Term × Terms)) → GoodList n o → GoodTerm (suc (suc n)) (o >>= λ ((t, ts), is). Some (node x (more t ts), is))
+  good_node x n h None g = tt
+  good_node x n h (Some ((t, ts), is)) (p, q, r, l) = (of h (both p q), r, omega arith)
 
-  good_more : (t : Term) (n m : ℕ) → NamedTerm t → n < m → (o : Read (Term × Terms)) → GoodList n o → GoodList m (o >>= λ ((u, us), is). some ((t, more u us), is))
-  good_more t n m h a nothing g = tt
-  good_more t n m h a (some ((u, us), is)) (p, q, r, l) = (h, both p q, r, omega arith)
+  good_more : (t : Term) (n m : ℕ) → NamedTerm t → n < m → (o : Read (Term × Terms)) → GoodList n o → GoodList m (o >>= λ ((u, us), is). Some ((t, more u us), is))
+  good_more t n m h a None g = tt
+  good_more t n m h a (Some ((u, us), is)) (p, q, r, l) = (h, both p q, r, omega arith)
 
   good_rest : (n : ℕ) (go : List Item → Read (Term × Terms)) → ((is : List Item) → Proper s is → GoodList (length is) (go is)) → (o : Read Term) → GoodTerm n o
-      → GoodList n (o >>= λ (t, js). delimited js (λ ks. go ks >>= λ ((u, us), ls). some ((t, more u us), ls)) (λ ks. some ((t, none), ks)) nothing)
-  good_rest n go f nothing g = tt
-  good_rest n go f (some (t, [])) g = tt
-  good_rest n go f (some (t, begin ∷ is)) g = tt
-  good_rest n go f (some (t, shut ∷ is)) (h, shuts p, l) = (h, nil, p, omega arith)
-  good_rest n go f (some (t, comma ∷ is)) (h, commas p, l) = good_more t (length is) n h (omega arith) (go is) (f is p)
-  good_rest n go f (some (t, name x ∷ is)) g = tt
+      → GoodList n (o >>= λ (t, js). delimited js (λ ks. go ks >>= λ ((u, us), ls). Some ((t, more u us), ls)) (λ ks. Some ((t, none), ks)) None)
+  good_rest n go f None g = tt
+  good_rest n go f (Some (t, [])) g = tt
+  good_rest n go f (Some (t, begin ∷ is)) g = tt
+  good_rest n go f (Some (t, shut ∷ is)) (h, shuts p, l) = (h, nil, p, omega arith)
+  good_rest n go f (Some (t, comma ∷ is)) (h, commas p, l) = good_more t (length is) n h (omega arith) (go is) (f is p)
+  good_rest n go f (Some (t, name x ∷ is)) g = tt
 
   mutual
     unfolding item_term
@@ -183,39 +183,39 @@ module _ (s : Text) where
   -- ---- reading the texts of items is reading the items
 
   abbrev term_rest : (List Text → Option (Trees × List Text)) → Text → List Text → Option (List Text) → Option (Tree × List Text)
-  term_rest go n ts o = elim o [ nothing ↦ some (leaf n, ts) | some us ↦ go us >>= λ (children, vs). as_written n children >>= λ t. some (t, vs) ]
+  term_rest go n ts o = elim o [ None ↦ Some (leaf n, ts) | Some us ↦ go us >>= λ (children, vs). as_written n children >>= λ t. Some (t, vs) ]
 
   abbrev last : Tree → Option (List Text) → Option (Trees × List Text)
-  last t o = o >>= λ vs. some (T.more t T.none, vs)
+  last t o = o >>= λ vs. Some (T.more t T.none, vs)
 
   abbrev list_rest : (List Text → Option (Trees × List Text)) → Tree × List Text → Option (List Text) → Option (Trees × List Text)
   list_rest go p o =
-      elim o [ some vs ↦ go vs >>= λ (rest, ws). some (T.more p.0 rest, ws) | nothing ↦ last p.0 (after_token (bytes ")") p.1) ]
+      elim o [ Some vs ↦ go vs >>= λ (rest, ws). Some (T.more p.0 rest, ws) | None ↦ last p.0 (after_token (bytes ")") p.1) ]
 
   node_read : (x : ℕ) (o : Read (Term × Terms))
-      → (as_trees o >>= λ (children, vs). as_written (word_text s x) children >>= λ t. some (t, vs)) ≡ as_tree (o >>= λ ((t, ts), is). some (node x (more t ts), is))
+      → (as_trees o >>= λ (children, vs). as_written (word_text s x) children >>= λ t. Some (t, vs)) ≡ as_tree (o >>= λ ((t, ts), is). Some (node x (more t ts), is))
   unfolding tree_of tree_by
-  node_read x nothing = refl
-  node_read x (some ((t, ts), is)) = refl
+  node_read x None = refl
+  node_read x (Some ((t, ts), is)) = refl
 
   more_read : (t : Term) (o : Read (Term × Terms))
-      → (as_trees o >>= λ (rest, ws). some (T.more (tree_of t) rest, ws)) ≡ as_trees (o >>= λ ((u, us), is). some ((t, more u us), is))
+      → (as_trees o >>= λ (rest, ws). Some (T.more (tree_of t) rest, ws)) ≡ as_trees (o >>= λ ((u, us), is). Some ((t, more u us), is))
   unfolding tree_of tree_by
-  more_read t nothing = refl
-  more_read t (some ((u, us), is)) = refl
+  more_read t None = refl
+  more_read t (Some ((u, us), is)) = refl
 
   -- a name and what follows it
   name_read : (x : ℕ) (is : List Item) (go : List Text → Option (Trees × List Text)) (go' : List Item → Read (Term × Terms)) → Named s x → Proper s is
       → ((js : List Item) → Proper s js → go (texts_of js) ≡ as_trees (go' js))
       → term_rest go (word_text s x) (texts_of is) (after_token (bytes "(") (texts_of is))
-      ≡ as_tree (opened is (λ ks. go' ks >>= λ ((t, ts), ls). some (node x (more t ts), ls)) (some (node x none, is)))
+      ≡ as_tree (opened is (λ ks. go' ks >>= λ ((t, ts), ls). Some (node x (more t ts), ls)) (Some (node x none, is)))
   unfolding tree_of tree_by
   name_read x is go go' h p f = ap (term_rest go (word_text s x) (texts_of is)) (after_begin is p) ∙ by is p
     where
-      by : (is : List Item) → Proper s is → term_rest go (word_text s x) (texts_of is) (opened is (λ js. some (texts_of js)) nothing)
-          ≡ as_tree (opened is (λ ks. go' ks >>= λ ((t, ts), ls). some (node x (more t ts), ls)) (some (node x none, is)))
+      by : (is : List Item) → Proper s is → term_rest go (word_text s x) (texts_of is) (opened is (λ js. Some (texts_of js)) None)
+          ≡ as_tree (opened is (λ ks. go' ks >>= λ ((t, ts), ls). Some (node x (more t ts), ls)) (Some (node x none, is)))
       by [] p = refl
-      by (begin ∷ js) (begins p) = ap (λ (o : Option (Trees × List Text)). o >>= λ (children, vs). as_written (word_text s x) children >>= λ t. some (t, vs)) (f js p) ∙ node_read x (go' js)
+      by (begin ∷ js) (begins p) = ap (λ (o : Option (Trees × List Text)). o >>= λ (children, vs). as_written (word_text s x) children >>= λ t. Some (t, vs)) (f js p) ∙ node_read x (go' js)
       by (shut ∷ js) p = refl
       by (comma ∷ js) p = refl
       by (name y ∷ js) p = refl
@@ -224,27 +224,27 @@ module _ (s : Text) where
   item_read : (t : Term) (is : List Item) (go : List Text → Option (Trees × List Text)) (go' : List Item → Read (Term × Terms)) → Proper s is
       → ((js : List Item) → Proper s js → go (texts_of js) ≡ as_trees (go' js))
       → list_rest go (tree_of t, texts_of is) (after_token (bytes ",") (texts_of is))
-      ≡ as_trees (delimited is (λ ks. go' ks >>= λ ((u, us), ls). some ((t, more u us), ls)) (λ ks. some ((t, none), ks)) nothing)
+      ≡ as_trees (delimited is (λ ks. go' ks >>= λ ((u, us), ls). Some ((t, more u us), ls)) (λ ks. Some ((t, none), ks)) None)
   unfolding tree_of tree_by
   item_read t is go go' p f = ap (list_rest go (tree_of t, texts_of is)) (after_comma is p) ∙ by is p
     where
       shut_read : (is : List Item) → Proper s is → last (tree_of t) (after_token (bytes ")") (texts_of is))
-          ≡ last (tree_of t) (delimited is (λ js. nothing) (λ js. some (texts_of js)) nothing)
+          ≡ last (tree_of t) (delimited is (λ js. None) (λ js. Some (texts_of js)) None)
       shut_read is p = ap (last (tree_of t)) (after_shut is p)
 
-      by : (is : List Item) → Proper s is → list_rest go (tree_of t, texts_of is) (delimited is (λ js. some (texts_of js)) (λ js. nothing) nothing)
-          ≡ as_trees (delimited is (λ ks. go' ks >>= λ ((u, us), ls). some ((t, more u us), ls)) (λ ks. some ((t, none), ks)) nothing)
+      by : (is : List Item) → Proper s is → list_rest go (tree_of t, texts_of is) (delimited is (λ js. Some (texts_of js)) (λ js. None) None)
+          ≡ as_trees (delimited is (λ ks. go' ks >>= λ ((u, us), ls). Some ((t, more u us), ls)) (λ ks. Some ((t, none), ks)) None)
       by [] p = shut_read [] p
       by (begin ∷ js) p = shut_read (begin ∷ js) p
       by (shut ∷ js) p = shut_read (shut ∷ js) p
-      by (comma ∷ js) (commas p) = ap (λ (o : Option (Trees × List Text)). o >>= λ (rest, ws). some (T.more (tree_of t) rest, ws)) (f js p) ∙ more_read t (go' js)
+      by (comma ∷ js) (commas p) = ap (λ (o : Option (Trees × List Text)). o >>= λ (rest, ws). Some (T.more (tree_of t) rest, ws)) (f js p) ∙ more_read t (go' js)
       by (name y ∷ js) p = shut_read (name y ∷ js) p
 
   rest_read : (n : ℕ) (go : List Text → Option (Trees × List Text)) (go' : List Item → Read (Term × Terms)) → ((js : List Item) → Proper s js → go (texts_of js) ≡ as_trees (go' js))
       → (o : Read Term) → GoodTerm n o → (as_tree o >>= λ q. list_rest go q (after_token (bytes ",") q.1))
-      ≡ as_trees (o >>= λ (t, js). delimited js (λ ks. go' ks >>= λ ((u, us), ls). some ((t, more u us), ls)) (λ ks. some ((t, none), ks)) nothing)
-  rest_read n go go' f nothing g = refl
-  rest_read n go go' f (some (t, js)) g = item_read t js go go' g.1 f
+      ≡ as_trees (o >>= λ (t, js). delimited js (λ ks. go' ks >>= λ ((u, us), ls). Some ((t, more u us), ls)) (λ ks. Some ((t, none), ks)) None)
+  rest_read n go go' f None g = refl
+  rest_read n go go' f (Some (t, js)) g = item_read t js go go' g.1 f
 
   mutual
     unfolding read_term item_term is_one_of same

@@ -3,7 +3,7 @@ use Prim.Native.Nat.{ℕ, zero, suc, ◌+◌, ◌-◌, ◌<◌, ◌≤◌, ◌/�
 use mathlib.Core.Path.{◌≡◌, refl, sym, ap, ap₂, subst, ◌∙◌}
 use mathlib.Core.Bool.{false}
 use mathlib.Core.List.{List, [], ◌∷◌, map}
-use mathlib.Core.Option.{Option, some, none}
+use Rattle.std.specs.Prelude.{Option, Some, None}
 use lib.ListN.{length, take, drop, length-drop}
 use lib.Seq.{get_or-take, get_or-drop, ext_get_or, length-take-le}
 use native.Mathlib.Omega.{arith}
@@ -116,20 +116,20 @@ module _ (s : Text) (to : ℕ) (fits : to ≤ length s) (small : to < 65536) whe
 
   -- the tokens from a position on are the texts of the items
   record Lexed (o : Option (List Item)) (ts : Option (List Text)) : Type 0 where
-    same : ts ≡ (o >>= λ is. some (map (item_text s) is))
-    proper : (is : List Item) → o ≡ some is → Proper s is
+    same : ts ≡ (o >>= λ is. Some (map (item_text s) is))
+    proper : (is : List Item) → o ≡ Some is → Proper s is
 
   lexed_before : (i : Item) (m : Text) {o : Option (List Item)} {ts : Option (List Text)} → item_text s i ≡ m → ((is : List Item) → Proper s is → Proper s (i ∷ is)) → Lexed o ts
       → Lexed (item_before i o) (joined_token m ts)
   lexed_before i m {o} {ts} e h l = record { same = ap₂ joined_token (sym e) l.same ∙ go o; proper = λ is f. which o l.proper is f }
     where
-      go : (o : Option (List Item)) → joined_token (item_text s i) (o >>= λ is. some (map (item_text s) is)) ≡ (item_before i o >>= λ is. some (map (item_text s) is))
-      go none = refl
-      go (some is) = refl
+      go : (o : Option (List Item)) → joined_token (item_text s i) (o >>= λ is. Some (map (item_text s) is)) ≡ (item_before i o >>= λ is. Some (map (item_text s) is))
+      go None = refl
+      go (Some is) = refl
 
-      which : (o : Option (List Item)) → ((is : List Item) → o ≡ some is → Proper s is) → (is : List Item) → item_before i o ≡ some is → Proper s is
-      which none g is f = let z : ◌≡◌ {A = ℕ} 0 1 = cc in absurd (omega arith)
-      which (some js) g is f = let z : i ∷ js ≡ is = cc in subst (Proper s) z (h js (g js refl))
+      which : (o : Option (List Item)) → ((is : List Item) → o ≡ Some is → Proper s is) → (is : List Item) → item_before i o ≡ Some is → Proper s is
+      which None g is f = let z : ◌≡◌ {A = ℕ} 0 1 = cc in absurd (omega arith)
+      which (Some js) g is f = let z : i ∷ js ≡ is = cc in subst (Proper s) z (h js (g js refl))
 
   lexed_by : (at k : ℕ) → ((t : ℕ) → at < t → t ≤ length (take to s) → Lexed (items k (take to s) t) (tokens (drop t (take to s)))) → (q : Symbol) → Means (take to s) at q
       → Lexed (items_by q (items k (take to s))) (tokens (drop at (take to s)))
@@ -150,10 +150,10 @@ module _ (s : Text) (to : ℕ) (fits : to ≤ length s) (small : to < 65536) whe
   lexed_from zero at p = absurd (omega arith)
   lexed_from (suc k) at p = lexed_by at k (λ t u v. lexed_from k t (omega arith)) (symbol_at (take to s) at) (means (take to s) at)
 
-  pub tokens_items : (at : ℕ) → tokens (drop at (take to s)) ≡ (items_at (take to s) at >>= λ is. some (map (item_text s) is))
+  pub tokens_items : (at : ℕ) → tokens (drop at (take to s)) ≡ (items_at (take to s) at >>= λ is. Some (map (item_text s) is))
   unfolding items_at
   tokens_items at = (lexed_from (suc (length (take to s) - at)) at (omega arith)).same
 
-  pub items_proper : (at : ℕ) (is : List Item) → items_at (take to s) at ≡ some is → Proper s is
+  pub items_proper : (at : ℕ) (is : List Item) → items_at (take to s) at ≡ Some is → Proper s is
   unfolding items_at
   items_proper at is e = (lexed_from (suc (length (take to s) - at)) at (omega arith)).proper is e

@@ -1,17 +1,17 @@
 -- The steps of the writer of words: one or two words written, a bracket looked up, a name tested.
 use Prim.Native.Nat.{ℕ, zero, suc, ◌+◌, ◌-◌, ◌<◌, ◌≤◌}
-use mathlib.Core.Path.{◌≡◌, refl, sym, ap, ap₂, subst, ◌∙◌}
-use mathlib.Core.Bool.{Bool, true, false}
+use mathlib.Core.Path.{◌≡◌, refl, sym, ap, ap₂, ◌∙◌}
 use mathlib.Core.List.{List, [], ◌∷◌, ◌++◌}
 use lib.ListN.{length, get_or, take, drop, set, length-set}
 use lib.Seq.{slice, get_or-set_same, get_or-set_other}
 use native.Mathlib.Omega.{arith}
-use borrow.Author.Tests.{eq-eqb, ne_eqb}
 use Rattle.rules.specs.Bytes.{Text, same}
 use Rattle.rules.specs.Tree.{tamtplus}
 use Rattle.text.specs.Sorting.{Wrote}
 use Rattle.text.proofs.Slices.{slice_none, slice_set, slice_same}
-use Rattle.flattening.specs.Items.{place_word, adds, in_sum, opening, bracket, closing, brackets}
+use Rattle.flattening.specs.Items.{place_word, adds, in_sum, opening, bracket, bracket_at, closing, brackets}
+use Rattle.flattening.specs.declared.Bracket.{Bracket}
+use Rattle.flattening.specs.declared.Bracket.TheVariants.{Plain, Sum, Inner}
 use Rattle.flattening.specs.Writer.{ListOpened}
 use Rattle.flattening.proofs.ItemTokens.{place_text}
 
@@ -41,11 +41,15 @@ wrote_two w out x y h =
       words = ap (λ (k : ℕ). slice out k (set v (out + 1) y)) e ∙ slice_set out (out + 1) v y (omega arith) (omega arith) ∙ ap (λ (k : List ℕ). k ++ (y ∷ [])) o.words;
     }
 
-pub closing_none : (c : ℕ) → c ≡ 2 → closing c ≡ []
-closing_none c e = rw (eq-eqb c 2 e)
+pub opening_short : (b : Bracket) (x : ℕ) → length (opening b x) ≤ 2
+opening_short Plain x = omega arith
+opening_short Sum x = omega arith
+opening_short Inner x = omega arith
 
-pub closing_one : (c : ℕ) → (c ≡ 2 → ⊥) → closing c ≡ 2686976 ∷ []
-closing_one c e = rw (ne_eqb c 2 e)
+pub closing_short : (b : Bracket) → length (closing b) ≤ 1
+closing_short Plain = omega arith
+closing_short Sum = omega arith
+closing_short Inner = omega arith
 
 -- ---- brackets
 
@@ -53,7 +57,7 @@ pub no_bracket : (w : List ℕ) (stack depth : ℕ) → depth ≡ 0 → brackets
 unfolding brackets
 no_bracket w stack depth e = rw e
 
-pub last_bracket : (w : List ℕ) (stack depth : ℕ) → (depth ≡ 0 → ⊥) → brackets w stack depth ≡ get_or w (stack + (depth - 1)) 0 ∷ brackets w stack (depth - 1)
+pub last_bracket : (w : List ℕ) (stack depth : ℕ) → (depth ≡ 0 → ⊥) → brackets w stack depth ≡ bracket_at (get_or w (stack + (depth - 1)) 0) ∷ brackets w stack (depth - 1)
 unfolding brackets
 last_bracket w stack zero h = absurd (h refl)
 last_bracket w stack (suc d) h = let e : suc d - 1 ≡ d = omega arith in rw e
@@ -61,7 +65,7 @@ last_bracket w stack (suc d) h = let e : suc d - 1 ≡ d = omega arith in rw e
 pub brackets_kept : (w v : List ℕ) (stack depth : ℕ) → ((p : ℕ) → stack ≤ p → p < stack + depth → get_or v p 0 ≡ get_or w p 0) → brackets v stack depth ≡ brackets w stack depth
 unfolding brackets
 brackets_kept w v stack zero h = refl
-brackets_kept w v stack (suc d) h = ap₂ (λ (c : ℕ) (cs : List ℕ). c ∷ cs) (h (stack + d) (omega arith) (omega arith)) (brackets_kept w v stack d (λ p q r. h p q (omega arith)))
+brackets_kept w v stack (suc d) h = ap₂ (λ (c : ℕ) (cs : List Bracket). bracket_at c ∷ cs) (h (stack + d) (omega arith) (omega arith)) (brackets_kept w v stack d (λ p q r. h p q (omega arith)))
 
 -- ---- names
 
@@ -71,21 +75,15 @@ adds_is s f t a b = sym (ap (λ (n : Text). same n tamtplus) (place_text s f t a
 
 -- ---- a name and its bracket
 
-pub opening_short : (a b : Bool) (x : ℕ) → length (opening a b x) ≤ 2
-opening_short true true x = omega arith
-opening_short true false x = omega arith
-opening_short false b x = omega arith
-
 module _ (s : Text) (w v : List ℕ) (stack depth out x r : ℕ) (room : out + 2 ≤ stack) (fits : stack + depth < length w) where
-  abbrev words : List ℕ
-  words = opening (adds s x) (in_sum (brackets w stack depth)) x
+  abbrev opened : Bracket
+  opened = bracket (adds s x) (in_sum (brackets w stack depth))
 
-  pub opened_is : Wrote w v out (opening (adds s x) (in_sum (brackets w stack depth)) x) → r ≡ out + length (opening (adds s x) (in_sum (brackets w stack depth)) x) → (c : ℕ) → c ≡ bracket (adds s x) (in_sum (brackets w stack depth))
-      → ListOpened s w (set v (stack + depth) c) stack depth out x r
+  pub opened_is : Wrote w v out (opening opened x) → r ≡ out + length (opening opened x) → (c : ℕ) → bracket_at c ≡ opened → ListOpened s w (set v (stack + depth) c) stack depth out x r
   opened_is h e c f =
-      let n = opening_short (adds s x) (in_sum (brackets w stack depth)) x in
+      let n = opening_short opened x in
       let lv = h.len in
-      let k : out + length words ≤ out + 2 = omega arith in
+      let k : out + length (opening opened x) ≤ out + 2 = omega arith in
       let lc = length-set v (stack + depth) c in
       record {
         len = lc ∙ lv;
@@ -94,18 +92,5 @@ module _ (s : Text) (w v : List ℕ) (stack depth out x r : ℕ) (room : out + 2
         above = λ p q. get_or-set_other v (stack + depth) p c 0 (λ z. omega arith) ∙ h.above p (omega arith);
         words = slice_same out r (set v (stack + depth) c) v (omega arith) (omega arith) (λ p q m. get_or-set_other v (stack + depth) p c 0 (λ z. omega arith)) ∙ ap (λ (k : ℕ). slice out k v) e ∙ h.words;
         ends = e;
-        top = get_or-set_same v (stack + depth) c 0 (omega arith) ∙ f;
+        top = ap bracket_at (get_or-set_same v (stack + depth) c 0 (omega arith)) ∙ f;
       }
-
--- what the parts of the opening answered, put in
-pub opening_is : (s : Text) (w v : List ℕ) (stack depth out x r : ℕ) {a b : Bool} {y : ℕ} → a ≡ adds s x → b ≡ in_sum (brackets w stack depth) → y ≡ x
-    → Wrote w v out (opening a b y) × (r ≡ out + length (opening a b y))
-    → Wrote w v out (opening (adds s x) (in_sum (brackets w stack depth)) x) × (r ≡ out + length (opening (adds s x) (in_sum (brackets w stack depth)) x))
-opening_is s w v stack depth out x r {a} {b} e f g h =
-    let z = ap₂ (λ (a b : Bool). opening a b x) e f in
-    let k = ap (λ (y : ℕ). opening a b y) g ∙ z in
-    subst (λ (l : List ℕ). Wrote w v out l × (r ≡ out + length l)) k h
-
-pub bracket_is : (s : Text) (w : List ℕ) (stack depth x : ℕ) {a b : Bool} {c : ℕ} → a ≡ adds s x → b ≡ in_sum (brackets w stack depth) → c ≡ bracket a b
-    → c ≡ bracket (adds s x) (in_sum (brackets w stack depth))
-bracket_is s w stack depth x e f g = g ∙ ap₂ bracket e f

@@ -2,102 +2,84 @@
 use Prim.Native.Nat.{ℕ}
 use mathlib.Core.Path.{◌≡◌, refl}
 use mathlib.Core.List.{List, [], ◌∷◌}
-use mathlib.Core.Logic.{⊎_elim}
-use mathlib.Core.Option.{Option, some, none}
-use denote.Enum.Declared.{tag_of}
-use types.Run.{OneOf}
-use native.Mathlib.Omega.{arith}
+use Rattle.std.specs.Prelude.{Option, Some, None}
 use Rattle.rules.specs.Bytes.{Text}
 use Rattle.syntax.specs.declared.Symbol.{Symbol}
 use Rattle.syntax.specs.declared.Symbol.TheVariants.{Begin, Shut, Comma, Name, Stop, Bad}
-use Rattle.syntax.specs.contracts.Symbol.{the_type}
+use Rattle.runs.specs.declared.TheConstants.{COMMA}
 use Rattle.flattening.specs.Items.{Item, begin, shut, comma, name, place_word, item_before, items_by, Mode, wanting, naming, having, emits, adds, in_sum, opening, bracket, closing, write, writes}
-use Rattle.flattening.specs.Writer.{finished}
-use Rattle.flattening.specs.declared.Written.TheVariants.{Unreadable}
+use Rattle.flattening.specs.declared.Bracket.{Bracket}
 
 -- ---- what is written from an item on
 
 module _ (s : Text) where
-  pub name_on : (x : ℕ) (o : Option (List Item)) (cs : List ℕ) → writes s (item_before (name x) o) wanting cs ≡ writes s o (naming x) cs
+  pub name_on : (x : ℕ) (o : Option (List Item)) (cs : List Bracket) → writes s (item_before (name x) o) wanting cs ≡ writes s o (naming x) cs
   unfolding write
-  name_on x none cs = refl
-  name_on x (some is) cs = refl
+  name_on x None cs = refl
+  name_on x (Some is) cs = refl
 
-  pub begin_on : (x : ℕ) (o : Option (List Item)) (cs : List ℕ)
-      → writes s (item_before begin o) (naming x) cs ≡ emits (opening (adds s x) (in_sum cs) x) (writes s o wanting (bracket (adds s x) (in_sum cs) ∷ cs))
+  pub begin_on : (x : ℕ) (o : Option (List Item)) (cs : List Bracket)
+      → writes s (item_before begin o) (naming x) cs ≡ emits (opening (bracket (adds s x) (in_sum cs)) x) (writes s o wanting (bracket (adds s x) (in_sum cs) ∷ cs))
   unfolding write
-  begin_on x none cs = refl
-  begin_on x (some is) cs = refl
+  begin_on x None cs = refl
+  begin_on x (Some is) cs = refl
 
-  pub shut_on : (o : Option (List Item)) (c : ℕ) (cs : List ℕ) → writes s (item_before shut o) having (c ∷ cs) ≡ emits (closing c) (writes s o having cs)
+  pub shut_on : (o : Option (List Item)) (c : Bracket) (cs : List Bracket) → writes s (item_before shut o) having (c ∷ cs) ≡ emits (closing c) (writes s o having cs)
   unfolding write
-  shut_on none c cs = refl
-  shut_on (some is) c cs = refl
+  shut_on None c cs = refl
+  shut_on (Some is) c cs = refl
 
-  pub comma_on : (o : Option (List Item)) (c : ℕ) (cs : List ℕ) → writes s (item_before comma o) having (c ∷ cs) ≡ emits (2883584 ∷ []) (writes s o wanting (c ∷ cs))
+  pub comma_on : (o : Option (List Item)) (c : Bracket) (cs : List Bracket) → writes s (item_before comma o) having (c ∷ cs) ≡ emits (COMMA ∷ []) (writes s o wanting (c ∷ cs))
   unfolding write
-  comma_on none c cs = refl
-  comma_on (some is) c cs = refl
+  comma_on None c cs = refl
+  comma_on (Some is) c cs = refl
 
   -- an item that does not fit
-  pub off : (i : Item) (m : Mode) (o : Option (List Item)) (cs : List ℕ) → ((is : List Item) → write s (i ∷ is) m cs ≡ none) → writes s (item_before i o) m cs ≡ none
-  off i m none cs h = refl
-  off i m (some is) cs h = h is
+  pub off : (i : Item) (m : Mode) (o : Option (List Item)) (cs : List Bracket) → ((is : List Item) → write s (i ∷ is) m cs ≡ None) → writes s (item_before i o) m cs ≡ None
+  off i m None cs h = refl
+  off i m (Some is) cs h = h is
 
   -- a symbol other than a name, where a term is wanted
-  pub wanting_off : (f : ℕ → Option (List Item)) (cs : List ℕ) (q : Symbol) → OneOf (0 ∷ 1 ∷ 2 ∷ 4 ∷ 5 ∷ []) (tag_of the_type q) → writes s (items_by q f) wanting cs ≡ none
+  pub wanting_off : (f : ℕ → Option (List Item)) (cs : List Bracket) (q : Symbol) → ((a t : ℕ) → q ≡ Name a t → ⊥) → writes s (items_by q f) wanting cs ≡ None
   unfolding write
   wanting_off f cs (Begin t) h = off begin wanting (f t) cs (λ is. refl)
   wanting_off f cs (Shut t) h = off shut wanting (f t) cs (λ is. refl)
   wanting_off f cs (Comma t) h = off comma wanting (f t) cs (λ is. refl)
-  wanting_off f cs (Name a t) h =
-      absurd (⊎_elim (λ a. omega arith) (⊎_elim (λ a. omega arith) (⊎_elim (λ a. omega arith) (⊎_elim (λ a. omega arith) (λ a. omega arith)))) h)
+  wanting_off f cs (Name a t) h = absurd (h a t refl)
   wanting_off f cs Stop h = refl
   wanting_off f cs Bad h = refl
 
   -- a symbol other than a comma and a closing bracket, inside a list
-  pub having_off : (f : ℕ → Option (List Item)) (c : ℕ) (cs : List ℕ) (q : Symbol) → OneOf (0 ∷ 3 ∷ 4 ∷ 5 ∷ []) (tag_of the_type q) → writes s (items_by q f) having (c ∷ cs) ≡ none
+  pub having_off : (f : ℕ → Option (List Item)) (c : Bracket) (cs : List Bracket) (q : Symbol) → ((t : ℕ) → q ≡ Comma t → ⊥) → ((t : ℕ) → q ≡ Shut t → ⊥) → writes s (items_by q f) having (c ∷ cs) ≡ None
   unfolding write
-  having_off f c cs (Begin t) h = off begin having (f t) (c ∷ cs) (λ is. refl)
-  having_off f c cs (Shut t) h = absurd (⊎_elim (λ a. omega arith) (⊎_elim (λ a. omega arith) (⊎_elim (λ a. omega arith) (λ a. omega arith))) h)
-  having_off f c cs (Comma t) h = absurd (⊎_elim (λ a. omega arith) (⊎_elim (λ a. omega arith) (⊎_elim (λ a. omega arith) (λ a. omega arith))) h)
-  having_off f c cs (Name a t) h = off (name (place_word a t)) having (f t) (c ∷ cs) (λ is. refl)
-  having_off f c cs Stop h = refl
-  having_off f c cs Bad h = refl
+  having_off f c cs (Begin t) h k = off begin having (f t) (c ∷ cs) (λ is. refl)
+  having_off f c cs (Shut t) h k = absurd (k t refl)
+  having_off f c cs (Comma t) h k = absurd (h t refl)
+  having_off f c cs (Name a t) h k = off (name (place_word a t)) having (f t) (c ∷ cs) (λ is. refl)
+  having_off f c cs Stop h k = refl
+  having_off f c cs Bad h k = refl
 
   -- a name that no bracket follows is a term
-  alone : (i : Item) (x : ℕ) (o : Option (List Item)) (cs : List ℕ) → ((is : List Item) → write s (i ∷ is) (naming x) cs ≡ emits (x ∷ []) (write s (i ∷ is) having cs))
+  alone : (i : Item) (x : ℕ) (o : Option (List Item)) (cs : List Bracket) → ((is : List Item) → write s (i ∷ is) (naming x) cs ≡ emits (x ∷ []) (write s (i ∷ is) having cs))
       → writes s (item_before i o) (naming x) cs ≡ emits (x ∷ []) (writes s (item_before i o) having cs)
-  alone i x none cs h = refl
-  alone i x (some is) cs h = h is
+  alone i x None cs h = refl
+  alone i x (Some is) cs h = h is
 
-  shut_alone : (x : ℕ) (cs : List ℕ) (is : List Item) → write s (shut ∷ is) (naming x) cs ≡ emits (x ∷ []) (write s (shut ∷ is) having cs)
+  shut_alone : (x : ℕ) (cs : List Bracket) (is : List Item) → write s (shut ∷ is) (naming x) cs ≡ emits (x ∷ []) (write s (shut ∷ is) having cs)
   unfolding write
   shut_alone x [] is = refl
   shut_alone x (c ∷ cs) is = refl
 
-  comma_alone : (x : ℕ) (cs : List ℕ) (is : List Item) → write s (comma ∷ is) (naming x) cs ≡ emits (x ∷ []) (write s (comma ∷ is) having cs)
+  comma_alone : (x : ℕ) (cs : List Bracket) (is : List Item) → write s (comma ∷ is) (naming x) cs ≡ emits (x ∷ []) (write s (comma ∷ is) having cs)
   unfolding write
   comma_alone x [] is = refl
   comma_alone x (c ∷ cs) is = refl
 
-  pub naming_on : (f : ℕ → Option (List Item)) (x : ℕ) (cs : List ℕ) (q : Symbol) → OneOf (1 ∷ 2 ∷ 3 ∷ 4 ∷ 5 ∷ []) (tag_of the_type q)
-      → writes s (items_by q f) (naming x) cs ≡ emits (x ∷ []) (writes s (items_by q f) having cs)
+  pub naming_on : (f : ℕ → Option (List Item)) (x : ℕ) (cs : List Bracket) (q : Symbol) → ((t : ℕ) → q ≡ Begin t → ⊥) → writes s (items_by q f) (naming x) cs ≡ emits (x ∷ []) (writes s (items_by q f) having cs)
   unfolding write
-  naming_on f x cs (Begin t) h =
-      absurd (⊎_elim (λ a. omega arith) (⊎_elim (λ a. omega arith) (⊎_elim (λ a. omega arith) (⊎_elim (λ a. omega arith) (λ a. omega arith)))) h)
+  naming_on f x cs (Begin t) h = absurd (h t refl)
   naming_on f x cs (Shut t) h = alone shut x (f t) cs (shut_alone x cs)
   naming_on f x cs (Comma t) h = alone comma x (f t) cs (comma_alone x cs)
   naming_on f x cs (Name a t) h = alone (name (place_word a t)) x (f t) cs (λ is. refl)
   naming_on f x cs Stop h = refl
   naming_on f x cs Bad h = refl
-
--- a symbol other than the end
-pub finished_other : (out : ℕ) (q : Symbol) → OneOf (0 ∷ 1 ∷ 2 ∷ 3 ∷ 5 ∷ []) (tag_of the_type q) → Unreadable ≡ finished q out
-finished_other out (Begin t) h = refl
-finished_other out (Shut t) h = refl
-finished_other out (Comma t) h = refl
-finished_other out (Name f t) h = refl
-finished_other out Stop h =
-    absurd (⊎_elim (λ a. omega arith) (⊎_elim (λ a. omega arith) (⊎_elim (λ a. omega arith) (⊎_elim (λ a. omega arith) (λ a. omega arith)))) h)
-finished_other out Bad h = refl

@@ -3,20 +3,21 @@ use Rattle.std.specs.Prelude.{ℕ, ◌≡◌, Bool, true, false, List, [], ◌�
 use Rattle.rules.specs.Bytes.{Text}
 use Rattle.rules.specs.Tree.{Tree, variable, atom, apply, Trees}
 use Rattle.rules.specs.Tree as T
+use Rattle.runs.specs.declared.TheConstants.{OPEN, SHUT, COMMA, PLUS}
 use Rattle.runs.specs.Texts.{word_text, Token}
 use Rattle.flattening.specs.Terms.{Term, node, Terms, none, more, inner, words, words_each}
 use Rattle.flattening.specs.Items.{adds}
 
 -- no mark
 pub record NoMark (x : ℕ) : Type 0 where
-  pub no_open : x ≡ 2621440 → ⊥
-  pub no_shut : x ≡ 2686976 → ⊥
-  pub no_comma : x ≡ 2883584 → ⊥
+  pub no_open : x ≡ OPEN → ⊥
+  pub no_shut : x ≡ SHUT → ⊥
+  pub no_comma : x ≡ COMMA → ⊥
 
 -- a term by its name, its arguments, and its summands if it is a sum
 abbrev pub flat_by : Bool → ℕ → Terms → Terms → Term
 flat_by b x none us = node x none
-flat_by true x (more t ts) us = node 16777216 us
+flat_by true x (more t ts) us = node PLUS us
 flat_by false x (more t ts) us = node x (more t ts)
 
 -- the summands that it gives to a sum, before others: us are those that a sum gives
@@ -47,7 +48,7 @@ module _ (s : Text) where
   pub record Word (x : ℕ) : Type 0 where
     pub token : Token s x
     pub plain : NoMark x
-    pub other : x ≡ 16777216 → ⊥
+    pub other : x ≡ PLUS → ⊥
 
   -- the tree that a term spells
   mutual

@@ -2,6 +2,7 @@
 use Rattle.std.specs.Prelude.{ℕ, cond, List, [], ◌∷◌, ◌++◌, eqb}
 use Rattle.rules.specs.Bytes.{upto, sort}
 use Rattle.rules.specs.Writing.{listed}
+use Rattle.runs.specs.declared.TheConstants.{OPEN, SHUT, COMMA}
 use Rattle.runs.specs.Texts.{word_text, texts}
 
 mutual
@@ -16,7 +17,7 @@ mutual
 unfoldable pub inner : List (List ℕ) → List ℕ
 inner [] = []
 inner (l ∷ []) = l
-inner (l ∷ (m ∷ ls)) = l ++ (2883584 ∷ inner (m ∷ ls))
+inner (l ∷ (m ∷ ls)) = l ++ (COMMA ∷ inner (m ∷ ls))
 
 -- lists of words, sorted by their texts
 unfoldable pub insert_words : List ℕ → List ℕ → List (List ℕ) → List (List ℕ)
@@ -30,7 +31,7 @@ sort_words s (l ∷ ls) = insert_words s l (sort_words s ls)
 -- a name and its list
 unfoldable pub headed : ℕ → List (List ℕ) → List ℕ
 headed x [] = x ∷ []
-headed x (l ∷ ls) = x ∷ (2621440 ∷ (inner (l ∷ ls) ++ (2686976 ∷ [])))
+headed x (l ∷ ls) = x ∷ (OPEN ∷ (inner (l ∷ ls) ++ (SHUT ∷ [])))
 
 unfoldable mutual
   unfolding headed

@@ -1,109 +1,126 @@
 // The words of a text, written while its form is read; a sum inside a sum loses its name and brackets.
 #![tactic(auto)]
 
-ghost use Rattle.std.specs.Prelude.{◌≡◌, ◌+◌, ◌-◌, ◌<◌, ◌≤◌, length, get_or, take};
+ghost use Rattle.std.specs.Prelude.{◌≡◌, ◌+◌, ◌-◌, ◌<◌, ◌≤◌, length, take};
 ghost use Rattle.text.specs.Sorting.{Wrote};
-ghost use Rattle.flattening.specs.Items.{place_word, adds, in_sum, opening, bracket, closing, brackets};
-ghost use Rattle.flattening.specs.Writer.{ListOpened, ListClosed, TextWritten, finished};
+ghost use Rattle.flattening.specs.Items.{place_word, adds, of_sum, in_sum, opening, bracket, bracket_at, closing, brackets};
+ghost use Rattle.flattening.specs.Writer.{TextRoom, ListOpened, ListClosed, TextWritten, finished};
 ghost use Rattle.text.specs.Frames.{Outside};
 
-use runs::{COMMA, OPEN, PLUS, SHUT};
-use syntax::Symbol;
+use runs::{COMMA, OPEN, PLUS, SHUT, word};
+use sheet::Place;
+use syntax::{Symbol, next_symbol};
 
-// What became of a text: its words, up to the one that is answered, or no term.
-#[derive(Clone, Copy)]
-pub enum Written {
-    Words(usize),
-    Unreadable,
+// An opening bracket: that of a list that is no sum, of a sum, or of a sum inside a sum, which is not written.
+#[derive(Clone, Copy, Debug, PartialEq, Eq)]
+pub enum Bracket {
+    Plain,
+    Sum,
+    Inner,
 }
 
-// The word of a place.
-fn place(from: usize, to: usize) -> u32
-    requires { (from ≤ to) × (to < 65536) }
-    ensures { result ≡ place_word from to }
-{
-    (from * 65536 + (to - from)) as u32
+impl Bracket {
+    // The bracket that a name opens: that of a sum or another, inside a sum or not.
+    pub fn of(sum: bool, inside: bool) -> Bracket
+        ensures { result ≡ bracket sum inside }
+    {
+        match (sum, inside) {
+            (true, true) => Bracket::Inner,
+            (true, false) => Bracket::Sum,
+            (false, _) => Bracket::Plain,
+        }
+    }
+
+    // The bracket whose number is kept on the stack.
+    fn kept(number: u32) -> Bracket
+        ensures { result ≡ bracket_at number }
+    {
+        match number {
+            0 => Bracket::Plain,
+            2 => Bracket::Inner,
+            _ => Bracket::Sum,
+        }
+    }
+
+    // Whether its list is a sum's.
+    fn of_sum(self) -> bool
+        ensures { result ≡ of_sum self }
+    {
+        self != Bracket::Plain
+    }
+
+    // Writes it, after the word of its name, and answers where the next word goes.
+    pub fn open(self, work: &mut [u32], out: usize, name: u32) -> usize
+        requires { out + 2 ≤ length work.old }
+        ensures { Wrote work.old work.new out (opening self name) × (result ≡ out + length (opening self name)) }
+    {
+        let name = match self {
+            Bracket::Plain => name,
+            Bracket::Sum => PLUS,
+            Bracket::Inner => return out,
+        };
+        work[out] = name;
+        work[out + 1] = OPEN;
+        out + 2
+    }
+
+    // Writes the bracket that closes it, and answers where the next word goes.
+    pub fn close(self, work: &mut [u32], out: usize) -> usize
+        requires { out < length work.old }
+        ensures { Wrote work.old work.new out (closing self) × (result ≡ out + length (closing self)) }
+    {
+        if self == Bracket::Inner {
+            return out;
+        }
+        work[out] = SHUT;
+        out + 1
+    }
 }
 
-// Whether the bytes of a place are the name of sums.
-fn adds(sheet: &[u8], from: usize, to: usize) -> bool
-    requires { (from < to) × (to ≤ length sheet.now) × (to < 65536) }
-    ensures { result ≡ adds sheet.now (place_word from to) }
+// The word of a name, which is a place of the sheet.
+fn name_word(name: Place) -> u32
+    requires { (name.from ≤ name.to) × (name.to < 65536) }
+    ensures { result ≡ place_word name.from name.to }
 {
-    text::same(&sheet[from..to], b"tamtplus")
+    word(name.from, name.to - name.from)
+}
+
+// Whether a name is that of sums.
+#[tactic(auto, using(crate::proofs::WriterSteps::adds_is))]
+fn adds(sheet: &[u8], name: Place) -> bool
+    requires { (name.from < name.to) × (name.to ≤ length sheet.now) × (name.to < 65536) }
+    ensures { result ≡ adds sheet.now (place_word name.from name.to) }
+{
+    text::same(&sheet[name.from..name.to], b"tamtplus")
 }
 
 // Whether the last bracket that is open is that of a sum.
+#[tactic(auto, using(crate::proofs::WriterSteps::no_bracket, crate::proofs::WriterSteps::last_bracket))]
 fn in_sum(work: &[u32], stack: usize, depth: usize) -> bool
     requires { stack + depth ≤ length work.now }
     ensures { result ≡ in_sum (brackets work.now stack depth) }
 {
-    if depth == 0 {
-        return false;
-    }
-    work[stack + (depth - 1)] != 0
+    0 < depth && Bracket::kept(work[stack + depth - 1]).of_sum()
 }
 
-// Which bracket a name opens.
-pub fn bracket_of(sum: bool, inside: bool) -> u32
-    ensures { result ≡ bracket sum inside }
-{
-    if sum {
-        if inside {
-            return 2;
-        }
-        return 1;
-    }
-    0
-}
-
-// Writes a name and its opening bracket, and answers where the next word goes.
-pub fn put_opening(work: &mut [u32], out: usize, sum: bool, inside: bool, word: u32) -> usize
-    requires { out + 2 ≤ length work.old }
-    ensures { Wrote work.old work.new out (opening sum inside word) × (result ≡ out + length (opening sum inside word)) }
-{
-    if sum {
-        if inside {
-            return out;
-        }
-        work[out] = PLUS;
-        work[out + 1] = OPEN;
-        return out + 2;
-    }
-    work[out] = word;
-    work[out + 1] = OPEN;
-    out + 2
-}
-
-// Writes a closing bracket, unless it is that of a sum inside a sum.
-pub fn put_closing(work: &mut [u32], out: usize, bracket: u32) -> usize
-    requires { out + 1 ≤ length work.old }
-    ensures { Wrote work.old work.new out (closing bracket) × (result ≡ out + length (closing bracket)) }
-{
-    if bracket == 2 {
-        return out;
-    }
-    work[out] = SHUT;
-    out + 1
-}
-
-// A name, the place from `from` to `to`, and its opening bracket, which goes on the stack of open brackets.
+// A name and its opening bracket, which goes on the stack of open brackets.
+#[tactic(auto, using(crate::proofs::WriterSteps::opened_is))]
 fn open_list(
     sheet: &[u8],
     work: &mut [u32],
-    from: usize,
-    to: usize,
+    name: Place,
     stack: usize,
     depth: usize,
     out: usize,
 ) -> usize
-    requires { (from < to) × (to ≤ length sheet.now) × (to < 65536) × (out + 2 ≤ stack) × (stack + depth < length work.old) }
-    ensures { ListOpened sheet.now work.old work.new stack depth out (place_word from to) result }
+    requires { (name.from < name.to) × (name.to ≤ length sheet.now) × (name.to < 65536) × (out + 2 ≤ stack) × (stack + depth < length work.old) }
+    ensures { ListOpened sheet.now work.old work.new stack depth out (place_word name.from name.to) result }
 {
-    let sum = adds(sheet, from, to);
+    let sum = adds(sheet, name);
     let inside = in_sum(work, stack, depth);
-    let next = put_opening(work, out, sum, inside, place(from, to));
-    work[stack + depth] = bracket_of(sum, inside);
+    let bracket = Bracket::of(sum, inside);
+    let next = bracket.open(work, out, name_word(name));
+    work[stack + depth] = bracket as u32;
     next
 }
 
@@ -112,53 +129,51 @@ fn close_list(work: &mut [u32], stack: usize, depth: usize, out: usize) -> usize
     requires { (out + 1 ≤ stack) × (stack + depth < length work.old) }
     ensures { ListClosed work.old work.new stack depth out result }
 {
-    let bracket = work[stack + depth];
-    put_closing(work, out, bracket)
+    let bracket = Bracket::kept(work[stack + depth]);
+    bracket.close(work, out)
 }
 
-// What a text is whose last bracket is closed: its words, if nothing follows.
-fn finished(next: Symbol, out: usize) -> Written
+// Where the words of a text end whose last bracket is closed, if nothing follows.
+fn finished(next: Symbol, out: usize) -> Option<usize>
     ensures { result ≡ finished next out }
 {
     match next {
-        Symbol::Stop => Written::Words(out),
-        _ => Written::Unreadable,
+        Symbol::Stop => Some(out),
+        _ => None,
     }
 }
 
-// Writes the words of the text from `from` to `to` into the words from `base` on. The words from `stack` on, as many as the text has
-// bytes, hold the open brackets.
+// Writes the words of a text into the words from `base` on, and answers where they end if it is a term. The words from `stack` on, as
+// many as the text has bytes, hold the open brackets.
 pub fn write_text(
     sheet: &[u8],
     work: &mut [u32],
-    from: usize,
-    to: usize,
+    text: Place,
     base: usize,
     stack: usize,
-) -> Written
-    requires { (from ≤ to) × (to ≤ length sheet.now) × (to < 65536) × (base + (to - from) ≤ stack) × (stack + (to - from) ≤ length work.old) }
-    ensures { Outside work.old work.new base (stack + (to - from)) × TextWritten sheet.now work.new from to base result }
+) -> Option<usize>
+    requires { TextRoom sheet.now work.old text base stack }
+    ensures { Outside work.old work.new base (stack + (text.to - text.from)) × TextWritten sheet.now work.new text.from text.to base result }
 {
-    let mut at = from;
+    let read = &sheet[..text.to];
+    let mut at = text.from;
     let mut depth: usize = 0;
     let mut out = base;
     'term: loop {
-        let first = syntax::next_symbol(&sheet[..to], at);
-        let Symbol::Name(start, end) = first else {
-            break 'term;
+        let Symbol::Name(from, to) = next_symbol(read, at) else {
+            return None;
         };
-        let second = syntax::next_symbol(&sheet[..to], end);
-        if let Symbol::Begin(inner) = second {
-            out = open_list(sheet, work, start, end, stack, depth, out);
+        if let Symbol::Begin(inner) = next_symbol(read, to) {
+            out = open_list(sheet, work, Place { from, to }, stack, depth, out);
             depth += 1;
             at = inner;
             continue 'term;
         }
-        work[out] = place(start, end);
+        work[out] = name_word(Place { from, to });
         out += 1;
-        at = end;
+        at = to;
         loop {
-            let next = syntax::next_symbol(&sheet[..to], at);
+            let next = next_symbol(read, at);
             if depth == 0 {
                 return finished(next, out);
             }
@@ -174,11 +189,8 @@ pub fn write_text(
                     out = close_list(work, stack, depth, out);
                     at = past;
                 }
-                _ => {
-                    break 'term;
-                }
+                _ => return None,
             }
         }
     }
-    Written::Unreadable
 }

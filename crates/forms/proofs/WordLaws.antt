@@ -1,33 +1,25 @@
 -- The words of the work area that a form needs are those of its sheet.
-use mathlib.Core.Path.{◌≡◌, ap, sym, ◌∙◌}
-use mathlib.Core.Bool.{Bool, true, false, cond}
-use mathlib.Core.List.{List, [], ◌∷◌}
-use Prim.Native.Nat.{ℕ, suc, ◌+◌, ◌-◌, ◌*◌, ◌≤◌}
+use mathlib.Core.Path.{◌≡◌, refl, ap, sym, ◌∙◌}
+use Prim.Native.Nat.{ℕ, ◌-◌, ◌*◌, ◌≤◌}
 use native.Mathlib.Omega.{arith}
 use lib.Dec.{eqb}
 use lib.ListN.{length, drop, length-take, length-drop}
-use denote.Enum.Declared.{tag_of}
-use types.Run.{OneOf}
+use Rattle.std.proofs.lemmas.List.Sums.{count_by-le-length}
 use Rattle.rules.specs.Bytes.{Text}
 use Rattle.rules.specs.Text.{count_of}
-use Rattle.rules.specs.Sheet.{asks_equal, asks_reduce, raise, words_needed}
+use Rattle.rules.specs.Sheet.{raise}
+use Rattle.laws.proofs.Basics.Somes.{some_injective}
+use Rattle.text.proofs.Library.{count_is}
 use Rattle.sheet.specs.Lines.{part_of}
-use Rattle.forms.specs.Form.{text_of, sheet_of, RaisesBy, NeedsWords}
+use Rattle.forms.specs.Form.{text_of, sheet_of, RaisesBy}
 use Rattle.sheet.specs.declared.Cursor.{Cursor}
 use Rattle.sheet.specs.declared.Place.{Place}
 use Rattle.forms.specs.declared.form.Form.{Form}
 use Rattle.forms.specs.declared.form.Form.TheVariants as form
-use Rattle.forms.specs.contracts.form.Form.{the_type}
 use Rattle.forms.proofs.WalkLaws.{unify_pairs, match_pairs, cover_parts, sound_member, complete_members}
 
-count_small : (b : ℕ) (s : Text) → count_of b s ≤ length s
-unfolding count_of
-count_small b [] = omega arith
-count_small b (a ∷ s) = go (eqb a b) (count_small b s)
-  where
-    go : (t : Bool) → count_of b s ≤ length s → cond t 1 0 + count_of b s ≤ suc (length s)
-    go true h = omega arith
-    go false h = omega arith
+pub count_small : (b : ℕ) (s : Text) → count_of b s ≤ length s
+count_small b s = omega (arith, count_is b s, count_by-le-length (λ x. eqb x b) s)
 
 pub count_bound : (b : ℕ) (s : Text) {n : ℕ} → length s ≤ 65536 → n ≡ count_of b s → n ≤ 65536
 count_bound b s h e = omega (arith, count_small b s)
@@ -41,18 +33,16 @@ raise_counted s t c r f k sheet e =
     let h = complete_members s t c sheet (ap (sheet_of s) (sym f) ∙ e) in
     ap (λ (n : ℕ). 2 * n) k ∙ ap raise (sym h.1)
 
--- no other kind raises the words: ks are the kinds left, and `complete` is none of them
-pub no_raise : (ks : List ℕ) (s : Text) (r : Form) → ((t : Place) (c : Cursor) → OneOf ks (tag_of the_type (form.Complete t c)) → ⊥) → OneOf ks (tag_of the_type r) → RaisesBy s r 0
+-- no other kind raises the words
+pub no_raise : (s : Text) (r : Form) → ((t : Place) (c : Cursor) → r ≡ form.Complete t c → ⊥) → RaisesBy s r 0
 unfolding sheet_of
-no_raise ks s (form.Equal l r) d h sheet e = let z : asks_equal (text_of s l) (text_of s r) ≡ sheet = cc in ap raise z
-no_raise ks s (form.Unify fuel c) d h sheet e = let h = unify_pairs s fuel c sheet e in ap raise (sym h.1)
-no_raise ks s (form.Match fuel c) d h sheet e = let h = match_pairs s fuel c sheet e in ap raise (sym h.1)
-no_raise ks s (form.Reduce t) d h sheet e = let z : asks_reduce (text_of s t) ≡ sheet = cc in ap raise z
-no_raise ks s (form.Cover b c) d h sheet e = let h = cover_parts s b c sheet e in ap raise (sym h.3)
-no_raise ks s (form.Sound t c) d h sheet e = let h = sound_member s t c sheet e in ap raise (sym h.1)
-no_raise ks s (form.Complete t c) d h sheet e = absurd (d t c h)
+no_raise s (form.Equal l r) other sheet e = ap raise (some_injective _ _ e)
+no_raise s (form.Unify fuel c) other sheet e = let h = unify_pairs s fuel c sheet e in ap raise (sym h.1)
+no_raise s (form.Match fuel c) other sheet e = let h = match_pairs s fuel c sheet e in ap raise (sym h.1)
+no_raise s (form.Reduce t) other sheet e = ap raise (some_injective _ _ e)
+no_raise s (form.Cover b c) other sheet e = let h = cover_parts s b c sheet e in ap raise (sym h.3)
+no_raise s (form.Sound t c) other sheet e = let h = sound_member s t c sheet e in ap raise (sym h.1)
+no_raise s (form.Complete t c) other sheet e = absurd (other t c refl)
 
--- the words of a form are those of its sheet
-pub form_needs : (s : Text) (r : Form) {a b : ℕ} → a ≡ count_of 58 s → RaisesBy s r b → NeedsWords s r (65536 * (a + b + 16) + 16 * length s)
-unfolding words_needed
-form_needs s r k h sheet e = rw (k, h sheet e)
+-- what the proof of the raise uses
+pub ruleset raises = (part_count_bound, raise_counted, no_raise)

@@ -1,35 +1,32 @@
 -- The kinds of sheet as the code reads them: what a form stands for, and the words that it needs. Definitions only.
 use Rattle.std.specs.Prelude.{ℕ, ◌≤◌, ◌<◌, ◌≡◌, Bool, true, false, List, length}
-use Rattle.std.proofs.Math.Option.{Option, some, none}
+use Rattle.std.specs.Prelude.{Option, Some, None, Result, MatchResult}
 use Rattle.rules.specs.Bytes.{Text}
 use Rattle.rules.specs.Text.{bytes}
 use Rattle.rules.specs.Maybe.{◌>>=◌}
 use Rattle.rules.specs.Lines.{value}
 use Rattle.rules.specs.Sheet.{Sheet, Member, asks_equal, asks_unify, asks_match, asks_reduce, asks_cover, asks_sound, asks_complete, pairs, members_from, none_waiting, at_end, one_member, Kind, Equal, Unify, Match, Reduce, Cover, Sound, Complete, read_kind, raise, words_needed}
+use Rattle.rules.specs.declared.Refusal.{Refusal}
+use Rattle.rules.specs.declared.Refusal.TheVariants.{LineOutOfPlace}
 use Rattle.sheet.specs.Lines.{part_of, lines_at}
 use Rattle.sheet.specs.Pairs.{two_lines_at}
 use Rattle.forms.specs.Members.{members_at, Walks}
 use Rattle.sheet.specs.declared.Place.{Place}
-use Rattle.sheet.specs.declared.PairLine.TheVariants.{End}
 use Rattle.forms.specs.declared.form.Form.{Form}
 use Rattle.forms.specs.declared.form.Form.TheVariants as form
-use Rattle.forms.specs.declared.form.ReadForm.{ReadForm}
-use Rattle.forms.specs.declared.form.ReadForm.TheVariants as found
 use Rattle.forms.specs.declared.form.TermMembers.{TermMembers}
-use Rattle.forms.specs.declared.form.TermMembers.TheVariants as termed
 use Rattle.forms.specs.declared.form.Kind as code
 use Rattle.forms.specs.declared.form.Kind.TheVariants as named
 
--- the kind that a name was found to have
-abbrev pub kind_read : code.Kind → Option Kind
-kind_read named.Equal = some Equal
-kind_read named.Unify = some Unify
-kind_read named.Match = some Match
-kind_read named.Reduce = some Reduce
-kind_read named.Cover = some Cover
-kind_read named.Sound = some Sound
-kind_read named.Complete = some Complete
-kind_read named.Unknown = none
+-- the kind of the definitions
+abbrev pub kind_read : code.Kind → Kind
+kind_read named.Equal = Equal
+kind_read named.Unify = Unify
+kind_read named.Match = Match
+kind_read named.Reduce = Reduce
+kind_read named.Cover = Cover
+kind_read named.Sound = Sound
+kind_read named.Complete = Complete
 
 -- `match` or `unify`
 abbrev pub solving : Bool → Kind
@@ -46,13 +43,13 @@ text_of s p = part_of p.from p.to s
 
 -- the sheet that a form stands for
 unfoldable pub sheet_of : Text → Form → Option Sheet
-sheet_of s (form.Equal l r) = some (asks_equal (text_of s l) (text_of s r))
+sheet_of s (form.Equal l r) = Some (asks_equal (text_of s l) (text_of s r))
 sheet_of s (form.Unify fuel c) = lines_at s c.at >>= λ ls. pairs ls >>= λ p. at_end p.1 (asks_unify fuel p.0)
 sheet_of s (form.Match fuel c) = lines_at s c.at >>= λ ls. pairs ls >>= λ p. at_end p.1 (asks_match fuel p.0)
-sheet_of s (form.Reduce t) = some (asks_reduce (text_of s t))
-sheet_of s (form.Cover c d) = lines_at s c.at >>= λ ls. pairs ls >>= λ p. members_at s d.at >>= λ ms. some (asks_cover p.0 ms)
-sheet_of s (form.Sound t c) = members_at s c.at >>= λ ms. one_member ms >>= λ m. some (asks_sound (text_of s t) m)
-sheet_of s (form.Complete t c) = members_at s c.at >>= λ ms. some (asks_complete (text_of s t) ms)
+sheet_of s (form.Reduce t) = Some (asks_reduce (text_of s t))
+sheet_of s (form.Cover c d) = lines_at s c.at >>= λ ls. pairs ls >>= λ p. members_at s d.at >>= λ ms. Some (asks_cover p.0 ms)
+sheet_of s (form.Sound t c) = members_at s c.at >>= λ ms. one_member ms >>= λ m. Some (asks_sound (text_of s t) m)
+sheet_of s (form.Complete t c) = members_at s c.at >>= λ ms. Some (asks_complete (text_of s t) ms)
 
 abbrev pub Inside : Text → Place → Type 0
 Inside s p = (p.from ≤ p.to) × (p.to < length s)
@@ -60,7 +57,7 @@ Inside s p = (p.from ≤ p.to) × (p.to < length s)
 -- the pairs `left`, `right` that were walked over from `at` to c, and no more of them follow
 pub record Walked (s : Text) (at c : ℕ) : Type 0 where
   pub walk : Walks (bytes "left=") (bytes "right=") s at c
-  pub stops : End ≡ two_lines_at (bytes "left=") (bytes "right=") s c
+  pub stops : None ≡ two_lines_at (bytes "left=") (bytes "right=") s c
 
 -- places and cursors stand in the sheet, fuel is at most 65,536, the members of `cover` follow its pairs and those of `complete` its term
 abbrev pub Within : Text → Form → Type 0
@@ -75,14 +72,13 @@ Within s (form.Complete t c) = Inside s t × (t.to ≤ c.at) × (c.at ≤ length
 -- f stands for the sheet that was read
 pub record FormStands (s : Text) (o : Option Sheet) (f : Form) : Type 0 where
   pub sheet : Sheet
-  pub reads : o ≡ some sheet
-  pub decodes : sheet_of s f ≡ some sheet
+  pub reads : o ≡ Some sheet
+  pub decodes : sheet_of s f ≡ Some sheet
   pub within : Within s f
 
--- r is what was read, or there is none
-abbrev pub ReadsAs : Text → Option Sheet → ReadForm → Type 0
-ReadsAs s o (found.Sheet f) = FormStands s o f
-ReadsAs s o found.LineOutOfPlace = o ≡ none
+-- r is a form of the sheet that was read, or refuses a line where there is none
+abbrev pub ReadsAs : Text → Option Sheet → Result Form Refusal → Type 0
+ReadsAs s o r = MatchResult r (λ f. FormStands s o f) (λ refusal. (refusal ≡ LineOutOfPlace) × (o ≡ None))
 
 -- a `term` line and the members after it, from a position on
 unfoldable pub term_members : Text → ℕ → Option (Text × List Member)
@@ -90,32 +86,31 @@ term_members s at = do
   ls ← lines_at s at
   (term, ls₁) ← value (bytes "term=") ls
   ms ← none_waiting (members_from ls₁)
-  some (term, ms)
+  Some (term, ms)
 
 -- so many members stand from c on, after the term
 pub record TermThen (s : Text) (at : ℕ) (t : Place) (c : ℕ) (count : ℕ) : Type 0 where
   pub ms : List Member
-  pub parts : term_members s at ≡ some (text_of s t, ms)
-  pub later : members_at s c ≡ some ms
+  pub parts : term_members s at ≡ Some (text_of s t, ms)
+  pub later : members_at s c ≡ Some ms
   pub many : count ≡ length ms
   pub placed : Inside s t
   pub follows : t.to ≤ c
   pub inside : c ≤ length s
 
-abbrev pub ReadsTermMembers : Text → ℕ → TermMembers → Type 0
-ReadsTermMembers s at (termed.Read t c count) = TermThen s at t c.at count
-ReadsTermMembers s at termed.LineOutOfPlace = term_members s at ≡ none
+abbrev pub ReadsTermMembers : Text → ℕ → Result TermMembers Refusal → Type 0
+ReadsTermMembers s at r = MatchResult r (λ t. TermThen s at t.term t.members.at t.count) (λ refusal. (refusal ≡ LineOutOfPlace) × (term_members s at ≡ None))
 
 -- n is the raise of the sheet that a form stands for
 abbrev pub RaisesBy : Text → Form → ℕ → Type 0
-RaisesBy s f n = (sheet : Sheet) → sheet_of s f ≡ some sheet → n ≡ raise sheet
+RaisesBy s f n = (sheet : Sheet) → sheet_of s f ≡ Some sheet → n ≡ raise sheet
 
 -- n is the words that the sheet needs for which a form stands
 abbrev pub NeedsWords : Text → Form → ℕ → Type 0
-NeedsWords s f n = (sheet : Sheet) → sheet_of s f ≡ some sheet → n ≡ words_needed s sheet
+NeedsWords s f n = (sheet : Sheet) → sheet_of s f ≡ Some sheet → n ≡ words_needed s sheet
 
 -- n words are enough for the sheet that a form stands for
 pub record EnoughWords (s : Text) (f : Form) (n : ℕ) : Type 0 where
   pub sheet : Sheet
-  pub stands : sheet_of s f ≡ some sheet
+  pub stands : sheet_of s f ≡ Some sheet
   pub enough : words_needed s sheet ≤ n

@@ -1,24 +1,20 @@
 -- The members of a sheet from a position on, and their keys. Definitions only.
 use Rattle.std.specs.Prelude.{ℕ, ◌+◌, ◌*◌, ◌≤◌, ◌≡◌, List, [], ◌∷◌, map, Bool, true, not, ◌&&◌, length, take}
-use Rattle.std.proofs.Math.Option.{Option, some, none}
+use Rattle.std.specs.Prelude.{Option, None, option_map}
 use Rattle.rules.specs.Bytes.{Text, same}
 use Rattle.rules.specs.Text.{bytes, is_one_of}
 use Rattle.rules.specs.Maybe.{◌>>=◌}
 use Rattle.rules.specs.Sheet.{Entry, Member, members_from, none_waiting}
 use Rattle.text.specs.Places.{text_at}
-use Rattle.text.specs.declared.decimal.Number.{Number}
-use Rattle.text.specs.declared.decimal.Number.TheVariants.{Is, Not}
 use Rattle.sheet.specs.Lines.{lines_at}
 use Rattle.sheet.specs.Pairs.{two_lines_at, entries_by, entries_before}
-use Rattle.sheet.specs.declared.PairLine.TheVariants.{End}
 
 unfoldable pub members_at : Text → ℕ → Option (List Member)
 members_at s at = lines_at s at >>= λ ls. none_waiting (members_from ls)
 
 -- how many members there are after n others, if they read
-abbrev pub counted : ℕ → Option (List Member) → Number
-counted n none = Not
-counted n (some ms) = Is (n + length ms)
+abbrev pub counted : ℕ → Option (List Member) → Option ℕ
+counted n o = option_map (λ (ms : List Member). n + length ms) o
 
 abbrev pub keys_of : List Entry → List Text
 keys_of es = map (λ (e : Entry). e.0) es
@@ -52,5 +48,5 @@ pub record Gathers (s : Text) (at : ℕ) (words : List ℕ) (count c : ℕ) : Ty
 -- and no more of them follow
 pub record Gathered (s : Text) (at : ℕ) (words : List ℕ) (count c : ℕ) : Type 0 where
   pub all : Gathers s at words count c
-  pub stops : End ≡ two_lines_at (bytes "key=") (bytes "value=") s c
+  pub stops : None ≡ two_lines_at (bytes "key=") (bytes "value=") s c
   pub room : count ≤ 8192

@@ -4,12 +4,11 @@ ghost use Rattle.rules.specs.Bytes.{same};
 ghost use Rattle.text.specs.Places.{text_at};
 ghost use Rattle.forms.specs.Members.{members_at, counted, distinct, apart, Gathered};
 
-use sheet::{Cursor, Line, PairLine, Place, next_entry, next_member};
-use text::decimal::Number;
+use sheet::{Cursor, Place, next_entry, next_member};
 use text::places::{sort_places, text_at};
 use text::same;
 
-// A place is one word: its start times this, and its length.
+// Stays one word for a place, its start times this and its length: the one merge sort, which runs share, sorts words of fixed memory.
 const START: usize = 65536;
 // A member has at most so many keys, since each takes 12 bytes or more.
 const MOST_KEYS: usize = 8192;
@@ -19,13 +18,11 @@ fn word_of(place: Place) -> u32
     requires { (place.from < 65536) × (place.from ≤ place.to) × (place.to < place.from + 65536) }
     ensures { result ≡ place.from * 65536 + (place.to - place.from) }
 {
-    let from = place.from;
-    let to = place.to;
-    (from * START + (to - from)) as u32
+    (place.from * START + (place.to - place.from)) as u32
 }
 
 // How many keys one member has, and where its entries end.
-#[derive(Clone, Copy)]
+#[derive(Clone, Copy, Debug, PartialEq, Eq)]
 struct Keys {
     count: usize,
     next: Cursor,
@@ -38,22 +35,14 @@ fn gather(sheet: &[u8], start: Cursor, words: &mut [u32]) -> Keys
 {
     let mut count: usize = 0;
     let mut cursor = start;
-    loop {
-        let entry = next_entry(sheet, cursor);
-        let PairLine::Sides {
-            left,
-            right: _,
-            next,
-        } = entry
-        else {
-            return Keys {
-                count,
-                next: cursor,
-            };
-        };
-        words[count] = word_of(left);
+    while let Some(entry) = next_entry(sheet, cursor) {
+        words[count] = word_of(entry.left);
         count += 1;
-        cursor = next;
+        cursor = entry.next;
+    }
+    Keys {
+        count,
+        next: cursor,
     }
 }
 
@@ -64,19 +53,13 @@ fn same_key(sheet: &[u8], x: u32, y: u32) -> bool
     same(text_at(sheet, x), text_at(sheet, y))
 }
 
-// Whether none of the first words names the same key as the next.
-fn all_apart(sheet: &[u8], words: &[u32], count: usize) -> bool
-    requires { count ≤ length words.now }
-    ensures { result ≡ apart (map (text_at sheet.now) (take count words.now)) }
+// Whether no word names the same key as the next.
+fn all_apart(sheet: &[u8], words: &[u32]) -> bool
+    ensures { result ≡ apart (map (text_at sheet.now) words.now) }
 {
-    let mut i: usize = 1;
-    while i < count {
-        if same_key(sheet, words[i - 1], words[i]) {
-            return false;
-        }
-        i += 1;
-    }
-    true
+    words
+        .windows(2)
+        .all(|pair| !same_key(sheet, pair[0], pair[1]))
 }
 
 // Whether the first words name each key once. They get sorted; the words from 8192 on are the buffer.
@@ -85,52 +68,34 @@ fn all_distinct(sheet: &[u8], words: &mut [u32], count: usize) -> bool
     ensures { result ≡ distinct (map (text_at sheet.now) (take count words.old)) }
 {
     sort_places(sheet, words, 0, count, MOST_KEYS);
-    all_apart(sheet, words, count)
+    all_apart(sheet, &words[..count])
 }
 
 // How many members stand from a cursor to the sheet's end, if nothing else does and none repeats a key.
-fn count_members(sheet: &[u8], start: Cursor, words: &mut [u32]) -> Number
+fn count_members(sheet: &[u8], start: Cursor, words: &mut [u32]) -> Option<usize>
     requires { (length sheet.now ≤ 65536) × (16384 ≤ length words.old) }
     ensures { result ≡ counted 0 (members_at sheet.now start.at) }
 {
-    let mut n: usize = 0;
+    let mut n = 0;
     let mut cursor = start;
-    loop {
-        let at = cursor.at;
-        if sheet.len() <= at {
-            return Number::Is(n);
-        }
-        let member = next_member(sheet, cursor);
-        let Line::Whole {
-            from: _,
-            to: _,
-            next,
-        } = member
-        else {
-            return Number::Not;
-        };
-        let keys = gather(sheet, next, words);
-        let count = keys.count;
-        if !all_distinct(sheet, words, count) {
-            return Number::Not;
+    while cursor.at < sheet.len() {
+        let member = next_member(sheet, cursor)?;
+        let keys = gather(sheet, member.next, words);
+        if !all_distinct(sheet, words, keys.count) {
+            return None;
         }
         n += 1;
         cursor = keys.next;
     }
-}
-
-// The words that a member's keys and their sorting take.
-fn key_words() -> [u32; 16384]
-    ensures { 16384 ≡ length result }
-{
-    [0u32; 16384]
+    Some(n)
 }
 
 // How many members stand from a cursor to the sheet's end, if nothing else does and none repeats a key.
-pub(crate) fn members(sheet: &[u8], start: Cursor) -> Number
+pub(crate) fn members(sheet: &[u8], start: Cursor) -> Option<usize>
     requires { length sheet.now ≤ 65536 }
     ensures { result ≡ counted 0 (members_at sheet.now start.at) }
 {
-    let mut words = key_words();
+    // the words that a member's keys and their sorting take
+    let mut words = [0u32; 2 * MOST_KEYS];
     count_members(sheet, start, &mut words)
 }

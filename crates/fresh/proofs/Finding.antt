@@ -1,14 +1,14 @@
 -- The search for a text in a sheet: the turns of the loop, and what is spelled is a part of the sheet.
 use Prim.Native.Nat.{ℕ, zero, suc, ◌+◌, ◌<◌, ◌≤◌}
 use mathlib.Core.Path.{◌≡◌, refl, sym, ap, ap₂, ◌∙◌}
-use mathlib.Core.Bool.{Bool, true, false, ◌&&◌, ◌||◌, false≢true}
+use mathlib.Core.Bool.{Bool, true, false, ◌||◌, false≢true}
 use mathlib.Core.List.{[], ◌∷◌}
 use lib.Dec.{eqb}
-use lib.ListN.{length, get_or, take, drop, drop_of_length-le, length-drop}
+use lib.ListN.{length, take, drop, drop_of_length-le, length-drop}
 use lib.Seq.{take-length, take-nil, drop-nil}
 use native.Mathlib.Decide.{dec_lt}
 use native.Mathlib.Omega.{arith}
-use borrow.Author.Tests.{eq-eqb, ne_eqb, eqb-true}
+use borrow.Author.Tests.{eq-eqb, eqb-true}
 use Rattle.rules.specs.Bytes.{Text}
 use Rattle.laws.specs.Parts.{PartOf}
 use Rattle.laws.proofs.Basics.Tests.{and_left, and_right, and_both, or_left, or_right}
@@ -65,16 +65,6 @@ module _ (s x : Text) (i : ℕ) (some : 0 < length x) where
   module _ (p : i < length s) where
     pub search_passes : {r : Bool} → begins_with x (drop i s) ≡ false → spells (drop i s) x ≡ r → spells (drop (i + 1) s) x ≡ r
     search_passes e h = sym (spells_next s x i p ∙ ap (λ (b : Bool). b || spells (drop (i + 1) s) x) e) ∙ h
-
-    -- the first bytes differ
-    pub first_other : (get_or s i 0 ≡ get_or x 0 0 → ⊥) → begins_with x (drop i s) ≡ false
-    first_other e = go x some e
-      where
-        go : (x : Text) → 0 < length x → (get_or s i 0 ≡ get_or x 0 0 → ⊥) → begins_with x (drop i s) ≡ false
-        go [] h e = absurd (omega arith)
-        go (b ∷ x) h e =
-            ap (begins_with (b ∷ x)) (drop_next s i p)
-            ∙ (unfold begins_with in (ap (λ (t : Bool). t && begins_with x (drop (i + 1) s)) (ne_eqb (get_or s i 0) b e)))
 
     pub search_finds : begins_with x (drop i s) ≡ true → spells (drop i s) x ≡ spells s x → NotBefore s x i → SpelledAt s x i
     search_finds e h n =

@@ -3,7 +3,8 @@ use Prim.Native.Nat.{ℕ, suc, ◌+◌, ◌-◌, ◌<◌, ◌≤◌, max}
 use mathlib.Core.Path.{◌≡◌, refl, sym, ap, ◌∙◌}
 use mathlib.Core.Bool.{Bool, true, false, cond, ◌&&◌}
 use mathlib.Core.List.{List, [], ◌∷◌, ◌++◌, map}
-use mathlib.Core.Option.{Option, some, none}
+use Rattle.std.specs.Prelude.{Option, Some, None}
+use Rattle.std.specs.List.{starts_with}
 use lib.Dec.{eqb, leb}
 use lib.ListN.{length, get_or, take, drop}
 use lib.Seq.{slice, slice-cons}
@@ -19,16 +20,13 @@ use Rattle.rules.specs.Tree as tree
 use Rattle.rules.specs.Cover.{insert_once}
 use Rattle.rules.specs.Variants.{index_of, fresh_base, fresh_base_in}
 use Rattle.rules.specs.Tree.{variable_names, variable_names_in}
-use Rattle.laws.proofs.Basics.Tests.{same_eq, leb_true}
+use Rattle.laws.proofs.Basics.Tests.{same_eq, leb_true, and_left}
 use Rattle.text.specs.Places.{text_at}
-use Rattle.text.specs.Numbers.{number_of}
-use Rattle.text.specs.declared.decimal.Number.TheVariants.{Is, Not}
 use Rattle.text.proofs.Slices.{slice_none}
 use Rattle.syntax.proofs.Runs.{run_le}
 use Rattle.sheet.specs.Lines.{part_of}
 use Rattle.variables.specs.Ordered.{inserted, ordered_once}
-use Rattle.fresh.specs.Indices.{names_base_from, names_base, base_found}
-use Rattle.fresh.specs.declared.indices.Base.TheVariants.{From, Nothing}
+use Rattle.fresh.specs.Indices.{names_base_from, names_base}
 
 -- ---- one name
 
@@ -40,17 +38,18 @@ unfolding index_of
 index_digits [] e = absurd (omega arith)
 index_digits (b ∷ s) e = rw (eq-eqb b 120 e)
 
-index_other : (x : Text) → (get_or x 0 0 ≡ 120 → ⊥) → index_of x ≡ none
+index_other : (x : Text) → (get_or x 0 0 ≡ 120 → ⊥) → index_of x ≡ None
 unfolding index_of
 index_other [] e = refl
 index_other (b ∷ s) e = rw (ne_eqb b 120 e)
 
-pub unindexed : (x : Text) → (get_or x 0 0 ≡ 120 → ⊥) → Not ≡ number_of (index_of x)
-unindexed x e = sym (ap number_of (index_other x e))
+pub unindexed : (x : Text) → starts_with eqb x (120 ∷ []) ≡ false → None ≡ index_of x
+unindexed [] e = sym (index_other [] (λ k. omega arith))
+unindexed (b ∷ x) e = sym (index_other (b ∷ x) (λ k. let f = eq-eqb 120 b (sym k) in cc))
 
-pub no_name : (x : Text) → length x ≡ 0 → Not ≡ number_of (index_of x)
-no_name [] e = unindexed [] (λ k. omega arith)
-no_name (b ∷ x) e = absurd (omega arith)
+pub led_by_x : (x : Text) → starts_with eqb x (120 ∷ []) ≡ true → get_or x 0 0 ≡ 120
+led_by_x [] e = cc
+led_by_x (b ∷ x) e = sym (eqb-true 120 b (and_left (eqb 120 b) true e))
 
 -- the digits after the first byte
 pub index_read : (x y : Text) (end : ℕ) → end ≡ 1 + run_length digit (drop 1 x) → y ≡ part_of 1 end x → get_or x 0 0 ≡ 120 → number_up_to largest y ≡ index_of x
@@ -63,42 +62,42 @@ digits_inside [] end p e = absurd (omega arith)
 digits_inside (b ∷ x) end p e = omega (arith, run_le digit x)
 
 -- an index is below 2^63
-number_bounded : (bound : ℕ) (s : Text) (n : ℕ) → number_up_to bound s ≡ some n → n ≤ bound
+number_bounded : (bound : ℕ) (s : Text) (n : ℕ) → number_up_to bound s ≡ Some n → n ≤ bound
 unfolding number_up_to
 number_bounded bound s n e = go (proper s) (leb (value_from 0 s) bound) refl e
   where
-    go : (a b : Bool) → leb (value_from 0 s) bound ≡ b → cond (a && b) (some (value_from 0 s)) none ≡ some n → n ≤ bound
+    go : (a b : Bool) → leb (value_from 0 s) bound ≡ b → cond (a && b) (Some (value_from 0 s)) None ≡ Some n → n ≤ bound
     go true true f e = let z : value_from 0 s ≡ n = cc in omega (arith, leb_true (value_from 0 s) bound f)
     go true false f e = let z : ◌≡◌ {A = ℕ} 0 1 = cc in absurd (omega arith)
     go false b f e = let z : ◌≡◌ {A = ℕ} 0 1 = cc in absurd (omega arith)
 
-pub index_bounded : (x : Text) (n : ℕ) → index_of x ≡ some n → n ≤ largest
-index_bounded [] n e = let f : none ≡ some n = sym (index_other [] (λ k. omega arith)) ∙ e in let z : ◌≡◌ {A = ℕ} 0 1 = cc in absurd (omega arith)
+pub index_bounded : (x : Text) (n : ℕ) → index_of x ≡ Some n → n ≤ largest
+index_bounded [] n e = let f : None ≡ Some n = sym (index_other [] (λ k. omega arith)) ∙ e in let z : ◌≡◌ {A = ℕ} 0 1 = cc in absurd (omega arith)
 index_bounded (b ∷ s) n e = go (eqb b 120) refl
   where
     go : (t : Bool) → eqb b 120 ≡ t → n ≤ largest
     go true h = number_bounded largest _ n (sym (index_digits (b ∷ s) (eqb-true b 120 h)) ∙ e)
-    go false h = let f : none ≡ some n = sym (index_other (b ∷ s) (eqb-false b 120 h)) ∙ e in let z : ◌≡◌ {A = ℕ} 0 1 = cc in absurd (omega arith)
+    go false h = let f : None ≡ Some n = sym (index_other (b ∷ s) (eqb-false b 120 h)) ∙ e in let z : ◌≡◌ {A = ℕ} 0 1 = cc in absurd (omega arith)
 
 -- ---- the base above several names
 
-pub base_next : (base : ℕ) (x : Text) (xs : List Text) (n : ℕ) → index_of x ≡ some n → names_base_from base (x ∷ xs) ≡ names_base_from (max base (suc n)) xs
+pub base_next : (base : ℕ) (x : Text) (xs : List Text) (n : ℕ) → index_of x ≡ Some n → names_base_from base (x ∷ xs) ≡ names_base_from (max base (suc n)) xs
 unfolding names_base_from
 base_next base x xs n e = rw e
 
-base_stops : (base : ℕ) (x : Text) (xs : List Text) → index_of x ≡ none → names_base_from base (x ∷ xs) ≡ none
+base_stops : (base : ℕ) (x : Text) (xs : List Text) → index_of x ≡ None → names_base_from base (x ∷ xs) ≡ None
 unfolding names_base_from
 base_stops base x xs e = rw e
 
 -- at most 2^63
-pub base_bounded : (base : ℕ) (xs : List Text) (b : ℕ) → names_base_from base xs ≡ some b → base ≤ suc largest → b ≤ suc largest
+pub base_bounded : (base : ℕ) (xs : List Text) (b : ℕ) → names_base_from base xs ≡ Some b → base ≤ suc largest → b ≤ suc largest
 unfolding names_base_from
 base_bounded base [] b e h = let z : base ≡ b = cc in omega arith
 base_bounded base (x ∷ xs) b e h = go (index_of x) refl (λ base. base_bounded base xs b)
   where
-    go : (o : Option ℕ) → index_of x ≡ o → ((base : ℕ) → names_base_from base xs ≡ some b → base ≤ suc largest → b ≤ suc largest) → b ≤ suc largest
-    go none f r = let g : none ≡ some b = sym (base_stops base x xs f) ∙ e in let z : ◌≡◌ {A = ℕ} 0 1 = cc in absurd (omega arith)
-    go (some n) f r = r (max base (suc n)) (sym (base_next base x xs n f) ∙ e) (omega (arith, index_bounded x n f))
+    go : (o : Option ℕ) → index_of x ≡ o → ((base : ℕ) → names_base_from base xs ≡ Some b → base ≤ suc largest → b ≤ suc largest) → b ≤ suc largest
+    go None f r = let g : None ≡ Some b = sym (base_stops base x xs f) ∙ e in let z : ◌≡◌ {A = ℕ} 0 1 = cc in absurd (omega arith)
+    go (Some n) f r = r (max base (suc n)) (sym (base_next base x xs n f) ∙ e) (omega (arith, index_bounded x n f))
 
 -- ---- the names at places
 
@@ -109,35 +108,20 @@ module _ (s : Text) (w : List ℕ) (i end : ℕ) where
   rest_next : i < end → end ≤ length w → rest i ≡ text_at s (get_or w i 0) ∷ rest (i + 1)
   rest_next p q = ap (map (text_at s)) (slice-cons i end w 0 p q) ∙ rw add-one
 
-  pub rest_ends : (base : ℕ) {o : Option ℕ} → end ≤ i → names_base_from base (rest i) ≡ o → From base ≡ base_found o
+  pub rest_ends : (base : ℕ) {o : Option ℕ} → end ≤ i → names_base_from base (rest i) ≡ o → Some base ≡ o
   unfolding names_base_from
-  rest_ends base p e = ap base_found (sym (ap (λ (l : List ℕ). names_base_from base (map (text_at s) l)) (slice_none i end w p)) ∙ e)
+  rest_ends base p e = sym (ap (λ (l : List ℕ). names_base_from base (map (text_at s) l)) (slice_none i end w p)) ∙ e
 
   -- a turn of the loop: what the name's index is
   module _ {x : Text} (base : ℕ) {o : Option ℕ} (p : i < end) (q : end ≤ length w) (t : x ≡ text_at s (get_or w i 0)) (h : names_base_from base (rest i) ≡ o) where
     rest_first : names_base_from base (x ∷ rest (i + 1)) ≡ o
     rest_first = ap (λ (y : Text). names_base_from base (y ∷ rest (i + 1))) t ∙ ap (names_base_from base) (sym (rest_next p q)) ∙ h
 
-    pub rest_passes : {n : ℕ} → Is n ≡ number_of (index_of x) → names_base_from (max base (n + 1)) (rest (i + 1)) ≡ o
-    rest_passes {n} e = go (index_of x) refl e
-      where
-        go : (k : Option ℕ) → index_of x ≡ k → Is n ≡ number_of k → names_base_from (max base (n + 1)) (rest (i + 1)) ≡ o
-        go none f e = let z : ◌≡◌ {A = ℕ} 0 1 = cc in absurd (omega arith)
-        go (some m) f e = let z : m ≡ n = cc in let y : max base (n + 1) ≡ max base (suc m) = omega arith in rw y (sym (base_next base x (rest (i + 1)) m f) ∙ rest_first)
+    pub rest_passes : {n : ℕ} → Some n ≡ index_of x → names_base_from (max base (n + 1)) (rest (i + 1)) ≡ o
+    rest_passes {n} e = let y : max base (n + 1) ≡ max base (suc n) = omega arith in rw y (sym (base_next base x (rest (i + 1)) n (sym e)) ∙ rest_first)
 
-    pub rest_fails : Not ≡ number_of (index_of x) → Nothing ≡ base_found o
-    rest_fails e = go (index_of x) refl e
-      where
-        go : (k : Option ℕ) → index_of x ≡ k → Not ≡ number_of k → Nothing ≡ base_found o
-        go none f e = ap base_found (sym (base_stops base x (rest (i + 1)) f) ∙ rest_first)
-        go (some m) f e = let z : ◌≡◌ {A = ℕ} 0 1 = cc in absurd (omega arith)
-
-pub index_small : (x : Text) (n : ℕ) → Is n ≡ number_of (index_of x) → n ≤ largest
-index_small x n e = go (index_of x) refl e
-  where
-    go : (k : Option ℕ) → index_of x ≡ k → Is n ≡ number_of k → n ≤ largest
-    go none f e = let z : ◌≡◌ {A = ℕ} 0 1 = cc in absurd (omega arith)
-    go (some m) f e = let z : m ≡ n = cc in omega (arith, index_bounded x m f)
+    pub rest_fails : None ≡ index_of x → None ≡ o
+    rest_fails e = sym (base_stops base x (rest (i + 1)) (sym e)) ∙ rest_first
 
 -- ---- names in byte order, each once
 
@@ -147,18 +131,18 @@ module _ (base : ℕ) (x : Text) where
   base_twice xs = go (index_of x)
     where
       go : (o : Option ℕ) → (o >>= λ i. names_base_from (max base (suc i)) xs) ≡ (o >>= λ i. o >>= λ j. names_base_from (max (max base (suc i)) (suc j)) xs)
-      go none = refl
-      go (some n) = let e : max base (suc n) ≡ max (max base (suc n)) (suc n) = omega arith in ap (λ (b : ℕ). names_base_from b xs) e
+      go None = refl
+      go (Some n) = let e : max base (suc n) ≡ max (max base (suc n)) (suc n) = omega arith in ap (λ (b : ℕ). names_base_from b xs) e
 
   base_swap : (y : Text) (xs : List Text) → names_base_from base (x ∷ y ∷ xs) ≡ names_base_from base (y ∷ x ∷ xs)
   unfolding names_base_from
   base_swap y xs = go (index_of x) (index_of y)
     where
       go : (o p : Option ℕ) → (o >>= λ i. p >>= λ j. names_base_from (max (max base (suc i)) (suc j)) xs) ≡ (p >>= λ i. o >>= λ j. names_base_from (max (max base (suc i)) (suc j)) xs)
-      go none none = refl
-      go none (some n) = refl
-      go (some m) none = refl
-      go (some m) (some n) = let e : max (max base (suc m)) (suc n) ≡ max (max base (suc n)) (suc m) = omega arith in ap (λ (b : ℕ). names_base_from b xs) e
+      go None None = refl
+      go None (Some n) = refl
+      go (Some m) None = refl
+      go (Some m) (Some n) = let e : max (max base (suc m)) (suc n) ≡ max (max base (suc n)) (suc m) = omega arith in ap (λ (b : ℕ). names_base_from b xs) e
 
 -- names that have one base from every start have it after one name more
 base_under : (base : ℕ) (x : Text) (l m : List Text) → ((b : ℕ) → names_base_from b l ≡ names_base_from b m) → names_base_from base (x ∷ l) ≡ names_base_from base (x ∷ m)
@@ -166,8 +150,8 @@ unfolding names_base_from
 base_under base x l m h = go (index_of x)
   where
     go : (o : Option ℕ) → (o >>= λ i. names_base_from (max base (suc i)) l) ≡ (o >>= λ i. names_base_from (max base (suc i)) m)
-    go none = refl
-    go (some n) = h (max base (suc n))
+    go None = refl
+    go (Some n) = h (max base (suc n))
 
 once_base : (x : Text) (l : List Text) (base : ℕ) → names_base_from base (insert_once x l) ≡ names_base_from base (x ∷ l)
 unfolding insert_once
@@ -194,13 +178,13 @@ base_append (x ∷ xs) ys base = go (index_of x) (base_append xs ys)
   where
     go : (o : Option ℕ) → ((base : ℕ) → names_base_from base (xs ++ ys) ≡ (names_base_from base xs >>= λ b. names_base_from b ys))
         → (o >>= λ i. names_base_from (max base (suc i)) (xs ++ ys)) ≡ ((o >>= λ i. names_base_from (max base (suc i)) xs) >>= λ b. names_base_from b ys)
-    go none r = refl
-    go (some n) r = r (max base (suc n))
+    go None r = refl
+    go (Some n) r = r (max base (suc n))
 
 under : (ts : tree.Trees) (o : Option ℕ) → ((b : ℕ) → names_base_from b (variable_names_in ts) ≡ fresh_base_in ts b)
     → (o >>= λ b. names_base_from b (variable_names_in ts)) ≡ (o >>= λ b. fresh_base_in ts b)
-under ts none h = refl
-under ts (some b) h = h b
+under ts None h = refl
+under ts (Some b) h = h b
 
 mutual
   unfolding variable_names fresh_base names_base_from

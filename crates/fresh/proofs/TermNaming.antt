@@ -2,7 +2,7 @@
 use Prim.Native.Nat.{ℕ, ◌+◌, ◌*◌, ◌-◌, ◌≤◌}
 use mathlib.Core.Path.{◌≡◌, refl, sym, ap, subst, ◌∙◌}
 use mathlib.Core.List.{List, [], map, append-nil}
-use mathlib.Core.Option.{Option, some, none as nothing}
+use Rattle.std.specs.Prelude.{Some, None}
 use lib.ListN.{length}
 use lib.Seq.{slice}
 use native.Mathlib.Omega.{arith}
@@ -23,22 +23,13 @@ use Rattle.variables.specs.Listing.{ListsVariables}
 use Rattle.variables.specs.Pairing.{names_at}
 use Rattle.variables.proofs.Ordering.{variables_inserted}
 use Rattle.variables.proofs.Listed.{names_count, listed_names, listed_variables, listed_below, listed_used}
-use Rattle.fresh.specs.Indices.{names_base, base_found}
+use Rattle.fresh.specs.Indices.{names_base}
 use Rattle.fresh.specs.TermNames.{TermNames}
-use Rattle.fresh.specs.declared.indices.Base.TheVariants.{From, Nothing}
 use Rattle.fresh.proofs.Indexing.{base_bounded, ordered_names_base}
 
 one_names : (t : Tree) → variable_names_in (more t none) ≡ variable_names t
 unfolding variable_names
 one_names t = append-nil (variable_names t)
-
-found_some : (o : Option ℕ) (b : ℕ) → From b ≡ base_found o → o ≡ some b
-found_some nothing b e = cc
-found_some (some c) b e = cc
-
-found_none : (o : Option ℕ) → Nothing ≡ base_found o → o ≡ nothing
-found_none nothing e = refl
-found_none (some c) e = cc
 
 module _ {s : Text} {w v : List ℕ} {n : ℕ} (term f : ℕ) (q : f ≡ n + 1) (h : Linked s w v n 0 (tree_at s w term)) where
   abbrev tree : Tree
@@ -64,13 +55,13 @@ module _ {s : Text} {w v : List ℕ} {n : ℕ} (term f : ℕ) (q : f ≡ n + 1) 
     base_are : names_base (map (text_at s) (slice at end u)) ≡ fresh_base tree 0
     base_are = ap names_base (o.are ∙ ordered_are) ∙ ordered_names_base tree
 
-    pub no_base : Nothing ≡ base_found (names_base (map (text_at s) (slice at end u))) → (fresh_base tree 0 ≡ nothing) × Below w u n
+    pub no_base : None ≡ names_base (map (text_at s) (slice at end u)) → (fresh_base tree 0 ≡ None) × Below w u n
     no_base e = (
-      sym base_are ∙ found_none (names_base (map (text_at s) (slice at end u))) e,
+      sym base_are ∙ sym e,
       below_then (below_grown h.grown) (below_kept {n = n} o.kept (omega arith)) (omega arith),
     )
 
-    module _ {z : List ℕ} {i m : ℕ} (base : ℕ) (e : From base ≡ base_found (names_base (map (text_at s) (slice at end u)))) (room : at + most ≤ length v)
+    module _ {z : List ℕ} {i m : ℕ} (base : ℕ) (e : Some base ≡ names_base (map (text_at s) (slice at end u))) (room : at + most ≤ length v)
         (k : ListsVariables s u z f (end - at) (map (text_at s) (slice at end u)) i m) where
       names_are : names_at s z i ≡ variables tree []
       unfolding variables
@@ -80,7 +71,6 @@ module _ {s : Text} {w v : List ℕ} {n : ℕ} (term f : ℕ) (q : f ≡ n + 1) 
       term_names =
           let c = names_count s z i (listed_variables s n l o room k) in
           let d = ap (λ (xs : List Text). length xs) names_are in
-          let found = found_some (names_base (map (text_at s) (slice at end u))) base e in
           record {
             arena = k.made.arena;
             below = below_then (below_grown h.grown) (listed_below s n l o room k) (omega arith);
@@ -88,6 +78,6 @@ module _ {s : Text} {w v : List ℕ} {n : ℕ} (term f : ℕ) (q : f ≡ n + 1) 
             of_variables = listed_variables s n l o room k;
             are = names_are;
             used = omega (arith, listed_used s n l o room k);
-            based = sym base_are ∙ found;
-            small = omega (arith, base_bounded 0 (map (text_at s) (slice at end u)) base found (omega arith));
+            based = sym base_are ∙ sym e;
+            small = omega (arith, base_bounded 0 (map (text_at s) (slice at end u)) base (sym e) (omega arith));
           }

@@ -1,9 +1,8 @@
 -- Whether a text is spelled somewhere in a sheet, and what a search for it answers. Definitions only.
 use Rattle.std.specs.Prelude.{ℕ, ◌+◌, ◌<◌, ◌≤◌, ◌≡◌, Bool, true, false, ◌||◌, [], ◌∷◌, length, take, drop}
+use Rattle.std.specs.Prelude.{Option, Some, None}
 use Rattle.rules.specs.Bytes.{Text}
 use Rattle.text.specs.Prefix.{begins_with}
-use Rattle.fresh.specs.declared.searching.Found.{Found}
-use Rattle.fresh.specs.declared.searching.Found.TheVariants.{At, Nowhere}
 
 -- the sheet s spells x
 unfoldable pub spells : Text → Text → Bool
@@ -18,6 +17,6 @@ pub record SpelledAt (s x : Text) (at : ℕ) : Type 0 where
   pub spelled : spells s x ≡ true
   pub first : (p : ℕ) → p < at → begins_with x (drop p s) ≡ false
 
-abbrev pub FindsText : Text → Text → Found → Type 0
-FindsText s x (At at) = SpelledAt s x at
-FindsText s x Nowhere = spells s x ≡ false
+abbrev pub FindsText : Text → Text → Option ℕ → Type 0
+FindsText s x (Some at) = SpelledAt s x at
+FindsText s x None = spells s x ≡ false

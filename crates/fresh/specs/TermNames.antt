@@ -1,6 +1,6 @@
 -- The variables of a term as a list of cells, with one above their indices. Definitions only.
 use Rattle.std.specs.Prelude.{ℕ, ◌+◌, ◌<◌, ◌≤◌, ◌^◌, ◌≡◌, List, [], length}
-use Rattle.std.proofs.Math.Option.{some, none as nothing}
+use Rattle.std.specs.Prelude.{Some, None}
 use Rattle.rules.specs.Bytes.{Text}
 use Rattle.rules.specs.Cover.{variables}
 use Rattle.rules.specs.Variants.{fresh_base}
@@ -19,9 +19,9 @@ pub record TermNames (s : Text) (w v : List ℕ) (n term i base m : ℕ) : Type 
   pub of_variables : OfVariables (trees_at s v i)
   pub are : names_at s v i ≡ variables (tree_at s w term) []
   pub used : m ≡ n + 1 + length (variables (tree_at s w term) [])
-  pub based : fresh_base (tree_at s w term) 0 ≡ some base
+  pub based : fresh_base (tree_at s w term) 0 ≡ Some base
   pub small : base ≤ 2 ^ 63
 
 abbrev pub NamesTerm : Text → List ℕ → List ℕ → ℕ → ℕ → Named → Type 0
 NamesTerm s w v n term (Names i base m) = TermNames s w v n term i base m
-NamesTerm s w v n term Unindexed = (fresh_base (tree_at s w term) 0 ≡ nothing) × Below w v n
+NamesTerm s w v n term Unindexed = (fresh_base (tree_at s w term) 0 ≡ None) × Below w v n

@@ -8,7 +8,7 @@ ghost use Rattle.text.specs.Printing.{Printed};
 ghost use Rattle.fresh.specs.Searching.{FindsText};
 ghost use Rattle.fresh.specs.Fresh.{chosen_in, WritesFresh};
 
-use crate::searching::{Found, find_text};
+use crate::searching::find_text;
 use sheet::part;
 use text::decimal::{print, width_of};
 use tree::cells::push_unspelled;
@@ -33,7 +33,7 @@ fn name_bytes() -> [u8; 32]
 }
 
 // Where the sheet spells x<n>:Msg.
-fn find_fresh(sheet: &[u8], n: usize) -> Found
+fn find_fresh(sheet: &[u8], n: usize) -> Option<usize>
     ensures { FindsText sheet.now (fresh_name n) result }
 {
     let mut name = name_bytes();
@@ -57,8 +57,7 @@ fn push_fresh(sheet: &[u8], work: &mut [u32], free: usize, base: usize, n: usize
     ensures { (result ≡ free + 1) × Linked sheet.now work.old work.new free 0 (variable (chosen_in sheet.now base n)) }
 {
     let number = base + n;
-    let found = find_fresh(sheet, number);
-    let Found::At(start) = found else {
+    let Some(start) = find_fresh(sheet, number) else {
         return push_unspelled(sheet, work, free, n, 0);
     };
     let place = place_of(start, 5 + width_of(number));

@@ -6,7 +6,7 @@ ghost use Rattle.tree.specs.Arena.{Arena};
 ghost use Rattle.variables.specs.Variables.{Readable};
 ghost use Rattle.fresh.specs.TermNames.{NamesTerm};
 
-use crate::indices::{Base, base_of};
+use crate::indices::base_of;
 use tree::cells::share;
 use variables::gathering::variables_of;
 use variables::listing::list_variables;
@@ -32,8 +32,7 @@ pub fn name_variables(sheet: &[u8], work: &mut [u32], free: usize, term: usize) 
     let end = share(sheet, work, free, term, 0);
     let at = 4 * (end + sheet.len());
     let last = variables_of(sheet, work, end, free, at);
-    let found = base_of(sheet, work, at, last);
-    let Base::From(base) = found else {
+    let Some(base) = base_of(sheet, work, at, last) else {
         return Named::Unindexed;
     };
     let listed = list_variables(sheet, work, end, at, last);

@@ -2,7 +2,7 @@
 use mathlib.Core.Path.{◌≡◌, sym, ap, subst, ◌∙◌}
 use mathlib.Core.Bool.{Bool}
 use mathlib.Core.List.{List}
-use mathlib.Core.Option.{Option, some, none}
+use Rattle.std.specs.Prelude.{Ok, Option, Some, None, Err}
 use Prim.Native.Nat.{ℕ, ◌+◌, ◌*◌, ◌≤◌}
 use native.Mathlib.Omega.{arith}
 use lib.ListN.{length}
@@ -23,17 +23,13 @@ use Rattle.forms.specs.declared.form.Form.TheVariants as form
 use Rattle.forms.proofs.WalkLaws.{complete_members}
 use Rattle.tree.specs.Cells.{tree_at}
 use Rattle.reading.specs.Parsing.{Read}
-use Rattle.sheet.specs.Claims as code
-use Rattle.sheet.specs.declared.claims.Claim.{Claim}
 use Rattle.complete.specs.Completing.{CompleteInput}
 use Rattle.admission.specs.Admission.{Decoded}
 use Rattle.kinds.specs.Outcomes.{DecidesForm}
 use Rattle.kinds.specs.Outcomes.{CompleteAsked}
-use Rattle.answers.specs.Deciding.{claim_decision}
 use Rattle.answers.specs.declared.deciding.Key.TheVariants as key
-use Rattle.answers.specs.declared.deciding.Decision.{Decision}
-use Rattle.answers.specs.declared.deciding.Decision.TheVariants.{Refused}
-use Rattle.admission.specs.declared.refusal.Refusal.TheVariants.{UnreadableTerm}
+use Rattle.answers.specs.declared.deciding.Lines.TheVariants.{Claim}
+use Rattle.rules.specs.declared.Refusal.TheVariants.{UnreadableTerm}
 use Rattle.answers.proofs.Decides.{unreadable_decides, claim_decides}
 use Rattle.kinds.proofs.KindLaws.{read_decided}
 
@@ -41,17 +37,17 @@ pub complete_asked : (s : Text) (t : Place) (c : Cursor) (f : Form) → f ≡ fo
 complete_asked s t c f e h =
     let (ms, g, there) = complete_members s t c h.sheet (ap (sheet_of s) (sym e) ∙ h.decodes) in
     let w = subst (Within s) e h.within in
-    record { members = ms; reads = h.reads ∙ ap some g; later = there; short = h.short; placed = w.0; follows = w.1; inside = w.2 }
+    record { members = ms; reads = h.reads ∙ ap Some g; later = there; short = h.short; placed = w.0; follows = w.1; inside = w.2 }
 
 module _ (s : Text) (t : Place) (at : ℕ) (a : CompleteAsked s t at) where
   -- the answer, by what the term reads as
   complete_answer : (o : Option Tree) → parse (text_of s t) ≡ o
-      → answer_of (asks_complete (text_of s t) a.members) ≡ (o >>= λ u. some (line (bytes "complete=") (claim (complete u a.members))))
+      → answer_of (asks_complete (text_of s t) a.members) ≡ (o >>= λ u. Some (line (bytes "complete=") (claim (complete u a.members))))
   unfolding answer_of
-  complete_answer o e = ap (λ (o : Option Tree). o >>= λ u. some (line (bytes "complete=") (claim (complete u a.members)))) e
+  complete_answer o e = ap (λ (o : Option Tree). o >>= λ u. Some (line (bytes "complete=") (claim (complete u a.members)))) e
 
-  pub complete_unread : {w : List ℕ} → parse (text_of s t) ≡ none → DecidesForm (read_sheet s) s w (Refused UnreadableTerm)
-  complete_unread e = read_decided s (asks_complete (text_of s t) a.members) none a.reads (complete_answer none e) unreadable_decides
+  pub complete_unread : {w : List ℕ} → parse (text_of s t) ≡ None → DecidesForm (read_sheet s) s w (Err UnreadableTerm)
+  complete_unread e = read_decided s (asks_complete (text_of s t) a.members) None a.reads (complete_answer None e) unreadable_decides
 
   module _ {w v : List ℕ} {i m : ℕ} (r : Read s w v 1 t.from t.to i m) where
     pub complete_asks : {colons brackets named : ℕ} → colons ≡ count_of 58 (text_of s t) → brackets ≡ count_of 40 (text_of s t) → named ≡ colons + 2 * brackets
@@ -69,9 +65,9 @@ module _ (s : Text) (t : Place) (at : ℕ) (a : CompleteAsked s t at) where
       words = omega (arith, r.outside.len);
     }
 
-    pub complete_decided : {u : List ℕ} (c : Claim) {d : Decision} → ((ms : List Member) → members_at s at ≡ some ms → code.truth c ≡ complete (tree_at s v i) ms)
-        → d ≡ claim_decision key.Complete c → DecidesForm (read_sheet s) s u d
-    complete_decided c h k =
-        read_decided s (asks_complete (text_of s t) a.members) (some (line (bytes "complete=") (claim (code.truth c)))) a.reads
-        (complete_answer (some (tree_at s v i)) r.reads ∙ ap (λ (o : Option Bool). some (line (bytes "complete=") (claim o))) (sym (h a.members a.later)))
-        (claim_decides key.Complete c k)
+    pub complete_decided : {u : List ℕ} (c : Option Bool) → ((ms : List Member) → members_at s at ≡ Some ms → c ≡ complete (tree_at s v i) ms)
+        → DecidesForm (read_sheet s) s u (Ok (Claim key.Complete c))
+    complete_decided c h =
+        read_decided s (asks_complete (text_of s t) a.members) (Some (line (bytes "complete=") (claim c))) a.reads
+        (complete_answer (Some (tree_at s v i)) r.reads ∙ ap (λ (o : Option Bool). Some (line (bytes "complete=") (claim o))) (sym (h a.members a.later)))
+        (claim_decides key.Complete c)

@@ -2,7 +2,7 @@
 use mathlib.Core.Path.{◌≡◌, sym, ap, subst, ◌∙◌}
 use mathlib.Core.Bool.{Bool}
 use mathlib.Core.List.{List}
-use mathlib.Core.Option.{Option, some, none}
+use Rattle.std.specs.Prelude.{Ok, Option, Some, None, Err}
 use Prim.Native.Nat.{ℕ, ◌+◌, ◌*◌, ◌≤◌}
 use native.Mathlib.Omega.{arith}
 use lib.ListN.{length}
@@ -20,18 +20,14 @@ use Rattle.forms.specs.declared.form.Form.{Form}
 use Rattle.forms.specs.declared.form.Form.TheVariants as form
 use Rattle.forms.proofs.WalkLaws.{members_later, cover_parts, walked_rest, lines_members}
 use Rattle.elimination.specs.Stack.{pairs_at}
-use Rattle.sheet.specs.Claims as code
-use Rattle.sheet.specs.declared.claims.Claim.{Claim}
 use Rattle.cover.specs.Covered.{CoverInput}
 use Rattle.admission.specs.Admission.{Decoded}
 use Rattle.kinds.specs.Outcomes.{DecidesForm}
 use Rattle.pairs.specs.Pairs.{ReadPairs}
 use Rattle.kinds.specs.Outcomes.{CoverAsked}
-use Rattle.answers.specs.Deciding.{claim_decision}
 use Rattle.answers.specs.declared.deciding.Key.TheVariants as key
-use Rattle.answers.specs.declared.deciding.Decision.{Decision}
-use Rattle.answers.specs.declared.deciding.Decision.TheVariants.{Refused}
-use Rattle.admission.specs.declared.refusal.Refusal.TheVariants.{UnreadableTerm}
+use Rattle.answers.specs.declared.deciding.Lines.TheVariants.{Claim}
+use Rattle.rules.specs.declared.Refusal.TheVariants.{UnreadableTerm}
 use Rattle.answers.proofs.Decides.{unreadable_decides, claim_decides}
 use Rattle.kinds.proofs.KindLaws.{read_decided}
 use Rattle.kinds.proofs.Solves.{read_whole, read_are}
@@ -47,7 +43,7 @@ cover_asked s c d f e h =
       members = ms;
       lines = lines;
       later = lines_members s d.at rest ms (walked_rest s c.at d.at w.2 es rest lines) there;
-      reads = h.reads ∙ ap some g;
+      reads = h.reads ∙ ap Some g;
       short = h.short;
       inside = w.0;
     }
@@ -55,15 +51,15 @@ cover_asked s c d f e h =
 module _ (s : Text) (at : ℕ) (a : CoverAsked s at) where
   -- the answer, by what the pairs read as
   cover_answer : (o : Option (List Pair)) → read_pairs a.entries ≡ o
-      → answer_of (asks_cover a.entries a.members) ≡ (o >>= λ ps. some (line (bytes "covered=") (claim (covered ps a.members))))
+      → answer_of (asks_cover a.entries a.members) ≡ (o >>= λ ps. Some (line (bytes "covered=") (claim (covered ps a.members))))
   unfolding answer_of
-  cover_answer o e = ap (λ (o : Option (List Pair)). o >>= λ ps. some (line (bytes "covered=") (claim (covered ps a.members)))) e
+  cover_answer o e = ap (λ (o : Option (List Pair)). o >>= λ ps. Some (line (bytes "covered=") (claim (covered ps a.members)))) e
 
-  pub cover_unread : {w : List ℕ} → read_pairs a.entries ≡ none → DecidesForm (read_sheet s) s w (Refused UnreadableTerm)
-  cover_unread e = read_decided s (asks_cover a.entries a.members) none a.reads (cover_answer none e) unreadable_decides
+  pub cover_unread : {w : List ℕ} → read_pairs a.entries ≡ None → DecidesForm (read_sheet s) s w (Err UnreadableTerm)
+  cover_unread e = read_decided s (asks_cover a.entries a.members) None a.reads (cover_answer None e) unreadable_decides
 
   module _ {w v : List ℕ} {i m end : ℕ} (r : ReadPairs s w v a.entries a.rest i m end) where
-    members_there : members_at s end ≡ some a.members
+    members_there : members_at s end ≡ Some a.members
     members_there = members_later s end a.rest a.members r.lines a.later
 
     pub cover_asks : 65536 * (count_of 58 s + 16) + 16 * length s ≤ length w → CoverInput s v m i end
@@ -72,7 +68,7 @@ module _ (s : Text) (at : ℕ) (a : CoverAsked s at) where
       members = a.members;
       reads = a.reads;
       short = a.short;
-      pairs = r.read ∙ ap some (sym (read_are r));
+      pairs = r.read ∙ ap Some (sym (read_are r));
       whole = read_whole r;
       later = members_there;
       inside = r.within;
@@ -80,10 +76,10 @@ module _ (s : Text) (at : ℕ) (a : CoverAsked s at) where
       words = omega (arith, r.len);
     }
 
-    pub cover_decided : {u : List ℕ} (c : Claim) {d : Decision} → ((ms : List Member) → members_at s end ≡ some ms → code.truth c ≡ covered (pairs_at s v i) ms)
-        → d ≡ claim_decision key.Covered c → DecidesForm (read_sheet s) s u d
-    cover_decided c h k =
-        read_decided s (asks_cover a.entries a.members) (some (line (bytes "covered=") (claim (code.truth c)))) a.reads
-        (cover_answer (some r.ps) r.read ∙ ap (λ (ps : List Pair). some (line (bytes "covered=") (claim (covered ps a.members)))) (sym (read_are r))
-        ∙ ap (λ (o : Option Bool). some (line (bytes "covered=") (claim o))) (sym (h a.members members_there)))
-        (claim_decides key.Covered c k)
+    pub cover_decided : {u : List ℕ} (c : Option Bool) → ((ms : List Member) → members_at s end ≡ Some ms → c ≡ covered (pairs_at s v i) ms)
+        → DecidesForm (read_sheet s) s u (Ok (Claim key.Covered c))
+    cover_decided c h =
+        read_decided s (asks_cover a.entries a.members) (Some (line (bytes "covered=") (claim c))) a.reads
+        (cover_answer (Some r.ps) r.read ∙ ap (λ (ps : List Pair). Some (line (bytes "covered=") (claim (covered ps a.members)))) (sym (read_are r))
+        ∙ ap (λ (o : Option Bool). Some (line (bytes "covered=") (claim o))) (sym (h a.members members_there)))
+        (claim_decides key.Covered c)

@@ -1,7 +1,8 @@
 -- What is decided of a sheet that was read as a form is what its kind's function decides; the words that each kind has.
 use mathlib.Core.Path.{◌≡◌, refl, sym, subst, ap, ◌∙◌}
 use mathlib.Core.List.{List, [], ◌∷◌}
-use mathlib.Core.Option.{Option, some, some-injective}
+use Rattle.std.specs.Prelude.{Option, Some, Result}
+use Rattle.laws.proofs.Basics.Somes.{some_injective}
 use Prim.Native.Nat.{ℕ, ◌+◌, ◌*◌, ◌≤◌}
 use lib.ListN.{length}
 use native.Mathlib.Omega.{arith}
@@ -21,35 +22,37 @@ use Rattle.forms.proofs.WalkLaws.{sound_member}
 use Rattle.variants.specs.Soundness.{OneMember}
 use Rattle.answers.specs.Deciding.{DecisionIs}
 use Rattle.admission.specs.Admission.{Decoded}
-use Rattle.answers.specs.declared.deciding.Decision.{Decision}
+use Rattle.answers.specs.declared.deciding.Lines.{Lines}
+use Rattle.rules.specs.declared.Refusal.{Refusal}
 use Rattle.answers.proofs.Decides.{decides_as}
 use Rattle.kinds.specs.Outcomes.{DecidesSheet, DecidesForm}
-use Rattle.rules.specs.RefusalNumbers.{number_for, UnreadableTerm}
+use Rattle.rules.specs.declared.Refusal.TheVariants.{UnreadableTerm}
+use Rattle.rules.specs.RefusalNumbers.{number_for}
 
 -- what is decided of a sheet that was read, and of the form that stands for it
-pub read_decided : (s : Text) (sheet : Sheet) (o : Option Text) {w : List ℕ} {d : Decision} → read_sheet s ≡ some sheet → answer_of sheet ≡ o → DecisionIs (given o (number_for UnreadableTerm)) s w d
+pub read_decided : (s : Text) (sheet : Sheet) (o : Option Text) {w : List ℕ} {d : Result Lines Refusal} → read_sheet s ≡ Some sheet → answer_of sheet ≡ o → DecisionIs (given o (number_for UnreadableTerm)) s w d
     → DecidesForm (read_sheet s) s w d
-read_decided s sheet o r e h other g = decides_as (ap answer_of (some-injective other sheet (sym g ∙ r)) ∙ e) h
+read_decided s sheet o r e h other g = decides_as (ap answer_of (some_injective other sheet (sym g ∙ r)) ∙ e) h
 
-pub form_decided : (s : Text) (f : Form) {w : List ℕ} {d : Decision} → Decoded s f → DecidesForm (read_sheet s) s w d → DecidesForm (sheet_of s f) s w d
+pub form_decided : (s : Text) (f : Form) {w : List ℕ} {d : Result Lines Refusal} → Decoded s f → DecidesForm (read_sheet s) s w d → DecidesForm (sheet_of s f) s w d
 form_decided s f x h sheet e = h sheet (x.reads ∙ sym x.decodes ∙ e)
 
-pub equal_decided : (s : Text) (l r : Place) (f : Form) {w : List ℕ} {d : Decision} → f ≡ form.Equal l r
+pub equal_decided : (s : Text) (l r : Place) (f : Form) {w : List ℕ} {d : Result Lines Refusal} → f ≡ form.Equal l r
     → DecidesSheet (asks_equal (text_of s l) (text_of s r)) s w d → DecidesForm (sheet_of s f) s w d
 unfolding sheet_of
 equal_decided s l r f {w} {d} e h sheet g =
     let z : asks_equal (text_of s l) (text_of s r) ≡ sheet = cc (ap (sheet_of s) e) in
     subst (λ (t : Sheet). DecidesSheet t s w d) z h
 
-pub reduce_decided : (s : Text) (t : Place) (f : Form) {w : List ℕ} {d : Decision} → f ≡ form.Reduce t
+pub reduce_decided : (s : Text) (t : Place) (f : Form) {w : List ℕ} {d : Result Lines Refusal} → f ≡ form.Reduce t
     → DecidesSheet (asks_reduce (text_of s t)) s w d → DecidesForm (sheet_of s f) s w d
 unfolding sheet_of
 reduce_decided s t f {w} {d} e h sheet g =
     let z : asks_reduce (text_of s t) ≡ sheet = cc (ap (sheet_of s) e) in
     subst (λ (t : Sheet). DecidesSheet t s w d) z h
 
-pub sound_decided : (s : Text) (t : Place) (c : Cursor) (f : Form) {w : List ℕ} {d : Decision} → f ≡ form.Sound t c
-    → ((m : Member) → members_at s c.at ≡ some (m ∷ []) → DecidesSheet (asks_sound (text_of s t) m) s w d) → DecidesForm (sheet_of s f) s w d
+pub sound_decided : (s : Text) (t : Place) (c : Cursor) (f : Form) {w : List ℕ} {d : Result Lines Refusal} → f ≡ form.Sound t c
+    → ((m : Member) → members_at s c.at ≡ Some (m ∷ []) → DecidesSheet (asks_sound (text_of s t) m) s w d) → DecidesForm (sheet_of s f) s w d
 sound_decided s t c f {w} {d} e h sheet g =
     let k = sound_member s t c sheet (ap (sheet_of s) (sym e) ∙ g) in
     subst (λ (z : Sheet). DecidesSheet z s w d) (sym k.1) (h k.0 k.2)

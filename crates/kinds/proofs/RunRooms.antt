@@ -2,7 +2,7 @@
 -- taken, and 12,293 cells for each name.
 use mathlib.Core.Path.{◌≡◌, refl}
 use mathlib.Core.List.{List}
-use mathlib.Core.Option.{some}
+use Rattle.std.specs.Prelude.{Some}
 use Prim.Native.Nat.{ℕ, ◌+◌, ◌*◌, ◌<◌, ◌≤◌, ◌^◌}
 use native.Mathlib.Omega.{arith}
 use lib.ListN.{length}
@@ -16,7 +16,7 @@ use Rattle.forms.proofs.WordLaws.{count_bound}
 use Rattle.laws.proofs.Solving.Weights.{weight_size}
 use Rattle.laws.proofs.Sheets.NamesRead.{sheet_names, sides_held, pairs_over, pairs_sizes}
 
-module _ (s : Text) (sheet : Sheet) (reads : read_sheet s ≡ some sheet) (ps : List Pair) (pairs : read_pairs (sheet_pairs sheet) ≡ some ps) (short : length s ≤ 65536)
+module _ (s : Text) (sheet : Sheet) (reads : read_sheet s ≡ Some sheet) (ps : List Pair) (pairs : read_pairs (sheet_pairs sheet) ≡ Some ps) (short : length s ≤ 65536)
     (free fuel words : ℕ) (used : free ≤ 1 + 2 * length s) (fuelled : fuel ≤ 65536) (enough : 65536 * (count_of 58 s + 16) + 16 * length s ≤ words) where
   pub pair_names : (ns : List Text) × (length ns ≤ count_of 58 s) × OverPairs ns ps
   pair_names =

@@ -2,7 +2,7 @@
 use mathlib.Core.Path.{◌≡◌, refl, sym, ap, subst, ◌∙◌}
 use mathlib.Core.Bool.{Bool, true, false}
 use mathlib.Core.List.{List, []}
-use mathlib.Core.Option.{Option, some, none}
+use Rattle.std.specs.Prelude.{Option, Some, None, Result, Err}
 use Prim.Native.Nat.{ℕ, ◌+◌, ◌*◌, ◌≤◌}
 use native.Mathlib.Omega.{arith}
 use lib.ListN.{length}
@@ -34,15 +34,15 @@ use Rattle.admission.specs.Admission.{Decoded}
 use Rattle.kinds.specs.Outcomes.{DecidesForm}
 use Rattle.pairs.specs.Pairs.{ReadPairs}
 use Rattle.kinds.specs.Outcomes.{asks, solve_by, Asked, told, verdict_of}
-use Rattle.answers.specs.declared.deciding.Decision.{Decision}
-use Rattle.answers.specs.declared.deciding.Decision.TheVariants.{Refused}
-use Rattle.admission.specs.declared.refusal.Refusal.TheVariants.{UnreadableTerm}
+use Rattle.answers.specs.declared.deciding.Lines.{Lines}
+use Rattle.rules.specs.declared.Refusal.{Refusal}
+use Rattle.rules.specs.declared.Refusal.TheVariants.{UnreadableTerm}
 use Rattle.answers.proofs.Decides.{unreadable_decides}
 use Rattle.kinds.proofs.KindLaws.{read_decided}
 use Rattle.kinds.proofs.RunRooms.{pair_names, run_words, run_cells}
 
 -- both kinds are answered in one way
-solving_answer : (b : Bool) (fuel : ℕ) (es : List Entry) → answer_of (asks b fuel es) ≡ (read_pairs es >>= λ ps. some (verdict_lines (solve_by b fuel ps)))
+solving_answer : (b : Bool) (fuel : ℕ) (es : List Entry) → answer_of (asks b fuel es) ≡ (read_pairs es >>= λ ps. Some (verdict_lines (solve_by b fuel ps)))
 unfolding answer_of
 solving_answer true fuel es = refl
 solving_answer false fuel es = refl
@@ -56,13 +56,13 @@ pub unify_asked : (s : Text) (fuel : ℕ) (c : Cursor) → (f : Form) → f ≡ 
 unify_asked s fuel c f e d =
     let h = unify_pairs s fuel c d.sheet (ap (sheet_of s) (sym e) ∙ d.decodes) in
     let w = subst (Within s) e d.within in
-    record { entries = h.0; lines = h.2; reads = d.reads ∙ ap some h.1; short = d.short; fuelled = w.0; inside = w.1 }
+    record { entries = h.0; lines = h.2; reads = d.reads ∙ ap Some h.1; short = d.short; fuelled = w.0; inside = w.1 }
 
 pub match_asked : (s : Text) (fuel : ℕ) (c : Cursor) → (f : Form) → f ≡ form.Match fuel c → Decoded s f → Asked s true fuel c.at
 match_asked s fuel c f e d =
     let h = match_pairs s fuel c d.sheet (ap (sheet_of s) (sym e) ∙ d.decodes) in
     let w = subst (Within s) e d.within in
-    record { entries = h.0; lines = h.2; reads = d.reads ∙ ap some h.1; short = d.short; fuelled = w.0; inside = w.1 }
+    record { entries = h.0; lines = h.2; reads = d.reads ∙ ap Some h.1; short = d.short; fuelled = w.0; inside = w.1 }
 
 -- the pairs that were read
 module _ {s : Text} {w v : List ℕ} {es : List Entry} {rest : List Text} {i m c : ℕ} (r : ReadPairs s w v es rest i m c) where
@@ -76,9 +76,9 @@ module _ {s : Text} {w v : List ℕ} {es : List Entry} {rest : List Text} {i m c
   read_fit = subst FitPairs (sym read_are) (pairs_fit es r.ps r.read)
 
 module _ (s : Text) (b : Bool) (fuel at : ℕ) (a : Asked s b fuel at) where
-  pub unread_decided : {w : List ℕ} → read_pairs a.entries ≡ none → DecidesForm (read_sheet s) s w (Refused UnreadableTerm)
+  pub unread_decided : {w : List ℕ} → read_pairs a.entries ≡ None → DecidesForm (read_sheet s) s w (Err UnreadableTerm)
   unread_decided e =
-      read_decided s (asks b fuel a.entries) none a.reads (solving_answer b fuel a.entries ∙ ap (λ (o : Option (List Pair)). o >>= λ ps. some (verdict_lines (solve_by b fuel ps))) e)
+      read_decided s (asks b fuel a.entries) None a.reads (solving_answer b fuel a.entries ∙ ap (λ (o : Option (List Pair)). o >>= λ ps. Some (verdict_lines (solve_by b fuel ps))) e)
       unreadable_decides
 
   module _ {w v : List ℕ} {i m c : ℕ} (r : ReadPairs s w v a.entries [] i m c) where
@@ -97,11 +97,11 @@ module _ (s : Text) (b : Bool) (fuel at : ℕ) (a : Asked s b fuel at) where
         })
 
     -- the answer, from what the run gave
-    pub solved_decided : (u : List ℕ) (y : Outcome) {d : Decision} → Answers s v u m (solve_by b fuel (pairs_at s v i)) y → d ≡ verdict_of y → DecidesForm (read_sheet s) s u d
+    pub solved_decided : (u : List ℕ) (y : Outcome) {d : Result Lines Refusal} → Answers s v u m (solve_by b fuel (pairs_at s v i)) y → d ≡ verdict_of y → DecidesForm (read_sheet s) s u d
     solved_decided u y {d} h k =
-        read_decided s (asks b fuel a.entries) (some (verdict_lines (told s u y))) a.reads
-        (solving_answer b fuel a.entries ∙ ap (λ (o : Option (List Pair)). o >>= λ ps. some (verdict_lines (solve_by b fuel ps))) r.read
-        ∙ ap (λ (ps : List Pair). some (verdict_lines (solve_by b fuel ps))) (sym (read_are r)) ∙ ap (λ (z : Answer). some (verdict_lines z)) (is_told y h))
+        read_decided s (asks b fuel a.entries) (Some (verdict_lines (told s u y))) a.reads
+        (solving_answer b fuel a.entries ∙ ap (λ (o : Option (List Pair)). o >>= λ ps. Some (verdict_lines (solve_by b fuel ps))) r.read
+        ∙ ap (λ (ps : List Pair). Some (verdict_lines (solve_by b fuel ps))) (sym (read_are r)) ∙ ap (λ (z : Answer). Some (verdict_lines z)) (is_told y h))
         (subst (DecisionIs (passed (verdict_lines (told s u y))) s u) (sym k) (verdict_decides y h))
       where
         is_told : (y : Outcome) → Answers s v u m (solve_by b fuel (pairs_at s v i)) y → solve_by b fuel (pairs_at s v i) ≡ told s u y

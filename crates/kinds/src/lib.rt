@@ -3,7 +3,6 @@
 #![tactic(auto)]
 
 ghost use Rattle.std.specs.Prelude.{◌≡◌, [], ◌∷◌, ◌+◌, ◌*◌, ◌<◌, ◌≤◌, length};
-ghost use Rattle.std.proofs.Math.Option.{some};
 ghost use Rattle.rules.specs.Text.{count_of};
 ghost use Rattle.rules.specs.Sheet.{Member, asks_equal, asks_reduce, asks_sound, read_sheet};
 ghost use Rattle.forms.specs.Members.{members_at};
@@ -16,9 +15,8 @@ ghost use Rattle.unifier.specs.Running.{Roomy, Answers as Solves};
 ghost use Rattle.variants.specs.Soundness.{OneMember};
 ghost use Rattle.kinds.specs.Outcomes.{solve_by, Asked, CoverAsked, CompleteAsked, verdict_of, DecidesSheet, DecidesForm};
 
-use admission::refusal::Refusal;
-use answers::deciding::{Decision, Key, Lines, Word, claimed};
-use certificate::{Equivalence, equivalent_texts};
+use answers::deciding::{Decision, Key, Lines};
+use certificate::equivalent_texts;
 use complete::completing::complete;
 use cover::covered::covered;
 use forms::form::Form;
@@ -26,6 +24,7 @@ use matching::matcher;
 use pairs::{Pairs, read_pairs};
 use reading::{Parsed, parse};
 use reduction::normalizing::normalize;
+use rules::Refusal;
 use sheet::{Cursor, Place, part};
 use text::count_of;
 use unifier::unifying::{Outcome, unify};
@@ -37,22 +36,13 @@ fn equal(sheet: &[u8], work: &mut [u32], left: Place, right: Place) -> Decision
     requires inside { Inside sheet.now left × Inside sheet.now right }
     ensures { DecidesSheet (asks_equal (text_of sheet.now left) (text_of sheet.now right)) sheet.now work.new result }
 {
-    let a = left.from;
-    let b = left.to;
-    let c = right.from;
-    let d = right.to;
-    let found = equivalent_texts(sheet, work, 0, a, b, c, d);
-    match found {
-        Equivalence::Yes => Decision::Given(Lines::Constant {
-            key: Key::Equal,
-            word: Word::Yes,
-        }),
-        Equivalence::No => Decision::Given(Lines::Constant {
-            key: Key::Equal,
-            word: Word::No,
-        }),
-        Equivalence::Unreadable => Decision::Refused(Refusal::UnreadableTerm),
-    }
+    let Some(same) = equivalent_texts(sheet, work, 0, left, right) else {
+        return Err(Refusal::UnreadableTerm);
+    };
+    Ok(Lines::Claim {
+        key: Key::Equal,
+        claim: Some(same),
+    })
 }
 
 // Kind `reduce`. Cells start at 1.
@@ -65,12 +55,12 @@ fn reduce(sheet: &[u8], work: &mut [u32], term: Place) -> Decision
     let to = term.to;
     let parsed = parse(sheet, work, 1, from, to);
     let Parsed::Tree { index, free } = parsed else {
-        return Decision::Refused(Refusal::UnreadableTerm);
+        return Err(Refusal::UnreadableTerm);
     };
     let normal = normalize(sheet, work, free, index, 0);
     let i = normal.index;
     let end = normal.free;
-    Decision::Given(Lines::Term {
+    Ok(Lines::Term {
         key: Key::Normal,
         free: end,
         index: i,
@@ -106,13 +96,13 @@ fn verdict(outcome: Outcome) -> Decision
             bindings,
             free,
             spent,
-        } => Decision::Given(Lines::Solved {
+        } => Ok(Lines::Solved {
             bindings,
             free,
             spent,
         }),
-        Outcome::Failed { spent } => Decision::Given(Lines::Failed { spent }),
-        Outcome::Unsupported { spent } => Decision::Given(Lines::Unsupported { spent }),
+        Outcome::Failed { spent } => Ok(Lines::Failed { spent }),
+        Outcome::Unsupported { spent } => Ok(Lines::Unsupported { spent }),
     }
 }
 
@@ -129,7 +119,7 @@ fn solving(sheet: &[u8], work: &mut [u32], fuel: usize, pairs: Cursor, matching:
         next: _,
     } = read
     else {
-        return Decision::Refused(Refusal::UnreadableTerm);
+        return Err(Refusal::UnreadableTerm);
     };
     let outcome = solve(sheet, work, free, index, fuel, matching);
     verdict(outcome)
@@ -140,16 +130,19 @@ fn sound_of(sheet: &[u8], work: &mut [u32], term: Place, member: Cursor) -> Deci
     requires sheet_len_bound { (length sheet.now ≤ 65536) × (1048576 + 16 * length sheet.now ≤ length work.old) }
     requires inside { Inside sheet.now term }
     requires one_member { OneMember sheet.now member.at }
-    ensures { (m : Member) → members_at sheet.now member.at ≡ some (m ∷ []) → DecidesSheet (asks_sound (text_of sheet.now term) m) sheet.now work.new result }
+    ensures { (m : Member) → members_at sheet.now member.at ≡ Some (m ∷ []) → DecidesSheet (asks_sound (text_of sheet.now term) m) sheet.now work.new result }
 {
     let from = term.from;
     let to = term.to;
     let parsed = parse(sheet, work, 1, from, to);
     let Parsed::Tree { index, free } = parsed else {
-        return Decision::Refused(Refusal::UnreadableTerm);
+        return Err(Refusal::UnreadableTerm);
     };
     let claim = sound(sheet, work, free, index, member);
-    claimed(Key::Sound, claim)
+    Ok(Lines::Claim {
+        key: Key::Sound,
+        claim,
+    })
 }
 
 // Kind `cover`. The members stand where the pairs end.
@@ -160,10 +153,13 @@ fn cover_of(sheet: &[u8], work: &mut [u32], pairs: Cursor) -> Decision
 {
     let read = read_pairs(sheet, work, pairs);
     let Pairs::Stack { index, free, next } = read else {
-        return Decision::Refused(Refusal::UnreadableTerm);
+        return Err(Refusal::UnreadableTerm);
     };
     let claim = covered(sheet, work, free, index, next);
-    claimed(Key::Covered, claim)
+    Ok(Lines::Claim {
+        key: Key::Covered,
+        claim,
+    })
 }
 
 // Kind `complete`. Cells start at 1. A scheme has at most the names of the term, and two for each of its brackets.
@@ -176,12 +172,15 @@ fn complete_of(sheet: &[u8], work: &mut [u32], term: Place, members: Cursor) -> 
     let to = term.to;
     let parsed = parse(sheet, work, 1, from, to);
     let Parsed::Tree { index, free } = parsed else {
-        return Decision::Refused(Refusal::UnreadableTerm);
+        return Err(Refusal::UnreadableTerm);
     };
     let text = part(sheet, from, to);
     let named = count_of(text, 58) + 2 * count_of(text, 40);
     let claim = complete(sheet, work, free, index, named, members);
-    claimed(Key::Complete, claim)
+    Ok(Lines::Claim {
+        key: Key::Complete,
+        claim,
+    })
 }
 
 // A sheet that is admitted, by its kind. What was decided may stand in the work area; its other words are free afterwards.

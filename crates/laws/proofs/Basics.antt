@@ -1,5 +1,6 @@
 -- Tests, chains of readings, the order of texts, the spelling of names and of numbers.
 pub mod Tests
+pub mod Somes
 pub mod Options
 pub mod Order
 pub mod Spelling

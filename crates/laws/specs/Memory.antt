@@ -1,7 +1,6 @@
 -- What the memory of a run is measured by: the names of the variables in its trees, and the weight of its waiting pairs (01, "A
 -- sheet comes in": the words needed).
-use Rattle.std.specs.Prelude.{◌≡◌, Bool, true, cond, List, [], ◌∷◌, ◌++◌, ℕ, zero, suc, ◌+◌, length}
-use Rattle.std.proofs.Math.Option.{Option, some, none as nothing}
+use Rattle.std.specs.Prelude.{◌≡◌, Bool, true, cond, List, [], ◌∷◌, ◌++◌, ℕ, zero, suc, ◌+◌, length, Option, Some, None}
 use Rattle.rules.specs.Bytes.{Text, same}
 use Rattle.rules.specs.Text.{bytes, is_one_of}
 use Rattle.rules.specs.Tree.{Tree, variable, atom, apply, Trees, none, more, size, sizes, variable_names}
@@ -9,7 +8,8 @@ use Rattle.rules.specs.Substitution.{Binding, Pair}
 use Rattle.rules.specs.Sums.{summands}
 use Rattle.rules.specs.Solving.{cancel}
 use Rattle.rules.specs.Reading.{parse}
-use Rattle.rules.specs.Reduction.{Rule, rule_named}
+use Rattle.rules.specs.declared.Rule.{Rule}
+use Rattle.rules.specs.Reduction.{rule_named}
 use Rattle.laws.specs.Schemes.{root_count}
 use Rattle.rules.specs.Sheet.{Sheet, Entry, Member, asks_equal, asks_unify, asks_match, asks_reduce, asks_cover, asks_sound, asks_complete, member_texts}
 
@@ -53,8 +53,8 @@ some_children none = 0
 some_children (more t ts) = 1
 
 abbrev pub rule_node : Option Rule → Trees → ℕ
-rule_node nothing ts = 0
-rule_node (some r) ts = some_children ts
+rule_node None ts = 0
+rule_node (Some r) ts = some_children ts
 
 -- the applications of the rules' functions that have children: a scheme takes at most two fresh variables for each
 unfoldable mutual
@@ -139,7 +139,7 @@ sheet_pairs (asks_complete t ms) = []
 unfoldable pub names_read : List Text → List Text
 unfolding parse variable_names
 names_read [] = []
-names_read (s ∷ ss) = elim (parse s) [ nothing ↦ names_read ss | some t ↦ variable_names t ++ names_read ss ]
+names_read (s ∷ ss) = elim (parse s) [ None ↦ names_read ss | Some t ↦ variable_names t ++ names_read ss ]
 
 -- Weights
 

@@ -1,8 +1,7 @@
 -- The schemes of a term one at a time: the i-th is made by dividing i by the counts of choices, in which the root's choice varies
 -- fastest, then that of the last child; they are judged one after the other (01, "Reduction and variants": `schemes`, `complete`;
 -- variants.rs).
-use Rattle.std.specs.Prelude.{ℕ, zero, suc, ◌+◌, ◌/◌, ◌%◌, Bool, true, false, List, [], ◌∷◌, drop}
-use Rattle.std.proofs.Math.Option.{Option, some, none as nothing}
+use Rattle.std.specs.Prelude.{ℕ, zero, suc, ◌+◌, ◌/◌, ◌%◌, Bool, true, false, List, [], ◌∷◌, drop, Option, Some, None}
 use Rattle.std.proofs.Math.ListN.{get_or}
 use Rattle.rules.specs.Bytes.{Text}
 use Rattle.rules.specs.Maybe.{◌>>=◌}
@@ -53,19 +52,19 @@ pub data Judgement : Type 0 where
   settled : Option Bool → Judgement
 
 abbrev pub answered : Judgement → Option Bool
-answered pending = some true
+answered pending = Some true
 answered (settled r) = r
 
 -- whether an instance is normal, and whether some member generalizes it
 abbrev pub judge_tests : Bool → Bool → Judgement
 judge_tests false b = pending
 judge_tests true true = pending
-judge_tests true false = settled (some false)
+judge_tests true false = settled (Some false)
 
 unfoldable pub judge_instance : List Text → List Variant → List Binding → Option Tree → Judgement
 unfolding equivalent normalize generalized
-judge_instance xs ms bs nothing = settled nothing
-judge_instance xs ms bs (some v) = judge_tests (equivalent v (normalize v)) (generalized xs ms bs v)
+judge_instance xs ms bs None = settled None
+judge_instance xs ms bs (Some v) = judge_tests (equivalent v (normalize v)) (generalized xs ms bs v)
 
 -- a solved scheme; the first that settles the answer counts
 unfoldable pub judge : List Text → List Variant → List Binding → Tree → Judgement → Judgement
@@ -75,9 +74,9 @@ judge xs ms bs value (settled r) = settled r
 
 -- none where the scheme is unsupported
 abbrev pub judge_verdict : List Text → List Variant → Tree → Verdict → Judgement → Option Judgement
-judge_verdict xs ms value (solved bs) j = some (judge xs ms bs value j)
-judge_verdict xs ms value failed j = some j
-judge_verdict xs ms value unsupported j = nothing
+judge_verdict xs ms value (solved bs) j = Some (judge xs ms bs value j)
+judge_verdict xs ms value failed j = Some j
+judge_verdict xs ms value unsupported j = None
 
 -- the answer from such a judgement on, through these schemes
 unfoldable pub judged : Tree → List Text → List Variant → List Scheme → Judgement → Option Bool

@@ -3,8 +3,8 @@ use Prim.Native.Nat.{ℕ, ◌+◌, ◌-◌, ◌<◌, ◌≤◌}
 use native.Mathlib.Omega.{arith}
 use mathlib.Core.Path.{◌≡◌, refl, sym, ap, ◌∙◌}
 use mathlib.Core.List.{[], ◌∷◌}
-use mathlib.Core.Option.{Option, some, none as nothing}
-use mathlib.Core.Logic.{⊎_elim, inl, inr}
+use Rattle.std.specs.Prelude.{Option, Some, None}
+use mathlib.Core.Logic.{inl, inr}
 use types.Run.{OneOf}
 use mathlib.Core.Bool.{Bool, true, false, cond}
 use lib.Dec.{eqb}
@@ -13,9 +13,11 @@ use lib.Seq.{take_all}
 use borrow.Author.Tests.{eq-eqb, ne_eqb}
 use Rattle.rules.specs.Bytes.{Text}
 use Rattle.rules.specs.Text.{count_of}
-use Rattle.rules.specs.Names.{letter, letter_name}
+use Rattle.rules.specs.Names.{letter}
 use Rattle.rules.specs.Tree.{variable, apply, none}
-use Rattle.rules.specs.Sorts.{Sort, Pub, Fresh, Msg, TamNat, Node, sort_named, variable_sort}
+use Rattle.rules.specs.declared.Sort.{Sort}
+use Rattle.rules.specs.declared.Sort.TheVariants.{Pub, Fresh, Msg, TamNat, Node}
+use Rattle.rules.specs.Sorts.{sort_named, variable_sort}
 use Rattle.rules.specs.Reading.{leaf}
 use Rattle.text.proofs.Loops.{drop_next}
 use Rattle.tree.specs.Cells.{kind_of_sort, variable_kind, made}
@@ -56,12 +58,12 @@ leaf_by (b ∷ n) = go (eqb b 58) refl (leaf_by n)
     go false e (sorted p q) = sorted (rw e (omega arith)) (rw e q)
 
 pub kind_some : (o : Option Sort) → (0 < kind_of_sort o) × (kind_of_sort o < 7)
-kind_some nothing = (omega arith, omega arith)
-kind_some (some Pub) = (omega arith, omega arith)
-kind_some (some Fresh) = (omega arith, omega arith)
-kind_some (some Msg) = (omega arith, omega arith)
-kind_some (some TamNat) = (omega arith, omega arith)
-kind_some (some Node) = (omega arith, omega arith)
+kind_some None = (omega arith, omega arith)
+kind_some (Some Pub) = (omega arith, omega arith)
+kind_some (Some Fresh) = (omega arith, omega arith)
+kind_some (Some Msg) = (omega arith, omega arith)
+kind_some (Some TamNat) = (omega arith, omega arith)
+kind_some (Some Node) = (omega arith, omega arith)
 
 -- the tree of a leaf's cell
 pub leaf_made : (n : Text) → made (leaf_kind n) n none ≡ leaf n
@@ -81,23 +83,7 @@ leaf_sorted n h = go (leaf_by n)
     go (plain p q) = absurd (omega arith)
     go (sorted p q) = q
 
--- one byte
-pub no_letter : (n : Text) → (length n ≡ 1 → ⊥) → false ≡ letter_name n
-unfolding letter_name
-no_letter [] h = refl
-no_letter (b ∷ []) h = absurd (h refl)
-no_letter (b ∷ c ∷ n) h = refl
-
-pub one_letter : (n : Text) → length n ≡ 1 → letter (get_or n 0 0) ≡ letter_name n
-unfolding letter_name
-one_letter [] h = absurd (omega arith)
-one_letter (b ∷ []) h = refl
-one_letter (b ∷ c ∷ n) h = absurd (omega arith)
-
-pub a_letter : (b : ℕ) → OneOf (99 ∷ 102 ∷ 110 ∷ 112 ∷ 116 ∷ []) b → true ≡ letter b
-unfolding letter
-a_letter b h = ⊎_elim (λ e. rw e) (⊎_elim (λ e. rw e) (⊎_elim (λ e. rw e) (⊎_elim (λ e. rw e) (λ e. rw e)))) h
-
+-- no letter of atoms
 pub other_letter : (b : ℕ) → (OneOf (99 ∷ 102 ∷ 110 ∷ 112 ∷ 116 ∷ []) b → ⊥) → false ≡ letter b
 unfolding letter
 other_letter b h =

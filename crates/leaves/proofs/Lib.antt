@@ -1,1 +1,3 @@
 pub mod LeafLaws
+pub mod SortNames
+pub mod LeafSorts

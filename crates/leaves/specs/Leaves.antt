@@ -1,6 +1,8 @@
--- The kind of a leaf's cell, by its name. Definitions only.
+-- What a leaf is, by its name. Definitions only.
 use Rattle.std.specs.Prelude.{ℕ, cond, [], ◌∷◌, eqb}
+use Rattle.std.specs.Prelude.{Option, Some, None, position}
 use Rattle.rules.specs.Bytes.{Text}
+use Rattle.rules.specs.declared.Sort.{Sort}
 use Rattle.rules.specs.Sorts.{sort_named}
 use Rattle.tree.specs.Cells.{kind_of_sort}
 
@@ -8,3 +10,12 @@ use Rattle.tree.specs.Cells.{kind_of_sort}
 unfoldable pub leaf_kind : Text → ℕ
 leaf_kind [] = 0
 leaf_kind (b ∷ n) = cond (eqb b 58) (kind_of_sort (sort_named n)) (leaf_kind n)
+
+-- where the first colon stands
+abbrev pub colon_in : Text → Option ℕ
+colon_in n = position (λ (b : ℕ). eqb b 58) n
+
+-- nothing for a name without a colon, else the sort of a variable
+unfoldable pub leaf_sort : Text → Option (Option Sort)
+leaf_sort [] = None
+leaf_sort (b ∷ n) = cond (eqb b 58) (Some (sort_named n)) (leaf_sort n)

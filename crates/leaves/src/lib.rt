@@ -1,6 +1,8 @@
 // Names of leaves and of atoms.
 #![tactic(auto)]
 
+pub mod sorts; // sorts.rt: the sort of a leaf that is a variable
+
 ghost use Rattle.std.specs.Prelude.{◌≡◌, ◌<◌};
 ghost use Rattle.rules.specs.Names.{digit, letter, letter_name, all};
 ghost use Rattle.rules.specs.Sorts.{sort_named};
@@ -49,34 +51,16 @@ pub fn leaf_kind(name: &[u8]) -> usize
     APPLICATION
 }
 
-fn is_letter(b: u8) -> bool
-    ensures { result ≡ letter b }
-{
-    match b {
-        b'p' | b'f' | b'c' | b't' | b'n' => true,
-        _ => false,
-    }
-}
-
 // Whether a name is one of the letters of atoms.
+#[tactic(auto, unfolding(rules::specs::Names::letter_name, rules::specs::Names::letter))]
 pub fn is_letter_name(name: &[u8]) -> bool
     ensures { result ≡ letter_name name.now }
 {
-    if name.len() != 1 {
-        return false;
-    }
-    is_letter(name[0])
+    matches!(name, [b'p' | b'f' | b'c' | b't' | b'n'])
 }
 
 pub fn all_digits(name: &[u8]) -> bool
     ensures { result ≡ all digit name.now }
 {
-    let mut i = 0;
-    while i < name.len() {
-        if !text::is_digit(name[i]) {
-            return false;
-        }
-        i += 1;
-    }
-    true
+    name.iter().all(|b| text::is_digit(*b))
 }

@@ -1,6 +1,8 @@
 // Matching of trees in a lent work area (unifier.rs, `matcher`): pattern variables are bound, subject variables are constants.
 #![tactic(auto)]
 
+pub mod areas; // areas.rt: matching in an area
+
 ghost use Rattle.std.specs.Prelude.{◌+◌, ◌*◌, ◌<◌, ◌≤◌};
 ghost use Rattle.rules.specs.Matching.{matcher};
 ghost use Rattle.laws.specs.Memory.{weight};

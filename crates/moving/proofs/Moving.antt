@@ -3,7 +3,7 @@ use Prim.Native.Nat.{ℕ, ◌+◌, ◌-◌, ◌*◌, ◌<◌, ◌≤◌}
 use mathlib.Core.Path.{◌≡◌, refl, sym, ap, ap₂, ◌∙◌}
 use mathlib.Core.Bool.{Bool, true, false}
 use mathlib.Core.List.{List, ◌∷◌}
-use mathlib.Core.Option.{Option, some, none as nothing}
+use Rattle.std.specs.Prelude.{Option, Some, None}
 use native.Mathlib.Omega.{arith}
 use Rattle.rules.specs.Bytes.{Text, same}
 use Rattle.rules.specs.Tree.{Tree, Trees, more, head, children, tamtplus}
@@ -81,12 +81,12 @@ module _ {s : Text} {w : List ℕ} {n : ℕ} (a : Arena s w n) (rest made : ℕ)
 -- A pattern variable
 
 -- one that is bound
-module _ {o : Option Tree} {t : Tree} (x : Text) (u : Tree) (ps : List Pair) (bs : List Binding) (e : o ≡ some t) {b : Bool} (f : b ≡ equivalent t u) where
+module _ {o : Option Tree} {t : Tree} (x : Text) (u : Tree) (ps : List Pair) (bs : List Binding) (e : o ≡ Some t) {b : Bool} (f : b ≡ equivalent t u) where
   pub bound_agrees : match_key o x u ps bs ≡ agree b ps bs
   bound_agrees = rw (e, f)
 
 -- that of cell key, not bound yet, with its kind r as the code holds it
-module _ {o : Option Tree} (s : Text) (w : List ℕ) (key : ℕ) (u : Tree) (ps : List Pair) (bs : List Binding) (none_yet : o ≡ nothing) (k₀ : 0 < kind_of w key) (k₁ : kind_of w key < 7)
+module _ {o : Option Tree} (s : Text) (w : List ℕ) (key : ℕ) (u : Tree) (ps : List Pair) (bs : List Binding) (none_yet : o ≡ None) (k₀ : 0 < kind_of w key) (k₁ : kind_of w key < 7)
     (h : Cell s w key) {r : ℕ} (e : r ≡ kind_of w key) where
   pub new_sortless : r ≡ 6 → match_key o (name_at s w key) u ps bs ≡ clash
   new_sortless f = rw (none_yet, kind_unknown r (variable_sort (name_at s w key)) (e ∙ h.sorted k₀ k₁) f)

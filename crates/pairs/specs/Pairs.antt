@@ -1,6 +1,6 @@
 -- The pairs of lines `left`, `right` of a sheet as trees in cells: what reading one of them and all of them gives. Definitions only.
 use Rattle.std.specs.Prelude.{ℕ, ◌+◌, ◌*◌, ◌-◌, ◌<◌, ◌≤◌, ◌≡◌, List, length}
-use Rattle.std.proofs.Math.Option.{some, none as nothing}
+use Rattle.std.specs.Prelude.{Some, None}
 use Rattle.rules.specs.Bytes.{Text}
 use Rattle.rules.specs.Maybe.{◌>>=◌}
 use Rattle.rules.specs.Tree.{none, more, count}
@@ -29,7 +29,7 @@ pair_end free l r = free + 2 * (l.to - l.from) + 2 * (r.to - r.from) + 2
 -- the sides of a pair, the right one first, before the list from cell `list` on
 pub record ReadPair (s : Text) (w v : List ℕ) (free : ℕ) (l r : Place) (list i m : ℕ) : Type 0 where
   pub pair : Pair
-  pub read : read_pair (sides s l r) ≡ some pair
+  pub read : read_pair (sides s l r) ≡ Some pair
   pub arena : Arena s v m
   pub inside : i < m
   pub trees : trees_at s v i ≡ more pair.1 (more pair.0 (trees_at s w list))
@@ -38,11 +38,11 @@ pub record ReadPair (s : Text) (w v : List ℕ) (free : ℕ) (l r : Place) (list
 
 abbrev pub ReadsPair : Text → List ℕ → List ℕ → ℕ → Place → Place → ℕ → Added → Type 0
 ReadsPair s w v free l r list (added.List i m) = ReadPair s w v free l r list i m
-ReadsPair s w v free l r list added.Unreadable = (read_pair (sides s l r) ≡ nothing) × (length v ≡ length w)
+ReadsPair s w v free l r list added.Unreadable = (read_pair (sides s l r) ≡ None) × (length v ≡ length w)
 
 -- es are the pairs from a position on, and rest the lines after them
 abbrev pub PairsFrom : Text → ℕ → List Entry → List Text → Type 0
-PairsFrom s at es rest = (lines_at s at >>= pairs) ≡ some (es, rest)
+PairsFrom s at es rest = (lines_at s at >>= pairs) ≡ Some (es, rest)
 
 -- the lines from a position on start with pairs
 pub record PairsThere (s : Text) (at : ℕ) : Type 0 where
@@ -54,8 +54,8 @@ pub record PairsThere (s : Text) (at : ℕ) : Type 0 where
 -- for turning it round
 pub record Reversed (s : Text) (w v : List ℕ) (at i m c : ℕ) : Type 0 where
   pub ps : List Pair
-  pub read : (es : List Entry) (rest : List Text) → PairsFrom s at es rest → read_pairs es ≡ some ps
-  pub lines : (es : List Entry) (rest : List Text) → PairsFrom s at es rest → lines_at s c ≡ some rest
+  pub read : (es : List Entry) (rest : List Text) → PairsFrom s at es rest → read_pairs es ≡ Some ps
+  pub lines : (es : List Entry) (rest : List Text) → PairsFrom s at es rest → lines_at s c ≡ Some rest
   pub within : c ≤ length s
   pub arena : Arena s v m
   pub inside : i < m
@@ -65,13 +65,13 @@ pub record Reversed (s : Text) (w v : List ℕ) (at i m c : ℕ) : Type 0 where
 
 abbrev pub ReadsReversed : Text → List ℕ → List ℕ → ℕ → Pairs → Type 0
 ReadsReversed s w v at (Stack i m n) = Reversed s w v at i m n.at
-ReadsReversed s w v at Unreadable = ((es : List Entry) (rest : List Text) → PairsFrom s at es rest → read_pairs es ≡ nothing) × (length v ≡ length w)
+ReadsReversed s w v at Unreadable = ((es : List Entry) (rest : List Text) → PairsFrom s at es rest → read_pairs es ≡ None) × (length v ≡ length w)
 
 -- the list from cell i on is that of the pairs es; they end at c, where the lines rest follow
 pub record ReadPairs (s : Text) (w v : List ℕ) (es : List Entry) (rest : List Text) (i m c : ℕ) : Type 0 where
   pub ps : List Pair
-  pub read : read_pairs es ≡ some ps
-  pub lines : lines_at s c ≡ some rest
+  pub read : read_pairs es ≡ Some ps
+  pub lines : lines_at s c ≡ Some rest
   pub within : c ≤ length s
   pub arena : Arena s v m
   pub inside : i < m
@@ -81,7 +81,7 @@ pub record ReadPairs (s : Text) (w v : List ℕ) (es : List Entry) (rest : List 
 
 abbrev pub ReadAs : Text → List ℕ → List ℕ → List Entry → List Text → Pairs → Type 0
 ReadAs s w v es rest (Stack i m n) = ReadPairs s w v es rest i m n.at
-ReadAs s w v es rest Unreadable = (read_pairs es ≡ nothing) × (length v ≡ length w)
+ReadAs s w v es rest Unreadable = (read_pairs es ≡ None) × (length v ≡ length w)
 
 -- the pairs from a position on are read, or one of them is unreadable
 abbrev pub ReadsPairs : Text → List ℕ → List ℕ → ℕ → Pairs → Type 0

@@ -11,7 +11,7 @@ ghost use Rattle.substitution.specs.Building.{Made};
 ghost use Rattle.pairs.specs.Pairs.{pair_end, PairsThere, ReadsPair, ReadsReversed, ReadsPairs};
 
 use reading::{Parsed, parse};
-use sheet::{Cursor, PairLine, Place, next_pair};
+use sheet::{Cursor, Place, next_pair};
 use substitution::bindings::{Pushed, push_pair};
 use tree::cells::{next_of, share};
 
@@ -82,22 +82,19 @@ fn read_reversed(sheet: &[u8], work: &mut [u32], start: Cursor) -> Pairs
     let mut cursor = start;
     let mut list: usize = 0;
     let mut end: usize = 1;
-    loop {
-        let pair = next_pair(sheet, cursor);
-        let PairLine::Sides { left, right, next } = pair else {
-            return Pairs::Stack {
-                index: list,
-                free: end,
-                next: cursor,
-            };
-        };
-        let read = read_pair(sheet, work, end, left, right, list);
+    while let Some(pair) = next_pair(sheet, cursor) {
+        let read = read_pair(sheet, work, end, pair.left, pair.right, list);
         let Added::List { index, free } = read else {
             return Pairs::Unreadable;
         };
-        cursor = next;
+        cursor = pair.next;
         list = index;
         end = free;
+    }
+    Pairs::Stack {
+        index: list,
+        free: end,
+        next: cursor,
     }
 }
 

@@ -1,2 +1,3 @@
 pub mod Rendering
 pub mod Lengths
+pub mod Puts

@@ -1,8 +1,7 @@
 -- How a cell is written, by its kind.
-use Prim.Native.Nat.{ℕ, ◌+◌, ◌<◌, ◌≤◌}
+use Prim.Native.Nat.{ℕ, ◌<◌, ◌≤◌}
 use mathlib.Core.Path.{◌≡◌, refl, sym, ap, ◌∙◌}
 use mathlib.Core.List.{List, [], ◌∷◌, ◌++◌, append_assoc, append-nil}
-use lib.ListN.{length, length-append}
 use native.Mathlib.Omega.{arith}
 use native.Mathlib.Decide.{dec_lt}
 use borrow.Author.Tests.{eq-eqb, ne_eqb}
@@ -49,20 +48,9 @@ module _ (s : Text) (w : List ℕ) where
   unfolding render marked
   marked_more n k j m l p q e = ap (λ x. marked m (renders x)) (trees_more s l k p q) ∙ rw e
 
-  -- the lengths
-  pub atom_length : (k : ℕ) → 7 ≤ kind_of w k → length (render (tree_at s w k)) ≡ 3 + length (name_at s w k)
-  atom_length k p = omega (arith, ap length (render_atom k p), length-append (name_at s w k) (41 ∷ []))
-
-  pub apply_length : (k j : ℕ) → kind_of w k ≡ 0 → j ≡ first_of w k → length (render (tree_at s w k)) ≡ length (name_at s w k) + length (marked 40 (renders (trees_at s w j)))
-  apply_length k j e f = ap length (render_apply k j e f) ∙ length-append (name_at s w k) (marked 40 (renders (trees_at s w j)))
-
-  pub more_length : (n k j m : ℕ) → Links w n → 0 < k → k < n → j ≡ next_of w k
-      → length (marked m (renders (trees_at s w k))) ≡ 1 + length (render (tree_at s w k)) + length (marked 44 (renders (trees_at s w j)))
-  more_length n k j m l p q e = omega (arith, ap length (marked_more n k j m l p q e), length-append (render (tree_at s w k)) (marked 44 (renders (trees_at s w j))))
-
   -- the name comes first
-  pub render_name : (k : ℕ) → kind_of w k < 7 → length (name_at s w k) ≤ length (render (tree_at s w k))
+  pub render_name : (k : ℕ) → kind_of w k < 7 → (rest : Text) × (render (tree_at s w k) ≡ name_at s w k ++ rest)
   render_name k q = elim (dec_lt 0 (kind_of w k)) [
-    | yes p ↦ omega (arith, ap length (render_variable k p q))
-    | no p ↦ omega (arith, apply_length k (first_of w k) (omega arith) refl)
+    | yes p ↦ ([], render_variable k p q ∙ sym (append-nil (name_at s w k)))
+    | no p ↦ (marked 40 (renders (trees_at s w (first_of w k))), render_apply k (first_of w k) (omega arith) refl)
   ]

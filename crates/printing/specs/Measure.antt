@@ -1,7 +1,6 @@
 -- A length that is measured up to a room. Definitions only.
 use Rattle.std.specs.Prelude.{ℕ, cond, leb}
-use Rattle.printing.specs.declared.measuring.Measured.{Measured}
-use Rattle.printing.specs.declared.measuring.Measured.TheVariants.{Fits, Over}
+use Rattle.std.specs.Prelude.{Option, Some, None}
 
-unfoldable pub measured : ℕ → ℕ → Measured
-measured n room = cond (leb n room) (Fits n) Over
+unfoldable pub measured : ℕ → ℕ → Option ℕ
+measured n room = cond (leb n room) (Some n) None

@@ -1,5 +1,5 @@
-// Terms written out: how long a term's text is, and its bytes in an output.
+// Texts put at a place of an output: written there, or only measured.
 #![tactic(auto)]
 
-pub mod measuring; // measuring.rt: the length of a term's text
-pub mod writing; // writing.rt: a term written into an output
+pub mod putting; // putting.rt: a text, a name or a number at a place
+pub mod terms; // terms.rt: a term at a place

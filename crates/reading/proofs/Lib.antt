@@ -2,3 +2,4 @@ pub mod Grammar
 pub mod Stacks
 pub mod NamePlaces
 pub mod Rounds
+pub mod Keeping

@@ -3,7 +3,7 @@ use Prim.Native.Nat.{ℕ, zero, suc, ◌+◌, ◌*◌, ◌-◌, ◌<◌, ◌≤�
 use native.Mathlib.Omega.{arith}
 use mathlib.Core.Path.{◌≡◌, refl, sym, ap, ◌∙◌, subst}
 use mathlib.Core.List.{List}
-use mathlib.Core.Option.{some, none as nothing}
+use Rattle.std.specs.Prelude.{Some, None}
 use lib.ListN.{length, get_or, take, drop, set, length-set}
 use lib.Seq.{get_or-set_same, get_or-set_other}
 use Rattle.rules.specs.Bytes.{Text}
@@ -124,7 +124,7 @@ module _ {s : Text} {start limit from to : ℕ} (k : Task s start limit from to)
 
   module _ {v w : List ℕ} {free depth at : ℕ} (h : Wants s v start limit from to w free depth at) where
     -- no name
-    pub wants_out : {r : Symbol} → r ≡ symbol_at (take to s) at → ((f t : ℕ) → r ≡ Name f t → ⊥) → parse (part s from (to - from)) ≡ nothing
+    pub wants_out : {r : Symbol} → r ≡ symbol_at (take to s) at → ((f t : ℕ) → r ≡ Name f t → ⊥) → parse (part s from (to - from)) ≡ None
     wants_out f o = sym h.reads ∙ ap limited (not_name (take to s) at f (stack_at s w limit depth) o)
 
     module _ {a e : ℕ} (n : NameAt s to at a e) {r : Symbol} (f : r ≡ symbol_at (take to s) at) (g : r ≡ Name a e) where
@@ -193,23 +193,23 @@ module _ {s : Text} {start limit from to : ℕ} (k : Task s start limit from to)
 
   module _ {v w : List ℕ} {v_at free depth at : ℕ} (h : Has s v start limit from to v_at w free depth at) {r : Symbol} (f : r ≡ symbol_at (take to s) at) where
     -- no delimiter
-    pub has_out : (r ≡ Stop → ⊥) → ((t : ℕ) → r ≡ Comma t → ⊥) → ((t : ℕ) → r ≡ Shut t → ⊥) → parse (part s from (to - from)) ≡ nothing
+    pub has_out : (r ≡ Stop → ⊥) → ((t : ℕ) → r ≡ Comma t → ⊥) → ((t : ℕ) → r ≡ Shut t → ⊥) → parse (part s from (to - from)) ≡ None
     has_out no_stop no_comma no_shut = sym h.reads ∙ ap limited (no_delimiter (take to s) at f (stack_at s w limit depth) no_stop no_comma no_shut)
 
     bare_bottom : depth ≡ 0 → stack_at s w limit depth ≡ bottom (trees_at s w (get_or w (4 * limit) 0))
     unfolding stack_at
     bare_bottom e = ap (stack_at s w limit) e
 
-    pub comma_out : (t : ℕ) → depth ≡ 0 → r ≡ Comma t → parse (part s from (to - from)) ≡ nothing
+    pub comma_out : (t : ℕ) → depth ≡ 0 → r ≡ Comma t → parse (part s from (to - from)) ≡ None
     comma_out t e g =
         sym h.reads ∙ ap (λ (y : Stack). limited (machine_reading (take to s) at (has y))) (bare_bottom e) ∙ ap limited (comma_bare (take to s) at f t (trees_at s w (get_or w (4 * limit) 0)) g)
 
-    pub shut_alone : (t : ℕ) → depth ≡ 0 → r ≡ Shut t → parse (part s from (to - from)) ≡ nothing
+    pub shut_alone : (t : ℕ) → depth ≡ 0 → r ≡ Shut t → parse (part s from (to - from)) ≡ None
     shut_alone t e g =
         sym h.reads ∙ ap (λ (y : Stack). limited (machine_reading (take to s) at (has y))) (bare_bottom e) ∙ ap limited (shut_bare (take to s) at f t (trees_at s w (get_or w (4 * limit) 0)) g)
 
     -- the end
-    pub stop_out : (depth ≡ 0 → ⊥) → r ≡ Stop → parse (part s from (to - from)) ≡ nothing
+    pub stop_out : (depth ≡ 0 → ⊥) → r ≡ Stop → parse (part s from (to - from)) ≡ None
     stop_out e g =
         sym h.reads ∙ ap (λ (y : Stack). limited (machine_reading (take to s) at (has y))) (top_level s w limit depth e) ∙ ap limited (stop_turn (take to s) at f (has (level _ _ _)) g)
 
@@ -229,7 +229,7 @@ module _ {s : Text} {start limit from to : ℕ} (k : Task s start limit from to)
         record {
           reads =
               sym h.reads ∙ ap (λ (y : Stack). limited (machine_reading (take to s) at (has y))) b ∙ ap limited (stop_turn (take to s) at f (has (bottom (trees_at s w (get_or w (4 * limit) 0)))) g)
-              ∙ ap (λ (y : Trees). limited (single y)) one.1 ∙ small_enough t one.2 ∙ ap some (sym tt);
+              ∙ ap (λ (y : Trees). limited (single y)) one.1 ∙ small_enough t one.2 ∙ ap Some (sym tt);
           link = no_cell l (next_of w index) (omega (arith, l.next index p (omega arith))) (let y = sym m ∙ ts in cc);
           placed = (p, omega arith);
           arena = st.held.arena;
@@ -305,7 +305,7 @@ module _ {s : Text} {start limit from to : ℕ} (k : Task s start limit from to)
               ∙ h.reads;
         }
 
-    pub shut_refused : (t : ℕ) → (depth ≡ 0 → ⊥) → r ≡ Shut t → NoTree (closed_level s w limit (depth - 1)) → parse (part s from (to - from)) ≡ nothing
+    pub shut_refused : (t : ℕ) → (depth ≡ 0 → ⊥) → r ≡ Shut t → NoTree (closed_level s w limit (depth - 1)) → parse (part s from (to - from)) ≡ None
     shut_refused t e g x =
         sym h.reads ∙ ap (λ (y : Stack). limited (machine_reading (take to s) at (has y))) (top_level s w limit depth e) ∙ shut_out (take to s) at f t _ _ (stack_at s w limit (depth - 1)) g x
 

@@ -1,6 +1,6 @@
 -- What the term reader gives: a tree in cells where the text reads, and where it does not no more than that. Definitions only.
 use Rattle.std.specs.Prelude.{ℕ, zero, suc, ◌+◌, ◌*◌, ◌-◌, ◌<◌, ◌≤◌, ◌≡◌, List, get_or}
-use Rattle.std.proofs.Math.Option.{some, none as nothing}
+use Rattle.std.specs.Prelude.{Some, None}
 use Rattle.rules.specs.Bytes.{Text}
 use Rattle.rules.specs.Reading.{parse}
 use Rattle.tree.specs.Cells.{part, next_of, tree_at}
@@ -24,7 +24,7 @@ stack_end start from to = 4 * limit_of start from to + 3 * (to - from) + 1
 
 -- the text from a position to another reads as the tree of a cell
 pub record Read (s : Text) (w v : List ℕ) (start from to index free : ℕ) : Type 0 where
-  pub reads : parse (part s from (to - from)) ≡ some (tree_at s v index)
+  pub reads : parse (part s from (to - from)) ≡ Some (tree_at s v index)
   pub link : next_of v index ≡ 0
   pub placed : (0 < index) × (index < free)
   pub arena : Arena s v free
@@ -34,4 +34,4 @@ pub record Read (s : Text) (w v : List ℕ) (start from to index free : ℕ) : T
 
 abbrev pub Parses : Text → List ℕ → List ℕ → ℕ → ℕ → ℕ → Parsed → Type 0
 Parses s w v start from to (Tree index free) = Read s w v start from to index free
-Parses s w v start from to Unreadable = (parse (part s from (to - from)) ≡ nothing) × Outside w v (4 * start) (stack_end start from to)
+Parses s w v start from to Unreadable = (parse (part s from (to - from)) ≡ None) × Outside w v (4 * start) (stack_end start from to)

@@ -1,6 +1,7 @@
 // The term reader (unifier.rs, `parse`): the term of a text as cells.
 #![tactic(auto)]
 
+pub mod areas; // areas.rt: the term reader over a work area
 pub mod stack;
 
 ghost use Rattle.std.specs.Prelude.{◌≡◌, ◌+◌, ◌*◌, ◌-◌, ◌<◌, ◌≤◌, ◌^◌, length, get_or, take};

@@ -2,61 +2,40 @@
 use Prim.Native.Nat.{ℕ, zero, suc, ◌<◌}
 use mathlib.Core.Path.{◌≡◌, refl, sym, ap, ap₂, ◌∙◌}
 use mathlib.Core.List.{List}
-use mathlib.Core.Option.{Option, some, none as nothing}
+use Rattle.std.specs.Prelude.{Option, Some, None}
 use native.Mathlib.Omega.{arith}
 use Rattle.rules.specs.Bytes.{Text}
 use Rattle.rules.specs.Maybe.{otherwise}
 use Rattle.rules.specs.Tree.{Tree, apply, Trees, none, more, size, sizes}
-use Rattle.rules.specs.Reduction.{Rule, fst, snd, flip, sdec, kdec, constant, rule_named, fire, root, normalize, normalizes}
+use Rattle.rules.specs.declared.Rule.{Rule}
+use Rattle.rules.specs.Reduction.{constant, rule_named, fire, root, normalize, normalizes}
 use Rattle.tree.specs.Cells.{kind_of, first_of, next_of, name_at, fixed_name, tree_at, trees_at}
 use Rattle.tree.specs.Arena.{Links, Arena, Below}
 use Rattle.tree.proofs.Decoding.{Agree, Kind, application, a_variable, an_atom, kind, same_name, tree_variable, tree_atom, tree_apply, trees_none, trees_more, frame_tree, frame_trees, size_leaf, size_apply, sizes_more}
 use Rattle.tree.proofs.Areas.{below_same, below_then}
 use Rattle.rewriting.specs.Building.{NewTree, NewTrees}
-use Rattle.rewriting.specs.Held.{coded_rule, held, fixed}
-use Rattle.rewriting.specs.declared.naming.RuleName.{RuleName}
-use Rattle.rewriting.specs.declared.naming.RuleName.TheVariants.{Fst, Snd, Flip, Sdec, Kdec, None}
+use Rattle.rewriting.specs.Held.{held, fixed}
 use Rattle.reduction.proofs.Placing.{new_later}
 
--- rules as the code has them
-abbrev pub decoded : RuleName → Option Rule
-decoded Fst = some fst
-decoded Snd = some snd
-decoded Flip = some flip
-decoded Sdec = some sdec
-decoded Kdec = some kdec
-decoded None = nothing
-
-decoded_coded : (o : Option Rule) → decoded (coded_rule o) ≡ o
-decoded_coded (some fst) = refl
-decoded_coded (some snd) = refl
-decoded_coded (some flip) = refl
-decoded_coded (some sdec) = refl
-decoded_coded (some kdec) = refl
-decoded_coded nothing = refl
-
-pub rule_is : {y z : RuleName} (o : Option Rule) → y ≡ coded_rule o → y ≡ z → o ≡ decoded z
-rule_is o e f = sym (decoded_coded o) ∙ ap decoded (sym e ∙ f)
-
 -- the root by its rule
-pub root_by : (f : Text) (ts : Trees) (r : Rule) (o : Option Tree) → rule_named f ≡ some r → fire r ts ≡ o → root f ts ≡ otherwise o (apply f ts)
+pub root_by : (f : Text) (ts : Trees) (r : Rule) (o : Option Tree) → rule_named f ≡ Some r → fire r ts ≡ o → root f ts ≡ otherwise o (apply f ts)
 unfolding root
 root_by f ts r o e g = rw (e, g)
 
-pub root_none : (f : Text) (ts : Trees) → rule_named f ≡ nothing → root f ts ≡ apply f ts
+pub root_none : (f : Text) (ts : Trees) → rule_named f ≡ None → root f ts ≡ apply f ts
 unfolding root
 root_none f ts e = rw e
 
-pub fixed_none : {c : ℕ} → c ≡ 0 → fixed c ≡ nothing
+pub fixed_none : {c : ℕ} → c ≡ 0 → fixed c ≡ None
 fixed_none e = rw e
 
-pub fixed_some : (c : ℕ) → 0 < c → fixed c ≡ some (constant (fixed_name c))
+pub fixed_some : (c : ℕ) → 0 < c → fixed c ≡ Some (constant (fixed_name c))
 fixed_some zero p = absurd (omega arith)
 fixed_some (suc c) p = refl
 
 held_frame : {w : List ℕ} {n : ℕ} (s : Text) (v : List ℕ) → Links w n → Agree w v n → (k : ℕ) → k < n → held s w k ≡ held s v k
 held_frame s v l e zero q = refl
-held_frame s v l e (suc k) q = ap some (frame_tree s v l e (suc k) (omega arith) q)
+held_frame s v l e (suc k) q = ap Some (frame_tree s v l e (suc k) (omega arith) q)
 
 -- what a node becomes, read in the area before its keys were compared
 pub becomes_later : {s : Text} {w v u : List ℕ} {n next j m : ℕ} (k i first : ℕ) → Arena s w n → Below w v n → k < n → i < n → first < n → next < n

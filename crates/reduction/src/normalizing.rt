@@ -9,7 +9,8 @@ ghost use Rattle.rewriting.specs.Building.{NewTree, NewTrees, key_room};
 use crate::building::{becomes, leaf};
 use rewriting::firing::{flipped, part_of};
 use rewriting::keys::decrypted;
-use rewriting::naming::{RuleName, rule_named};
+use rewriting::naming::rule_named;
+use rules::Rule;
 use substitution::bindings::Pushed;
 use substitution::instances::keep;
 use tree::cells::{APPLICATION, first_of, kind_of, next_of};
@@ -22,32 +23,33 @@ fn root(sheet: &[u8], work: &mut [u32], free: usize, i: usize, first: usize, nex
     requires key_room_in_bounds { (4 * free + 4 + key_room ≤ length work.old) × (free < 2 ^ 32) }
     ensures { NewTree sheet.now work.old work.new free 1 next (root (name_at sheet.now work.old i) (trees_at sheet.now work.old first)) result.index result.free }
 {
-    let rule = rule_named(sheet, work, free, i);
+    let Some(rule) = rule_named(sheet, work, free, i) else {
+        return becomes(sheet, work, free, 0, i, first, next);
+    };
     match rule {
-        RuleName::Fst => {
+        Rule::Fst => {
             let k = part_of(sheet, work, free, first, true);
             becomes(sheet, work, free, k, i, first, next)
         }
-        RuleName::Snd => {
+        Rule::Snd => {
             let k = part_of(sheet, work, free, first, false);
             becomes(sheet, work, free, k, i, first, next)
         }
-        RuleName::Flip => {
+        Rule::Flip => {
             let code = flipped(sheet, work, free, first);
             if code == 0 {
                 return becomes(sheet, work, free, 0, i, first, next);
             }
             leaf(sheet, work, free, code, next)
         }
-        RuleName::Sdec => {
+        Rule::Sdec => {
             let k = decrypted(sheet, work, free, first, false);
             becomes(sheet, work, free, k, i, first, next)
         }
-        RuleName::Kdec => {
+        Rule::Kdec => {
             let k = decrypted(sheet, work, free, first, true);
             becomes(sheet, work, free, k, i, first, next)
         }
-        RuleName::None => becomes(sheet, work, free, 0, i, first, next),
     }
 }
 

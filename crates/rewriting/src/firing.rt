@@ -1,6 +1,7 @@
 // What the rules without keys make of the children under their names, and the keys of ciphers.
 ghost use Rattle.std.specs.Prelude.{◌≡◌, ◌<◌};
-ghost use Rattle.rules.specs.Reduction.{fire, flip};
+ghost use Rattle.rules.specs.declared.Rule.TheVariants.{Flip};
+ghost use Rattle.rules.specs.Reduction.{fire};
 ghost use Rattle.tree.specs.Cells.{first_of, tree_at, trees_at};
 ghost use Rattle.tree.specs.Arena.{Arena};
 ghost use Rattle.rewriting.specs.Held.{held, held_two, fixed, side, sealed};
@@ -40,7 +41,7 @@ pub fn part_of(sheet: &[u8], work: &[u32], free: usize, i: usize, first: bool) -
 pub fn flipped(sheet: &[u8], work: &[u32], free: usize, i: usize) -> usize
     requires arena { Arena sheet.now work.now free }
     requires i_lt_free { i < free }
-    ensures { (result < 3) × (fire flip (trees_at sheet.now work.now i) ≡ fixed result) }
+    ensures { (result < 3) × (fire Flip (trees_at sheet.now work.now i) ≡ fixed result) }
 {
     let role = one_argument(sheet, work, free, i);
     if role == 0 {

@@ -4,44 +4,34 @@ ghost use Rattle.rules.specs.Reduction.{rule_named, arguments1, arguments2, argu
 ghost use Rattle.rules.specs.Maybe.{guard};
 ghost use Rattle.tree.specs.Cells.{first_of, name_at, tree_at, trees_at};
 ghost use Rattle.tree.specs.Arena.{Arena};
-ghost use Rattle.rewriting.specs.Held.{coded_rule, given_if, held, held_two};
+ghost use Rattle.rewriting.specs.Held.{given_if, held, held_two};
 
+use rules::Rule;
 use tree::cells::{APPLICATION, first_of, kind_of, next_of};
 use tree::names::name_is;
 
-// The rule of a name.
-#[derive(Clone, Copy)]
-pub enum RuleName {
-    Fst,
-    Snd,
-    Flip,
-    Sdec,
-    Kdec,
-    None,
-}
-
-// The rule of the name of cell k.
-pub fn rule_named(sheet: &[u8], work: &[u32], free: usize, k: usize) -> RuleName
+// The rule of the name of cell k, if it has one.
+pub fn rule_named(sheet: &[u8], work: &[u32], free: usize, k: usize) -> Option<Rule>
     requires arena { Arena sheet.now work.now free }
     requires k_nonzero { (0 < k) × (k < free) }
-    ensures { result ≡ coded_rule (rule_named (name_at sheet.now work.now k)) }
+    ensures { result ≡ rule_named (name_at sheet.now work.now k) }
 {
     if name_is(sheet, work, free, k, b"tamXCfst") {
-        return RuleName::Fst;
+        return Some(Rule::Fst);
     }
     if name_is(sheet, work, free, k, b"tamXCsnd") {
-        return RuleName::Snd;
+        return Some(Rule::Snd);
     }
     if name_is(sheet, work, free, k, b"tamXCflip") {
-        return RuleName::Flip;
+        return Some(Rule::Flip);
     }
     if name_is(sheet, work, free, k, b"tamXCsdec") {
-        return RuleName::Sdec;
+        return Some(Rule::Sdec);
     }
     if name_is(sheet, work, free, k, b"tamXCkdec") {
-        return RuleName::Kdec;
+        return Some(Rule::Kdec);
     }
-    RuleName::None
+    None
 }
 
 // The only cell of the list from cell i on, 0 if there is none or another.

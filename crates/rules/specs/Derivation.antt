@@ -1,14 +1,14 @@
 -- Derivations: the rules of matching, one constructor a rule; the rules of unify and of match chained one pair at a time, from the
 -- sheet's pairs to the verdict, the bindings and the count of pairs taken; the composition of unify's bindings (01, "Solving", and
 -- `spent` of "The answer goes out"). The rules of unify are in `Inference`.
-use Rattle.std.specs.Prelude.{◌≡◌, true, false, List, [], ◌∷◌, ◌↔◌, ℕ, zero, suc, ◌≤◌, ◌<◌}
-use Rattle.std.proofs.Math.Option.{some, none as nothing}
+use Rattle.std.specs.Prelude.{◌≡◌, true, false, List, [], ◌∷◌, ◌↔◌, ℕ, zero, suc, ◌≤◌, ◌<◌, Some, None}
 use Rattle.rules.specs.Bytes.{Text}
 use Rattle.rules.specs.Tree.{Tree, variable, Trees, none, size, ground, tamtplus}
 use Rattle.rules.specs.Substitution.{Substitution, Binding, Pair, instantiate}
 use Rattle.rules.specs.Sums.{summands, rebuild}
 use Rattle.rules.specs.Equality.{Ac}
-use Rattle.rules.specs.Sorts.{Sort, variable_sort, sorted}
+use Rattle.rules.specs.declared.Sort.{Sort}
+use Rattle.rules.specs.Sorts.{variable_sort, sorted}
 use Rattle.rules.specs.Solving.{goes_on, bind, fails, unknown, Verdict, solved, failed, unsupported}
 use Rattle.rules.specs.Matching.{Move, onward, clash, beyond}
 use Rattle.rules.specs.Tidy.{Tidy}
@@ -47,11 +47,11 @@ pub data Matches : Tree → Tree → List Pair → List Binding → Move → Typ
   bound_equal : {x : Text} {v u : Tree} {ps : List Pair} {bs : List Binding} → Bound x v bs → Ac v u → Matches (variable x) u ps bs (onward ps bs)
   bound_different : {x : Text} {v u : Tree} {ps : List Pair} {bs : List Binding} → Bound x v bs → ¬ Ac v u → Matches (variable x) u ps bs clash
   -- another is bound to a subject of its sort, else fails
-  binds : {x : Text} {s : Sort} {u : Tree} {ps : List Pair} {bs : List Binding} → NoKey x bs → variable_sort x ≡ some s → sorted s u ≡ true
+  binds : {x : Text} {s : Sort} {u : Tree} {ps : List Pair} {bs : List Binding} → NoKey x bs → variable_sort x ≡ Some s → sorted s u ≡ true
       → Matches (variable x) u ps bs (onward ps ((x, u) ∷ bs))
-  sort_clash : {x : Text} {s : Sort} {u : Tree} {ps : List Pair} {bs : List Binding} → NoKey x bs → variable_sort x ≡ some s → sorted s u ≡ false
+  sort_clash : {x : Text} {s : Sort} {u : Tree} {ps : List Pair} {bs : List Binding} → NoKey x bs → variable_sort x ≡ Some s → sorted s u ≡ false
       → Matches (variable x) u ps bs clash
-  unknown_sort : {x : Text} {u : Tree} {ps : List Pair} {bs : List Binding} → NoKey x bs → variable_sort x ≡ nothing → Matches (variable x) u ps bs clash
+  unknown_sort : {x : Text} {u : Tree} {ps : List Pair} {bs : List Binding} → NoKey x bs → variable_sort x ≡ None → Matches (variable x) u ps bs clash
   -- an application
   symbol_clash : {t u : Tree} {f g : Text} {ts us : Trees} {ps : List Pair} {bs : List Binding} → Applies t f ts → Subject u g us → ¬ (f ≡ g)
       → Matches t u ps bs clash
@@ -72,7 +72,7 @@ pub data Matches : Tree → Tree → List Pair → List Binding → Move → Typ
 -- the value has the key's sort, and is tidy
 pub record GoodBinding (arity : Text → ℕ) (x : Text) (v : Tree) : Type 0 where
   pub key_sort : Sort
-  pub key_has : variable_sort x ≡ some key_sort
+  pub key_has : variable_sort x ≡ Some key_sort
   pub value_has : sorted key_sort v ≡ true
   pub tidy : Tidy arity v
 

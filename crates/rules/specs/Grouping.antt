@@ -1,7 +1,6 @@
 -- Terms as `equal` reads them, of any size, with sums of any number of summands, and their equality up to order and grouping of sums
 -- (01, "Reading", the last paragraph; certificate.rs, `apply`, `equivalent`).
-use Rattle.std.specs.Prelude.{◌≡◌, true, ◌||◌}
-use Rattle.std.proofs.Math.Option.{Option}
+use Rattle.std.specs.Prelude.{◌≡◌, true, ◌||◌, Option}
 use Rattle.rules.specs.Bytes.{Text}
 use Rattle.rules.specs.Names.{word, variable_token}
 use Rattle.rules.specs.Tree.{Tree, variable, apply, Trees, none, more, tamtplus}

@@ -1,14 +1,15 @@
 -- The rules of inference for unification (Baader and Snyder, Unification Theory, in the Handbook of Automated Reasoning), under
 -- their names, with the rules of 01 for sorts, sums and the limit of nodes: what a pair taken gives, before the pairs that wait;
 -- and what it is for a rule to keep the unifiers (01, "Solving").
-use Rattle.std.specs.Prelude.{◌≡◌, true, false, List, [], ◌∷◌, ◌↔◌, ◌⊎◌, ℕ, ◌≤◌, ◌<◌}
-use Rattle.std.proofs.Math.Option.{some, none as nothing}
+use Rattle.std.specs.Prelude.{◌≡◌, true, false, List, [], ◌∷◌, ◌↔◌, ◌⊎◌, ℕ, ◌≤◌, ◌<◌, Some, None}
 use Rattle.rules.specs.Bytes.{Text}
 use Rattle.rules.specs.Tree.{Tree, variable, atom, apply, Trees, none, more, atom_text, tamtplus}
 use Rattle.rules.specs.Substitution.{Substitution, substitute, Pair, instantiate_pairs, size_pairs}
 use Rattle.rules.specs.Sums.{summands, rebuild}
 use Rattle.rules.specs.Equality.{Ac}
-use Rattle.rules.specs.Sorts.{Sort, TamNat, variable_sort, natural, sorted, refinable}
+use Rattle.rules.specs.declared.Sort.{Sort}
+use Rattle.rules.specs.declared.Sort.TheVariants.{TamNat}
+use Rattle.rules.specs.Sorts.{variable_sort, natural, sorted, refinable}
 use Rattle.rules.specs.Solving.{Step, goes_on, bind, fails, unknown}
 use Rattle.rules.specs.Meaning.{WellSorted, Unifier, Free}
 
@@ -54,12 +55,12 @@ NeverEqual l r = ((natural l ≡ true) × (refinable TamNat r ≡ false)) ⊎ ((
 
 -- x has the sort s, and does not occur in v
 pub record Key (x : Text) (s : Sort) (v : Tree) : Type 0 where
-  pub sort : variable_sort x ≡ some s
+  pub sort : variable_sort x ≡ Some s
   pub apart : Free x v
 
 -- the tree is a variable, and x has its sort: it may be the key
 abbrev pub Orientable : Text → Tree → Type 0
-Orientable x (variable y) = (r : Sort) × (variable_sort y ≡ some r) × (sorted r (variable x) ≡ true)
+Orientable x (variable y) = (r : Sort) × (variable_sort y ≡ Some r) × (sorted r (variable x) ≡ true)
 Orientable x (atom c d) = ⊥
 Orientable x (apply f ts) = ⊥
 
@@ -86,8 +87,8 @@ pub data Infers : Tree → Tree → List Pair → Step → Type 0 where
   natural_clash : {l r k j o p : Tree} {ks os : List Tree} {ps : List Pair} → SumsLeave l r (k ∷ j ∷ ks) (o ∷ p ∷ os) → NeverEqual l r → Infers l r ps fails
   several_left : {l r k j o p : Tree} {ks os : List Tree} {ps : List Pair} → SumsLeave l r (k ∷ j ∷ ks) (o ∷ p ∷ os) → ¬ NeverEqual l r → Infers l r ps unknown
   -- a variable x and another tree
-  unknown_sort : {x : Text} {v : Tree} {ps : List Pair} → variable_sort x ≡ nothing → ¬ (variable x ≡ v) → Infers (variable x) v ps unknown
-  occurs_check : {x : Text} {s : Sort} {v : Tree} {ps : List Pair} → variable_sort x ≡ some s → ¬ (variable x ≡ v) → ¬ Free x v → Infers (variable x) v ps fails
+  unknown_sort : {x : Text} {v : Tree} {ps : List Pair} → variable_sort x ≡ None → ¬ (variable x ≡ v) → Infers (variable x) v ps unknown
+  occurs_check : {x : Text} {s : Sort} {v : Tree} {ps : List Pair} → variable_sort x ≡ Some s → ¬ (variable x ≡ v) → ¬ Free x v → Infers (variable x) v ps fails
   variable_elimination : {x : Text} {s : Sort} {v : Tree} {ps : List Pair} → Key x s v → sorted s v ≡ true → size_pairs (put x v ps) ≤ 4096
       → Infers (variable x) v ps (bind x v (put x v ps))
   over_limit : {x : Text} {s : Sort} {v : Tree} {ps : List Pair} → Key x s v → sorted s v ≡ true → 4096 < size_pairs (put x v ps) → Infers (variable x) v ps unknown

@@ -1,12 +1,13 @@
 -- Which trees have which sorts, as a Maude module declares it: subsorts, and for each operator its arguments' sorts and its own
 -- (01, "Sorts", after the Maude manual).
-use Rattle.std.specs.Prelude.{◌≡◌, true, List, [], ◌∷◌}
-use Rattle.std.proofs.Math.Option.{some}
+use Rattle.std.specs.Prelude.{◌≡◌, true, List, [], ◌∷◌, Some}
 use Rattle.rules.specs.Bytes.{Text}
 use Rattle.rules.specs.Text.{bytes}
 use Rattle.rules.specs.Names.{letter}
 use Rattle.rules.specs.Tree.{Tree, variable, atom, apply, Trees, none, more, count, tamtplus, plus}
-use Rattle.rules.specs.Sorts.{Sort, Pub, Fresh, Msg, TamNat, Node, variable_sort, tone}
+use Rattle.rules.specs.declared.Sort.{Sort}
+use Rattle.rules.specs.declared.Sort.TheVariants.{Pub, Fresh, Msg, TamNat, Node}
+use Rattle.rules.specs.Sorts.{variable_sort, tone}
 
 -- subsorts Pub Fresh TamNat < Msg .
 pub data Subsort : Sort → Sort → Type 0 where
@@ -25,7 +26,7 @@ NoneOf (g ∷ gs) f = (f ≡ g → ⊥) × NoneOf gs f
 mutual
   pub data HasSort : Sort → Tree → Type 0 where
     -- var x : s .
-    of_variable : {s : Sort} {x : Text} → variable_sort x ≡ some s → HasSort s (variable x)
+    of_variable : {s : Sort} {x : Text} → variable_sort x ≡ Some s → HasSort s (variable x)
     -- op p : Nat -> Pub .  op f : Nat -> Fresh .  op c : Nat -> Msg .  op t : Nat -> TamNat .  op n : Nat -> Node .
     of_p : {d : Text} → HasSort Pub (atom 112 d)
     of_f : {d : Text} → HasSort Fresh (atom 102 d)

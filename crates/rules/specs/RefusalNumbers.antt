@@ -1,8 +1,7 @@
 -- The refusals and their numbers (01, "A sheet comes in": "From the input", "From the state").
 use Rattle.std.specs.Prelude.{ℕ}
-
-pub data Refusal : Type 0 where
-  TooLong ForeignByte LineOutOfPlace UnreadableTerm ShortWorkArea ShortOutput : Refusal
+use Rattle.rules.specs.declared.Refusal.{Refusal}
+use Rattle.rules.specs.declared.Refusal.TheVariants.{TooLong, ForeignByte, LineOutOfPlace, UnreadableTerm, ShortWorkArea, ShortOutput}
 
 abbrev pub number_for : Refusal → ℕ
 number_for TooLong = 1

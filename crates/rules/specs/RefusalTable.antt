@@ -3,7 +3,9 @@ use Rattle.std.specs.Prelude.{ℕ, List, [], ◌∷◌, ◌++◌, replicate}
 use Prim.Native.String.{String}
 use Rattle.rules.specs.Bytes.{Text}
 use Rattle.rules.specs.Text.{bytes}
-use Rattle.rules.specs.RefusalNumbers.{Refusal, number_for, ForeignByte, LineOutOfPlace, UnreadableTerm, ShortWorkArea, ShortOutput}
+use Rattle.rules.specs.declared.Refusal.{Refusal}
+use Rattle.rules.specs.declared.Refusal.TheVariants.{ForeignByte, LineOutOfPlace, UnreadableTerm, ShortWorkArea, ShortOutput}
+use Rattle.rules.specs.RefusalNumbers.{number_for}
 use Rattle.rules.specs.Call.{refused}
 use Rattle.rules.specs.Table.{Row, text, row}
 

@@ -1,4 +1,6 @@
+pub mod Pieces
 pub mod WordTexts
+pub mod Comparing
 pub mod Parts
 pub mod Each
 pub mod RunLaws

@@ -2,10 +2,14 @@
 -- is a mark, that one byte; from 256 on it is the name of sums or a fixed name; from 512 on it is one byte that is no mark.
 -- Definitions only.
 use Rattle.std.specs.Prelude.{ℕ, zero, suc, ◌+◌, ◌-◌, ◌<◌, ◌≤◌, ◌/◌, ◌%◌, Bool, false, cond, List, [], ◌∷◌, ◌++◌, eqb, ltb, length, get_or, take, drop}
+use Rattle.std.specs.Prelude.{Option, Some, None}
+use Rattle.std.specs.declared.cmp.Ordering.{Ordering}
+use Rattle.std.specs.Cmp.Lexicographic.{slice_cmp}
+use Rattle.std.specs.Ordering.{nat_cmp}
 use Rattle.rules.specs.Tree.{tamtplus}
 use Rattle.tree.specs.Cells.{fixed_name}
-use Rattle.runs.specs.declared.order.Order.{Order}
-use Rattle.runs.specs.declared.order.Order.TheVariants.{Less, Equal, Greater}
+use Rattle.runs.specs.declared.order.Piece.{Piece}
+use Rattle.runs.specs.declared.order.Piece.TheVariants.{Place, Byte, Name}
 use Rattle.runs.specs.declared.order.Spot.{Spot}
 
 -- the name of sums, and the fixed names
@@ -30,6 +34,13 @@ unfoldable pub width_of : ℕ → ℕ
 unfolding code_width
 width_of x = cond (eqb (x % 65536) 0) (code_width (x / 65536)) (x % 65536)
 
+-- what a code stands for, and a word
+abbrev pub code_piece : ℕ → Piece
+code_piece c = cond (ltb c 256) (Byte c) (cond (ltb c 512) (Name (c - 256)) (Byte (c % 256)))
+
+abbrev pub piece_of : ℕ → Piece
+piece_of x = cond (eqb (x % 65536) 0) (code_piece (x / 65536)) (Place (x / 65536) (x % 65536))
+
 -- the text of a run of words
 unfoldable pub texts : List ℕ → List ℕ → List ℕ
 texts s [] = []
@@ -44,21 +55,30 @@ abbrev pub Tokens : List ℕ → List ℕ → ℕ → ℕ → Type 0
 Tokens s w a e = (p : ℕ) → a ≤ p → p < e → Token s (get_or w p 0)
 
 -- three-way comparison by bytes; a text that begins a longer one is less
-unfoldable pub lex : List ℕ → List ℕ → Order
-lex [] [] = Equal
-lex [] (y ∷ b) = Less
-lex (x ∷ a) [] = Greater
-lex (x ∷ a) (y ∷ b) = cond (ltb x y) Less (cond (ltb y x) Greater (lex a b))
+unfoldable pub lex : List ℕ → List ℕ → Ordering
+lex a b = slice_cmp nat_cmp a b
 
 -- the spot after a spot, where x is the spot's word
 unfoldable pub next_spot : ℕ → Spot → Spot
 next_spot x p = cond (eqb (p.byte + 1) (width_of x)) (record { word = p.word + 1; byte = 0 }) (record { word = p.word; byte = p.byte + 1 })
 
--- how many zeros the word x has if its name is one that no sheet spells, and 0 for any other word
-unfoldable pub zeros_of : ℕ → ℕ
-zeros_of x = cond (eqb (x % 65536) 0) (cond (ltb 262 (x / 65536)) (cond (ltb (x / 65536) 512) (x / 65536 + 65273) 0) 0) 0
+-- how many zeros a name has, if it is one that no sheet spells
+abbrev pub piece_zeros : Piece → Option ℕ
+piece_zeros (Place start n) = None
+piece_zeros (Byte b) = None
+piece_zeros (Name n) = cond (ltb 6 n) (Some (n + 65529)) None
+
+-- how many zeros the name of the word x has, if it is such
+unfoldable pub zeros_of : ℕ → Option ℕ
+zeros_of x = piece_zeros (piece_of x)
+
+-- there are two numbers, and the first is greater
+abbrev pub exceeds : Option ℕ → Option ℕ → Bool
+exceeds None n = false
+exceeds (Some m) None = false
+exceeds (Some m) (Some n) = ltb n m
 
 -- the words x and y, from their bytes a and b on, are two such whole words, and x has more zeros
 unfoldable pub more_zeros : ℕ → ℕ → ℕ → ℕ → Bool
 unfolding zeros_of
-more_zeros x y a b = cond (eqb (a + b) 0) (cond (eqb (zeros_of y) 0) false (ltb (zeros_of y) (zeros_of x))) false
+more_zeros x y a b = cond (eqb (a + b) 0) (exceeds (zeros_of x) (zeros_of y)) false

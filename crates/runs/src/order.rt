@@ -1,230 +1,178 @@
 // Texts as runs of words, and their order by bytes.
-ghost use Rattle.std.specs.Prelude.{◌≡◌, ◌+◌, ◌<◌, ◌≤◌, length, get_or};
-ghost use Rattle.std.proofs.Math.Seq.{slice};
-ghost use Rattle.runs.specs.Texts.{code_name, code_text, code_width, Token, Tokens, width_of, word_text, texts, next_spot, lex, zeros_of, more_zeros};
+ghost use Rattle.std.specs.Prelude.{◌≡◌, ◌+◌, ◌^◌, ◌<◌, length, get_or};
+ghost use Rattle.runs.specs.Texts.{code_name, piece_of, Token, Tokens, width_of, word_text, texts, next_spot, lex, zeros_of, more_zeros};
 
-use text::places;
+use crate::SPAN;
+use std::cmp::Ordering;
 use tree::fixed::{fixed_byte, fixed_len};
 
-// How a text stands to another by their bytes.
-#[derive(Clone, Copy)]
-pub enum Order {
-    Less,
-    Equal,
-    Greater,
+// What a word stands for: a place of the sheet; a byte; the name of sums, 0, or the fixed name of a code.
+#[derive(Clone, Copy, Debug, PartialEq, Eq)]
+enum Piece {
+    Place { start: usize, length: usize },
+    Byte(u8),
+    Name(u8),
+}
+
+// Codes from NAMES on are names, and those from BYTES on are bytes that are no mark. The codes below are marks, which are bytes too.
+const NAMES: usize = 256;
+
+pub const BYTES: usize = 512;
+
+// The last name that a sheet may spell. The one after it has 65,536 zeros, and each next one has one more.
+const LAST_SPELLED: u8 = 6;
+
+const ZEROS: usize = 65536 - 7;
+
+// The name of sums.
+const SUM: [u8; 8] = *b"tamtplus";
+
+// What the word x stands for.
+fn piece_of(x: u32) -> Piece
+    ensures { result ≡ piece_of x }
+{
+    let start = (x / SPAN) as usize;
+    let length = (x % SPAN) as usize;
+    if 0 < length {
+        return Piece::Place { start, length };
+    }
+    if NAMES <= start && start < BYTES {
+        return Piece::Name((start - NAMES) as u8);
+    }
+    Piece::Byte((start % 256) as u8)
+}
+
+// How many bytes a name has.
+fn name_width(n: u8) -> usize
+    ensures { result ≡ length (code_name n) }
+{
+    if n == 0 {
+        SUM.len()
+    } else {
+        fixed_len(n as usize)
+    }
+}
+
+// A byte of a name.
+fn name_byte(n: u8, a: usize) -> u8
+    requires { a < length (code_name n) }
+    ensures { result ≡ get_or (code_name n) a 0 }
+{
+    if n == 0 {
+        SUM[a]
+    } else {
+        fixed_byte(n as usize, a)
+    }
+}
+
+// How many bytes the text of a word has.
+#[tactic(auto, using(crate::proofs::Pieces::width_piece))]
+pub fn width_of(x: u32) -> usize
+    ensures { result ≡ width_of x }
+{
+    match piece_of(x) {
+        Piece::Place { length, .. } => length,
+        Piece::Byte(_) => 1,
+        Piece::Name(n) => name_width(n),
+    }
+}
+
+// A byte of the text of a word.
+#[tactic(auto, using(crate::proofs::Pieces::width_piece, crate::proofs::Pieces::byte_piece, crate::proofs::Pieces::piece_fits))]
+pub fn byte_of(sheet: &[u8], x: u32, a: usize) -> u8
+    requires token { Token sheet.now x }
+    requires a_bound { a < width_of x }
+    ensures { result ≡ get_or (word_text sheet.now x) a 0 }
+{
+    match piece_of(x) {
+        Piece::Place { start, .. } => sheet[start + a],
+        Piece::Byte(b) => b,
+        Piece::Name(n) => name_byte(n, a),
+    }
+}
+
+// How many zeros the name of the word x has, if it is one that no sheet spells.
+#[tactic(auto, unfolding(crate::specs::Texts::zeros_of))]
+pub fn zeros_of(x: u32) -> Option<usize>
+    ensures { result ≡ zeros_of x }
+{
+    match piece_of(x) {
+        Piece::Name(n) if LAST_SPELLED < n => Some(n as usize + ZEROS),
+        _ => None,
+    }
 }
 
 // A word of a run, and a byte of its text.
-#[derive(Clone, Copy)]
+#[derive(Clone, Copy, Debug, PartialEq, Eq)]
 struct Spot {
     pub word: usize,
     pub byte: usize,
 }
 
-// Codes below NAMES are marks, and those from BYTES on are bytes that are no mark. Between them are names: that of sums, the fixed ones
-// up to LAST_FIXED, and those that no sheet spells.
-const NAMES: usize = 256;
-
-const LAST_FIXED: usize = 262;
-
-pub const BYTES: usize = 512;
-
-// How many more zeros than its code such a name has: the first of them has 65,536.
-const ZEROS: usize = 65536 - 263;
-
-// The name of sums, tamtplus.
-const SUM: [u8; 8] = [116, 97, 109, 116, 112, 108, 117, 115];
-
-// How many bytes the name of sums has, for n = 0, or the fixed name of code n.
-fn name_width(n: usize) -> usize
-    requires { n < 65536 }
-    ensures { result ≡ length (code_name n) }
-{
-    if n == 0 {
-        return 8;
-    }
-    fixed_len(n)
-}
-
-// A byte of that name.
-fn name_byte(n: usize, a: usize) -> u8
-    requires { (n < 65536) × (a < length (code_name n)) }
-    ensures { result ≡ get_or (code_name n) a 0 }
-{
-    if n == 0 {
-        return SUM[a];
-    }
-    fixed_byte(n, a)
-}
-
-// How many bytes the text of a code has.
-fn code_width(code: usize) -> usize
-    ensures { result ≡ code_width code }
-{
-    if code < NAMES {
-        return 1;
-    }
-    if code < BYTES {
-        return name_width(code - NAMES);
-    }
-    1
-}
-
-// A byte of the text of a code.
-fn code_byte(code: usize, a: usize) -> u8
-    requires { a < code_width code }
-    ensures { result ≡ get_or (code_text code) a 0 }
-{
-    if code < NAMES {
-        return code as u8;
-    }
-    if code < BYTES {
-        return name_byte(code - NAMES, a);
-    }
-    (code % 256) as u8
-}
-
-// How many bytes the text of a word has.
-pub fn width_of(x: usize) -> usize
-    ensures { result ≡ width_of x }
-{
-    let n = x % 65536;
-    if n == 0 {
-        return code_width(x / 65536);
-    }
-    n
-}
-
-// A byte of the text of a word.
-pub fn byte_of(sheet: &[u8], x: usize, a: usize) -> u8
-    requires token { Token sheet.now x }
-    requires a_bound { a < width_of x }
-    ensures { result ≡ get_or (word_text sheet.now x) a 0 }
-{
-    if x % 65536 == 0 {
-        return code_byte(x / 65536, a);
-    }
-    sheet[x / 65536 + a]
-}
-
-// The spot after a spot, where x is the spot's word.
-fn after(x: usize, at: Spot) -> Spot
-    requires { at.word + at.byte < 9223372036854775808 }
-    ensures { result ≡ next_spot x at }
-{
-    let word = at.word;
-    let byte = at.byte + 1;
-    if byte == width_of(x) {
-        return Spot {
-            word: word + 1,
+impl Spot {
+    // The first byte of the next word.
+    fn next_word(self) -> Spot
+        requires { self.word < 2 ^ 63 }
+        ensures { result ≡ record { word = self.word + 1; byte = 0 } }
+    {
+        Spot {
+            word: self.word + 1,
             byte: 0,
-        };
-    }
-    Spot {
-        word: word,
-        byte: byte,
-    }
-}
-
-// How many zeros the word x has if its name is one that no sheet spells, and 0 for any other word.
-pub fn zeros_of(x: usize) -> usize
-    ensures { result ≡ zeros_of x }
-{
-    let code = x / 65536;
-    if x % 65536 == 0 {
-        if LAST_FIXED < code {
-            if code < BYTES {
-                return code + ZEROS;
-            }
         }
     }
-    0
+
+    // The next byte, where x is the word.
+    #[tactic(auto, unfolding(crate::specs::Texts::next_spot))]
+    fn next_byte(self, x: u32) -> Spot
+        requires { self.word + self.byte < 2 ^ 63 }
+        ensures { result ≡ next_spot x self }
+    {
+        let byte = self.byte + 1;
+        if byte == width_of(x) {
+            self.next_word()
+        } else {
+            Spot { byte, ..self }
+        }
+    }
 }
 
-// Whether the words x and y, from their bytes a and b on, are two such whole words, and x has more zeros: then x is less.
-fn more_zeros(x: usize, y: usize, a: usize, b: usize) -> bool
+// Whether the words x and y, from their bytes a and b on, are two whole names that no sheet spells, and x has more zeros: then x is less.
+#[tactic(auto, unfolding(crate::specs::Texts::more_zeros))]
+fn more_zeros(x: u32, y: u32, a: usize, b: usize) -> bool
     ensures { result ≡ more_zeros x y a b }
 {
-    if 0 < a {
-        return false;
-    }
-    if 0 < b {
-        return false;
-    }
-    let n = zeros_of(y);
-    if n == 0 {
-        return false;
-    }
-    n < zeros_of(x)
+    a == 0 && b == 0 && matches!((zeros_of(x), zeros_of(y)), (Some(m), Some(n)) if n < m)
 }
 
-// How the text of the words from `from` to `to` stands to that of the words from `start` to `end`.
-pub fn compare(
-    sheet: &[u8],
-    work: &[u32],
-    from: usize,
-    to: usize,
-    start: usize,
-    end: usize,
-) -> Order
-    requires from_le_to { (from ≤ to) × (to ≤ length work.now) }
-    requires start_le_end { (start ≤ end) × (end ≤ length work.now) }
-    requires tokens { Tokens sheet.now work.now from to }
-    requires tokens_2 { Tokens sheet.now work.now start end }
-    ensures { result ≡ lex (texts sheet.now (slice from to work.now)) (texts sheet.now (slice start end work.now)) }
+// How the text of some words stands to that of others.
+pub fn compare(sheet: &[u8], left: &[u32], right: &[u32]) -> Ordering
+    requires left_tokens { Tokens sheet.now left.now 0 (length left.now) }
+    requires right_tokens { Tokens sheet.now right.now 0 (length right.now) }
+    ensures { result ≡ lex (texts sheet.now left.now) (texts sheet.now right.now) }
 {
-    let mut left = Spot {
-        word: from,
-        byte: 0,
-    };
-    let mut right = Spot {
-        word: start,
-        byte: 0,
-    };
-    loop {
-        let i = left.word;
-        let j = right.word;
-        if to <= i {
-            if end <= j {
-                return Order::Equal;
-            }
-            return Order::Less;
+    let mut i = Spot { word: 0, byte: 0 };
+    let mut j = Spot { word: 0, byte: 0 };
+    while i.word < left.len() && j.word < right.len() {
+        let x = left[i.word];
+        let y = right[j.word];
+        if x == y && i.byte == j.byte {
+            i = i.next_word();
+            j = j.next_word();
+            continue;
         }
-        if end <= j {
-            return Order::Greater;
+        if more_zeros(x, y, i.byte, j.byte) {
+            return Ordering::Less;
         }
-        let x = places::wide(work[i]);
-        let y = places::wide(work[j]);
-        let a = left.byte;
-        let b = right.byte;
-        if x == y {
-            if a == b {
-                left = Spot {
-                    word: i + 1,
-                    byte: 0,
-                };
-                right = Spot {
-                    word: j + 1,
-                    byte: 0,
-                };
-                continue;
-            }
+        if more_zeros(y, x, j.byte, i.byte) {
+            return Ordering::Greater;
         }
-        if more_zeros(x, y, a, b) {
-            return Order::Less;
+        let order = byte_of(sheet, x, i.byte).cmp(&byte_of(sheet, y, j.byte));
+        if order.is_ne() {
+            return order;
         }
-        if more_zeros(y, x, b, a) {
-            return Order::Greater;
-        }
-        let p = byte_of(sheet, x, a);
-        let q = byte_of(sheet, y, b);
-        if p < q {
-            return Order::Less;
-        }
-        if q < p {
-            return Order::Greater;
-        }
-        left = after(x, left);
-        right = after(y, right);
+        i = i.next_byte(x);
+        j = j.next_byte(y);
     }
+    // One of them has ended, and is less unless both have.
+    (left.len() - i.word).cmp(&(right.len() - j.word))
 }

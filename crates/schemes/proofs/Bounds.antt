@@ -3,12 +3,14 @@ use Prim.Native.Nat.{ℕ, zero, suc, ◌+◌, ◌*◌, ◌/◌, ◌%◌, ◌≤�
 use native.Mathlib.Omega.{arith}
 use mathlib.Core.Path.{◌≡◌, refl, ap}
 use mathlib.Core.List.{List, [], ◌∷◌, map}
-use mathlib.Core.Option.{Option, some, none as nothing}
+use Rattle.std.specs.Prelude.{Option, Some, None}
 use lib.ListN.{length, length-append, get_or}
 use Rattle.rules.specs.Bytes.{Text}
 use Rattle.rules.specs.Tree.{Tree, variable, atom, apply, Trees, none, more, size, sizes}
 use Rattle.rules.specs.Substitution.{Pair}
-use Rattle.rules.specs.Reduction.{Rule, fst, snd, flip, sdec, kdec, rule_named}
+use Rattle.rules.specs.declared.Rule.{Rule}
+use Rattle.rules.specs.declared.Rule.TheVariants.{Fst, Snd, Flip, Sdec, Kdec}
+use Rattle.rules.specs.Reduction.{rule_named}
 use Rattle.rules.specs.Variants.{Scheme, scheme, Joined, only, before, firings, firing_count, root_schemes, scheme_counts}
 use Rattle.laws.specs.Schemes.{root_count, root_at, scheme_at, joined_at}
 use Rattle.laws.specs.Memory.{site, sites, sites_in}
@@ -42,24 +44,24 @@ module _ (name : ℕ → Text) where
   fired_fits : (o : Option Rule) (vs : Trees) (es : List Pair) (n : ℕ)
       → Every (1 + sizes vs) (n + 2 * site (1 + firing_count o vs)) (length es + 2 * site (1 + firing_count o vs)) (only o (λ r. map (before es) (firings name r vs n)))
   unfolding firings size
-  fired_fits nothing vs es n = tt
-  fired_fits (some fst) none es n = tt
-  fired_fits (some fst) (more a none) es n = (one_fits (sizes (more a none)) n es _ refl (omega arith) (omega arith), tt)
-  fired_fits (some fst) (more a (more b ts)) es n = tt
-  fired_fits (some snd) none es n = tt
-  fired_fits (some snd) (more a none) es n = (one_fits (sizes (more a none)) n es _ refl (omega arith) (omega arith), tt)
-  fired_fits (some snd) (more a (more b ts)) es n = tt
-  fired_fits (some flip) none es n = tt
-  fired_fits (some flip) (more a none) es n = (one_fits (sizes (more a none)) n es _ refl (omega arith) (omega arith), (one_fits (sizes (more a none)) n es _ refl (omega arith) (omega arith), tt))
-  fired_fits (some flip) (more a (more b ts)) es n = tt
-  fired_fits (some sdec) none es n = tt
-  fired_fits (some sdec) (more a none) es n = tt
-  fired_fits (some sdec) (more a (more b none)) es n = (one_fits (sizes (more a (more b none))) n es _ refl (omega arith) (omega arith), tt)
-  fired_fits (some sdec) (more a (more b (more c ts))) es n = tt
-  fired_fits (some kdec) none es n = tt
-  fired_fits (some kdec) (more a none) es n = tt
-  fired_fits (some kdec) (more a (more b none)) es n = (one_fits (sizes (more a (more b none))) n es _ refl (omega arith) (omega arith), tt)
-  fired_fits (some kdec) (more a (more b (more c ts))) es n = tt
+  fired_fits None vs es n = tt
+  fired_fits (Some Fst) none es n = tt
+  fired_fits (Some Fst) (more a none) es n = (one_fits (sizes (more a none)) n es _ refl (omega arith) (omega arith), tt)
+  fired_fits (Some Fst) (more a (more b ts)) es n = tt
+  fired_fits (Some Snd) none es n = tt
+  fired_fits (Some Snd) (more a none) es n = (one_fits (sizes (more a none)) n es _ refl (omega arith) (omega arith), tt)
+  fired_fits (Some Snd) (more a (more b ts)) es n = tt
+  fired_fits (Some Flip) none es n = tt
+  fired_fits (Some Flip) (more a none) es n = (one_fits (sizes (more a none)) n es _ refl (omega arith) (omega arith), (one_fits (sizes (more a none)) n es _ refl (omega arith) (omega arith), tt))
+  fired_fits (Some Flip) (more a (more b ts)) es n = tt
+  fired_fits (Some Sdec) none es n = tt
+  fired_fits (Some Sdec) (more a none) es n = tt
+  fired_fits (Some Sdec) (more a (more b none)) es n = (one_fits (sizes (more a (more b none))) n es _ refl (omega arith) (omega arith), tt)
+  fired_fits (Some Sdec) (more a (more b (more c ts))) es n = tt
+  fired_fits (Some Kdec) none es n = tt
+  fired_fits (Some Kdec) (more a none) es n = tt
+  fired_fits (Some Kdec) (more a (more b none)) es n = (one_fits (sizes (more a (more b none))) n es _ refl (omega arith) (omega arith), tt)
+  fired_fits (Some Kdec) (more a (more b (more c ts))) es n = tt
 
   root_fits : (f : Text) (j : Joined) (c : ℕ)
       → Fits (1 + sizes j.values) (j.next + 2 * site (root_count f j.values)) (length j.equations + 2 * site (root_count f j.values)) (root_at name f j c)

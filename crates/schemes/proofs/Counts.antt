@@ -6,11 +6,14 @@ use native.Mathlib.Decide.{dec_lt}
 use mathlib.Core.Path.{◌≡◌, refl, sym, ap, ◌∙◌}
 use mathlib.Core.Bool.{Bool, cond}
 use mathlib.Core.List.{List}
-use mathlib.Core.Option.{Option, some, none as nothing, none-ne-some}
+use Rattle.std.specs.Prelude.{Option, Some, None}
+use Rattle.laws.proofs.Basics.Somes.{none_ne_some}
 use Rattle.laws.proofs.Basics.Tests.{true_leb, false_leb}
 use Rattle.rules.specs.Bytes.{Text}
 use Rattle.rules.specs.Tree.{Tree, variable, atom, apply, Trees, none, more, children}
-use Rattle.rules.specs.Reduction.{Rule, fst, snd, flip, sdec, kdec, rule_named, arguments1, arguments2}
+use Rattle.rules.specs.declared.Rule.{Rule}
+use Rattle.rules.specs.declared.Rule.TheVariants.{Fst, Snd, Flip, Sdec, Kdec}
+use Rattle.rules.specs.Reduction.{rule_named, arguments1, arguments2}
 use Rattle.rules.specs.Variants.{firing_count, with_one, with_two, scheme_count, scheme_counts}
 use Rattle.laws.specs.Schemes.{root_count}
 use Rattle.tree.specs.Cells.{kind_of, name_at, tree_at}
@@ -21,27 +24,27 @@ use Rattle.schemes.specs.declared.counting.Counted.TheVariants.{Schemes, Over}
 use Rattle.schemes.proofs.ByChildren.{count_children, over_same}
 
 -- firings by the children
-pub one_none : (k : ℕ) (ts : Trees) → arguments1 ts ≡ nothing → with_one k ts ≡ 0
+pub one_none : (k : ℕ) (ts : Trees) → arguments1 ts ≡ None → with_one k ts ≡ 0
 one_none k none e = refl
-one_none k (more a none) e = absurd (none-ne-some a (sym e))
+one_none k (more a none) e = absurd (none_ne_some a (sym e))
 one_none k (more a (more b ts)) e = refl
 
-pub one_some : (k : ℕ) (ts : Trees) (a : Tree) → arguments1 ts ≡ some a → with_one k ts ≡ k
-one_some k none a e = absurd (none-ne-some a e)
+pub one_some : (k : ℕ) (ts : Trees) (a : Tree) → arguments1 ts ≡ Some a → with_one k ts ≡ k
+one_some k none a e = absurd (none_ne_some a e)
 one_some k (more b none) a e = refl
-one_some k (more b (more c ts)) a e = absurd (none-ne-some a e)
+one_some k (more b (more c ts)) a e = absurd (none_ne_some a e)
 
-pub two_none : (k : ℕ) (ts : Trees) → arguments2 ts ≡ nothing → with_two k ts ≡ 0
+pub two_none : (k : ℕ) (ts : Trees) → arguments2 ts ≡ None → with_two k ts ≡ 0
 two_none k none e = refl
 two_none k (more a none) e = refl
-two_none k (more a (more b none)) e = absurd (none-ne-some (a, b) (sym e))
+two_none k (more a (more b none)) e = absurd (none_ne_some (a, b) (sym e))
 two_none k (more a (more b (more c ts))) e = refl
 
-pub two_some : (k : ℕ) (ts : Trees) (p : Tree × Tree) → arguments2 ts ≡ some p → with_two k ts ≡ k
-two_some k none p e = absurd (none-ne-some p e)
-two_some k (more a none) p e = absurd (none-ne-some p e)
+pub two_some : (k : ℕ) (ts : Trees) (p : Tree × Tree) → arguments2 ts ≡ Some p → with_two k ts ≡ k
+two_some k none p e = absurd (none_ne_some p e)
+two_some k (more a none) p e = absurd (none_ne_some p e)
 two_some k (more a (more b none)) p e = refl
-two_some k (more a (more b (more c ts))) p e = absurd (none-ne-some p e)
+two_some k (more a (more b (more c ts))) p e = absurd (none_ne_some p e)
 
 pub with_one_few : (k : ℕ) (ts : Trees) → with_one k ts ≤ k
 with_one_few k none = omega arith
@@ -55,12 +58,12 @@ with_two_few k (more a (more b none)) = omega arith
 with_two_few k (more a (more b (more c ts))) = omega arith
 
 firings_few : (o : Option Rule) (ts : Trees) → firing_count o ts ≤ 2
-firings_few nothing ts = omega arith
-firings_few (some fst) ts = omega (arith, with_one_few 1 ts)
-firings_few (some snd) ts = omega (arith, with_one_few 1 ts)
-firings_few (some flip) ts = with_one_few 2 ts
-firings_few (some sdec) ts = omega (arith, with_two_few 1 ts)
-firings_few (some kdec) ts = omega (arith, with_two_few 1 ts)
+firings_few None ts = omega arith
+firings_few (Some Fst) ts = omega (arith, with_one_few 1 ts)
+firings_few (Some Snd) ts = omega (arith, with_one_few 1 ts)
+firings_few (Some Flip) ts = with_one_few 2 ts
+firings_few (Some Sdec) ts = omega (arith, with_two_few 1 ts)
+firings_few (Some Kdec) ts = omega (arith, with_two_few 1 ts)
 
 pub ways_few : (t : Tree) → (0 < ways_of t) × (ways_of t < 4)
 unfolding ways_of root_count

@@ -4,11 +4,13 @@ use native.Mathlib.Omega.{arith}
 use mathlib.Core.Path.{◌≡◌, refl, sym, ap, ◌∙◌, subst}
 use mathlib.Core.List.{List, ◌∷◌}
 use mathlib.Core.Bool.{true, false}
-use mathlib.Core.Option.{Option, some}
+use Rattle.std.specs.Prelude.{Option, Some}
 use Rattle.rules.specs.Bytes.{Text}
 use Rattle.rules.specs.Tree.{Tree, variable, Trees, none, more}
 use Rattle.rules.specs.Substitution.{Pair}
-use Rattle.rules.specs.Reduction.{Rule, fst, snd, flip, sdec, kdec, rule_named, pair, constant}
+use Rattle.rules.specs.declared.Rule.{Rule}
+use Rattle.rules.specs.declared.Rule.TheVariants.{Fst, Snd, Flip, Sdec, Kdec}
+use Rattle.rules.specs.Reduction.{rule_named, pair, constant}
 use Rattle.rules.specs.Variants.{scheme, firings, firing_count, with_one, with_two, root_schemes}
 use Rattle.laws.specs.Schemes.{root_count, root_at}
 use Rattle.tree.specs.Cells.{next_of, fixed_name, tree_at, trees_at}
@@ -76,25 +78,25 @@ module _ {w : List ℕ} {n : ℕ} (s : Text) (l : Links w n) (f : Text) (o : Opt
 
 -- a firing, with the n-th and the next fresh variable as x and y
 module _ (name : ℕ → Text) (f : Text) (es : List Pair) (n c : ℕ) {x y : Tree} (p : x ≡ variable (name n)) (q : y ≡ variable (name (n + 1))) where
-  pub fst_at : {ts : Trees} (a : Tree) → rule_named f ≡ some fst → ts ≡ more a none → c ≡ 1 → root_at name f (joined_as ts es n) c ≡ scheme x ((a, pair x y) ∷ es) (n + 2)
+  pub fst_at : {ts : Trees} (a : Tree) → rule_named f ≡ Some Fst → ts ≡ more a none → c ≡ 1 → root_at name f (joined_as ts es n) c ≡ scheme x ((a, pair x y) ∷ es) (n + 2)
   unfolding root_at root_schemes firings
   fst_at a e g h = rw (p, q, h, g, e)
 
-  pub snd_at : {ts : Trees} (a : Tree) → rule_named f ≡ some snd → ts ≡ more a none → c ≡ 1 → root_at name f (joined_as ts es n) c ≡ scheme y ((a, pair x y) ∷ es) (n + 2)
+  pub snd_at : {ts : Trees} (a : Tree) → rule_named f ≡ Some Snd → ts ≡ more a none → c ≡ 1 → root_at name f (joined_as ts es n) c ≡ scheme y ((a, pair x y) ∷ es) (n + 2)
   unfolding root_at root_schemes firings
   snd_at a e g h = rw (p, q, h, g, e)
 
-  pub sdec_at : {ts : Trees} (a b : Tree) → rule_named f ≡ some sdec → ts ≡ more a (more b none) → c ≡ 1
+  pub sdec_at : {ts : Trees} (a b : Tree) → rule_named f ≡ Some Sdec → ts ≡ more a (more b none) → c ≡ 1
       → root_at name f (joined_as ts es n) c ≡ scheme x ((a, cipher false x y) ∷ (b, y) ∷ es) (n + 2)
   unfolding root_at root_schemes firings
   sdec_at a b e g h = rw (p, q, h, g, e)
 
-  pub kdec_at : {ts : Trees} (a b : Tree) → rule_named f ≡ some kdec → ts ≡ more a (more b none) → c ≡ 1
+  pub kdec_at : {ts : Trees} (a b : Tree) → rule_named f ≡ Some Kdec → ts ≡ more a (more b none) → c ≡ 1
       → root_at name f (joined_as ts es n) c ≡ scheme x ((a, cipher true x y) ∷ (b, y) ∷ es) (n + 2)
   unfolding root_at root_schemes firings
   kdec_at a b e g h = rw (p, q, h, g, e)
 
-pub flip_at : (name : ℕ → Text) (f : Text) (es : List Pair) (n c : ℕ) {ts : Trees} (a : Tree) → rule_named f ≡ some flip → ts ≡ more a none → 0 < c → c < 3
+pub flip_at : (name : ℕ → Text) (f : Text) (es : List Pair) (n c : ℕ) {ts : Trees} (a : Tree) → rule_named f ≡ Some Flip → ts ≡ more a none → 0 < c → c < 3
     → root_at name f (joined_as ts es n) c ≡ scheme (constant (fixed_name (3 - c))) ((a, constant (fixed_name c)) ∷ es) n
 unfolding root_at root_schemes firings
 flip_at name f es n zero a e g p q = absurd (omega arith)

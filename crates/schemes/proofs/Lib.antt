@@ -9,3 +9,4 @@ pub mod Counts
 pub mod Chaining
 pub mod OneTerm
 pub mod Rooting
+pub mod Asking

@@ -1,3 +1,4 @@
 pub mod Choices
 pub mod Counting
 pub mod Building
+pub mod Areas

@@ -7,7 +7,8 @@ ghost use Rattle.tree.specs.Arena.{Arena};
 ghost use Rattle.schemes.specs.Choices.{over, ways_of};
 ghost use Rattle.schemes.specs.Counting.{capped, counted_schemes};
 
-use rewriting::naming::{RuleName, one_argument, rule_named, two_arguments};
+use rewriting::naming::{one_argument, rule_named, two_arguments};
+use rules::Rule;
 use tree::cells::{APPLICATION, kind_of, next_of};
 use tree::children::child_of;
 
@@ -41,14 +42,13 @@ fn name_ways(sheet: &[u8], work: &[u32], free: usize, i: usize, first: usize) ->
     requires i_nonzero { (0 < i) × (i < free) × (first < free) }
     ensures { result ≡ root_count (name_at sheet.now work.now i) (trees_at sheet.now work.now first) }
 {
-    let rule = rule_named(sheet, work, free, i);
+    let Some(rule) = rule_named(sheet, work, free, i) else {
+        return 1;
+    };
     match rule {
-        RuleName::Fst => one_ways(sheet, work, free, first, 1),
-        RuleName::Snd => one_ways(sheet, work, free, first, 1),
-        RuleName::Flip => one_ways(sheet, work, free, first, 2),
-        RuleName::Sdec => two_ways(sheet, work, free, first),
-        RuleName::Kdec => two_ways(sheet, work, free, first),
-        RuleName::None => 1,
+        Rule::Fst | Rule::Snd => one_ways(sheet, work, free, first, 1),
+        Rule::Flip => one_ways(sheet, work, free, first, 2),
+        Rule::Sdec | Rule::Kdec => two_ways(sheet, work, free, first),
     }
 }
 

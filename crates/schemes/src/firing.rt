@@ -13,7 +13,8 @@ ghost use Rattle.schemes.specs.Choices.{cipher};
 ghost use Rattle.schemes.specs.Building.{Fresh, SomeFresh, Single, Opens, FiredIs, joined_as};
 
 use reduction::building::leaf;
-use rewriting::naming::{RuleName, rule_named};
+use rewriting::naming::rule_named;
+use rules::Rule;
 use substitution::bindings::push_pair;
 use tree::cells::{APPLICATION, next_of, push_cell, share};
 
@@ -214,24 +215,25 @@ pub(crate) fn fire(
     requires some_pairs { SomePairs sheet.now work.old list }
     ensures { (name : ℕ → Text) → Fresh sheet.now work.old free fresh name → (es : List Pair) → trees_at sheet.now work.old list ≡ flatten es → FiredIs sheet.now work.old work.new free (root_at name (name_at sheet.now work.old i) (joined_as (trees_at sheet.now work.old first) es n) choice) result }
 {
-    let rule = rule_named(sheet, work, free, i);
-    match rule {
-        RuleName::Fst => take_part(sheet, work, free, first, n, fresh, list, true),
-        RuleName::Snd => take_part(sheet, work, free, first, n, fresh, list, false),
-        RuleName::Flip => take_role(sheet, work, free, first, choice, n, list),
-        RuleName::Sdec => {
-            let key = next_of(work, free, first);
-            take_payload(sheet, work, free, first, key, n, fresh, list, false)
-        }
-        RuleName::Kdec => {
-            let key = next_of(work, free, first);
-            take_payload(sheet, work, free, first, key, n, fresh, list, true)
-        }
-        RuleName::None => Fired {
+    let Some(rule) = rule_named(sheet, work, free, i) else {
+        return Fired {
             value: 0,
             equations: 0,
             next: n,
-            free: free,
-        },
+            free,
+        };
+    };
+    match rule {
+        Rule::Fst => take_part(sheet, work, free, first, n, fresh, list, true),
+        Rule::Snd => take_part(sheet, work, free, first, n, fresh, list, false),
+        Rule::Flip => take_role(sheet, work, free, first, choice, n, list),
+        Rule::Sdec => {
+            let key = next_of(work, free, first);
+            take_payload(sheet, work, free, first, key, n, fresh, list, false)
+        }
+        Rule::Kdec => {
+            let key = next_of(work, free, first);
+            take_payload(sheet, work, free, first, key, n, fresh, list, true)
+        }
     }
 }

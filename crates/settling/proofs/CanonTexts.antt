@@ -8,6 +8,7 @@ use lib.ListN.{length}
 use native.Mathlib.Omega.{arith}
 use Rattle.rules.specs.Bytes.{upto, insert, sort}
 use Rattle.runs.specs.Texts.{word_text, texts}
+use Rattle.runs.specs.declared.TheConstants.{OPEN, SHUT, COMMA}
 use Rattle.settling.specs.Settle.{sums_sorted}
 use Rattle.flattening.specs.Terms.{Term, node, Terms, none, more, inner, insert_words, sort_words, headed, words, canonical, canonicals, canon_text, canon_texts}
 use Rattle.rules.specs.Writing.{commas, listed}
@@ -23,20 +24,20 @@ module _ (s : List ℕ) where
   texts_inner : (l : List ℕ) (ls : List (List ℕ)) → texts s (inner (l ∷ ls)) ≡ texts s l ++ commas (map (texts s) ls)
   unfolding inner commas texts word_text
   texts_inner l [] = sym (append-nil (texts s l))
-  texts_inner l (m ∷ ls) = texts_append l (2883584 ∷ inner (m ∷ ls)) ∙ ap (λ (r : List ℕ). texts s l ++ (44 ∷ r)) (texts_inner m ls)
+  texts_inner l (m ∷ ls) = texts_append l (COMMA ∷ inner (m ∷ ls)) ∙ ap (λ (r : List ℕ). texts s l ++ (44 ∷ r)) (texts_inner m ls)
 
-  texts_open : (l : List ℕ) → texts s (2621440 ∷ l) ≡ 40 ∷ texts s l
+  texts_open : (l : List ℕ) → texts s (OPEN ∷ l) ≡ 40 ∷ texts s l
   unfolding texts word_text
   texts_open l = refl
 
-  texts_shut : texts s (2686976 ∷ []) ≡ 41 ∷ []
+  texts_shut : texts s (SHUT ∷ []) ≡ 41 ∷ []
   unfolding texts word_text
   texts_shut = refl
 
-  texts_list : (l : List ℕ) (ls : List (List ℕ)) → texts s (2621440 ∷ (inner (l ∷ ls) ++ (2686976 ∷ []))) ≡ 40 ∷ (texts s l ++ (commas (map (texts s) ls) ++ (41 ∷ [])))
+  texts_list : (l : List ℕ) (ls : List (List ℕ)) → texts s (OPEN ∷ (inner (l ∷ ls) ++ (SHUT ∷ []))) ≡ 40 ∷ (texts s l ++ (commas (map (texts s) ls) ++ (41 ∷ [])))
   texts_list l ls =
-      texts_open (inner (l ∷ ls) ++ (2686976 ∷ []))
-      ∙ ap (λ (r : List ℕ). 40 ∷ r) (texts_append (inner (l ∷ ls)) (2686976 ∷ []) ∙ ap₂ (λ (a b : List ℕ). a ++ b) (texts_inner l ls) texts_shut ∙ append_assoc (texts s l) (commas (map (texts s) ls)) (41 ∷ []))
+      texts_open (inner (l ∷ ls) ++ (SHUT ∷ []))
+      ∙ ap (λ (r : List ℕ). 40 ∷ r) (texts_append (inner (l ∷ ls)) (SHUT ∷ []) ∙ ap₂ (λ (a b : List ℕ). a ++ b) (texts_inner l ls) texts_shut ∙ append_assoc (texts s l) (commas (map (texts s) ls)) (41 ∷ []))
 
   texts_headed : (x : ℕ) (ls : List (List ℕ)) → texts s (headed x ls) ≡ listed (word_text s x) (map (texts s) ls)
   unfolding headed listed texts

@@ -10,6 +10,7 @@ use Rattle.rules.specs.Bytes.{Text}
 use Rattle.rules.specs.Tree.{Tree, Trees}
 use Rattle.rules.specs.Sums.{canonical}
 use Rattle.runs.specs.Texts.{texts, Token}
+use Rattle.runs.specs.declared.TheConstants.{OPEN, SHUT, COMMA, PLUS}
 use Rattle.settling.specs.Settle.{sums_sorted}
 use Rattle.flattening.specs.Terms.{Term, node, Terms, none, more, inner, headed, words, words_each}
 use Rattle.flattening.specs.Items.{adds}
@@ -32,7 +33,7 @@ module _ (P : ℕ → Type 0) where
 
   -- ---- flattening
 
-  flat_names : (b : Bool) (x : ℕ) (ts us : Terms) → P 16777216 → P x → NamesAll ts → NamesAll us → Names (flat_by b x ts us)
+  flat_names : (b : Bool) (x : ℕ) (ts us : Terms) → P PLUS → P x → NamesAll ts → NamesAll us → Names (flat_by b x ts us)
   flat_names b x none us c h p q = name h nil
   flat_names true x (more t ts) us c h p q = name c q
   flat_names false x (more t ts) us c h p q = name h p
@@ -42,7 +43,7 @@ module _ (P : ℕ → Type 0) where
   splice_names true x (more t ts) us rest h p q r = q
   splice_names false x (more t ts) us rest h p q r = both (name h p) r
 
-  module _ (s : Text) (c : P 16777216) (of : (x : ℕ) → Word s x → P x) where
+  module _ (s : Text) (c : P PLUS) (of : (x : ℕ) → Word s x → P x) where
     mutual
       unfolding flatten
 
@@ -72,7 +73,7 @@ module _ (P : ℕ → Type 0) where
     no_list : EachOf []
     one_more : {l : List ℕ} {ls : List (List ℕ)} → Each P l → EachOf ls → EachOf (l ∷ ls)
 
-  module _ (o : P 2621440) (c : P 2686976) (k : P 2883584) where
+  module _ (o : P OPEN) (c : P SHUT) (k : P COMMA) where
     inner_each : {ls : List (List ℕ)} → EachOf ls → Each P (inner ls)
     unfolding inner
     inner_each no_list = words_of.none
@@ -102,15 +103,15 @@ mutual
   plain_terms nil = canonicals.nil
   plain_terms (both h hs) = canonicals.both (plain_term h) (plain_terms hs)
 
-plus_plain : NoMark 16777216
+plus_plain : NoMark PLUS
 plus_plain = record { no_open = λ e. omega arith; no_shut = λ e. omega arith; no_comma = λ e. omega arith }
 
 module _ (s : Text) {t : Term} {u : Tree} (h : Spells s t u) where
   pub spelled_tokens : Each (Token s) (words (flatten s t))
   spelled_tokens =
-      words_have (Token s) (code_token s 2621440 (omega arith)) (code_token s 2686976 (omega arith)) (code_token s 2883584 (omega arith))
-      (flatten_names (Token s) s (code_token s 16777216 (omega arith)) (λ x w. w.token) h)
+      words_have (Token s) (code_token s OPEN (omega arith)) (code_token s SHUT (omega arith)) (code_token s COMMA (omega arith))
+      (flatten_names (Token s) s (code_token s PLUS (omega arith)) (λ x w. w.token) h)
 
-  pub spelled_settled : length (words (flatten s t)) < 65536 → (base : ℕ) → texts s (sums_sorted s 16777216 base (length (words (flatten s t))) (words (flatten s t))) ≡ canonical u
+  pub spelled_settled : length (words (flatten s t)) < 65536 → (base : ℕ) → texts s (sums_sorted s PLUS base (length (words (flatten s t))) (words (flatten s t))) ≡ canonical u
   unfolding canonical
-  spelled_settled k base = settled_text s 16777216 base plus_plain (flatten s t) (plain_term (flatten_names NoMark s plus_plain (λ x w. w.plain) h)) k ∙ flatten_text s h
+  spelled_settled k base = settled_text s PLUS base plus_plain (flatten s t) (plain_term (flatten_names NoMark s plus_plain (λ x w. w.plain) h)) k ∙ flatten_text s h

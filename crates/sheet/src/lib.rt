@@ -1,74 +1,72 @@
 // The lines of a sheet: a cursor that is handed on by value, lines with a key, two lines that belong together.
 #![tactic(auto)]
 
-pub mod claims; // claims.rt: what is claimed of members
-
 ghost use Rattle.std.specs.Prelude.{◌≡◌, ◌≤◌, length};
 ghost use Rattle.rules.specs.Text.{bytes};
-ghost use Rattle.sheet.specs.Lines.{part_of, line_at, value_at};
+ghost use Rattle.sheet.specs.Lines.{up_to, part_of, line_at, value_at};
 ghost use Rattle.sheet.specs.Pairs.{two_lines_at};
 
 use text::begins;
 
 // A position in the sheet, handed on by value after each line.
-#[derive(Clone, Copy)]
+#[derive(Clone, Copy, Debug, PartialEq, Eq)]
 pub struct Cursor {
     pub at: usize,
 }
 
 // A text of the sheet: the bytes from `from` up to `to`.
-#[derive(Clone, Copy)]
+#[derive(Clone, Copy, Debug, PartialEq, Eq)]
 pub struct Place {
     pub from: usize,
     pub to: usize,
 }
 
-// What the line reader answers: the line's bytes are those from `from` up to `to`.
-#[derive(Clone, Copy)]
-pub enum Line {
-    Whole {
-        from: usize,
-        to: usize,
-        next: Cursor,
-    },
-    Missing,
+// A line, or a line's value, and the position after it.
+#[derive(Clone, Copy, Debug, PartialEq, Eq)]
+pub struct Line {
+    pub value: Place,
+    pub next: Cursor,
+}
+
+// How many bytes stand before the first line feed.
+fn line_length(text: &[u8]) -> Option<usize>
+    ensures { result ≡ up_to 10 text.now }
+{
+    text.iter().position(|b| *b == b'\n')
 }
 
 impl Cursor {
-    pub fn line(self, sheet: &[u8]) -> Line
+    // The line at the cursor, if it ends.
+    #[tactic(auto, unfolding(crate::specs::Lines::line_at))]
+    pub fn line(self, sheet: &[u8]) -> Option<Line>
         ensures { result ≡ line_at sheet.now self.at }
     {
         let from = self.at;
-        let mut i = from;
-        while i < sheet.len() {
-            if sheet[i] == b'\n' {
-                return Line::Whole {
-                    from,
-                    to: i,
-                    next: Cursor { at: i + 1 },
-                };
-            }
-            i += 1;
-        }
-        Line::Missing
+        let rest = sheet.get(from..)?;
+        let to = from + line_length(rest)?;
+        Some(Line {
+            value: Place { from, to },
+            next: Cursor { at: to + 1 },
+        })
     }
 
     // The value of the line at the cursor, if the line begins with the key.
-    pub fn keyed(self, sheet: &[u8], key: &[u8]) -> Line
+    #[tactic(auto, unfolding(crate::specs::Lines::value_at))]
+    pub fn keyed(self, sheet: &[u8], key: &[u8]) -> Option<Line>
         ensures { result ≡ value_at sheet.now key.now self.at }
     {
-        let line = self.line(sheet);
-        let Line::Whole { from, to, next } = line else {
-            return Line::Missing;
-        };
+        let line = self.line(sheet)?;
+        let Place { from, to } = line.value;
         if !begins(part(sheet, from, to), key) {
-            return Line::Missing;
+            return None;
         }
-        Line::Whole {
-            from: from + key.len(),
-            to,
-            next,
-        }
+        Some(Line {
+            value: Place {
+                from: from + key.len(),
+                to,
+            },
+            next: line.next,
+        })
     }
 }
 
@@ -80,68 +78,44 @@ pub fn part(sheet: &[u8], from: usize, to: usize) -> &[u8]
     &sheet[from..to]
 }
 
-// Two lines that belong together.
-#[derive(Clone, Copy)]
-pub enum PairLine {
-    Sides {
-        left: Place,
-        right: Place,
-        next: Cursor,
-    },
-    End,
+// The values of two lines that belong together, and the position after them.
+#[derive(Clone, Copy, Debug, PartialEq, Eq)]
+pub struct Sides {
+    pub left: Place,
+    pub right: Place,
+    pub next: Cursor,
 }
 
 // The values of the two lines at the cursor, if the first begins with one key and the second with the other.
-fn two_lines(sheet: &[u8], cursor: Cursor, first: &[u8], second: &[u8]) -> PairLine
+#[tactic(auto, unfolding(crate::specs::Pairs::two_lines_at))]
+fn two_lines(sheet: &[u8], cursor: Cursor, first: &[u8], second: &[u8]) -> Option<Sides>
     ensures { result ≡ two_lines_at first.now second.now sheet.now cursor.at }
 {
-    let line = cursor.keyed(sheet, first);
-    let Line::Whole {
-        from: left_from,
-        to: left_to,
-        next: middle,
-    } = line
-    else {
-        return PairLine::End;
-    };
-    let other = middle.keyed(sheet, second);
-    let Line::Whole {
-        from: right_from,
-        to: right_to,
-        next,
-    } = other
-    else {
-        return PairLine::End;
-    };
-    PairLine::Sides {
-        left: Place {
-            from: left_from,
-            to: left_to,
-        },
-        right: Place {
-            from: right_from,
-            to: right_to,
-        },
-        next,
-    }
+    let left = cursor.keyed(sheet, first)?;
+    let right = left.next.keyed(sheet, second)?;
+    Some(Sides {
+        left: left.value,
+        right: right.value,
+        next: right.next,
+    })
 }
 
 // The next pair of lines `left`, `right`.
-pub fn next_pair(sheet: &[u8], cursor: Cursor) -> PairLine
+pub fn next_pair(sheet: &[u8], cursor: Cursor) -> Option<Sides>
     ensures { result ≡ two_lines_at (bytes "left=") (bytes "right=") sheet.now cursor.at }
 {
     two_lines(sheet, cursor, b"left=", b"right=")
 }
 
 // The next lines `key`, `value` of a member: the key is the left side, the value the right.
-pub fn next_entry(sheet: &[u8], cursor: Cursor) -> PairLine
+pub fn next_entry(sheet: &[u8], cursor: Cursor) -> Option<Sides>
     ensures { result ≡ two_lines_at (bytes "key=") (bytes "value=") sheet.now cursor.at }
 {
     two_lines(sheet, cursor, b"key=", b"value=")
 }
 
 // The next line `member`.
-pub fn next_member(sheet: &[u8], cursor: Cursor) -> Line
+pub fn next_member(sheet: &[u8], cursor: Cursor) -> Option<Line>
     ensures { result ≡ value_at sheet.now (bytes "member=") cursor.at }
 {
     cursor.keyed(sheet, b"member=")

@@ -3,14 +3,16 @@ use Prim.Native.Nat.{ℕ, zero, suc, ◌+◌, ◌-◌, ◌<◌}
 use mathlib.Core.Path.{◌≡◌, refl, sym, ap, ◌∙◌}
 use mathlib.Core.Bool.{Bool, true, false, cond}
 use mathlib.Core.List.{List}
-use mathlib.Core.Option.{Option, some, none as nothing}
+use Rattle.std.specs.Prelude.{Option, Some, None}
 use mathlib.Core.Logic.{◌⊎◌, inl, inr, ⊎_elim}
 use lib.Dec.{eqb, ltb}
 use lib.ListN.{length}
 use native.Mathlib.Omega.{arith}
 use borrow.Author.Tests.{lt-ltb, eqb-true}
 use denote.Enum.Declared.{tag_of}
-use Rattle.rules.specs.Sorts.{Sort, Pub, Fresh, Msg, TamNat, Node, sort_number, same_sort, has_sort, has_message_sort}
+use Rattle.rules.specs.declared.Sort.{Sort}
+use Rattle.rules.specs.declared.Sort.TheVariants.{Pub, Fresh, Msg, TamNat, Node}
+use Rattle.rules.specs.Sorts.{sort_number, same_sort, has_sort, has_message_sort}
 use Rattle.rules.specs.Sorts as rules
 use Rattle.rules.specs.Bytes.{Text, same}
 use Rattle.rules.specs.Text.{bytes}
@@ -39,16 +41,16 @@ sort_test n m h l =
 
 -- the sort of a kind
 abbrev of_kind : ℕ → Option Sort
-of_kind zero = nothing
-of_kind (suc n) = cond (ltb n 5) (some (numbered n)) nothing
+of_kind zero = None
+of_kind (suc n) = cond (ltb n 5) (Some (numbered n)) None
 
 of_sort : (v : Option Sort) → of_kind (kind_of_sort v) ≡ v
-of_sort nothing = refl
-of_sort (some Pub) = refl
-of_sort (some Fresh) = refl
-of_sort (some Msg) = refl
-of_sort (some TamNat) = refl
-of_sort (some Node) = refl
+of_sort None = refl
+of_sort (Some Pub) = refl
+of_sort (Some Fresh) = refl
+of_sort (Some Msg) = refl
+of_sort (Some TamNat) = refl
+of_sort (Some Node) = refl
 
 sort_of_kind : (r : ℕ) (v : Option Sort) → r ≡ kind_of_sort v → v ≡ of_kind r
 sort_of_kind r v e = sym (of_sort v) ∙ ap of_kind (sym e)
@@ -71,14 +73,14 @@ pub sort_kind : (n : ℕ) → n < 5 → (r : ℕ) (v : Option Sort) → r ≡ ki
 unfolding every_below agree
 sort_kind n l = kinds (λ r. eqb r (n + 1)) (has_sort (numbered n)) (below_holds 5 (λ m. every_below 6 (λ k. agree (eqb (suc k) (m + 1)) (has_sort (numbered m) (of_kind (suc k))))) refl n l)
 
-pub kind_known : (r : ℕ) (v : Option Sort) → r ≡ kind_of_sort v → 0 < r → r < 6 → v ≡ some (numbered (r - 1))
+pub kind_known : (r : ℕ) (v : Option Sort) → r ≡ kind_of_sort v → 0 < r → r < 6 → v ≡ Some (numbered (r - 1))
 kind_known zero v e h l = absurd (omega arith)
 kind_known (suc n) v e h l =
     let p : suc n - 1 ≡ n = omega arith in
     let q : n < 5 = omega arith in
     sort_of_kind (suc n) v e ∙ rw (lt-ltb n 5 q, p)
 
-pub kind_unknown : (r : ℕ) (v : Option Sort) → r ≡ kind_of_sort v → r ≡ 6 → v ≡ nothing
+pub kind_unknown : (r : ℕ) (v : Option Sort) → r ≡ kind_of_sort v → r ≡ 6 → v ≡ None
 kind_unknown r v e f = sort_of_kind 6 v (sym f ∙ e)
 
 -- symbols

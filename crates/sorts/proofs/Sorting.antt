@@ -10,7 +10,9 @@ use native.Mathlib.Decide.{dec_lt}
 use borrow.Author.Tests.{ne_eqb}
 use Rattle.rules.specs.Bytes.{Text}
 use Rattle.rules.specs.Tree.{Tree, variable, Trees, none, more}
-use Rattle.rules.specs.Sorts.{Sort, TamNat, Msg, variable_sort, Symbol, addition, unit, free, symbol, natural_at, natural, naturals, message_at, message, messages, basic, sorted, may_meet, refinable_at, refinable, refinables, intersects}
+use Rattle.rules.specs.declared.Sort.{Sort}
+use Rattle.rules.specs.declared.Sort.TheVariants.{TamNat, Msg}
+use Rattle.rules.specs.Sorts.{variable_sort, Symbol, addition, unit, free, symbol, natural_at, natural, naturals, message_at, message, messages, basic, sorted, may_meet, refinable_at, refinable, refinables, intersects}
 use Rattle.tree.specs.Cells.{kind_of, variable_kind, name_at, first_of, tree_at, trees_at}
 use Rattle.tree.specs.Arena.{Links, Cell}
 use Rattle.tree.proofs.Decoding.{tree_variable, tree_atom, tree_apply, trees_none, trees_more}

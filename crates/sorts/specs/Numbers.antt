@@ -1,6 +1,7 @@
 -- Sorts by their numbers, and symbols as the code has them. Definitions only.
 use Rattle.std.specs.Prelude.{ℕ, zero, suc, ◌≡◌}
-use Rattle.rules.specs.Sorts.{Sort, Pub, Fresh, Msg, TamNat, Node}
+use Rattle.rules.specs.declared.Sort.{Sort}
+use Rattle.rules.specs.declared.Sort.TheVariants.{Pub, Fresh, Msg, TamNat, Node}
 use Rattle.rules.specs.Sorts as rules
 use Rattle.rules.specs.Bytes.{Text}
 use Rattle.sorts.specs.declared.Symbol.{Symbol}

@@ -1,6 +1,8 @@
 // The five sorts: which meet, which trees have them, and which trees may have an instance of them.
 #![tactic(auto)]
 
+pub mod areas; // areas.rt: the same in an area
+
 ghost use Rattle.std.specs.Prelude.{◌≡◌, true, ◌<◌};
 ghost use Rattle.rules.specs.Sorts.{intersects, symbol, natural, naturals, message, messages, basic, sorted, refinable, refinables};
 ghost use Rattle.tree.specs.Cells.{kind_of, name_at, tree_at, trees_at};

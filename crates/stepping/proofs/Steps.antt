@@ -11,7 +11,8 @@ use Rattle.rules.specs.Bytes.{Text, same}
 use Rattle.rules.specs.Tree.{Tree, Trees, head, children, same_tree, tamtplus}
 use Rattle.rules.specs.Substitution.{Pair}
 use Rattle.rules.specs.Sums.{equivalent}
-use Rattle.rules.specs.Sorts.{TamNat, natural, refinable, sort_refuted}
+use Rattle.rules.specs.declared.Sort.TheVariants.{TamNat}
+use Rattle.rules.specs.Sorts.{natural, refinable, sort_refuted}
 use Rattle.rules.specs.Solving.{Step, goes_on, fails, cancel_sums, sum_step, push_children, decompose_at, decompose, against, differ, step_at, step, eliminate}
 use Rattle.laws.specs.Memory.{load, weight, pushed}
 use Rattle.laws.proofs.Basics.Tests.{and_split, and_both}

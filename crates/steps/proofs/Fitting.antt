@@ -2,7 +2,8 @@
 use mathlib.Core.Path.{◌≡◌, sym, subst}
 use mathlib.Core.Bool.{Bool, true, false}
 use mathlib.Core.List.{List, [], ◌∷◌}
-use mathlib.Core.Option.{Option, some, none as nothing, none-ne-some, some-injective}
+use Rattle.std.specs.Prelude.{Option, Some, None}
+use Rattle.laws.proofs.Basics.Somes.{none_ne_some, some_injective}
 use Prim.Native.Nat.{ℕ, suc, ◌≤◌}
 use lib.Dec.{leb}
 use native.Mathlib.Omega.{arith}
@@ -10,7 +11,8 @@ use Rattle.rules.specs.Bytes.{Text, same}
 use Rattle.rules.specs.Tree.{Tree, variable, atom, apply, Trees, none, more, head, children, size, sizes, same_tree, occurs, tamtplus}
 use Rattle.rules.specs.Substitution.{Binding, Pair, instantiate_pairs, size_pairs}
 use Rattle.rules.specs.Sums.{summands, equivalent}
-use Rattle.rules.specs.Sorts.{Sort, variable_sort, sorted, refinable, sort_refuted}
+use Rattle.rules.specs.declared.Sort.{Sort}
+use Rattle.rules.specs.Sorts.{variable_sort, sorted, refinable, sort_refuted}
 use Rattle.rules.specs.Solving.{Step, goes_on, bind, fails, unknown, Rest, emptied, mismatch, stuck, equation, cancel, remainder, cancel_sums, fits, bind_into, unless_refinable, swap_at, swap_for, swap_key, sort_check, occurs_check, eliminate_at, eliminate, push_children, if_refuted, sum_step, decompose_at, decompose, against, differ, step_at, step}
 use Rattle.rules.specs.Matching.{Move, onward, clash, beyond, bound, or_else, agree, bind_new, sort_new, match_key, match_rest, ground_eq, match_at, match_roots, move}
 use Rattle.rules.specs.Tidy.{Built, Builts, both}
@@ -128,8 +130,8 @@ swap_on x ps s (variable y) = for (variable_sort y)
     at false = unless_on (refinable s (variable y))
 
     for : (o : Option Sort) → FitOn (swap_for o s x y ps)
-    for nothing = unless_on (refinable s (variable y))
-    for (some r) = at (sorted r (variable x))
+    for None = unless_on (refinable s (variable y))
+    for (Some r) = at (sorted r (variable x))
 swap_on x ps s (atom c d) = unless_on (refinable s (atom c d))
 swap_on x ps s (apply f ts) = unless_on (refinable s (apply f ts))
 
@@ -146,8 +148,8 @@ eliminate_on x v ps = go (variable_sort x)
     occur false s = sort (sorted s v) s
 
     go : (o : Option Sort) → FitOn (eliminate_at o x v ps)
-    go nothing = tt
-    go (some s) = occur (occurs x v) s
+    go None = tt
+    go (Some s) = occur (occurs x v) s
 
 module _ (ps : List Pair) (waiting : FitPairs ps) where
   decompose_on : (l r : Tree) → Fit l → Fit r → FitOn (decompose l r ps)
@@ -220,31 +222,31 @@ FitMove clash = Unit {0}
 FitMove beyond = Unit {0}
 
 -- the value of a variable that is bound
-pub bound_value : (x : Text) (bs : List Binding) (v : Tree) → FitBindings bs → bound x bs ≡ some v → Fit v
+pub bound_value : (x : Text) (bs : List Binding) (v : Tree) → FitBindings bs → bound x bs ≡ Some v → Fit v
 unfolding bound
-bound_value x [] v h e = absurd (none-ne-some v e)
+bound_value x [] v h e = absurd (none_ne_some v e)
 bound_value x (b ∷ bs) v h e = go (same b.0 x) (λ f. bound_value x bs v h.1 f) e
   where
-    go : (c : Bool) → (bound x bs ≡ some v → Fit v) → or_else c b.1 (bound x bs) ≡ some v → Fit v
-    go true r f = subst Fit (some-injective b.1 v f) h.0
+    go : (c : Bool) → (bound x bs ≡ Some v → Fit v) → or_else c b.1 (bound x bs) ≡ Some v → Fit v
+    go true r f = subst Fit (some_injective b.1 v f) h.0
     go false r f = r f
 
 module _ (ps : List Pair) (bs : List Binding) (waiting : FitPairs ps) (values : FitBindings bs) where
   key_fit : (x : Text) (u : Tree) → Fit u → (o : Option Tree) → FitMove (match_key o x u ps bs)
-  key_fit x u q (some v) = go (equivalent v u)
+  key_fit x u q (Some v) = go (equivalent v u)
     where
       go : (c : Bool) → FitMove (agree c ps bs)
       go true = (waiting, values)
       go false = tt
-  key_fit x u q nothing = for (variable_sort x)
+  key_fit x u q None = for (variable_sort x)
     where
       new : (c : Bool) → FitMove (bind_new c x u ps bs)
       new true = (waiting, (q, values))
       new false = tt
 
       for : (o : Option Sort) → FitMove (sort_new o x u ps bs)
-      for nothing = tt
-      for (some r) = new (sorted r u)
+      for None = tt
+      for (Some r) = new (sorted r u)
 
   roots_fit : (t u : Tree) → Fit t → Fit u → FitMove (match_roots t u ps bs)
   unfolding match_roots
@@ -269,10 +271,10 @@ move_fit (apply f ts) u ps bs p q h k = roots_fit ps bs h k (apply f ts) u p q
 
 -- What reading gives
 
-fit_of : (s : Text) (t : Tree) → parse s ≡ some t → Fit t
+fit_of : (s : Text) (t : Tree) → parse s ≡ Some t → Fit t
 fit_of s t e = let h = parse_builds s t e in record { built = h.0; small = h.1 }
 
-pub pairs_fit : (es : List Entry) (ps : List Pair) → read_pairs es ≡ some ps → FitPairs ps
+pub pairs_fit : (es : List Entry) (ps : List Pair) → read_pairs es ≡ Some ps → FitPairs ps
 pairs_fit = pairs_read_by (λ es ps. FitPairs ps) tt (λ e es p ps l r h. (fit_of e.0 p.0 l, fit_of e.1 p.1 r, h))
 
 -- pairs that are built, with sides of at most 4,096 nodes

@@ -3,7 +3,7 @@ use Prim.Native.Nat.{ℕ, ◌+◌, ◌*◌, ◌<◌, ◌≤◌}
 use mathlib.Core.Path.{◌≡◌, refl, sym, ap, ap₂, ◌∙◌}
 use mathlib.Core.Bool.{Bool}
 use mathlib.Core.List.{List, [], ◌∷◌, reverse, reverse_aux}
-use mathlib.Core.Option.{Option, some, none as nothing}
+use Rattle.std.specs.Prelude.{Option, Some, None}
 use lib.ListN.{length}
 use native.Mathlib.Omega.{arith}
 use Rattle.rules.specs.Bytes.{Text}
@@ -26,20 +26,20 @@ abbrev pub composing : List Binding → Option (List Binding) → Option (List B
 composing [] o = o
 composing (b ∷ bs) o = composing bs (compose_over b.0 b.1 o)
 
-composing_is : (bs cs : List Binding) → composing bs (compose cs) ≡ compose (reverse_aux bs cs)
+pub composing_is : (bs cs : List Binding) → composing bs (compose cs) ≡ compose (reverse_aux bs cs)
 unfolding compose
 composing_is [] cs = refl
 composing_is (b ∷ bs) cs = composing_is bs (b ∷ cs)
 
-composing_nothing : (bs : List Binding) → composing bs nothing ≡ nothing
+composing_nothing : (bs : List Binding) → composing bs None ≡ None
 composing_nothing [] = refl
 composing_nothing (b ∷ bs) = composing_nothing bs
 
 module _ (x : Text) (t : Tree) (bs cs : List Binding) where
-  composing_fits : size (instantiate cs t) ≤ 4096 → composing ((x, t) ∷ bs) (some cs) ≡ composing bs (some ((x, instantiate cs t) ∷ cs))
+  pub composing_fits : size (instantiate cs t) ≤ 4096 → composing ((x, t) ∷ bs) (Some cs) ≡ composing bs (Some ((x, instantiate cs t) ∷ cs))
   composing_fits h = ap (λ (c : Bool). composing bs (extended c x (instantiate cs t) cs)) (true_leb (size (instantiate cs t)) 4096 h)
 
-  composing_over : 4096 < size (instantiate cs t) → composing ((x, t) ∷ bs) (some cs) ≡ nothing
+  pub composing_over : 4096 < size (instantiate cs t) → composing ((x, t) ∷ bs) (Some cs) ≡ None
   composing_over h = ap (λ (c : Bool). composing bs (extended c x (instantiate cs t) cs)) (false_leb (size (instantiate cs t)) 4096 h) ∙ composing_nothing bs
 
 -- at the loop's head: the bindings from cell k on are left, those from cell b on are composed
@@ -52,7 +52,7 @@ pub record Holds (s : Text) (w v : List ℕ) (n : ℕ) (es : List Binding) (k en
   pub inside : b < end
   pub left_chain : Chain (trees_at s w k)
   pub chain : Chain (trees_at s v b)
-  pub result : composing (bindings_at s w k) (some (bindings_at s v b)) ≡ compose (reverse es)
+  pub result : composing (bindings_at s w k) (Some (bindings_at s v b)) ≡ compose (reverse es)
   pub used : end + 4097 * length (bindings_at s w k) ≤ n + 4097 * length es
 
 pub holds_start : {s : Text} {w : List ℕ} {n : ℕ} (k : ℕ) → Arena s w n → k < n → Chain (trees_at s w k) → Holds s w w n (bindings_at s w k) k n 0
@@ -66,14 +66,14 @@ holds_start {s} {w} {n} k a q c = record {
   inside = a.links.some;
   left_chain = c;
   chain = rw (trees_none s w 0 refl) chain_none;
-  result = ap (λ (cs : List Binding). composing (bindings_at s w k) (some cs)) (bindings_none s w 0 refl) ∙ composing_is (bindings_at s w k) [];
+  result = ap (λ (cs : List Binding). composing (bindings_at s w k) (Some cs)) (bindings_none s w 0 refl) ∙ composing_is (bindings_at s w k) [];
   used = omega arith;
 }
 
 module _ {s : Text} {w v : List ℕ} {n k end b : ℕ} {es : List Binding} (h : Holds s w v n es k end b) where
   pub holds_end : k ≡ 0 → ComposedAt s w v n es b end
   holds_end e = record {
-    composed = sym h.result ∙ ap (λ (bs : List Binding). composing bs (some (bindings_at s v b))) (bindings_none s w k e);
+    composed = sym h.result ∙ ap (λ (bs : List Binding). composing bs (Some (bindings_at s v b))) (bindings_none s w k e);
     chain = h.chain;
     made = record { arena = h.arena; grown = h.grown; grew = h.grew; inside = h.inside; trees = refl };
     used = omega (arith, h.used);
@@ -103,9 +103,9 @@ module _ {s : Text} {w v : List ℕ} {n k end b : ℕ} {es : List Binding} (h : 
       pub holds_room : end + 4097 ≤ n + 4097 * length es
       holds_room = omega (arith, h.used, length_is)
 
-      pub holds_over : {u : List ℕ} → (4096 < size (instance_at s v b x)) × Grown v u end (end + 4096) → (compose (reverse es) ≡ nothing) × Grown w u n (n + 4097 * length es)
+      pub holds_over : {u : List ℕ} → (4096 < size (instance_at s v b x)) × Grown v u end (end + 4096) → (compose (reverse es) ≡ None) × Grown w u n (n + 4097 * length es)
       holds_over y = (
-        sym h.result ∙ ap (λ (bs : List Binding). composing bs (some (bindings_at s v b))) at_left.read
+        sym h.result ∙ ap (λ (bs : List Binding). composing bs (Some (bindings_at s v b))) at_left.read
             ∙ composing_over (name_at s w k) (tree_at s w x) (bindings_at s w j) (bindings_at s v b) (omega (arith, y.0, ap size value_is)),
         grown_then h.grown y.1 h.grew (omega (arith, holds_room)) (omega (arith, holds_room)),
       )
@@ -129,8 +129,8 @@ module _ {s : Text} {w v : List ℕ} {n k end b : ℕ} {es : List Binding} (h : 
             inside = omega arith;
             left_chain = at_left.chain;
             chain = rw trees (chain_more (name_at s w k) t (trees_at s v b) h.chain);
-            result = ap (λ (cs : List Binding). composing (bindings_at s w j) (some cs)) bindings
+            result = ap (λ (cs : List Binding). composing (bindings_at s w j) (Some cs)) bindings
                 ∙ sym (composing_fits (name_at s w k) (tree_at s w x) (bindings_at s w j) (bindings_at s v b) (omega (arith, d.spent, ap size value_is)))
-                ∙ ap (λ (bs : List Binding). composing bs (some (bindings_at s v b))) (sym at_left.read) ∙ h.result;
+                ∙ ap (λ (bs : List Binding). composing bs (Some (bindings_at s v b))) (sym at_left.read) ∙ h.result;
             used = omega (arith, h.used, length_is, d.used);
           }

@@ -3,7 +3,7 @@ use Prim.Native.Nat.{ℕ, ◌<◌}
 use mathlib.Core.Path.{◌≡◌, refl, sym, ap, ◌∙◌}
 use mathlib.Core.Bool.{Bool, true, false}
 use mathlib.Core.List.{List, [], ◌∷◌}
-use mathlib.Core.Option.{Option, some, none as nothing}
+use Rattle.std.specs.Prelude.{Option, Some, None}
 use Rattle.rules.specs.Bytes.{Text, same}
 use Rattle.rules.specs.Maybe.{otherwise}
 use Rattle.rules.specs.Tree.{Tree, variable, more}
@@ -39,7 +39,7 @@ module _ {w : List ℕ} {n : ℕ} (s : Text) (l : Links w n) (k v : ℕ) (p : 0 
       ∙ ap (λ (x : Text). (x, tree_at s w v) ∷ bindings_at s w (next_of w v)) (key_name s w k (kind (kind_of w k)))
 
   module _ (x : Text) (a : 0 < v) (b : v < n) where
-    pub bound_here : same (name_at s w k) x ≡ true → bound x (bindings_at s w k) ≡ some (tree_at s w v)
+    pub bound_here : same (name_at s w k) x ≡ true → bound x (bindings_at s w k) ≡ Some (tree_at s w v)
     unfolding bound
     bound_here h = ap (bound x) (bindings_more a b) ∙ rw h
 
@@ -57,7 +57,7 @@ lookup_bound x (b ∷ bs) = go (same b.0 x) (lookup_bound x bs)
     go true h = refl
     go false h = h
 
-pub found_at : {s : Text} {w : List ℕ} {n : ℕ} {bs : List Binding} {x : Text} {k : ℕ} → 0 < k → k < n → bound x bs ≡ some (tree_at s w k) → FoundAt s w n bs x k
+pub found_at : {s : Text} {w : List ℕ} {n : ℕ} {bs : List Binding} {x : Text} {k : ℕ} → 0 < k → k < n → bound x bs ≡ Some (tree_at s w k) → FoundAt s w n bs x k
 found_at {bs = bs} {x = x} p q e = record {
   some_cell = p;
   inside = q;
@@ -65,5 +65,5 @@ found_at {bs = bs} {x = x} p q e = record {
   is_value = lookup_bound x bs ∙ ap (λ (o : Option Tree). otherwise o (variable x)) e;
 }
 
-pub found_nothing : (x : Text) (bs : List Binding) → bound x bs ≡ nothing → (bound x bs ≡ nothing) × (lookup bs x ≡ variable x)
+pub found_nothing : (x : Text) (bs : List Binding) → bound x bs ≡ None → (bound x bs ≡ None) × (lookup bs x ≡ variable x)
 found_nothing x bs e = (e, lookup_bound x bs ∙ ap (λ (o : Option Tree). otherwise o (variable x)) e)

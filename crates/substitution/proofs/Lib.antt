@@ -6,3 +6,8 @@ pub mod Substituting
 pub mod Placing
 pub mod Binding
 pub mod Composing
+pub mod Listing
+pub mod Searching
+pub mod Instantiating
+pub mod Putting
+pub mod Chaining

@@ -1,6 +1,6 @@
 -- Bindings in cells: one list of trees, the key and the value of each binding in turn. Definitions only.
 use Rattle.std.specs.Prelude.{ℕ, ◌<◌, ◌≡◌, List, [], ◌∷◌}
-use Rattle.std.proofs.Math.Option.{Option, some, none as nothing}
+use Rattle.std.specs.Prelude.{Option, Some, None}
 use Rattle.rules.specs.Bytes.{Text}
 use Rattle.rules.specs.Tree.{Tree, variable, atom, apply, Trees, none, more}
 use Rattle.rules.specs.Substitution.{Binding, lookup}
@@ -19,12 +19,12 @@ key_of (apply f ts) = f
 unfoldable pub keyed : Trees → Option Text → List Binding
 unfolding key_of
 keyed none o = []
-keyed (more t ts) nothing = keyed ts (some (key_of t))
-keyed (more t ts) (some x) = (x, t) ∷ keyed ts nothing
+keyed (more t ts) None = keyed ts (Some (key_of t))
+keyed (more t ts) (Some x) = (x, t) ∷ keyed ts None
 
 unfoldable pub bindings_of : Trees → List Binding
 unfolding keyed
-bindings_of ts = keyed ts nothing
+bindings_of ts = keyed ts None
 
 -- the list of bindings
 unfoldable pub flatten_bindings : List Binding → Trees
@@ -43,9 +43,9 @@ bindings_at s w b = bindings_of (trees_at s w b)
 pub record FoundAt (s : Text) (w : List ℕ) (n : ℕ) (bs : List Binding) (x : Text) (k : ℕ) : Type 0 where
   pub some_cell : 0 < k
   pub inside : k < n
-  pub is_bound : bound x bs ≡ some (tree_at s w k)
+  pub is_bound : bound x bs ≡ Some (tree_at s w k)
   pub is_value : lookup bs x ≡ tree_at s w k
 
 abbrev pub Finds : Text → List ℕ → ℕ → List Binding → Text → Found → Type 0
 Finds s w n bs x (At k) = FoundAt s w n bs x k
-Finds s w n bs x Nothing = (bound x bs ≡ nothing) × (lookup bs x ≡ variable x)
+Finds s w n bs x Nothing = (bound x bs ≡ None) × (lookup bs x ≡ variable x)

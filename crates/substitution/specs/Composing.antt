@@ -1,6 +1,6 @@
 -- What a binding makes of the waiting pairs, and what composing makes of the bindings. Definitions only.
 use Rattle.std.specs.Prelude.{ℕ, ◌+◌, ◌*◌, ◌≤◌, ◌≡◌, List, [], ◌∷◌, reverse, length}
-use Rattle.std.proofs.Math.Option.{some, none as nothing}
+use Rattle.std.specs.Prelude.{Some, None}
 use Rattle.rules.specs.Bytes.{Text}
 use Rattle.rules.specs.Tree.{Tree}
 use Rattle.rules.specs.Substitution.{Binding, Pair, instantiate_pairs, size_pairs, flatten}
@@ -36,11 +36,11 @@ BindsInto s w v n x t ps waiting.Over = (bind_into x t ps ≡ unknown) × Grown 
 
 -- the bindings es, the last made first, composed in the order in which they were made: the list from cell b on
 pub record ComposedAt (s : Text) (w v : List ℕ) (n : ℕ) (es : List Binding) (b m : ℕ) : Type 0 where
-  pub composed : compose (reverse es) ≡ some (bindings_at s v b)
+  pub composed : compose (reverse es) ≡ Some (bindings_at s v b)
   pub chain : Chain (trees_at s v b)
   pub made : Made s w v n m b (trees_at s v b)
   pub used : m ≤ n + 4097 * length es
 
 abbrev pub ComposesCells : Text → List ℕ → List ℕ → ℕ → List Binding → Composition → Type 0
 ComposesCells s w v n es (composition.Composed b m) = ComposedAt s w v n es b m
-ComposesCells s w v n es composition.Over = (compose (reverse es) ≡ nothing) × Grown w v n (n + 4097 * length es)
+ComposesCells s w v n es composition.Over = (compose (reverse es) ≡ None) × Grown w v n (n + 4097 * length es)

@@ -1,3 +1,4 @@
+pub mod Areas
 pub mod Bindings
 pub mod Building
 pub mod Composing

@@ -4,7 +4,7 @@ use mathlib.Core.Path.{◌≡◌, refl, sym, ap, ap₂, subst, ◌∙◌}
 use mathlib.Core.Bool.{Bool, true, false, not, ◌&&◌, ◌||◌}
 use mathlib.Core.Logic.{◌⊎◌, inl, inr, ⊎_elim}
 use mathlib.Core.List.{List, [], ◌∷◌, ◌++◌, append-nil, append_assoc}
-use mathlib.Core.Option.{Option, some, none as nothing}
+use Rattle.std.specs.Prelude.{Option, Some, None}
 use lib.Dec.{eqb}
 use lib.ListN.{length, get_or, set, length-set}
 use lib.Seq.{slice, slice-cons, length-slice, get_or-set_same, get_or-set_other, ext_get_or}
@@ -50,35 +50,35 @@ module _ (f : Tree → Tree → Bool) (t : Tree) (s w : List ℕ) where
       ap (remove f t) (remaining_some s w c cs (omega arith)) ∙ ap (λ (b : Bool). remove_at b (tree_at s w c) (remaining s w cs) (remove f t (remaining s w cs))) g
 
   found_at : (c : ℕ) (cs : List ℕ) (b : Bool) → eqb c 0 ≡ b → (d : Bool) → f t (tree_at s w c) ≡ d → at (c ∷ cs) < suc (length cs)
-      → (at cs < length cs → remove f t (remaining s w cs) ≡ some (remaining s w (set cs (at cs) 0))) → remove f t (remaining s w (c ∷ cs)) ≡ some (remaining s w (set (c ∷ cs) (at (c ∷ cs)) 0))
+      → (at cs < length cs → remove f t (remaining s w cs) ≡ Some (remaining s w (set cs (at cs) 0))) → remove f t (remaining s w (c ∷ cs)) ≡ Some (remaining s w (set (c ∷ cs) (at (c ∷ cs)) 0))
   found_at c cs true e d g l h =
       let i : at (c ∷ cs) ≡ suc (at cs) = index_skip c cs (rw e) in
-      remove_zero c cs e ∙ h (omega arith) ∙ ap some (sym (remaining_zero s w c (set cs (at cs) 0) (eqb-true c 0 e))) ∙ ap (λ (k : ℕ). some (remaining s w (set (c ∷ cs) k 0))) (sym i)
+      remove_zero c cs e ∙ h (omega arith) ∙ ap Some (sym (remaining_zero s w c (set cs (at cs) 0) (eqb-true c 0 e))) ∙ ap (λ (k : ℕ). Some (remaining s w (set (c ∷ cs) k 0))) (sym i)
   found_at c cs false e true g l h =
       let i : at (c ∷ cs) ≡ 0 = index_hit c cs (rw (e, g)) in
-      remove_some c cs true e g ∙ ap some (sym (remaining_zero s w 0 cs refl)) ∙ ap (λ (k : ℕ). some (remaining s w (set (c ∷ cs) k 0))) (sym i)
+      remove_some c cs true e g ∙ ap Some (sym (remaining_zero s w 0 cs refl)) ∙ ap (λ (k : ℕ). Some (remaining s w (set (c ∷ cs) k 0))) (sym i)
   found_at c cs false e false g l h =
       let i : at (c ∷ cs) ≡ suc (at cs) = index_skip c cs (rw (e, g)) in
       let z = eqb-false c 0 e in
-      remove_some c cs false e g ∙ ap (keep (tree_at s w c)) (h (omega arith)) ∙ ap some (sym (remaining_some s w c (set cs (at cs) 0) (omega arith)))
-      ∙ ap (λ (k : ℕ). some (remaining s w (set (c ∷ cs) k 0))) (sym i)
+      remove_some c cs false e g ∙ ap (keep (tree_at s w c)) (h (omega arith)) ∙ ap Some (sym (remaining_some s w c (set cs (at cs) 0) (omega arith)))
+      ∙ ap (λ (k : ℕ). Some (remaining s w (set (c ∷ cs) k 0))) (sym i)
 
-  pub remove_found : (cs : List ℕ) → at cs < length cs → remove f t (remaining s w cs) ≡ some (remaining s w (set cs (at cs) 0))
+  pub remove_found : (cs : List ℕ) → at cs < length cs → remove f t (remaining s w cs) ≡ Some (remaining s w (set cs (at cs) 0))
   remove_found [] l = absurd (omega arith)
   remove_found (c ∷ cs) l = found_at c cs (eqb c 0) refl (f t (tree_at s w c)) refl l (λ k. remove_found cs k)
 
   none_at : (c : ℕ) (cs : List ℕ) (b : Bool) → eqb c 0 ≡ b → (d : Bool) → f t (tree_at s w c) ≡ d → suc (length cs) ≤ at (c ∷ cs)
-      → (length cs ≤ at cs → remove f t (remaining s w cs) ≡ nothing) → remove f t (remaining s w (c ∷ cs)) ≡ nothing
+      → (length cs ≤ at cs → remove f t (remaining s w cs) ≡ None) → remove f t (remaining s w (c ∷ cs)) ≡ None
   none_at c cs true e d g l h = let i : at (c ∷ cs) ≡ suc (at cs) = index_skip c cs (rw e) in remove_zero c cs e ∙ h (omega arith)
   none_at c cs false e true g l h = let i : at (c ∷ cs) ≡ 0 = index_hit c cs (rw (e, g)) in absurd (omega arith)
   none_at c cs false e false g l h = let i : at (c ∷ cs) ≡ suc (at cs) = index_skip c cs (rw (e, g)) in remove_some c cs false e g ∙ ap (keep (tree_at s w c)) (h (omega arith))
 
-  pub remove_none : (cs : List ℕ) → length cs ≤ at cs → remove f t (remaining s w cs) ≡ nothing
+  pub remove_none : (cs : List ℕ) → length cs ≤ at cs → remove f t (remaining s w cs) ≡ None
   unfolding remaining remove
   remove_none [] l = refl
   remove_none (c ∷ cs) l = none_at c cs (eqb c 0) refl (f t (tree_at s w c)) refl l (λ k. remove_none cs k)
 
-pub remove_never : (f : Tree → Tree → Bool) (t : Tree) → ((u : Tree) → f t u ≡ false) → (us : List Tree) → remove f t us ≡ nothing
+pub remove_never : (f : Tree → Tree → Bool) (t : Tree) → ((u : Tree) → f t u ≡ false) → (us : List Tree) → remove f t us ≡ None
 unfolding remove
 remove_never f t h [] = refl
 remove_never f t h (u ∷ us) = ap (λ (b : Bool). remove_at b u us (remove f t us)) (h u) ∙ ap (keep u) (remove_never f t h us)
@@ -158,11 +158,11 @@ module _ (s w : List ℕ) (p mid end : ℕ) (b : Bool) (lt : p < mid) (le : mid 
   unfolding remaining
   kept_one = remaining_some s w (get_or w p 0) [] some_cell
 
-  took_kept : remove (test b) (tree_at s w (get_or w p 0)) us ≡ nothing → TookOne s w w p mid end b
+  took_kept : remove (test b) (tree_at s w (get_or w p 0)) us ≡ None → TookOne s w w p mid end b
   took_kept e = record {
     zeroed = zeroed_same w p end;
     left = λ q x y. refl;
-    are = step nothing e ∙ ap (λ (l : List Tree). ahead l (cancel (test b) ts us)) (sym kept_one);
+    are = step None e ∙ ap (λ (l : List Tree). ahead l (cancel (test b) ts us)) (sym kept_one);
   }
 
   pub took_never : false ≡ b || ground (tree_at s w (get_or w p 0)) → TookOne s w w p mid end b
@@ -191,7 +191,7 @@ module _ (s w : List ℕ) (p mid end : ℕ) (b : Bool) (lt : p < mid) (le : mid 
         record {
           zeroed = zeroed_then (zeroed_set w q p end (omega arith) l (omega arith)) (zeroed_set (set w q 0) p p end (omega arith) (omega arith) (omega arith)) (omega arith);
           left = λ j a c. get_or-set_other (set w q 0) p j 0 0 (λ k. omega arith) ∙ get_or-set_other w q j 0 0 (λ k. omega arith);
-          are = step (some (remaining s w (set (slice mid end w) i 0))) (remove_found (test b) (tree_at s w (get_or w p 0)) s w (slice mid end w) (omega arith))
+          are = step (Some (remaining s w (set (slice mid end w) i 0))) (remove_found (test b) (tree_at s w (get_or w p 0)) s w (slice mid end w) (omega arith))
               ∙ ap (λ (l : List ℕ). cancel (test b) ts (remaining s w l)) (sym rights)
               ∙ ap (λ (l : List Tree). ahead l (cancel (test b) ts (remaining s w (slice mid end x)))) (sym (remaining_zero s w (get_or x p 0) [] gone));
         }

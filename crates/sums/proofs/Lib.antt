@@ -3,3 +3,4 @@ pub mod Describing
 pub mod Cancelling
 pub mod Preparing
 pub mod Rebuilding
+pub mod InAreas

@@ -1,6 +1,8 @@
 // Sums: the cells of their summands, the canonical words of each, and cancelling. A cell that is taken out is 0.
 #![tactic(auto)]
 
+pub mod areas; // areas.rt: the same in an area
+
 ghost use Rattle.std.specs.Prelude.{◌≡◌, ◌||◌, ◌&&◌, eqb, ℕ, ◌+◌, ◌-◌, ◌*◌, ◌<◌, ◌≤◌, ◌^◌, length, get_or};
 ghost use Rattle.rules.specs.Bytes.{same};
 ghost use Rattle.std.proofs.Math.Seq.{slice};

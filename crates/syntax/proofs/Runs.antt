@@ -1,42 +1,40 @@
--- The laws of runs at a position of a text.
-use mathlib.Core.Path.{◌≡◌, sym, ◌∙◌}
+-- The run in front of a text is the front that passes the test.
+use mathlib.Core.Path.{◌≡◌, refl, ap, ◌∙◌}
 use mathlib.Core.List.{List, [], ◌∷◌}
-use mathlib.Core.Bool.{Bool, true, false}
-use Prim.Native.Nat.{ℕ, suc, ◌+◌, ◌<◌, ◌≤◌}
+use mathlib.Core.Bool.{Bool, true, false, cond}
+use Prim.Native.Nat.{ℕ, suc, ◌+◌, ◌≤◌}
 use native.Mathlib.Omega.{arith}
-use lib.ListN.{length, get_or, drop, drop_of_length-le}
+use lib.ListN.{length, drop, drop_of_length-le}
+use Rattle.std.specs.List.{prefix_len, take_while, slice_range}
+use Rattle.std.proofs.lemmas.List.Sums.{prefix_len-le-length}
+use Rattle.std.proofs.lemmas.List.Folds.{length-prefix_len}
+use Rattle.std.proofs.lemmas.Grind.{common_steps}
 use Rattle.rules.specs.Tokens.{run_length}
-use Rattle.text.proofs.Loops.{drop_next}
 
--- a turn of the run's loop: r is what the test said
-module _ (p : ℕ → Bool) (s : List ℕ) (i : ℕ) where
-  run_next : i < length s → run_length p (drop i s) ≡ elim (p (get_or s i 0)) [ true ↦ suc (run_length p (drop (i + 1) s)) | false ↦ 0 ]
-  unfolding run_length
-  run_next h = rw (drop_next s i h)
+run_is : (p : ℕ → Bool) (s : List ℕ) → prefix_len p s ≡ run_length p s
+unfolding run_length
+run_is p [] = refl
+run_is p (a ∷ s) = go (p a) (run_is p s)
+  where
+    go : (t : Bool) {n m : ℕ} → n ≡ m → cond t (1 + n) 0 ≡ elim t [ true ↦ suc m | false ↦ 0 ]
+    go true e = omega arith
+    go false e = refl
 
-  pub run_pass : {r : Bool} {e : ℕ} → i < length s → r ≡ p (get_or s i 0) → r ≡ true → i + run_length p (drop i s) ≡ e
-      → i + 1 + run_length p (drop (i + 1) s) ≡ e
-  run_pass {r} {e} h q t inv =
-      let n : run_length p (drop i s) ≡ suc (run_length p (drop (i + 1) s)) = run_next h ∙ rw (sym q ∙ t) in
-      omega arith
+run_counts : (p : ℕ → Bool) (s : List ℕ) → length (take_while p s) ≡ run_length p s
+run_counts p s = length-prefix_len p s ∙ run_is p s
 
-  pub run_stop : {r : Bool} {e : ℕ} → i < length s → r ≡ p (get_or s i 0) → r ≡ false → i + run_length p (drop i s) ≡ e → i ≡ e
-  run_stop {r} {e} h q t inv =
-      let n : run_length p (drop i s) ≡ 0 = run_next h ∙ rw (sym q ∙ t) in
-      omega arith
+-- the run from a place within the text, and from one past its end
+pub run_rest : (p : ℕ → Bool) (s rest : List ℕ) (at : ℕ) → rest ≡ slice_range s at (length s) → length (take_while p rest) ≡ run_length p (drop at s)
+run_rest p s rest at e =
+    let d : rest ≡ drop at s = grind (arith, common_steps) in
+    run_counts p rest ∙ ap (run_length p) d
 
-  pub run_done : {e : ℕ} → length s ≤ i → i + run_length p (drop i s) ≡ e → i ≡ e
-  unfolding run_length
-  run_done h inv =
-      let n : run_length p (drop i s) ≡ 0 = rw (drop_of_length-le s h) in
-      omega arith
+pub run_past : (p : ℕ → Bool) (s : List ℕ) (at : ℕ) → length s ≤ at → run_length p (drop at s) ≡ 0
+unfolding run_length
+run_past p s at h = rw (drop_of_length-le s h)
+
+pub ruleset runs = (run_rest, run_past)
 
 -- a run stays within the list
-run_turn : (t : Bool) {n l : ℕ} → n ≤ l → elim t [ true ↦ suc n | false ↦ 0 ] ≤ suc l
-run_turn true h = omega arith
-run_turn false h = omega arith
-
 pub run_le : (p : ℕ → Bool) (s : List ℕ) → run_length p s ≤ length s
-unfolding run_length
-run_le p [] = omega arith
-run_le p (a ∷ s) = run_turn (p a) (run_le p s)
+run_le p s = omega (arith, run_is p s, prefix_len-le-length p s)

@@ -1,7 +1,7 @@
 -- The next symbol at a position, and the tokens from there on.
 use mathlib.Core.Path.{◌≡◌, refl, ap, sym, ◌∙◌, subst}
 use mathlib.Core.List.{[], ◌∷◌}
-use mathlib.Core.Option.{some, none}
+use Rattle.std.specs.Prelude.{Some, None}
 use mathlib.Core.Bool.{false}
 use Prim.Native.Nat.{ℕ, suc, ◌+◌, ◌-◌, ◌<◌, ◌≤◌}
 use native.Mathlib.Omega.{arith}
@@ -40,19 +40,19 @@ Means s at (Begin to) = Marks s at to (bytes "(")
 Means s at (Shut to) = Marks s at to (bytes ")")
 Means s at (Comma to) = Marks s at to (bytes ",")
 Means s at (Name from to) = Names s at from to
-Means s at Stop = tokens (drop at s) ≡ some []
-Means s at Bad = tokens (drop at s) ≡ none
+Means s at Stop = tokens (drop at s) ≡ Some []
+Means s at Bad = tokens (drop at s) ≡ None
 
 -- a mark has one byte
-mark_size : (b c n : ℕ) (l : Text) → b ≡ c → rest_length c l ≡ some 0 → rest_length b l ≡ some n → n ≡ 0
-mark_size b c n l e f g = let z : rest_length b l ≡ some 0 = rw e f in cc
+mark_size : (b c n : ℕ) (l : Text) → b ≡ c → rest_length c l ≡ Some 0 → rest_length b l ≡ Some n → n ≡ 0
+mark_size b c n l e f g = let z : rest_length b l ≡ Some 0 = rw e f in cc
 
 other_name : (b : ℕ) (l : Text) → (b ≡ 40 → ⊥) → (b ≡ 41 → ⊥) → (b ≡ 44 → ⊥) → is_one_of (bytes "(" ∷ bytes ")" ∷ bytes "," ∷ []) (b ∷ l) ≡ false
 unfolding is_one_of same
 other_name b l x y z = rw (ne_eqb b 40 x, ne_eqb b 41 y, ne_eqb b 44 z)
 
 module _ (s : Text) (at f t : ℕ) (e : Token f t ≡ next_at s at) where
-  mark_of : (c : ℕ) → get_or s f 0 ≡ c → rest_length c (drop (f + 1) s) ≡ some 0 → Marks s at t (c ∷ [])
+  mark_of : (c : ℕ) → get_or s f 0 ≡ c → rest_length c (drop (f + 1) s) ≡ Some 0 → Marks s at t (c ∷ [])
   mark_of c b r =
       let p = placed s at f t e in
       let n = mark_size (get_or s f 0) c p.size (drop (f + 1) s) b r p.is in

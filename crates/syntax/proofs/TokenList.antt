@@ -1,7 +1,7 @@
 -- The next token at a position is the first of the tokens from there on.
 use mathlib.Core.Path.{◌≡◌, refl, ap, sym, ◌∙◌}
 use mathlib.Core.List.{List, [], ◌∷◌}
-use mathlib.Core.Option.{Option, some, none}
+use Rattle.std.specs.Prelude.{Option, Some, None}
 use mathlib.Core.Bool.{Bool, true, false, cond, ◌&&◌}
 use Prim.Native.Nat.{ℕ, zero, suc, ◌+◌, ◌-◌, ◌<◌, ◌≤◌}
 use native.Mathlib.Omega.{arith}
@@ -14,8 +14,7 @@ use Rattle.rules.specs.Maybe.{◌>>=◌, guard}
 use Rattle.rules.specs.Names.{digit, alphabetic, alphanumeric}
 use Rattle.rules.specs.Tokens.{run_length, sigil, mark, sort_length, variable_rest, plain_rest, rest_length, tokens_after, tokens}
 use Rattle.text.proofs.Loops.{drop_next}
-use Rattle.syntax.specs.Next.{is_of, end_of, token_from, start_at, next_at}
-use Rattle.syntax.specs.declared.Class.TheVariants.{Blank}
+use Rattle.syntax.specs.Next.{blank, end_of, token_from, start_at, next_at}
 use Rattle.syntax.specs.declared.Next.TheVariants.{Token, End, Unsupported}
 use Rattle.syntax.proofs.Runs.{run_le}
 
@@ -29,62 +28,62 @@ tokens_drop (suc k) (b ∷ s) = tokens_drop k s
 
 -- a token in front of those after it
 abbrev pub joined : Text → Option (List Text) → Option (List Text)
-joined t o = o >>= λ ts. some (t ∷ ts)
+joined t o = o >>= λ ts. Some (t ∷ ts)
 
 -- what stands after the blanks: nothing, or a token and the tokens after it
 abbrev pub front : Text → Option (List Text)
-front [] = some []
+front [] = Some []
 front (b ∷ s) = rest_length b s >>= λ n. joined (b ∷ take n s) (tokens_after n s)
 
-front_turn : (b : ℕ) (s : Text) (t : Bool) → tokens s ≡ front (drop (run_length (is_of Blank) s) s)
-    → elim t [ true ↦ tokens_after 0 s | false ↦ front (b ∷ s) ] ≡ front (drop (elim t [ true ↦ suc (run_length (is_of Blank) s) | false ↦ 0 ]) (b ∷ s))
+front_turn : (b : ℕ) (s : Text) (t : Bool) → tokens s ≡ front (drop (run_length blank s) s)
+    → elim t [ true ↦ tokens_after 0 s | false ↦ front (b ∷ s) ] ≡ front (drop (elim t [ true ↦ suc (run_length blank s) | false ↦ 0 ]) (b ∷ s))
 unfolding tokens
 front_turn b s true h = h
 front_turn b s false h = refl
 
-pub tokens_front : (s : Text) → tokens s ≡ front (drop (run_length (is_of Blank) s) s)
+pub tokens_front : (s : Text) → tokens s ≡ front (drop (run_length blank s) s)
 unfolding tokens tokens_after run_length
 tokens_front [] = refl
 tokens_front (b ∷ s) = front_turn b s (eqb b 32) (tokens_front s)
 
 -- a token stays within the text
-sort_le : (l : Text) (n : ℕ) → sort_length l ≡ some n → n ≤ length l
+sort_le : (l : Text) (n : ℕ) → sort_length l ≡ Some n → n ≤ length l
 unfolding sort_length
-sort_le [] n e = let z : ◌≡◌ {A = ℕ} 0 1 = cc in absurd (omega arith)
-sort_le (b ∷ []) n e = let z : ◌≡◌ {A = ℕ} 0 1 = cc in absurd (omega arith)
+sort_le [] n e = cc
+sort_le (b ∷ []) n e = cc
 sort_le (b ∷ c ∷ l) n e = go (eqb b 58 && alphabetic c) e
   where
-    go : (t : Bool) → (guard t >>= λ _. some (suc (suc (run_length alphanumeric l)))) ≡ some n → n ≤ suc (suc (length l))
+    go : (t : Bool) → (guard t >>= λ _. Some (suc (suc (run_length alphanumeric l)))) ≡ Some n → n ≤ suc (suc (length l))
     go true f = let z : n ≡ suc (suc (run_length alphanumeric l)) = cc in omega (arith, run_le alphanumeric l)
-    go false f = let z : ◌≡◌ {A = ℕ} 0 1 = cc in absurd (omega arith)
+    go false f = cc
 
-variable_le : (b : ℕ) (s : Text) (n : ℕ) → variable_rest b s ≡ some n → n ≤ length s
+variable_le : (b : ℕ) (s : Text) (n : ℕ) → variable_rest b s ≡ Some n → n ≤ length s
 unfolding variable_rest
 variable_le b s n e = go (sigil b && ltb 0 (run_length digit s)) (sort_length (drop (run_length digit s) s)) (sort_le (drop (run_length digit s) s)) e
   where
-    go : (t : Bool) (o : Option ℕ) → ((k : ℕ) → o ≡ some k → k ≤ length (drop (run_length digit s) s))
-        → (guard t >>= λ _. o >>= λ m. some (run_length digit s + m)) ≡ some n → n ≤ length s
-    go true (some m) h f = let z : n ≡ run_length digit s + m = cc in omega (arith, h m refl, run_le digit s, length-drop (run_length digit s) s)
-    go true none h f = let z : ◌≡◌ {A = ℕ} 0 1 = cc in absurd (omega arith)
-    go false o h f = let z : ◌≡◌ {A = ℕ} 0 1 = cc in absurd (omega arith)
+    go : (t : Bool) (o : Option ℕ) → ((k : ℕ) → o ≡ Some k → k ≤ length (drop (run_length digit s) s))
+        → (guard t >>= λ _. o >>= λ m. Some (run_length digit s + m)) ≡ Some n → n ≤ length s
+    go true (Some m) h f = let z : n ≡ run_length digit s + m = cc in omega (arith, h m refl, run_le digit s, length-drop (run_length digit s) s)
+    go true None h f = cc
+    go false o h f = cc
 
-plain_le : (b : ℕ) (s : Text) (n : ℕ) → plain_rest b s ≡ some n → n ≤ length s
+plain_le : (b : ℕ) (s : Text) (n : ℕ) → plain_rest b s ≡ Some n → n ≤ length s
 unfolding plain_rest
 plain_le b s n e = go (alphabetic b) (digit b) (mark b) e
   where
-    go : (x y z : Bool) → elim x [ true ↦ some (run_length alphanumeric s) | false ↦ elim y [ true ↦ some (run_length digit s) | false ↦ cond z (some 0) none ] ] ≡ some n → n ≤ length s
+    go : (x y z : Bool) → elim x [ true ↦ Some (run_length alphanumeric s) | false ↦ elim y [ true ↦ Some (run_length digit s) | false ↦ cond z (Some 0) None ] ] ≡ Some n → n ≤ length s
     go true y z f = let e : n ≡ run_length alphanumeric s = cc in omega (arith, run_le alphanumeric s)
     go false true z f = let e : n ≡ run_length digit s = cc in omega (arith, run_le digit s)
     go false false true f = let e : n ≡ 0 = cc in omega arith
-    go false false false f = let z : ◌≡◌ {A = ℕ} 0 1 = cc in absurd (omega arith)
+    go false false false f = cc
 
-pub rest_le : (b : ℕ) (s : Text) (n : ℕ) → rest_length b s ≡ some n → n ≤ length s
+pub rest_le : (b : ℕ) (s : Text) (n : ℕ) → rest_length b s ≡ Some n → n ≤ length s
 unfolding rest_length
 rest_le b s n e = go (variable_rest b s) (variable_le b s) e
   where
-    go : (o : Option ℕ) → ((k : ℕ) → o ≡ some k → k ≤ length s) → elim o [ some m ↦ some m | none ↦ plain_rest b s ] ≡ some n → n ≤ length s
-    go (some m) h f = h n f
-    go none h f = plain_le b s n f
+    go : (o : Option ℕ) → ((k : ℕ) → o ≡ Some k → k ≤ length s) → elim o [ Some m ↦ Some m | None ↦ plain_rest b s ] ≡ Some n → n ≤ length s
+    go (Some m) h f = h n f
+    go None h f = plain_le b s n f
 
 -- what the next token's places are
 pub record Placed (s : Text) (at from to : ℕ) : Type 0 where
@@ -92,35 +91,35 @@ pub record Placed (s : Text) (at from to : ℕ) : Type 0 where
   pub inside : from < length s
   pub size : ℕ
   pub ends : to ≡ from + 1 + size
-  pub is : rest_length (get_or s from 0) (drop (from + 1) s) ≡ some size
+  pub is : rest_length (get_or s from 0) (drop (from + 1) s) ≡ Some size
   pub within : to ≤ length s
 
 -- the three answers, at the place j after the blanks
 module _ (s : Text) (at j : ℕ) (is : j ≡ start_at s at) where
   tokens_at : tokens (drop at s) ≡ front (drop j s)
-  tokens_at = tokens_front (drop at s) ∙ rw (is, ← drop-drop (run_length (is_of Blank) (drop at s)) at s)
+  tokens_at = tokens_front (drop at s) ∙ rw (is, ← drop-drop (run_length blank (drop at s)) at s)
 
   tokens_there : j < length s → tokens (drop at s) ≡ (rest_length (get_or s j 0) (drop (j + 1) s) >>= λ n. joined (get_or s j 0 ∷ take n (drop (j + 1) s)) (tokens_after n (drop (j + 1) s)))
   tokens_there h = tokens_at ∙ ap front (drop_next s j h)
 
-  end_is : (t : Bool) (o : Option ℕ) → ltb j (length s) ≡ t → End ≡ cond t (token_from j (end_of (j + 1) o)) End → tokens (drop at s) ≡ some []
-  end_is true none h e = cc
-  end_is true (some n) h e = cc
+  end_is : (t : Bool) (o : Option ℕ) → ltb j (length s) ≡ t → End ≡ cond t (token_from j (end_of (j + 1) o)) End → tokens (drop at s) ≡ Some []
+  end_is true None h e = cc
+  end_is true (Some n) h e = cc
   end_is false o h e = tokens_at ∙ rw (drop_of_length-le s (ltb-false j (length s) h))
 
   unsupported_is : (t : Bool) (o : Option ℕ) → ltb j (length s) ≡ t → rest_length (get_or s j 0) (drop (j + 1) s) ≡ o
-      → Unsupported ≡ cond t (token_from j (end_of (j + 1) o)) End → tokens (drop at s) ≡ none
-  unsupported_is true none h g e = tokens_there (ltb-true j (length s) h) ∙ ap (λ (o : Option ℕ). o >>= λ n. joined (get_or s j 0 ∷ take n (drop (j + 1) s)) (tokens_after n (drop (j + 1) s))) g
-  unsupported_is true (some n) h g e = cc
+      → Unsupported ≡ cond t (token_from j (end_of (j + 1) o)) End → tokens (drop at s) ≡ None
+  unsupported_is true None h g e = tokens_there (ltb-true j (length s) h) ∙ ap (λ (o : Option ℕ). o >>= λ n. joined (get_or s j 0 ∷ take n (drop (j + 1) s)) (tokens_after n (drop (j + 1) s))) g
+  unsupported_is true (Some n) h g e = cc
   unsupported_is false o h g e = cc
 
   placed_is : (f t : ℕ) (b : Bool) (o : Option ℕ) → ltb j (length s) ≡ b → rest_length (get_or s j 0) (drop (j + 1) s) ≡ o
       → Token f t ≡ cond b (token_from j (end_of (j + 1) o)) End → (f ≡ j) × Placed s at f t
-  placed_is f t true (some n) h g e =
+  placed_is f t true (Some n) h g e =
       let z : f ≡ j = cc in
       let y : t ≡ j + 1 + n = cc in
       let l = ltb-true j (length s) h in
-      let g' : rest_length (get_or s f 0) (drop (f + 1) s) ≡ some n = rw z g in (
+      let g' : rest_length (get_or s f 0) (drop (f + 1) s) ≡ Some n = rw z g in (
         z,
         record {
           past = omega arith;
@@ -131,15 +130,15 @@ module _ (s : Text) (at j : ℕ) (is : j ≡ start_at s at) where
           within = omega (arith, rest_le (get_or s j 0) (drop (j + 1) s) n g, length-drop (j + 1) s);
         },
       )
-  placed_is f t true none h g e = let z : ◌≡◌ {A = ℕ} 0 1 = cc in absurd (omega arith)
-  placed_is f t false o h g e = let z : ◌≡◌ {A = ℕ} 0 1 = cc in absurd (omega arith)
+  placed_is f t true None h g e = cc
+  placed_is f t false o h g e = cc
 
 module _ (s : Text) (at : ℕ) where
-  pub next_end : End ≡ next_at s at → tokens (drop at s) ≡ some []
+  pub next_end : End ≡ next_at s at → tokens (drop at s) ≡ Some []
   unfolding next_at
   next_end e = end_is s at (start_at s at) refl (ltb (start_at s at) (length s)) (rest_length (get_or s (start_at s at) 0) (drop (start_at s at + 1) s)) refl e
 
-  pub next_unsupported : Unsupported ≡ next_at s at → tokens (drop at s) ≡ none
+  pub next_unsupported : Unsupported ≡ next_at s at → tokens (drop at s) ≡ None
   unfolding next_at
   next_unsupported e = unsupported_is s at (start_at s at) refl (ltb (start_at s at) (length s)) (rest_length (get_or s (start_at s at) 0) (drop (start_at s at + 1) s)) refl refl e
 

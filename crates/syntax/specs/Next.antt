@@ -1,34 +1,26 @@
 -- The next token at a position of a text. Definitions only.
 use Rattle.std.specs.Prelude.{ℕ, ◌+◌, Bool, cond, length, get_or, drop, eqb, ltb}
-use Rattle.std.proofs.Math.Option.{Option, some, none}
+use Rattle.std.specs.Prelude.{Option, Some, None, option_map}
 use Rattle.rules.specs.Bytes.{Text}
-use Rattle.rules.specs.Names.{digit, alphanumeric}
 use Rattle.rules.specs.Tokens.{run_length, rest_length}
-use Rattle.syntax.specs.declared.Class.{Class}
-use Rattle.syntax.specs.declared.Class.TheVariants.{Blank, Digit, Word}
-use Rattle.syntax.specs.declared.Ends.{Ends}
-use Rattle.syntax.specs.declared.Ends.TheVariants.{At, Nothing}
 use Rattle.syntax.specs.declared.Next.{Next}
 use Rattle.syntax.specs.declared.Next.TheVariants.{Token, End, Unsupported}
 
--- the bytes of a class
-abbrev pub is_of : Class → ℕ → Bool
-is_of Blank b = eqb b 32
-is_of Digit b = digit b
-is_of Word b = alphanumeric b
+-- the blank
+abbrev pub blank : ℕ → Bool
+blank b = eqb b 32
 
 -- where something ends, by its length
-abbrev pub end_of : ℕ → Option ℕ → Ends
-end_of at none = Nothing
-end_of at (some n) = At (at + n)
+abbrev pub end_of : ℕ → Option ℕ → Option ℕ
+end_of at o = option_map (λ (n : ℕ). at + n) o
 
-abbrev pub token_from : ℕ → Ends → Next
-token_from at Nothing = Unsupported
-token_from at (At to) = Token at to
+abbrev pub token_from : ℕ → Option ℕ → Next
+token_from at None = Unsupported
+token_from at (Some to) = Token at to
 
 -- the first byte after the blanks
 abbrev pub start_at : Text → ℕ → ℕ
-start_at s at = at + run_length (is_of Blank) (drop at s)
+start_at s at = at + run_length blank (drop at s)
 
 -- the token that starts at a position of the text
 abbrev pub token_at : Text → ℕ → Next

@@ -8,23 +8,22 @@ use native.Mathlib.Decide.{dec_lt}
 use lib.ListN.{length, get_or, take, drop, set, drop_of_length-le, length-append, take-append-drop}
 use lib.Seq.{drop-cons, get_or-set_same, drop-set-lt, take-set-le, lt-length-set}
 use lib.Dec.{eqb, leb, ltb}
-use borrow.Author.Tests.{eq-eqb, ne_eqb, lt-ltb, le-ltb, lt-leb, le-leb}
+use borrow.Author.Tests.{eq-eqb, lt-ltb, le-ltb, lt-leb, le-leb}
 use Rattle.rules.specs.Names.{digit, all}
 use Rattle.rules.specs.Decimal.{value_from, proper, number_up_to, digits_in, decimal}
 use Rattle.laws.proofs.Basics.Tests.{and_left, and_right, leb_true}
-use Rattle.text.specs.Numbers.{number_of}
-use Rattle.text.specs.declared.decimal.Number.TheVariants.{Is, Not}
+use Rattle.std.specs.Prelude.{Some, None}
 use Rattle.text.proofs.Loops.{drop_next}
 use Rattle.text.proofs.Sameness.{and_false}
 
 -- ---- reading
 
-pub value_grows : (n : ℕ) (s : List ℕ) → n ≤ value_from n s
+value_grows : (n : ℕ) (s : List ℕ) → n ≤ value_from n s
 unfolding value_from
 value_grows n [] = omega arith
 value_grows n (b ∷ s) = omega (arith, value_grows (n * 10 + (b - 48)) s)
 
-pub value_next : (n : ℕ) (s : List ℕ) (i : ℕ) → i < length s → value_from n (drop i s) ≡ value_from (n * 10 + (get_or s i 0 - 48)) (drop (i + 1) s)
+value_next : (n : ℕ) (s : List ℕ) (i : ℕ) → i < length s → value_from n (drop i s) ≡ value_from (n * 10 + (get_or s i 0 - 48)) (drop (i + 1) s)
 unfolding value_from
 value_next n s i h = rw (drop_next s i h)
 
@@ -56,37 +55,38 @@ pub led_none : (s : List ℕ) → length s ≡ 0 → led s ≡ false
 led_none [] e = refl
 led_none (b ∷ s) e = absurd (omega arith)
 
-pub led_one : (s : List ℕ) → (length s ≡ 0 → ⊥) → length s ≤ 1 → led s ≡ true
-led_one [] e h = absurd (e refl)
-led_one (b ∷ []) e h = refl
-led_one (b ∷ c ∷ s) e h = absurd (omega arith)
-
 pub led_zero : (s : List ℕ) → 1 < length s → get_or s 0 0 ≡ 48 → led s ≡ false
 led_zero [] h e = refl
 led_zero (b ∷ []) h e = absurd (omega arith)
 led_zero (b ∷ c ∷ s) h e = rw (eq-eqb b 48 e)
 
-pub led_more : (s : List ℕ) → 1 < length s → (get_or s 0 0 ≡ 48 → ⊥) → led s ≡ true
-led_more [] h e = absurd (omega arith)
-led_more (b ∷ []) h e = refl
-led_more (b ∷ c ∷ s) h e = rw (ne_eqb b 48 e)
-
 module _ (bound : ℕ) (s : List ℕ) where
-  pub number_unled : led s ≡ false → Not ≡ number_of (number_up_to bound s)
+  pub number_unled : led s ≡ false → None ≡ number_up_to bound s
   unfolding number_up_to
   number_unled p = rw (proper_is s, p)
 
-  pub number_foreign : all digit s ≡ false → Not ≡ number_of (number_up_to bound s)
+  pub number_foreign : all digit s ≡ false → None ≡ number_up_to bound s
   unfolding number_up_to
   number_foreign a = rw (proper_is s, a, and_false (led s))
 
-  pub number_large : bound < value_from 0 s → Not ≡ number_of (number_up_to bound s)
+  number_large : bound < value_from 0 s → None ≡ number_up_to bound s
   unfolding number_up_to
   number_large h = rw (lt-leb _ _ h, and_false (proper s))
 
-  pub number_is : {n : ℕ} → led s ≡ true → all digit s ≡ true → n ≡ value_from 0 s → n ≤ bound → Is n ≡ number_of (number_up_to bound s)
+  pub number_is : {n : ℕ} → led s ≡ true → all digit s ≡ true → n ≡ value_from 0 s → n ≤ bound → Some n ≡ number_up_to bound s
   unfolding number_up_to
   number_is p a e h = rw (proper_is s, p, a, ← e, le-leb _ _ h)
+
+-- a turn of the reader, at a text that spells n so far
+module _ (n : ℕ) (s : List ℕ) (i : ℕ) (h : i < length s) (inv : value_from n (drop i s) ≡ value_from 0 s) where
+  pub value_turn : (m : ℕ) → m ≡ n * 10 + (get_or s i 0 - 48) → value_from m (drop (i + 1) s) ≡ value_from 0 s
+  value_turn m e = rw e (sym (value_next n s i h) ∙ inv)
+
+  pub number_over : (bound : ℕ) → bound < n * 10 + (get_or s i 0 - 48) → None ≡ number_up_to bound s
+  number_over bound p =
+      let e = value_next n s i h in
+      let g = value_grows (n * 10 + (get_or s i 0 - 48)) (drop (i + 1) s) in
+      number_large bound s (omega arith)
 
 -- ---- printing
 

@@ -4,6 +4,7 @@ pub mod Sameness
 pub mod Slices
 pub mod Merging
 pub mod Writing
-pub mod Sorting
+pub mod Halves
 pub mod Decimals
 pub mod PlaceLaws
+pub mod Library

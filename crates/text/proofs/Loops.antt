@@ -1,14 +1,12 @@
 -- What a loop over a slice needs of the lists: the rest from i is the element at i and the rest from i + 1; so for tests of all
--- elements and for counts.
+-- elements.
 use mathlib.Core.Path.{◌≡◌}
 use mathlib.Core.List.{List, ◌∷◌}
-use mathlib.Core.Bool.{Bool, true, false, ◌&&◌, cond}
+use mathlib.Core.Bool.{Bool, true, false, ◌&&◌}
 use Prim.Native.Nat.{ℕ, ◌+◌, ◌<◌, ◌≤◌}
 use native.Mathlib.Numerals.{add-one}
 use lib.ListN.{length, get_or, drop, drop_of_length-le}
 use lib.Seq.{drop-cons}
-use lib.Dec.{eqb}
-use Rattle.rules.specs.Text.{count_of}
 use Rattle.rules.specs.Names.{all}
 
 pub drop_next : (s : List ℕ) (i : ℕ) → i < length s → drop i s ≡ get_or s i 0 ∷ drop (i + 1) s
@@ -30,11 +28,3 @@ all_pass p s i h e t inv = cc (all_next p s i h)
 pub all_fail : (p : ℕ → Bool) (s : List ℕ) (i : ℕ) {r : Bool} → i < length s → r ≡ p (get_or s i 0) → r ≡ false → all p (drop i s) ≡ all p s
     → all p s ≡ false
 all_fail p s i h e t inv = cc (all_next p s i h)
-
-pub count_next : (b : ℕ) (s : List ℕ) (i : ℕ) → i < length s → count_of b (drop i s) ≡ cond (eqb (get_or s i 0) b) 1 0 + count_of b (drop (i + 1) s)
-unfolding count_of
-count_next b s i h = rw (drop_next s i h)
-
-pub count_end : (b : ℕ) (s : List ℕ) (i : ℕ) → length s ≤ i → count_of b (drop i s) ≡ 0
-unfolding count_of
-count_end b s i h = rw (drop_of_length-le s h)

@@ -2,6 +2,6 @@ pub mod Frames
 pub mod Screen
 pub mod Prefix
 pub mod Sorting
-pub mod Numbers
 pub mod Printing
 pub mod Places
+pub mod Totality

@@ -1,48 +1,31 @@
 // Decimal numbers: reading with a bound, and printing.
 ghost use Rattle.std.specs.Prelude.{◌≡◌, ◌+◌, ◌≤◌, length};
 ghost use Rattle.rules.specs.Decimal.{number_up_to, decimal};
-ghost use Rattle.text.specs.Numbers.{number_of};
 ghost use Rattle.text.specs.Printing.{Printed};
 
 use super::is_digit;
 
-// A number, or none.
-#[derive(Drop)]
-pub enum Number {
-    Is(usize),
-    Not,
-}
-
 // The number that a text is in decimal, with no leading zero, up to a bound.
-pub fn number_up_to(text: &[u8], bound: usize) -> Number
-    ensures { result ≡ number_of (number_up_to bound text.now) }
+pub fn number_up_to(text: &[u8], bound: usize) -> Option<usize>
+    ensures { result ≡ number_up_to bound text.now }
 {
-    if text.len() == 0 {
-        return Number::Not;
-    }
-    if 1 < text.len() {
-        if text[0] == 48 {
-            return Number::Not;
-        }
+    match text {
+        [] => return None,
+        [b'0', _, ..] => return None,
+        _ => {}
     }
     let mut n: usize = 0;
-    let mut i = 0;
-    while i < text.len() {
-        let b = text[i];
-        if !is_digit(b) {
-            return Number::Not;
+    for b in text {
+        if !is_digit(*b) {
+            return None;
         }
-        let d = b as usize - 48;
-        if bound < d {
-            return Number::Not;
+        let d = (*b - b'0') as usize;
+        n = n.checked_mul(10)?.checked_add(d)?;
+        if bound < n {
+            return None;
         }
-        if (bound - d) / 10 < n {
-            return Number::Not;
-        }
-        n = n * 10 + d;
-        i += 1;
     }
-    Number::Is(n)
+    Some(n)
 }
 
 // How many digits a number has.
@@ -52,7 +35,7 @@ pub fn width_of(n: usize) -> usize
     let mut m = n;
     let mut w = 1;
     while 10 <= m {
-        m = m / 10;
+        m /= 10;
         w += 1;
     }
     w
@@ -65,11 +48,9 @@ pub fn print(n: usize, out: &mut [u8], at: usize) -> usize
 {
     let end = at + width_of(n);
     let mut m = n;
-    let mut i = end;
-    while at < i {
-        i -= 1;
-        out[i] = 48 + (m % 10) as u8;
-        m = m / 10;
+    for i in (at..end).rev() {
+        out[i] = b'0' + (m % 10) as u8;
+        m /= 10;
     }
     end
 }

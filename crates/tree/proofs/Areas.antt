@@ -1,8 +1,9 @@
 -- Areas that keep the cells below one, and growth of an area.
 use Prim.Native.Nat.{ℕ, ◌*◌, ◌≤◌}
-use mathlib.Core.Path.{◌≡◌, refl, ◌∙◌}
+use mathlib.Core.Path.{◌≡◌, refl, sym, ◌∙◌}
 use mathlib.Core.List.{List}
-use lib.ListN.{length}
+use lib.ListN.{length, set, length-set}
+use lib.Seq.{get_or-set_other}
 use native.Mathlib.Omega.{arith}
 use Rattle.rules.specs.Bytes.{Text}
 use Rattle.tree.specs.Arena.{Arena, Below, Grown}
@@ -64,3 +65,7 @@ grown_on a b g h = grown_then g h a b (omega arith)
 
 pub grown_more : {w v : List ℕ} {n m l : ℕ} → m ≤ l → Grown w v n m → Grown w v n l
 grown_more b g = grown_within g (omega arith) b
+
+-- a word written above the cells
+pub below_set : (w : List ℕ) (n at x : ℕ) → 4 * n ≤ at → Below w (set w at x) n
+below_set w n at x h = record { len = length-set w at x; words = λ p q. sym (get_or-set_other w at p x 0 (omega arith)) }

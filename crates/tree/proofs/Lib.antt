@@ -1,4 +1,5 @@
 pub mod Decoding
+pub mod ByKind
 pub mod ChildrenLaws
 pub mod Bounded
 pub mod FixedNames
@@ -8,3 +9,8 @@ pub mod Naming
 pub mod Printing
 pub mod Comparing
 pub mod Example
+pub mod Keeping
+pub mod Spelling
+pub mod Walking
+pub mod Lists
+pub mod Parting

@@ -8,11 +8,11 @@ use lib.Seq.{get_or-set_same, get_or-set_other}
 use native.Mathlib.Omega.{arith}
 use native.Mathlib.Decide.{dec_lt}
 use Rattle.rules.specs.Bytes.{Text}
-use Rattle.rules.specs.Tree.{Tree, variable, more, size}
+use Rattle.rules.specs.Tree.{Tree, variable, apply, more, size, sizes}
 use Rattle.laws.specs.Unspelled.{unspelled}
 use Rattle.tree.specs.Cells.{start_of, length_of, kind_of, first_of, next_of, nodes_of, fixed_name, named, name_at, variable_kind, made, trees_at, tree_at}
 use Rattle.tree.specs.Arena.{Links, Place, Cell, Arena, WroteCell, Linked}
-use Rattle.tree.proofs.Decoding.{Agree, same_start, same_length, same_kind, same_count, same_first, same_next, same_name, frame_tree, frame_trees, trees_more}
+use Rattle.tree.proofs.Decoding.{Agree, made_apply, same_start, same_length, same_kind, same_count, same_first, same_next, same_name, frame_tree, frame_trees, trees_more}
 use Rattle.tree.proofs.FixedNames.{fixed_unspelled, fixed_plain, unspelled_kind}
 
 -- two numbers in one word
@@ -166,6 +166,12 @@ module _ {w v : List ℕ} {n first next count : ℕ} (s : Text) (k : ℕ) (x : W
       let m = name_like x s k q refl refl in
       let e' = ap (λ (y : Text). made (kind_of w k) y (trees_at s w first)) m ∙ e in
       linked x s a.links g f (arena_push x s a room f g h.placed h.small (rw m h.sorted) (rw m h.plain) (c ∙ ap size (sym e'))) e'
+
+-- an application with the name of another
+pub linked_over : (s : Text) {w v : List ℕ} {n count first next : ℕ} (k : ℕ) → kind_of w k ≡ 0 → Arena s w n → 0 < k → k < n → first < n → next < n → 4 * n + 4 ≤ length w → count ≡ 1 + sizes (trees_at s w first)
+    → WroteCell w v n (start_of w k) (length_of w k) (kind_of w k) first next count → Linked s w v n next (apply (name_at s w k) (trees_at s w first))
+unfolding size
+linked_over s {w} {first = first} k z a p q f g room c x = linked_like s k x a p q room f g (made_apply (kind_of w k) (name_at s w k) (trees_at s w first) z) c
 
 -- a tree shared, at the numbers that the code holds
 pub linked_shared : (s : Text) {w v : List ℕ} {n count first next : ℕ} (k : ℕ) → Arena s w n → 0 < k → k < n → next < n → 4 * n + 4 ≤ length w → first ≡ first_of w k → count ≡ nodes_of w k

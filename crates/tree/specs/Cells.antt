@@ -4,11 +4,12 @@
 -- application, 1 to 6 for a variable by its sort, else the letter of an atom, whose place is that of its digits. Two numbers in a word:
 -- the first times 65,536, and the second. Definitions only.
 use Rattle.std.specs.Prelude.{ℕ, zero, suc, ◌+◌, ◌-◌, ◌*◌, ◌/◌, ◌%◌, cond, List, [], ◌∷◌, eqb, ltb, get_or, take, drop}
-use Rattle.std.proofs.Math.Option.{Option, some, none as nothing}
+use Rattle.std.specs.Prelude.{Option, Some, None}
 use Rattle.rules.specs.Bytes.{Text}
 use Rattle.rules.specs.Text.{bytes}
 use Rattle.rules.specs.Tree.{Tree, variable, atom, apply, Trees, none, more}
-use Rattle.rules.specs.Sorts.{Sort, sort_number, variable_sort}
+use Rattle.rules.specs.declared.Sort.{Sort}
+use Rattle.rules.specs.Sorts.{sort_number, variable_sort}
 use Rattle.laws.specs.Unspelled.{unspelled}
 
 unfoldable pub start_of : List ℕ → ℕ → ℕ
@@ -51,8 +52,8 @@ name_at s w k = named s (start_of w k) (length_of w k)
 
 -- the kind of a variable, by its sort
 abbrev pub kind_of_sort : Option Sort → ℕ
-kind_of_sort nothing = 6
-kind_of_sort (some a) = 1 + sort_number a
+kind_of_sort None = 6
+kind_of_sort (Some a) = 1 + sort_number a
 
 abbrev pub variable_kind : Text → ℕ
 variable_kind n = kind_of_sort (variable_sort n)

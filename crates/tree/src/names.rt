@@ -11,7 +11,7 @@ use crate::fixed::{fixed_is, fixed_len, print_fixed};
 use text::same;
 
 // The name of cell k, a part of the sheet.
-fn name_of<'a>(sheet: &'a [u8], work: &[u32], free: usize, k: usize) -> &'a [u8]
+pub(crate) fn name_of<'a>(sheet: &'a [u8], work: &[u32], free: usize, k: usize) -> &'a [u8]
     requires arena { Arena sheet.now work.now free }
     requires k_nonzero { (0 < k) × (k < free) }
     requires k_nonzero_2 { 0 < length_of work.now k }

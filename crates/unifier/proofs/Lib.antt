@@ -3,3 +3,4 @@ pub mod Resuming
 pub mod Invariant
 pub mod Finishing
 pub mod Parts
+pub mod Sparing

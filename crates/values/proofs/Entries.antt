@@ -3,7 +3,7 @@ use Prim.Native.Nat.{ℕ, ◌+◌, ◌*◌, ◌-◌, ◌<◌, ◌≤◌}
 use mathlib.Core.Path.{◌≡◌, refl, sym, ap, subst, ◌∙◌}
 use mathlib.Core.Bool.{Bool, true, false}
 use mathlib.Core.List.{List, [], ◌∷◌}
-use mathlib.Core.Option.{some}
+use Rattle.std.specs.Prelude.{Some, None}
 use lib.ListN.{length, get_or}
 use native.Mathlib.Omega.{arith}
 use Rattle.rules.specs.Bytes.{Text, same}
@@ -19,9 +19,7 @@ use Rattle.tree.proofs.Decoding.{frame_trees}
 use Rattle.tree.proofs.Areas.{below_then}
 use Rattle.sheet.specs.Pairs.{two_lines_at}
 use Rattle.forms.specs.Form.{Inside}
-use Rattle.sheet.specs.declared.Cursor.{Cursor}
-use Rattle.sheet.specs.declared.Place.{Place}
-use Rattle.sheet.specs.declared.PairLine.TheVariants.{Sides, End}
+use Rattle.sheet.specs.declared.Sides.{Sides}
 use Rattle.forms.proofs.PairLaws.{paired}
 use Rattle.forms.proofs.WalkLaws.{two_there, two_end}
 use Rattle.reading.specs.Parsing.{stack_end}
@@ -31,12 +29,12 @@ use Rattle.variables.specs.Pairing.{names_of, OfVariables}
 use Rattle.values.specs.Values.{value_in, resumed, entry_of, Valued, Unread, EntriesThen, ValuesRead, OneUnread}
 
 -- what is found, or else the variable itself, is what is looked up
-resumed_lookup : (y : Text) (bs : List Binding) → resumed (bound y bs) (some (variable y)) ≡ some (lookup bs y)
+resumed_lookup : (y : Text) (bs : List Binding) → resumed (bound y bs) (Some (variable y)) ≡ Some (lookup bs y)
 unfolding bound lookup
 resumed_lookup y [] = refl
 resumed_lookup y (b ∷ bs) = go (same b.0 y) (resumed_lookup y bs)
   where
-    go : (c : Bool) → resumed (bound y bs) (some (variable y)) ≡ some (lookup bs y) → resumed (or_else c b.1 (bound y bs)) (some (variable y)) ≡ some (pick c b.1 (lookup bs y))
+    go : (c : Bool) → resumed (bound y bs) (Some (variable y)) ≡ Some (lookup bs y) → resumed (or_else c b.1 (bound y bs)) (Some (variable y)) ≡ Some (pick c b.1 (lookup bs y))
     go true h = refl
     go false h = h
 
@@ -70,15 +68,15 @@ walking_starts s w n names at a p = record {
 }
 
 -- where two lines stand
-pub record Placed (s : Text) (c : ℕ) (l r : Place) (n : Cursor) : Type 0 where
-  pub key : Inside s l
-  pub value : Inside s r
-  pub next : c + 12 + (l.to - l.from) + (r.to - r.from) ≡ n.at
-  pub within : n.at ≤ length s
+pub record Placed (s : Text) (c : ℕ) (two : Sides) : Type 0 where
+  pub key : Inside s two.left
+  pub value : Inside s two.right
+  pub next : c + 12 + (two.left.to - two.left.from) + (two.right.to - two.right.from) ≡ two.next.at
+  pub within : two.next.at ≤ length s
 
-pub placed : (s : Text) (c : ℕ) (l r : Place) (n : Cursor) → Sides l r n ≡ two_lines_at (bytes "key=") (bytes "value=") s c → Placed s c l r n
-placed s c l r n e =
-    let h = paired (bytes "key=") (bytes "value=") s c l r n e in
+pub placed : (s : Text) (c : ℕ) (two : Sides) → Some two ≡ two_lines_at (bytes "key=") (bytes "value=") s c → Placed s c two
+placed s c two e =
+    let h = paired (bytes "key=") (bytes "value=") s c two e in
     let a : length (bytes "key=") ≡ 4 = refl in
     let b : length (bytes "value=") ≡ 6 = refl in
     record {
@@ -95,7 +93,7 @@ module _ {s : Text} {w v : List ℕ} {n names at c list end : ℕ} (a : Arena s 
   pub names_there : OfVariables (trees_at s w names) → OfVariables (trees_at s v names)
   names_there o = subst OfVariables names_kept o
 
-  pub walking_ends : End ≡ two_lines_at (bytes "key=") (bytes "value=") s c → ValuesRead s w v n (names_of (trees_at s w names)) at list end c
+  pub walking_ends : None ≡ two_lines_at (bytes "key=") (bytes "value=") s c → ValuesRead s w v n (names_of (trees_at s w names)) at list end c
   unfolding value_in entry_at
   walking_ends e = record {
     low = h.low;
@@ -113,22 +111,22 @@ module _ {s : Text} {w v : List ℕ} {n names at c list end : ℕ} (a : Arena s 
         );
   }
 
-  module _ (l r : Place) (nx : Cursor) (e : Sides l r nx ≡ two_lines_at (bytes "key=") (bytes "value=") s c) where
-    pub walking_room : (stack_end end r.from r.to + 8 + 4 * at ≤ 4 * n + 11 * length s + 4 * at + 9) × (end + 2 * (r.to - r.from) + 2 ≤ n + 2 * length s)
-    walking_room = let x = placed s c l r nx e in let u = h.used in let y = h.low in let z = x.next in let t = x.within in (omega arith, omega arith)
+  module _ (two : Sides) (e : Some two ≡ two_lines_at (bytes "key=") (bytes "value=") s c) where
+    pub walking_room : (stack_end end two.right.from two.right.to + 8 + 4 * at ≤ 4 * n + 11 * length s + 4 * at + 9) × (end + 2 * (two.right.to - two.right.from) + 2 ≤ n + 2 * length s)
+    walking_room = let x = placed s c two e in let u = h.used in let y = h.low in let z = x.next in let t = x.within in (omega arith, omega arith)
 
-    after_entry : (es : List Entry) (rest : List Text) → EntriesThen s at es rest → (gs : List Entry) × EntriesThen s nx.at gs rest × ((y : Text) → is_one_of (names_of (trees_at s v names)) y ≡ true → value_in es y ≡ resumed (bound y (bindings_at s v list)) (value_in (entry_of s l r ∷ gs) y))
+    after_entry : (es : List Entry) (rest : List Text) → EntriesThen s at es rest → (gs : List Entry) × EntriesThen s two.next.at gs rest × ((y : Text) → is_one_of (names_of (trees_at s v names)) y ≡ true → value_in es y ≡ resumed (bound y (bindings_at s v list)) (value_in (entry_of s two.left two.right ∷ gs) y))
     after_entry es rest f =
         let (fs, g, k) = h.later es rest f in
-        let (gs, d, t) = two_there (bytes "key=") (bytes "value=") s c fs rest g l r nx e in
+        let (gs, d, t) = two_there (bytes "key=") (bytes "value=") s c fs rest g two e in
         (gs, t, λ y o. k y (ap (λ (ts : Trees). is_one_of (names_of ts) y) names_kept ∙ o) ∙ ap (λ (fs : List Entry). resumed (bound y (bindings_at s v list)) (value_in fs y)) d)
 
-    pub walking_unread : {u : List ℕ} → Unread s v u end (names_of (trees_at s v names)) l r list → OneUnread s (names_of (trees_at s w names)) at × Below w u n
+    pub walking_unread : {u : List ℕ} → Unread s v u end (names_of (trees_at s v names)) two.left two.right list → OneUnread s (names_of (trees_at s w names)) at × Below w u n
     walking_unread x = ((λ es f. (let (gs, g, k) = after_entry es f.0 f.1 in (x.name, ap (λ (ts : Trees). is_one_of (names_of ts) x.name) names_kept ∙ x.one, k x.name x.one ∙ x.fails gs))), below_then (record { len = h.len; words = h.below }) x.below h.grew)
 
-    pub walking_turn : {u : List ℕ} {b m : ℕ} → Valued s v u end (names_of (trees_at s v names)) l r list b m → Walking s w n names at u nx.at b m
+    pub walking_turn : {u : List ℕ} {b m : ℕ} → Valued s v u end (names_of (trees_at s v names)) two.left two.right list b m → Walking s w n names at u two.next.at b m
     walking_turn x =
-        let y = placed s c l r nx e in
+        let y = placed s c two e in
         let g = h.grew in
         record {
           arena = x.arena;

@@ -3,7 +3,7 @@ use Prim.Native.Nat.{ℕ, ◌+◌, ◌<◌}
 use mathlib.Core.Path.{◌≡◌, refl, sym, ap, ap₂, subst, ◌∙◌}
 use mathlib.Core.Bool.{Bool, true, false, ◌||◌, true≢false}
 use mathlib.Core.List.{List, ◌∷◌}
-use mathlib.Core.Option.{Option, some, none as nothing}
+use Rattle.std.specs.Prelude.{Option, Some, None}
 use native.Mathlib.Omega.{arith}
 use Rattle.rules.specs.Bytes.{Text, same}
 use Rattle.rules.specs.Text.{is_one_of}
@@ -74,17 +74,17 @@ module _ (s : Text) (w : List ℕ) (n names : ℕ) (x : Text) (a : Arena s w n) 
 
 -- what entries give, by the test of the first key
 module _ (e : Entry) (fs : List Entry) (y : Text) where
-  entry_by : {b : Bool} → same e.0 y ≡ b → entry_at (e ∷ fs) y ≡ elim b [ true ↦ some e.1 | false ↦ entry_at fs y ]
+  entry_by : {b : Bool} → same e.0 y ≡ b → entry_at (e ∷ fs) y ≡ elim b [ true ↦ Some e.1 | false ↦ entry_at fs y ]
   unfolding entry_at
-  entry_by h = ap {B = Option Text} (λ (b : Bool). elim b [ true ↦ some e.1 | false ↦ entry_at fs y ]) h
+  entry_by h = ap {B = Option Text} (λ (b : Bool). elim b [ true ↦ Some e.1 | false ↦ entry_at fs y ]) h
 
   value_here : same e.0 y ≡ true → value_in (e ∷ fs) y ≡ parse e.1
   unfolding value_in
-  value_here h = ap {B = Option Tree} (λ (o : Option Text). elim o [ nothing ↦ some (variable y) | some text ↦ parse text ]) (entry_by h)
+  value_here h = ap {B = Option Tree} (λ (o : Option Text). elim o [ None ↦ Some (variable y) | Some text ↦ parse text ]) (entry_by h)
 
   value_later : same e.0 y ≡ false → value_in (e ∷ fs) y ≡ value_in fs y
   unfolding value_in
-  value_later h = ap {B = Option Tree} (λ (o : Option Text). elim o [ nothing ↦ some (variable y) | some text ↦ parse text ]) (entry_by h)
+  value_later h = ap {B = Option Tree} (λ (o : Option Text). elim o [ None ↦ Some (variable y) | Some text ↦ parse text ]) (entry_by h)
 
 bound_by : (k y : Text) (t : Tree) (bs : List Binding) {b : Bool} → same k y ≡ b → bound y ((k, t) ∷ bs) ≡ or_else b t (bound y bs)
 unfolding bound
@@ -112,18 +112,18 @@ module _ (s : Text) (w : List ℕ) (n : ℕ) (ns : List Text) (key value : Place
   value_passed a p e = passed a p (λ fs y one. ap (resumed (bound y (bindings_at s w list))) (value_later its fs y (other_name ns (text_of s key) y e one)))
 
   -- the key is bound
-  pub value_kept : (t : Tree) → Arena s w n → list < n → bound (text_of s key) (bindings_at s w list) ≡ some t → Valued s w w n ns key value list list n
+  pub value_kept : (t : Tree) → Arena s w n → list < n → bound (text_of s key) (bindings_at s w list) ≡ Some t → Valued s w w n ns key value list list n
   value_kept t a p e = passed a p (λ fs y one. go fs y (same (text_of s key) y) refl)
     where
       go : (fs : List Entry) (y : Text) (b : Bool) → same (text_of s key) y ≡ b → resumed (bound y (bindings_at s w list)) (value_in (its ∷ fs) y) ≡ resumed (bound y (bindings_at s w list)) (value_in fs y)
       go fs y true h =
-          let f : bound y (bindings_at s w list) ≡ some t = ap (λ (z : Text). bound z (bindings_at s w list)) (sym (same_eq (text_of s key) y h)) ∙ e in
+          let f : bound y (bindings_at s w list) ≡ Some t = ap (λ (z : Text). bound z (bindings_at s w list)) (sym (same_eq (text_of s key) y h)) ∙ e in
           ap (λ (o : Option Tree). resumed o (value_in (its ∷ fs) y)) f ∙ sym (ap (λ (o : Option Tree). resumed o (value_in fs y)) f)
       go fs y false h = ap (resumed (bound y (bindings_at s w list))) (value_later its fs y h)
 
-  module _ (e : bound (text_of s key) (bindings_at s w list) ≡ nothing) where
+  module _ (e : bound (text_of s key) (bindings_at s w list) ≡ None) where
     -- the value is unreadable
-    pub value_unread : {v : List ℕ} → is_one_of ns (text_of s key) ≡ true → parse (text_of s value) ≡ nothing → Below w v n → Unread s w v n ns key value list
+    pub value_unread : {v : List ℕ} → is_one_of ns (text_of s key) ≡ true → parse (text_of s value) ≡ None → Below w v n → Unread s w v n ns key value list
     value_unread one f l = record {
       name = text_of s key;
       one = one;
@@ -131,7 +131,7 @@ module _ (s : Text) (w : List ℕ) (n : ℕ) (ns : List Text) (key value : Place
       below = l;
     }
 
-    added : (t : Tree) → parse (text_of s value) ≡ some t → (fs : List Entry) (y : Text)
+    added : (t : Tree) → parse (text_of s value) ≡ Some t → (fs : List Entry) (y : Text)
         → resumed (bound y (bindings_at s w list)) (value_in (its ∷ fs) y) ≡ resumed (bound y ((text_of s key, t) ∷ bindings_at s w list)) (value_in fs y)
     added t f fs y = go (same (text_of s key) y) refl
       where

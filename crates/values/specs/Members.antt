@@ -1,6 +1,6 @@
 -- The pairs by which one member covers, as a list of trees in cells. Definitions only.
 use Rattle.std.specs.Prelude.{ℕ, ◌+◌, ◌*◌, ◌-◌, ◌<◌, ◌≤◌, ◌≡◌, List, map, length, get_or}
-use Rattle.std.proofs.Math.Option.{some, none as nothing}
+use Rattle.std.specs.Prelude.{Some, None}
 use Rattle.rules.specs.Bytes.{Text}
 use Rattle.rules.specs.Maybe.{every}
 use Rattle.rules.specs.Tree.{count}
@@ -21,9 +21,9 @@ use Rattle.values.specs.declared.members.Sides.TheVariants.{Stack, Unreadable}
 pub record MemberPairs (s : Text) (w v : List ℕ) (n names bindings at i m c : ℕ) : Type 0 where
   pub low : at ≤ c
   pub high : c ≤ length s
-  pub ends : (es : List Entry) (rest : List Text) → EntriesThen s at es rest → lines_at s c ≡ some rest
+  pub ends : (es : List Entry) (rest : List Text) → EntriesThen s at es rest → lines_at s c ≡ Some rest
   pub ps : List Pair
-  pub are : (x : Text) (es : List Entry) → EntriesFrom s at es → every (map (pair_at (bindings_at s w bindings) (x, es)) (names_at s w names)) ≡ some ps
+  pub are : (x : Text) (es : List Entry) → EntriesFrom s at es → every (map (pair_at (bindings_at s w bindings) (x, es)) (names_at s w names)) ≡ Some ps
   pub arena : Arena s v m
   pub len : length v ≡ length w
   pub below : (p : ℕ) → p < 4 * n → get_or w p 0 ≡ get_or v p 0
@@ -35,4 +35,4 @@ pub record MemberPairs (s : Text) (w v : List ℕ) (n names bindings at i m c : 
 abbrev pub PairsMember : Text → List ℕ → List ℕ → ℕ → ℕ → ℕ → ℕ → Sides → Type 0
 PairsMember s w v n names bindings at (Stack i m c) = MemberPairs s w v n names bindings at i m c.at
 PairsMember s w v n names bindings at Unreadable =
-    ((x : Text) (es : List Entry) → EntriesFrom s at es → every (map (pair_at (bindings_at s w bindings) (x, es)) (names_at s w names)) ≡ nothing) × Below w v n
+    ((x : Text) (es : List Entry) → EntriesFrom s at es → every (map (pair_at (bindings_at s w bindings) (x, es)) (names_at s w names)) ≡ None) × Below w v n

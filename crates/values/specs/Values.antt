@@ -1,6 +1,6 @@
 -- The values that a member gives variables, as bindings in cells. Definitions only.
 use Rattle.std.specs.Prelude.{ℕ, ◌+◌, ◌*◌, ◌-◌, ◌<◌, ◌≤◌, ◌≡◌, true, false, List, ◌∷◌, length, get_or}
-use Rattle.std.proofs.Math.Option.{Option, some, none as nothing}
+use Rattle.std.specs.Prelude.{Option, Some, None}
 use Rattle.rules.specs.Bytes.{Text}
 use Rattle.rules.specs.Text.{bytes, is_one_of}
 use Rattle.rules.specs.Maybe.{◌>>=◌}
@@ -32,12 +32,12 @@ pub record FindsVariable (s : Text) (w : List ℕ) (n : ℕ) (ns : List Text) (x
 -- the tree that entries give a variable
 unfoldable pub value_in : List Entry → Text → Option Tree
 unfolding entry_at parse
-value_in es x = elim (entry_at es x) [ nothing ↦ some (variable x) | some text ↦ parse text ]
+value_in es x = elim (entry_at es x) [ None ↦ Some (variable x) | Some text ↦ parse text ]
 
 -- a tree that was found before, or else the other
 abbrev pub resumed : Option Tree → Option Tree → Option Tree
-resumed (some t) o = some t
-resumed nothing o = o
+resumed (Some t) o = Some t
+resumed None o = o
 
 abbrev pub entry_of : Text → Place → Place → Entry
 entry_of s k v = (text_of s k, text_of s v)
@@ -57,7 +57,7 @@ pub record Valued (s : Text) (w v : List ℕ) (n : ℕ) (ns : List Text) (key va
 pub record Unread (s : Text) (w v : List ℕ) (n : ℕ) (ns : List Text) (key value : Place) (list : ℕ) : Type 0 where
   pub name : Text
   pub one : is_one_of ns name ≡ true
-  pub fails : (fs : List Entry) → resumed (bound name (bindings_at s w list)) (value_in (entry_of s key value ∷ fs) name) ≡ nothing
+  pub fails : (fs : List Entry) → resumed (bound name (bindings_at s w list)) (value_in (entry_of s key value ∷ fs) name) ≡ None
   pub below : Below w v n
 
 abbrev pub ReadsValue : Text → List ℕ → List ℕ → ℕ → List Text → Place → Place → ℕ → Values → Type 0
@@ -66,7 +66,7 @@ ReadsValue s w v n ns key value list Unreadable = Unread s w v n ns key value li
 
 -- es are the entries from a position on, and rest the lines after them
 abbrev pub EntriesThen : Text → ℕ → List Entry → List Text → Type 0
-EntriesThen s at es rest = (lines_at s at >>= entries_by (bytes "key=") (bytes "value=")) ≡ some (es, rest)
+EntriesThen s at es rest = (lines_at s at >>= entries_by (bytes "key=") (bytes "value=")) ≡ Some (es, rest)
 
 -- es are the entries from a position on
 abbrev pub EntriesFrom : Text → ℕ → List Entry → Type 0
@@ -82,18 +82,18 @@ pub record EntriesThere (s : Text) (at : ℕ) : Type 0 where
 pub record ValuesRead (s : Text) (w v : List ℕ) (n : ℕ) (ns : List Text) (at b m c : ℕ) : Type 0 where
   pub low : at ≤ c
   pub high : c ≤ length s
-  pub ends : (es : List Entry) (rest : List Text) → EntriesThen s at es rest → lines_at s c ≡ some rest
+  pub ends : (es : List Entry) (rest : List Text) → EntriesThen s at es rest → lines_at s c ≡ Some rest
   pub arena : Arena s v m
   pub len : length v ≡ length w
   pub below : (p : ℕ) → p < 4 * n → get_or w p 0 ≡ get_or v p 0
   pub grew : n ≤ m
   pub inside : b < m
   pub used : m ≤ n + 2 * (c - at)
-  pub gives : (es : List Entry) → EntriesFrom s at es → (y : Text) → is_one_of ns y ≡ true → value_in es y ≡ some (lookup (bindings_at s v b) y)
+  pub gives : (es : List Entry) → EntriesFrom s at es → (y : Text) → is_one_of ns y ≡ true → value_in es y ≡ Some (lookup (bindings_at s v b) y)
 
 -- of one of ns the value cannot be read
 abbrev pub OneUnread : Text → List Text → ℕ → Type 0
-OneUnread s ns at = (es : List Entry) → EntriesFrom s at es → (y : Text) × (is_one_of ns y ≡ true) × (value_in es y ≡ nothing)
+OneUnread s ns at = (es : List Entry) → EntriesFrom s at es → (y : Text) × (is_one_of ns y ≡ true) × (value_in es y ≡ None)
 
 abbrev pub ReadsValues : Text → List ℕ → List ℕ → ℕ → List Text → ℕ → Read → Type 0
 ReadsValues s w v n ns at (read.Bound b m c) = ValuesRead s w v n ns at b m c.at

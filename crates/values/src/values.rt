@@ -9,7 +9,7 @@ ghost use Rattle.variables.specs.Pairing.{names_of, OfVariables};
 ghost use Rattle.values.specs.Values.{FindsVariable, ReadsValue, EntriesThere, ReadsValues};
 
 use reading::{Parsed, parse};
-use sheet::{Cursor, PairLine, Place, next_entry, part};
+use sheet::{Cursor, Place, next_entry, part};
 use substitution::bindings::{Found, lookup, push_pair};
 use tree::cells::next_of;
 use tree::names::name_is;
@@ -120,16 +120,8 @@ pub(crate) fn read_values(
     let mut cursor = start;
     let mut list: usize = 0;
     let mut end = free;
-    loop {
-        let entry = next_entry(sheet, cursor);
-        let PairLine::Sides { left, right, next } = entry else {
-            return Read::Bound {
-                bindings: list,
-                free: end,
-                next: cursor,
-            };
-        };
-        let read = read_value(sheet, work, end, names, left, right, list);
+    while let Some(entry) = next_entry(sheet, cursor) {
+        let read = read_value(sheet, work, end, names, entry.left, entry.right, list);
         let Values::Bound {
             bindings,
             free: top,
@@ -137,8 +129,13 @@ pub(crate) fn read_values(
         else {
             return Read::Unreadable;
         };
-        cursor = next;
+        cursor = entry.next;
         list = bindings;
         end = top;
+    }
+    Read::Bound {
+        bindings: list,
+        free: end,
+        next: cursor,
     }
 }

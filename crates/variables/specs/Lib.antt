@@ -2,3 +2,4 @@ pub mod Ordered
 pub mod Variables
 pub mod Listing
 pub mod Pairing
+pub mod Areas

@@ -4,7 +4,7 @@ use native.Mathlib.Omega.{arith}
 use mathlib.Core.Path.{◌≡◌, refl, sym, ap, ap₂, ◌∙◌}
 use mathlib.Core.Bool.{Bool, true}
 use mathlib.Core.List.{List, [], ◌∷◌}
-use mathlib.Core.Option.{Option, some, none as nothing}
+use Rattle.std.specs.Prelude.{Option, Some, None}
 use lib.Dec.{leb}
 use Rattle.rules.specs.Bytes.{Text}
 use Rattle.rules.specs.Maybe.{◌>>=◌, guard}
@@ -27,11 +27,8 @@ use Rattle.rewriting.specs.Building.{NewTree}
 use Rattle.laws.proofs.Reduction.Sizes.{normalize_size}
 use Rattle.forms.specs.Members.{members_at}
 use Rattle.variants.specs.Members.{nameable, Alike, MemberThere, ReadMember, ReadsMember}
-use Rattle.sheet.specs.Claims.{truth}
 use Rattle.variants.specs.Soundness.{reduces_to, ClaimsInstance, OneMember, ClaimsSound}
 use Rattle.variants.specs.declared.members.Variant.TheVariants as variant
-use Rattle.sheet.specs.declared.claims.Claim.{Claim}
-use Rattle.sheet.specs.declared.claims.Claim.TheVariants.{Nothing}
 use Rattle.variants.proofs.NameLaws.{cell_nameable}
 
 -- ---- trees in cells, under substitutions that are the same on names of variables
@@ -68,19 +65,19 @@ module _ {s : Text} {w : List ℕ} {n : ℕ} (a : Arena s w n) (σ τ : Substitu
 
 -- the claim of an instance
 abbrev claim_of : Tree → Tree → Option Bool
-claim_of i t = (guard (leb (size i) 4096) >>= λ _. some i) >>= λ i. some (equivalent (normalize i) t)
+claim_of i t = (guard (leb (size i) 4096) >>= λ _. Some i) >>= λ i. Some (equivalent (normalize i) t)
 
 reduces_is : (bs : List Binding) (term t : Tree) → reduces_to bs term t ≡ claim_of (instantiate bs term) t
 unfolding reduces_to instance_of
 reduces_is bs term t = refl
 
-pub instance_over : (bs : List Binding) (term t : Tree) → 4096 < size (instantiate bs term) → nothing ≡ reduces_to bs term t
+pub instance_over : (bs : List Binding) (term t : Tree) → 4096 < size (instantiate bs term) → None ≡ reduces_to bs term t
 instance_over bs term t h =
-    sym (reduces_is bs term t ∙ ap (λ (b : Bool). (guard b >>= λ _. some (instantiate bs term)) >>= λ i. some (equivalent (normalize i) t)) (false_leb (size (instantiate bs term)) 4096 h))
+    sym (reduces_is bs term t ∙ ap (λ (b : Bool). (guard b >>= λ _. Some (instantiate bs term)) >>= λ i. Some (equivalent (normalize i) t)) (false_leb (size (instantiate bs term)) 4096 h))
 
-instance_there : (bs : List Binding) (term t : Tree) → size (instantiate bs term) ≤ 4096 → reduces_to bs term t ≡ some (equivalent (normalize (instantiate bs term)) t)
+instance_there : (bs : List Binding) (term t : Tree) → size (instantiate bs term) ≤ 4096 → reduces_to bs term t ≡ Some (equivalent (normalize (instantiate bs term)) t)
 instance_there bs term t h =
-    reduces_is bs term t ∙ ap (λ (b : Bool). (guard b >>= λ _. some (instantiate bs term)) >>= λ i. some (equivalent (normalize i) t)) (true_leb (size (instantiate bs term)) 4096 h)
+    reduces_is bs term t ∙ ap (λ (b : Bool). (guard b >>= λ _. Some (instantiate bs term)) >>= λ i. Some (equivalent (normalize i) t)) (true_leb (size (instantiate bs term)) 4096 h)
 
 -- ---- the instance built, and reduced
 
@@ -97,10 +94,10 @@ module _ {s : Text} {w v u : List ℕ} {n index end left i stop : ℕ} (term lis
   reduced_sizes h =
       omega (arith, built_small one, normalize_size (tree_at s v index), ap size two.tree, ap size same_value, one.before.grew, one.used, two.grew, two.used)
 
-  pub reduced_claim : (r : Bool) → r ≡ equivalent (tree_at s u i) (tree_at s u value) → reduces_to (bindings_at s w list) (tree_at s w term) (tree_at s w value) ≡ some r
+  pub reduced_claim : (r : Bool) → r ≡ equivalent (tree_at s u i) (tree_at s u value) → reduces_to (bindings_at s w list) (tree_at s w term) (tree_at s w value) ≡ Some r
   reduced_claim r e =
       instance_there (bindings_at s w list) (tree_at s w term) (tree_at s w value) (built_small one).1
-      ∙ ap some (sym (e ∙ ap₂ equivalent (two.tree ∙ ap normalize one.before.tree) same_value))
+      ∙ ap Some (sym (e ∙ ap₂ equivalent (two.tree ∙ ap normalize one.before.tree) same_value))
 
   pub reduced_kept : {x : List ℕ} {lim : ℕ} → Outside u x (4 * stop) lim → Below w x n
   reduced_kept k = below_then (below_then (below_grown one.before.grown) two.kept one.before.grew) (below_kept {n = stop} k (omega arith)) (omega (arith, one.before.grew, two.grew))
@@ -110,25 +107,25 @@ module _ {s : Text} {w v u : List ℕ} {n index end left i stop : ℕ} (term lis
 pub one_there : {s : Text} {at : ℕ} → OneMember s at → MemberThere s at
 one_there o = record { member = o.member; later = []; are = o.is }
 
-sound_unread : (term : Tree) (m : Member) → read_member m ≡ nothing → nothing ≡ sound term m
+sound_unread : (term : Tree) (m : Member) → read_member m ≡ None → None ≡ sound term m
 unfolding sound
-sound_unread term m e = sym (ap (λ (o : Option Variant). o >>= λ v. instance_of v.1 term >>= λ i. some (equivalent (normalize i) v.0)) e)
+sound_unread term m e = sym (ap (λ (o : Option Variant). o >>= λ v. instance_of v.1 term >>= λ i. Some (equivalent (normalize i) v.0)) e)
 
-pub unread_claims : (s : Text) {w v : List ℕ} (n term at : ℕ) → ReadsMember s w v n at variant.Unreadable → ClaimsSound s w v n term at Nothing
+pub unread_claims : (s : Text) {w v : List ℕ} (n term at : ℕ) → ReadsMember s w v n at variant.Unreadable → ClaimsSound s w v n term at None
 unread_claims s {w} n term at x = (λ m h. sound_unread (tree_at s w term) m (x.0 m [] h), x.1)
 
-sound_read : {s : Text} {w : List ℕ} {n : ℕ} → Arena s w n → (k : ℕ) → 0 < k → k < n → (m : Member) (t : Tree) (bs cs : List Binding) → read_member m ≡ some (t, cs) → Alike bs cs
+sound_read : {s : Text} {w : List ℕ} {n : ℕ} → Arena s w n → (k : ℕ) → 0 < k → k < n → (m : Member) (t : Tree) (bs cs : List Binding) → read_member m ≡ Some (t, cs) → Alike bs cs
     → reduces_to bs (tree_at s w k) t ≡ sound (tree_at s w k) m
 unfolding sound reduces_to instance_of
 sound_read {s} {w} a k p q m t bs cs e h =
     reduces_is bs (tree_at s w k) t ∙ ap (λ (i : Tree). claim_of i t) (tree_alike a (lookup bs) (lookup cs) h k p q)
-    ∙ sym (ap (λ (o : Option Variant). o >>= λ v. instance_of v.1 (tree_at s w k) >>= λ i. some (equivalent (normalize i) v.0)) e)
+    ∙ sym (ap (λ (o : Option Variant). o >>= λ v. instance_of v.1 (tree_at s w k) >>= λ i. Some (equivalent (normalize i) v.0)) e)
 
-pub sound_claims : {s : Text} {w v u : List ℕ} {n at value list end c : ℕ} (term : ℕ) (r : Claim) → Arena s w n → 0 < term → term < n → ReadMember s w v n at value list end c
+pub sound_claims : {s : Text} {w v u : List ℕ} {n at value list end c : ℕ} (term : ℕ) (r : Option Bool) → Arena s w n → 0 < term → term < n → ReadMember s w v n at value list end c
     → ClaimsInstance s v u end term list value r → ClaimsSound s w u n term at r
 sound_claims {s} {w} {v} {u} {n} {at} {value} {list} {end} term r a p q x y = (go, below_then x.kept y.1 x.grew)
   where
-    go : (m : Member) → members_at s at ≡ some (m ∷ []) → truth r ≡ sound (tree_at s w term) m
+    go : (m : Member) → members_at s at ≡ Some (m ∷ []) → r ≡ sound (tree_at s w term) m
     go m h =
         let z = x.reads m [] h in
         y.0 ∙ sound_read x.arena term p (omega (arith, x.grew)) m (tree_at s v value) (bindings_at s v list) z.bs z.read z.alike

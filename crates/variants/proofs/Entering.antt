@@ -4,7 +4,7 @@ use native.Mathlib.Omega.{arith}
 use mathlib.Core.Path.{◌≡◌, refl, sym, ap, ◌∙◌}
 use mathlib.Core.Bool.{Bool, true, false, cond}
 use mathlib.Core.List.{List, [], ◌∷◌, ◌++◌, map}
-use mathlib.Core.Option.{some, none as nothing}
+use Rattle.std.specs.Prelude.{Some, None}
 use lib.ListN.{length, drop, length-take}
 use Rattle.rules.specs.Bytes.{Text}
 use Rattle.rules.specs.Text.{bytes}
@@ -32,9 +32,8 @@ use Rattle.sheet.specs.Lines.{part_of, lines_at}
 use Rattle.sheet.specs.Pairs.{two_lines_at, entries_by, entries_before}
 use Rattle.forms.specs.Members.{Walks}
 use Rattle.forms.specs.Form.{text_of, Inside}
-use Rattle.sheet.specs.declared.Cursor.{Cursor}
 use Rattle.sheet.specs.declared.Place.{Place}
-use Rattle.sheet.specs.declared.PairLine.TheVariants.{Sides, End}
+use Rattle.sheet.specs.declared.Sides.{Sides}
 use Rattle.forms.proofs.PairLaws.{paired, walk_starts, walk_turn}
 use Rattle.forms.proofs.WalkLaws.{two_there}
 use Rattle.variants.specs.Members.{nameable, binding_before, entry_end, ReadEntry, ReadsEntry, texts_end, ReadEntries, ReadsEntries}
@@ -46,7 +45,7 @@ pub below_outside : {w v : List ℕ} {n e : ℕ} → Outside w v (4 * n) e → B
 below_outside o = record { len = o.len; words = λ p q. sym (o.below p q) }
 
 -- a tree has at most as many nodes as its text has bytes
-pub part_size : (s : Text) (f t : ℕ) (x : Tree) → parse (part_of f t s) ≡ some x → size x ≤ t - f
+pub part_size : (s : Text) (f t : ℕ) (x : Tree) → parse (part_of f t s) ≡ Some x → size x ≤ t - f
 part_size s f t x e = omega (arith, parse_size (part_of f t s) x e, length-take (t - f) (drop f s))
 
 -- ---- one entry
@@ -80,7 +79,7 @@ entry_there {s} {w} {w₁} {v} {n} key value {list} {index} {middle} {i} {m} a p
 
 -- ---- entries in front of others
 
-pub parts_before : (es : List Entry) (p : List Entry × List Text) (fs : List Entry) (rest : List Text) → entries_before es p ≡ some (fs, rest) → (es ++ p.0 ≡ fs) × (p.1 ≡ rest)
+pub parts_before : (es : List Entry) (p : List Entry × List Text) (fs : List Entry) (rest : List Text) → entries_before es p ≡ Some (fs, rest) → (es ++ p.0 ≡ fs) × (p.1 ≡ rest)
 parts_before es (gs, ls) fs rest e =
     let z : ◌≡◌ {A = List Entry × List Text} (es ++ gs, ls) (fs, rest) = cc in
     (ap (λ (q : List Entry × List Text). q.0) z, ap (λ (q : List Entry × List Text). q.1) z)
@@ -90,7 +89,7 @@ parts_before es (gs, ls) fs rest e =
 pub record Entering (s : Text) (w : List ℕ) (n at : ℕ) (v : List ℕ) (c list m : ℕ) : Type 0 where
   pub walk : Walks (bytes "key=") (bytes "value=") s at c
   pub ds : List Binding
-  pub read : every (map read_entry walk.es) ≡ some ds
+  pub read : every (map read_entry walk.es) ≡ Some ds
   pub turned : Turned walk.es (bindings_at s v list) ds
   pub chain : Chain (trees_at s v list)
   pub arena : Arena s v m
@@ -135,15 +134,15 @@ entering_starts s w n at a p = record {
 }
 
 -- where two lines stand, and how many bytes there are beside the key and the value
-pub record Located (s : Text) (c : ℕ) (l r : Place) (n : Cursor) : Type 0 where
-  pub key : Inside s l
-  pub value : Inside s r
-  pub next : c + 12 + (l.to - l.from) + (r.to - r.from) ≡ n.at
-  pub within : n.at ≤ length s
+pub record Located (s : Text) (c : ℕ) (two : Sides) : Type 0 where
+  pub key : Inside s two.left
+  pub value : Inside s two.right
+  pub next : c + 12 + (two.left.to - two.left.from) + (two.right.to - two.right.from) ≡ two.next.at
+  pub within : two.next.at ≤ length s
 
-pub located : (s : Text) (c : ℕ) (l r : Place) (n : Cursor) → Sides l r n ≡ two_lines_at (bytes "key=") (bytes "value=") s c → Located s c l r n
-located s c l r n e =
-    let h = paired (bytes "key=") (bytes "value=") s c l r n e in
+pub located : (s : Text) (c : ℕ) (two : Sides) → Some two ≡ two_lines_at (bytes "key=") (bytes "value=") s c → Located s c two
+located s c two e =
+    let h = paired (bytes "key=") (bytes "value=") s c two e in
     let a : length (bytes "key=") ≡ 4 = refl in
     let b : length (bytes "value=") ≡ 6 = refl in
     record {
@@ -154,7 +153,7 @@ located s c l r n e =
     }
 
 module _ {s : Text} {w : List ℕ} {n at : ℕ} {v : List ℕ} {c list m : ℕ} (h : Entering s w n at v c list m) where
-  pub entering_ends : End ≡ two_lines_at (bytes "key=") (bytes "value=") s c → ReadEntries s w v n at list m c
+  pub entering_ends : None ≡ two_lines_at (bytes "key=") (bytes "value=") s c → ReadEntries s w v n at list m c
   entering_ends e = record {
     walk = h.walk;
     stops = e;
@@ -170,37 +169,37 @@ module _ {s : Text} {w : List ℕ} {n at : ℕ} {v : List ℕ} {c list m : ℕ} 
     inside = h.inside;
   }
 
-  module _ (l r : Place) (k : Cursor) (e : Sides l r k ≡ two_lines_at (bytes "key=") (bytes "value=") s c) where
-    pub entering_room : (at ≤ c) × (entry_end m r ≤ texts_end s n at) × (c < k.at) × (k.at ≤ length s)
-    entering_room = let x = located s c l r k e in omega (arith, h.used, h.walk.low, x.next, x.within)
+  module _ (two : Sides) (e : Some two ≡ two_lines_at (bytes "key=") (bytes "value=") s c) where
+    pub entering_room : (at ≤ c) × (entry_end m two.right ≤ texts_end s n at) × (c < two.next.at) × (two.next.at ≤ length s)
+    entering_room = let x = located s c two e in omega (arith, h.used, h.walk.low, x.next, x.within)
 
-    pub entering_unread : (u : List ℕ) → ReadsEntry s v u m l r list bindings.Unreadable → ReadsEntries s w u n at entries.Unreadable
+    pub entering_unread : (u : List ℕ) → ReadsEntry s v u m two.left two.right list bindings.Unreadable → ReadsEntries s w u n at entries.Unreadable
     entering_unread u x = (go, below_then h.kept x.1 h.grew)
       where
-        go : (es : List Entry) (rest : List Text) → (lines_at s at >>= entries_by (bytes "key=") (bytes "value=")) ≡ some (es, rest) → every (map read_entry es) ≡ nothing
+        go : (es : List Entry) (rest : List Text) → (lines_at s at >>= entries_by (bytes "key=") (bytes "value=")) ≡ Some (es, rest) → every (map read_entry es) ≡ None
         go es rest f =
             let (p, a, b) = bound (lines_at s c >>= entries_by (bytes "key=") (bytes "value=")) (entries_before h.walk.es) (es, rest) (sym h.walk.chain ∙ f) in
-            let (fs, d, g) = two_there (bytes "key=") (bytes "value=") s c p.0 p.1 a l r k e in
+            let (fs, d, g) = two_there (bytes "key=") (bytes "value=") s c p.0 p.1 a two e in
             let z = (parts_before h.walk.es p es rest b).0 in
-            ap (λ (gs : List Entry). every (map read_entry gs)) (sym z ∙ ap (λ (gs : List Entry). h.walk.es ++ gs) d) ∙ entries_unread h.walk.es (text_of s l) (text_of s r) fs x.0
+            ap (λ (gs : List Entry). every (map read_entry gs)) (sym z ∙ ap (λ (gs : List Entry). h.walk.es ++ gs) d) ∙ entries_unread h.walk.es (text_of s two.left) (text_of s two.right) fs x.0
 
-    pub entering_turn : {u : List ℕ} {i j : ℕ} → ReadEntry s v u m l r list i j → Entering s w n at u k.at i j
+    pub entering_turn : {u : List ℕ} {i j : ℕ} → ReadEntry s v u m two.left two.right list i j → Entering s w n at u two.next.at i j
     unfolding walk_turn
     entering_turn {u} {i} {j} x =
-        let y = located s c l r k e in
-        let bs : bindings_at s u i ≡ bound_before (text_of s l) x.tree (bindings_at s v list) = ap bindings_of x.trees ∙ bindings_with (text_of s l) x.tree (trees_at s v list) in
+        let y = located s c two e in
+        let bs : bindings_at s u i ≡ bound_before (text_of s two.left) x.tree (bindings_at s v list) = ap bindings_of x.trees ∙ bindings_with (text_of s two.left) x.tree (trees_at s v list) in
         record {
-          walk = walk_turn (bytes "key=") (bytes "value=") s at h.walk (paired (bytes "key=") (bytes "value=") s c l r k e);
-          ds = h.ds ++ ((text_of s l, x.tree) ∷ []);
-          read = entries_last h.walk.es h.ds (text_of s l) (text_of s r) x.tree h.read x.read;
-          turned = rw bs (turned_more (text_of s l) (text_of s r) x.tree h.turned);
-          chain = rw x.trees (chain_with (text_of s l) x.tree (trees_at s v list) h.chain);
+          walk = walk_turn (bytes "key=") (bytes "value=") s at h.walk e;
+          ds = h.ds ++ ((text_of s two.left, x.tree) ∷ []);
+          read = entries_last h.walk.es h.ds (text_of s two.left) (text_of s two.right) x.tree h.read x.read;
+          turned = rw bs (turned_more (text_of s two.left) (text_of s two.right) x.tree h.turned);
+          chain = rw x.trees (chain_with (text_of s two.left) x.tree (trees_at s v list) h.chain);
           arena = x.arena;
           kept = below_then h.kept x.kept h.grew;
           grew = omega (arith, h.grew, x.grew);
           used = omega (arith, h.used, x.used, y.next, h.walk.low);
           light =
-              omega (arith, ap sizes x.trees, with_size (text_of s l) x.tree (trees_at s v list), part_size s r.from r.to x.tree x.read, h.light, y.next, h.walk.low);
+              omega (arith, ap sizes x.trees, with_size (text_of s two.left) x.tree (trees_at s v list), part_size s two.right.from two.right.to x.tree x.read, h.light, y.next, h.walk.low);
           inside = x.inside;
           within = y.within;
         }

@@ -2,7 +2,7 @@
 use mathlib.Core.Path.{◌≡◌, refl, sym, ap, ap₂, ◌∙◌}
 use mathlib.Core.Bool.{Bool, true, false, cond, not, true≢false}
 use mathlib.Core.List.{List, [], ◌∷◌, ◌++◌, append_assoc, append-nil, map}
-use mathlib.Core.Option.{Option, some, none as nothing}
+use Rattle.std.specs.Prelude.{Option, Some, None}
 use borrow.Author.Tests.{not-true}
 use Rattle.rules.specs.Bytes.{Text, same}
 use Rattle.rules.specs.Text.{is_one_of}
@@ -125,44 +125,44 @@ chain_with x t ts c = go (nameable x)
 
 -- ---- entries read one after the other
 
-every_append : (es fs : List Entry) → every (map read_entry (es ++ fs)) ≡ (every (map read_entry es) >>= λ bs. every (map read_entry fs) >>= λ cs. some (bs ++ cs))
+every_append : (es fs : List Entry) → every (map read_entry (es ++ fs)) ≡ (every (map read_entry es) >>= λ bs. every (map read_entry fs) >>= λ cs. Some (bs ++ cs))
 unfolding every
 every_append [] fs = go (every (map read_entry fs))
   where
-    go : (o : Option (List Binding)) → o ≡ (o >>= λ cs. some cs)
-    go nothing = refl
-    go (some cs) = refl
+    go : (o : Option (List Binding)) → o ≡ (o >>= λ cs. Some cs)
+    go None = refl
+    go (Some cs) = refl
 every_append (e ∷ es) fs =
-    ap (λ (o : Option (List Binding)). read_entry e >>= λ b. o >>= λ bs. some (b ∷ bs)) (every_append es fs) ∙ go (read_entry e) (every (map read_entry es)) (every (map read_entry fs))
+    ap (λ (o : Option (List Binding)). read_entry e >>= λ b. o >>= λ bs. Some (b ∷ bs)) (every_append es fs) ∙ go (read_entry e) (every (map read_entry es)) (every (map read_entry fs))
   where
     go : (o : Option Binding) (p q : Option (List Binding))
-        → (o >>= λ b. (p >>= λ bs. q >>= λ cs. some (bs ++ cs)) >>= λ ds. some (b ∷ ds)) ≡ ((o >>= λ b. p >>= λ bs. some (b ∷ bs)) >>= λ bs. q >>= λ cs. some (bs ++ cs))
-    go nothing p q = refl
-    go (some b) nothing q = refl
-    go (some b) (some bs) nothing = refl
-    go (some b) (some bs) (some cs) = refl
+        → (o >>= λ b. (p >>= λ bs. q >>= λ cs. Some (bs ++ cs)) >>= λ ds. Some (b ∷ ds)) ≡ ((o >>= λ b. p >>= λ bs. Some (b ∷ bs)) >>= λ bs. q >>= λ cs. Some (bs ++ cs))
+    go None p q = refl
+    go (Some b) None q = refl
+    go (Some b) (Some bs) None = refl
+    go (Some b) (Some bs) (Some cs) = refl
 
-entries_first : (k v : Text) (es : List Entry) (o : Option Tree) → parse v ≡ o → every (map read_entry ((k, v) ∷ es)) ≡ (o >>= λ t. every (map read_entry es) >>= λ bs. some ((k, t) ∷ bs))
+entries_first : (k v : Text) (es : List Entry) (o : Option Tree) → parse v ≡ o → every (map read_entry ((k, v) ∷ es)) ≡ (o >>= λ t. every (map read_entry es) >>= λ bs. Some ((k, t) ∷ bs))
 unfolding every read_entry
-entries_first k v es o e = ap (λ (o : Option Tree). (o >>= λ t. some (k, t)) >>= λ b. every (map read_entry es) >>= λ bs. some (b ∷ bs)) e ∙ go o
+entries_first k v es o e = ap (λ (o : Option Tree). (o >>= λ t. Some (k, t)) >>= λ b. every (map read_entry es) >>= λ bs. Some (b ∷ bs)) e ∙ go o
   where
-    go : (o : Option Tree) → ((o >>= λ t. some (k, t)) >>= λ b. every (map read_entry es) >>= λ bs. some (b ∷ bs)) ≡ (o >>= λ t. every (map read_entry es) >>= λ bs. some ((k, t) ∷ bs))
-    go nothing = refl
-    go (some t) = refl
+    go : (o : Option Tree) → ((o >>= λ t. Some (k, t)) >>= λ b. every (map read_entry es) >>= λ bs. Some (b ∷ bs)) ≡ (o >>= λ t. every (map read_entry es) >>= λ bs. Some ((k, t) ∷ bs))
+    go None = refl
+    go (Some t) = refl
 
-pub entries_last : (es : List Entry) (ds : List Binding) (k v : Text) (t : Tree) → every (map read_entry es) ≡ some ds → parse v ≡ some t → every (map read_entry (es ++ ((k, v) ∷ []))) ≡ some (ds ++ ((k, t) ∷ []))
+pub entries_last : (es : List Entry) (ds : List Binding) (k v : Text) (t : Tree) → every (map read_entry es) ≡ Some ds → parse v ≡ Some t → every (map read_entry (es ++ ((k, v) ∷ []))) ≡ Some (ds ++ ((k, t) ∷ []))
 unfolding every
 entries_last es ds k v t e f =
     every_append es ((k, v) ∷ [])
-    ∙ ap₂ (λ (o p : Option (List Binding)). o >>= λ bs. p >>= λ cs. some (bs ++ cs)) e (entries_first k v [] (some t) f)
+    ∙ ap₂ (λ (o p : Option (List Binding)). o >>= λ bs. p >>= λ cs. Some (bs ++ cs)) e (entries_first k v [] (Some t) f)
 
 abbrev unread : Option (List Binding)
-unread = nothing
+unread = None
 
-pub entries_unread : (es : List Entry) (k v : Text) (fs : List Entry) → parse v ≡ nothing → every (map read_entry (es ++ ((k, v) ∷ fs))) ≡ nothing
+pub entries_unread : (es : List Entry) (k v : Text) (fs : List Entry) → parse v ≡ None → every (map read_entry (es ++ ((k, v) ∷ fs))) ≡ None
 entries_unread es k v fs f =
-    every_append es ((k, v) ∷ fs) ∙ ap (λ (p : Option (List Binding)). every (map read_entry es) >>= λ bs. p >>= λ cs. some (bs ++ cs)) (entries_first k v fs nothing f) ∙ go (every (map read_entry es))
+    every_append es ((k, v) ∷ fs) ∙ ap (λ (p : Option (List Binding)). every (map read_entry es) >>= λ bs. p >>= λ cs. Some (bs ++ cs)) (entries_first k v fs None f) ∙ go (every (map read_entry es))
   where
     go : (o : Option (List Binding)) → (o >>= λ bs. unread) ≡ unread
-    go nothing = refl
-    go (some bs) = refl
+    go None = refl
+    go (Some bs) = refl

@@ -1,6 +1,6 @@
 -- A member's texts as trees in cells, and its keys and their values as one list of bindings, the last first. Definitions only.
 use Rattle.std.specs.Prelude.{ℕ, ◌+◌, ◌*◌, ◌-◌, ◌<◌, ◌≤◌, ◌^◌, ◌≡◌, Bool, true, false, cond, not, List, [], ◌∷◌, map, eqb, length, get_or}
-use Rattle.std.proofs.Math.Option.{some, none as nothing}
+use Rattle.std.specs.Prelude.{Some, None}
 use Rattle.rules.specs.Bytes.{Text}
 use Rattle.rules.specs.Text.{bytes}
 use Rattle.rules.specs.Maybe.{◌>>=◌, every}
@@ -17,7 +17,6 @@ use Rattle.sheet.specs.Pairs.{two_lines_at, entries_by}
 use Rattle.forms.specs.Members.{members_at, Walks}
 use Rattle.forms.specs.Form.{text_of}
 use Rattle.sheet.specs.declared.Place.{Place}
-use Rattle.sheet.specs.declared.PairLine.TheVariants.{End}
 use Rattle.variants.specs.declared.members.Bindings.{Bindings}
 use Rattle.variants.specs.declared.members.Bindings.TheVariants as bindings
 use Rattle.variants.specs.declared.members.Entries.{Entries}
@@ -45,7 +44,7 @@ entry_end free value = free + 2 * (value.to - value.from) + 2
 -- a key with its value before the list from cell `list` on
 pub record ReadEntry (s : Text) (w v : List ℕ) (n : ℕ) (key value : Place) (list i m : ℕ) : Type 0 where
   pub tree : Tree
-  pub read : parse (text_of s value) ≡ some tree
+  pub read : parse (text_of s value) ≡ Some tree
   pub arena : Arena s v m
   pub kept : Below w v n
   pub grew : n ≤ m
@@ -55,7 +54,7 @@ pub record ReadEntry (s : Text) (w v : List ℕ) (n : ℕ) (key value : Place) (
 
 abbrev pub ReadsEntry : Text → List ℕ → List ℕ → ℕ → Place → Place → ℕ → Bindings → Type 0
 ReadsEntry s w v n key value list (bindings.Stack i m) = ReadEntry s w v n key value list i m
-ReadsEntry s w v n key value list bindings.Unreadable = (parse (text_of s value) ≡ nothing) × Below w v n
+ReadsEntry s w v n key value list bindings.Unreadable = (parse (text_of s value) ≡ None) × Below w v n
 
 -- the cells of all texts from a position on end at most here
 abbrev pub texts_end : Text → ℕ → ℕ → ℕ
@@ -68,9 +67,9 @@ TextsRoom s w n at = (length s ≤ 65536) × (4 * texts_end s n at + 3 * length 
 -- the entries from `at` on, which end at c, read as bs; the list from cell i on gives every variable the same value as bs
 pub record ReadEntries (s : Text) (w v : List ℕ) (n at i m c : ℕ) : Type 0 where
   pub walk : Walks (bytes "key=") (bytes "value=") s at c
-  pub stops : End ≡ two_lines_at (bytes "key=") (bytes "value=") s c
+  pub stops : None ≡ two_lines_at (bytes "key=") (bytes "value=") s c
   pub bs : List Binding
-  pub read : every (map read_entry walk.es) ≡ some bs
+  pub read : every (map read_entry walk.es) ≡ Some bs
   pub alike : distinct_keys walk.es [] ≡ true → Alike (bindings_at s v i) bs
   pub chain : Chain (trees_at s v i)
   pub arena : Arena s v m
@@ -83,25 +82,25 @@ pub record ReadEntries (s : Text) (w v : List ℕ) (n at i m c : ℕ) : Type 0 w
 abbrev pub ReadsEntries : Text → List ℕ → List ℕ → ℕ → ℕ → Entries → Type 0
 ReadsEntries s w v n at (entries.Stack i m c) = ReadEntries s w v n at i m c.at
 ReadsEntries s w v n at entries.Unreadable =
-    ((es : List Entry) (rest : List Text) → (lines_at s at >>= entries_by (bytes "key=") (bytes "value=")) ≡ some (es, rest) → every (map read_entry es) ≡ nothing) × Below w v n
+    ((es : List Entry) (rest : List Text) → (lines_at s at >>= entries_by (bytes "key=") (bytes "value=")) ≡ Some (es, rest) → every (map read_entry es) ≡ None) × Below w v n
 
 -- a member stands at a position, and others after it
 pub record MemberThere (s : Text) (at : ℕ) : Type 0 where
   pub member : Member
   pub later : List Member
-  pub are : members_at s at ≡ some (member ∷ later)
+  pub are : members_at s at ≡ Some (member ∷ later)
 
 -- the member m reads as the tree of cell k and the bindings bs; the list from cell i on gives every variable the same value as bs; the
 -- members ms follow at c
 pub record MemberReads (s : Text) (v : List ℕ) (k i c : ℕ) (m : Member) (ms : List Member) : Type 0 where
   pub bs : List Binding
-  pub read : read_member m ≡ some (tree_at s v k, bs)
+  pub read : read_member m ≡ Some (tree_at s v k, bs)
   pub alike : Alike (bindings_at s v i) bs
-  pub later : members_at s c ≡ some ms
+  pub later : members_at s c ≡ Some ms
 
 -- the member at a position, up to c; its line's key and end leave two cells and two nodes
 pub record ReadMember (s : Text) (w v : List ℕ) (n at k i end c : ℕ) : Type 0 where
-  pub reads : (m : Member) (ms : List Member) → members_at s at ≡ some (m ∷ ms) → MemberReads s v k i c m ms
+  pub reads : (m : Member) (ms : List Member) → members_at s at ≡ Some (m ∷ ms) → MemberReads s v k i c m ms
   pub small : size (tree_at s v k) ≤ 4096
   pub chain : Chain (trees_at s v i)
   pub arena : Arena s v end
@@ -116,4 +115,4 @@ pub record ReadMember (s : Text) (w v : List ℕ) (n at k i end c : ℕ) : Type 
 
 abbrev pub ReadsMember : Text → List ℕ → List ℕ → ℕ → ℕ → Variant → Type 0
 ReadsMember s w v n at (variant.Read k i end c) = ReadMember s w v n at k i end c.at
-ReadsMember s w v n at variant.Unreadable = ((m : Member) (ms : List Member) → members_at s at ≡ some (m ∷ ms) → read_member m ≡ nothing) × Below w v n
+ReadsMember s w v n at variant.Unreadable = ((m : Member) (ms : List Member) → members_at s at ≡ Some (m ∷ ms) → read_member m ≡ None) × Below w v n

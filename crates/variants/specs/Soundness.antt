@@ -1,6 +1,6 @@
 -- What is claimed of a member against a term. Definitions only.
 use Rattle.std.specs.Prelude.{ℕ, ◌≡◌, Bool, List, [], ◌∷◌}
-use Rattle.std.proofs.Math.Option.{Option, some}
+use Rattle.std.specs.Prelude.{Option, Some}
 use Rattle.rules.specs.Bytes.{Text}
 use Rattle.rules.specs.Maybe.{◌>>=◌}
 use Rattle.rules.specs.Tree.{Tree}
@@ -13,21 +13,19 @@ use Rattle.tree.specs.Cells.{tree_at}
 use Rattle.tree.specs.Arena.{Below}
 use Rattle.substitution.specs.Bindings.{bindings_at}
 use Rattle.forms.specs.Members.{members_at}
-use Rattle.sheet.specs.Claims.{truth}
-use Rattle.sheet.specs.declared.claims.Claim.{Claim}
 
 -- the tree t is the reduced instance of a term, up to the order of summands
 unfoldable pub reduces_to : List Binding → Tree → Tree → Option Bool
 unfolding instance_of normalize equivalent
-reduces_to bs term t = instance_of bs term >>= λ i. some (equivalent (normalize i) t)
+reduces_to bs term t = instance_of bs term >>= λ i. Some (equivalent (normalize i) t)
 
-abbrev pub ClaimsInstance : Text → List ℕ → List ℕ → ℕ → ℕ → ℕ → ℕ → Claim → Type 0
-ClaimsInstance s w v n term list value r = (truth r ≡ reduces_to (bindings_at s w list) (tree_at s w term) (tree_at s w value)) × Below w v n
+abbrev pub ClaimsInstance : Text → List ℕ → List ℕ → ℕ → ℕ → ℕ → ℕ → Option Bool → Type 0
+ClaimsInstance s w v n term list value r = (r ≡ reduces_to (bindings_at s w list) (tree_at s w term) (tree_at s w value)) × Below w v n
 
 -- exactly one member stands at a position
 pub record OneMember (s : Text) (at : ℕ) : Type 0 where
   pub member : Member
-  pub is : members_at s at ≡ some (member ∷ [])
+  pub is : members_at s at ≡ Some (member ∷ [])
 
-abbrev pub ClaimsSound : Text → List ℕ → List ℕ → ℕ → ℕ → ℕ → Claim → Type 0
-ClaimsSound s w v n term at r = ((m : Member) → members_at s at ≡ some (m ∷ []) → truth r ≡ sound (tree_at s w term) m) × Below w v n
+abbrev pub ClaimsSound : Text → List ℕ → List ℕ → ℕ → ℕ → ℕ → Option Bool → Type 0
+ClaimsSound s w v n term at r = ((m : Member) → members_at s at ≡ Some (m ∷ []) → r ≡ sound (tree_at s w term) m) × Below w v n

@@ -9,7 +9,7 @@ ghost use Rattle.variants.specs.Members.{nameable, binding_before, entry_end, Re
 
 use leaves::leaf_kind;
 use reading::{Parsed, parse};
-use sheet::{Cursor, Line, PairLine, Place, next_entry, next_member, part};
+use sheet::{Cursor, Place, next_entry, next_member, part};
 use substitution::bindings::Pushed;
 use tree::cells::{APPLICATION, push_cell, share};
 
@@ -152,22 +152,19 @@ fn read_entries(sheet: &[u8], work: &mut [u32], free: usize, start: Cursor) -> E
     let mut cursor = start;
     let mut list: usize = 0;
     let mut end = free;
-    loop {
-        let entry = next_entry(sheet, cursor);
-        let PairLine::Sides { left, right, next } = entry else {
-            return Entries::Stack {
-                index: list,
-                free: end,
-                next: cursor,
-            };
-        };
-        let read = read_entry(sheet, work, end, left, right, list);
+    while let Some(entry) = next_entry(sheet, cursor) {
+        let read = read_entry(sheet, work, end, entry.left, entry.right, list);
         let Bindings::Stack { index, free: after } = read else {
             return Entries::Unreadable;
         };
-        cursor = next;
+        cursor = entry.next;
         list = index;
         end = after;
+    }
+    Entries::Stack {
+        index: list,
+        free: end,
+        next: cursor,
     }
 }
 
@@ -178,10 +175,10 @@ pub fn read_member(sheet: &[u8], work: &mut [u32], free: usize, start: Cursor) -
     requires member_there { MemberThere sheet.now start.at }
     ensures { ReadsMember sheet.now work.old work.new free start.at result }
 {
-    let line = next_member(sheet, start);
-    let Line::Whole { from, to, next } = line else {
+    let Some(line) = next_member(sheet, start) else {
         return Variant::Unreadable;
     };
+    let Place { from, to } = line.value;
     let parsed = parse(sheet, work, free, from, to);
     let Parsed::Tree {
         index,
@@ -190,7 +187,7 @@ pub fn read_member(sheet: &[u8], work: &mut [u32], free: usize, start: Cursor) -
     else {
         return Variant::Unreadable;
     };
-    let entries = read_entries(sheet, work, middle, next);
+    let entries = read_entries(sheet, work, middle, line.next);
     let Entries::Stack {
         index: list,
         free: end,

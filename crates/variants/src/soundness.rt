@@ -10,7 +10,6 @@ use crate::members::{Variant, read_member};
 use equivalence::equivalent;
 use reduction::normalizing::normalize;
 use sheet::Cursor;
-use sheet::claims::Claim;
 use substitution::instances::{Built, substitute};
 
 // Whether the instance of the tree of cell term under the bindings from cell bindings on reduces to the tree of cell value, up to
@@ -22,7 +21,7 @@ fn reduces_to(
     term: usize,
     bindings: usize,
     value: usize,
-) -> Claim
+) -> Option<bool>
     requires arena { Arena sheet.now work.old free }
     requires term_nonzero { (0 < term) × (term < free) × (bindings < free) × (0 < value) × (value < free) }
     requires value_bound { (size (tree_at sheet.now work.old value) ≤ 4096) × (4 * free + 155648 ≤ length work.old) × (free < 1048576) }
@@ -35,19 +34,23 @@ fn reduces_to(
         budget: _,
     } = built
     else {
-        return Claim::Nothing;
+        return None;
     };
     let normal = normalize(sheet, work, end, index, 0);
     let i = normal.index;
     let stop = normal.free;
-    if equivalent(sheet, work, stop, i, value, 4 * stop) {
-        return Claim::Yes;
-    }
-    Claim::No
+    let same = equivalent(sheet, work, stop, i, value, 4 * stop);
+    Some(same)
 }
 
 // Whether the one member at the cursor is a sound variant of the tree of cell term.
-pub fn sound(sheet: &[u8], work: &mut [u32], free: usize, term: usize, start: Cursor) -> Claim
+pub fn sound(
+    sheet: &[u8],
+    work: &mut [u32],
+    free: usize,
+    term: usize,
+    start: Cursor,
+) -> Option<bool>
     requires arena { Arena sheet.now work.old free }
     requires term_nonzero { (0 < term) × (term < free) }
     requires sheet_len_bound { (length sheet.now ≤ 65536) × (1048576 + 16 * length sheet.now ≤ length work.old) × (texts_end sheet.now free start.at ≤ 1 + 4 * length sheet.now) }
@@ -62,7 +65,7 @@ pub fn sound(sheet: &[u8], work: &mut [u32], free: usize, term: usize, start: Cu
         next: _,
     } = member
     else {
-        return Claim::Nothing;
+        return None;
     };
     reduces_to(sheet, work, end, term, bindings, value)
 }

@@ -3,24 +3,12 @@ use Rattle.std.specs.Prelude.{ℕ, List, ◌++◌}
 use Rattle.rules.specs.Bytes.{Text}
 use Rattle.rules.specs.Text.{bytes}
 use Rattle.rules.specs.Decimal.{decimal}
-use Rattle.rules.specs.Tree.{Tree}
-use Rattle.rules.specs.Writing.{render}
 use Rattle.rules.specs.Answer.{line, binding_lines}
 use Rattle.substitution.specs.Bindings.{bindings_at}
 
 -- the verdict's line, and the number of pairs taken
 unfoldable pub head_lines : Text → ℕ → Text
 head_lines verdict spent = verdict ++ line (bytes "spent=") (decimal spent)
-
-unfoldable pub key_line : Text → Text
-key_line x = line (bytes "key=") x
-
-unfoldable pub value_line : Tree → Text
-value_line t = line (bytes "value=") (render t)
-
--- the two lines of one binding
-abbrev pub entry_lines : Text → Tree → Text
-entry_lines x t = key_line x ++ value_line t
 
 -- `key` and `value` for each binding from cell k on
 abbrev pub bindings_text : Text → List ℕ → ℕ → Text

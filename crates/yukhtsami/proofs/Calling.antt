@@ -3,6 +3,7 @@ use mathlib.Core.Path.{◌≡◌, sym, subst, ap, ◌∙◌}
 use mathlib.Core.List.{List}
 use Prim.Native.Nat.{ℕ, ◌≤◌}
 use lib.ListN.{length}
+use Rattle.std.specs.Prelude.{Result, Err}
 use native.Mathlib.Omega.{arith}
 use Rattle.rules.specs.Bytes.{Text}
 use Rattle.rules.specs.Sheet.{Sheet}
@@ -11,32 +12,31 @@ use Rattle.forms.specs.Form.{sheet_of, EnoughWords}
 use Rattle.forms.specs.declared.form.Form.{Form}
 use Rattle.answers.specs.Deciding.{reply_of, Standing}
 use Rattle.answers.specs.Settling.{within_room, Settles}
-use Rattle.admission.specs.Admission.{refusal_code, Decoded, Stands}
+use Rattle.admission.specs.Admission.{Decoded, Stands}
 use Rattle.yukhtsami.specs.Answering.{SettlesForm, CallAnswers}
-use Rattle.answers.specs.declared.deciding.Decision.{Decision}
-use Rattle.answers.specs.declared.giving.Reply as code
-use Rattle.answers.specs.declared.giving.Reply.TheVariants as replies
-use Rattle.admission.specs.declared.refusal.Refusal.{Refusal}
+use Rattle.answers.specs.declared.deciding.Lines.{Lines}
+use Rattle.rules.specs.declared.Refusal.{Refusal}
+use Rattle.rules.specs.RefusalNumbers.{number_for}
 use Rattle.kinds.specs.Outcomes.{DecidesForm}
 
 pub more_words : (s : Text) (f : Form) {n m : ℕ} → EnoughWords s f n → n ≤ m → EnoughWords s f m
 more_words s f h k = record { sheet = h.sheet; stands = h.stands; enough = (let e = h.enough in omega arith) }
 
 -- what was decided, with an output
-pub decided_held : (s : Text) (f : Form) {w : List ℕ} {d : Decision} → Decoded s f → DecidesForm (sheet_of s f) s w d → Standing s w d
+pub decided_held : (s : Text) (f : Form) {w : List ℕ} {d : Result Lines Refusal} → Decoded s f → DecidesForm (sheet_of s f) s w d → Standing s w d
 decided_held s f x h = (h x.sheet x.decodes).held
 
-pub decided_settles : (s : Text) (f : Form) {w : List ℕ} (d : Decision) {out v : Text} {r : code.Reply} → DecidesForm (sheet_of s f) s w d
+pub decided_settles : (s : Text) (f : Form) {w : List ℕ} (d : Result Lines Refusal) {out v : Text} {r : Result ℕ Refusal} → DecidesForm (sheet_of s f) s w d
     → Settles (within_room (reply_of s w d) (length out)) out v r → SettlesForm (sheet_of s f) out v r
 unfolding settled within_room
 decided_settles s f {w} d {out} {v} {r} h k sheet e = subst (λ (z : Reply Text). Settles (within_room z (length out)) out v r) (h sheet e).reply k
 
 -- the whole call, by what was admitted and settled
 module _ (s : Text) (w : List ℕ) (out : Text) where
-  pub refused_answers : (x : Refusal) → admitted s (length w) ≡ refused (refusal_code x) → CallAnswers s w w out out (replies.Refused x)
+  pub refused_answers : (x : Refusal) → admitted s (length w) ≡ refused (number_for x) → CallAnswers s w w out out (Err x)
   unfolding call work_after
   refused_answers x e =
-      let f : call s (length w) (length out) ≡ refused (refusal_code x) = rw e in
+      let f : call s (length w) (length out) ≡ refused (number_for x) = rw e in
       record {
         number = sym (ap refusal_number f);
         written_is = sym (ap written f);
@@ -48,7 +48,7 @@ module _ (s : Text) (w : List ℕ) (out : Text) where
     pub enough_words : EnoughWords s f needed
     enough_words = record { sheet = a.decoded.sheet; stands = a.decoded.decodes; enough = omega (arith, a.need) }
 
-    pub settled_answers : (v : List ℕ) (after : Text) (r : code.Reply) → SettlesForm (sheet_of s f) out after r → v ≡ zeroed needed w → CallAnswers s w v out after r
+    pub settled_answers : (v : List ℕ) (after : Text) (r : Result ℕ Refusal) → SettlesForm (sheet_of s f) out after r → v ≡ zeroed needed w → CallAnswers s w v out after r
     unfolding call work_after
     settled_answers v after r h z =
         let k = h a.decoded.sheet a.decoded.decodes in

@@ -6,7 +6,7 @@
 use mathlib.Core.Path.{◌≡◌, refl, sym, ◌∙◌, ap, ap₂}
 use mathlib.Core.List.{List, ◌++◌}
 use mathlib.Core.Logic.{◌↔◌}
-use mathlib.Core.Option.{some}
+use Rattle.std.specs.Prelude.{Some}
 use Prim.Native.Nat.{ℕ}
 use lib.ListN.{length, take, drop}
 use lib.Seq.{take-append_seam}
@@ -53,16 +53,16 @@ module _ (s : Text) (w v : List ℕ) (out after : Text) (count : ℕ) (c : Calls
   -- Unify and match
 
   -- the pairs read
-  pub unify_reads : {fuel : ℕ} {texts : List Entry} → IsSheet s (asks_unify fuel texts) → (ps : List Pair) × (read_pairs texts ≡ some ps)
+  pub unify_reads : {fuel : ℕ} {texts : List Entry} → IsSheet s (asks_unify fuel texts) → (ps : List Pair) × (read_pairs texts ≡ Some ps)
   unify_reads {fuel} {texts} f =
       let (ps, e, _) = unify_pairs s (length w) (length out) fuel texts (take count after) ((sheet_lines s (asks_unify fuel texts)).1 f) answered in (ps, e)
 
-  pub match_reads : {fuel : ℕ} {texts : List Entry} → IsSheet s (asks_match fuel texts) → (ps : List Pair) × (read_pairs texts ≡ some ps)
+  pub match_reads : {fuel : ℕ} {texts : List Entry} → IsSheet s (asks_match fuel texts) → (ps : List Pair) × (read_pairs texts ≡ Some ps)
   match_reads {fuel} {texts} f =
       let (ps, e, _) = match_pairs s (length w) (length out) fuel texts (take count after) ((sheet_lines s (asks_match fuel texts)).1 f) answered in (ps, e)
 
   answers : (kind : ℕ → List Entry → Sheet) {fuel : ℕ} {texts : List Entry} {ps : List Pair}
-      → IsSheet s (kind fuel texts) → read_pairs texts ≡ some ps → Answered kind fuel ps (take count after)
+      → IsSheet s (kind fuel texts) → read_pairs texts ≡ Some ps → Answered kind fuel ps (take count after)
   answers kind {fuel} {texts} f p = record {
     sheet = s;
     words = length w;
@@ -74,57 +74,57 @@ module _ (s : Text) (w v : List ℕ) (out after : Text) (count : ℕ) (c : Calls
   }
 
   -- on every sheet, tidy or not, the verdict, the bindings and the count of pairs taken are those that the rules derive
-  module _ {fuel : ℕ} {texts : List Entry} {ps : List Pair} (pairs : read_pairs texts ≡ some ps) (verdict : Verdict) (n : ℕ) where
-    pub unify_derived : IsSheet s (asks_unify fuel texts) → (read_answer (take count after) ≡ some (verdict, n)) ↔ UnifyDerives fuel ps verdict n
+  module _ {fuel : ℕ} {texts : List Entry} {ps : List Pair} (pairs : read_pairs texts ≡ Some ps) (verdict : Verdict) (n : ℕ) where
+    pub unify_derived : IsSheet s (asks_unify fuel texts) → (read_answer (take count after) ≡ Some (verdict, n)) ↔ UnifyDerives fuel ps verdict n
     unify_derived f = unify_sheet_derived (answers asks_unify f pairs) verdict n
 
-    pub match_derived : IsSheet s (asks_match fuel texts) → (read_answer (take count after) ≡ some (verdict, n)) ↔ MatcherDerives fuel ps verdict n
+    pub match_derived : IsSheet s (asks_match fuel texts) → (read_answer (take count after) ≡ Some (verdict, n)) ↔ MatcherDerives fuel ps verdict n
     match_derived f = match_sheet_derived (answers asks_match f pairs) verdict n
 
   -- and on tidy sheets
-  module _ {fuel n : ℕ} {texts : List Entry} {ps : List Pair} (pairs : read_pairs texts ≡ some ps) (arity : Text → ℕ) (counts : Arity arity) (tidy : TidyPairs arity ps) where
+  module _ {fuel n : ℕ} {texts : List Entry} {ps : List Pair} (pairs : read_pairs texts ≡ Some ps) (arity : Text → ℕ) (counts : Arity arity) (tidy : TidyPairs arity ps) where
     -- solved: the bindings in the output are a well-sorted unifier, and every other is an instance of it
-    pub unify_solved : IsSheet s (asks_unify fuel texts) → {bs : List Binding} → read_answer (take count after) ≡ some (solved bs, n) → MostGeneral arity ps bs
+    pub unify_solved : IsSheet s (asks_unify fuel texts) → {bs : List Binding} → read_answer (take count after) ≡ Some (solved bs, n) → MostGeneral arity ps bs
     unify_solved f {bs} = unify_sheet_solved arity counts tidy n (answers asks_unify f pairs) bs
 
     -- failed: there is no well-sorted unifier
-    pub unify_failed : IsSheet s (asks_unify fuel texts) → read_answer (take count after) ≡ some (failed, n)
+    pub unify_failed : IsSheet s (asks_unify fuel texts) → read_answer (take count after) ≡ Some (failed, n)
         → (σ : Substitution) → WellSorted arity σ → Unifier σ ps → ⊥
     unify_failed f = unify_sheet_failed arity counts tidy n (answers asks_unify f pairs)
 
-    pub match_solved : IsSheet s (asks_match fuel texts) → {bs : List Binding} → read_answer (take count after) ≡ some (solved bs, n) → OnlyMatcher arity ps bs
+    pub match_solved : IsSheet s (asks_match fuel texts) → {bs : List Binding} → read_answer (take count after) ≡ Some (solved bs, n) → OnlyMatcher arity ps bs
     match_solved f {bs} = match_sheet_solved arity counts tidy n (answers asks_match f pairs) bs
 
-    pub match_failed : IsSheet s (asks_match fuel texts) → read_answer (take count after) ≡ some (failed, n)
+    pub match_failed : IsSheet s (asks_match fuel texts) → read_answer (take count after) ≡ Some (failed, n)
         → (σ : Substitution) → WellSorted arity σ → Matcher σ ps → ⊥
     match_failed f = match_sheet_failed arity counts tidy n (answers asks_match f pairs)
 
   -- Equal: `equal=yes` exactly where the sides are equal up to order and grouping of sums, else `equal=no`
 
   module _ {left right : Text} (f : IsSheet s (asks_equal left right)) where
-    pub equal_means : (t : Tree) × (u : Tree) × (read_written left ≡ some t) × (read_written right ≡ some u)
+    pub equal_means : (t : Tree) × (u : Tree) × (read_written left ≡ Some t) × (read_written right ≡ Some u)
         × Says (bytes "equal=") (Decides (SameSums t u)) (take count after)
     equal_means = equal_sheet s (length w) (length out) (take count after) answered left right ((sheet_lines s (asks_equal left right)).1 f)
 
-    pub equal_means_parsed : {t u : Tree} → parse left ≡ some t → parse right ≡ some u → Says (bytes "equal=") (Decides (Ac t u)) (take count after)
+    pub equal_means_parsed : {t u : Tree} → parse left ≡ Some t → parse right ≡ Some u → Says (bytes "equal=") (Decides (Ac t u)) (take count after)
     equal_means_parsed {t} {u} =
         equal_sheet_parsed s (length w) (length out) (take count after) answered left right ((sheet_lines s (asks_equal left right)).1 f) t u
 
   -- Reduce: `normal=` and a text that reads as the reduced term
 
-  pub reduce_means : {text : Text} → IsSheet s (asks_reduce text) → (t : Tree) × (parse text ≡ some t) × SaysNormal t (take count after)
+  pub reduce_means : {text : Text} → IsSheet s (asks_reduce text) → (t : Tree) × (parse text ≡ Some t) × SaysNormal t (take count after)
   reduce_means {text} f = reduce_sheet s (length w) (length out) (take count after) answered text ((sheet_lines s (asks_reduce text)).1 f)
 
   -- Cover, sound, complete: `yes`, `no` or `none`, each exactly where `Families.antt` says
 
   pub cover_means : {texts : List Entry} {ms : List Member} → IsSheet s (asks_cover texts ms)
-      → (ps : List Pair) × (read_pairs texts ≡ some ps) × Says (bytes "covered=") (CoveredMeans ps ms) (take count after)
+      → (ps : List Pair) × (read_pairs texts ≡ Some ps) × Says (bytes "covered=") (CoveredMeans ps ms) (take count after)
   cover_means {texts} {ms} f = cover_sheet s (length w) (length out) (take count after) answered texts ms ((sheet_lines s (asks_cover texts ms)).1 f)
 
   pub sound_means : {text : Text} {m : Member} → IsSheet s (asks_sound text m)
-      → (t : Tree) × (parse text ≡ some t) × Says (bytes "sound=") (SoundMeans t m) (take count after)
+      → (t : Tree) × (parse text ≡ Some t) × Says (bytes "sound=") (SoundMeans t m) (take count after)
   sound_means {text} {m} f = sound_sheet s (length w) (length out) (take count after) answered text m ((sheet_lines s (asks_sound text m)).1 f)
 
   pub complete_means : {text : Text} {ms : List Member} → IsSheet s (asks_complete text ms)
-      → (t : Tree) × (parse text ≡ some t) × Says (bytes "complete=") (CompleteMeans t ms) (take count after)
+      → (t : Tree) × (parse text ≡ Some t) × Says (bytes "complete=") (CompleteMeans t ms) (take count after)
   complete_means {text} {ms} f = complete_sheet s (length w) (length out) (take count after) answered text ms ((sheet_lines s (asks_complete text ms)).1 f)

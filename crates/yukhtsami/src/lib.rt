@@ -6,14 +6,15 @@ ghost use Rattle.forms.specs.Form.{sheet_of, EnoughWords};
 ghost use Rattle.answers.specs.Settling.{reply_number, reply_count};
 ghost use Rattle.rules.specs.Call.{zeroed};
 ghost use Rattle.yukhtsami.specs.Answering.{SettlesForm, CallAnswers, Calls};
-ghost use Rattle.admission.specs.Admission.{refusal_code, Decoded};
+ghost use Rattle.rules.specs.RefusalNumbers.{number_for};
+ghost use Rattle.admission.specs.Admission.{Decoded};
 
+use admission::admit;
 use admission::clearing::clear;
-use admission::refusal::Refusal;
-use admission::{Admitted, admit};
 use answers::giving::{Reply, give};
 use forms::form::Form;
 use kinds::decide;
+use rules::Refusal;
 
 // Decides a sheet that is admitted, and gives what was decided. Every word of the work area is free afterwards.
 fn settle(sheet: &[u8], work: &mut [u32], output: &mut [u8], form: Form) -> Reply
@@ -47,10 +48,9 @@ fn settle_and_clear(
 pub fn answer(sheet: &[u8], work: &mut [u32], output: &mut [u8]) -> Reply
     ensures { CallAnswers sheet.now work.old work.new output.old output.new result }
 {
-    let admitted = admit(sheet, work.len());
-    match admitted {
-        Admitted::Refused(refusal) => Reply::Refused(refusal),
-        Admitted::Sheet { form, needed } => settle_and_clear(sheet, work, output, form, needed),
+    match admit(sheet, work.len()) {
+        Ok(admitted) => settle_and_clear(sheet, work, output, admitted.form, admitted.needed),
+        Err(refusal) => Err(refusal),
     }
 }
 
@@ -64,7 +64,7 @@ pub struct Called {
 
 // The number of a refusal.
 fn number_of(refusal: Refusal) -> u32
-    ensures { result ≡ refusal_code refusal }
+    ensures { result ≡ number_for refusal }
 {
     match refusal {
         Refusal::TooLong => 1,
@@ -81,11 +81,11 @@ fn numbers_of(reply: Reply) -> Called
     ensures { (result.refusal ≡ reply_number reply) × (result.written ≡ reply_count reply) }
 {
     match reply {
-        Reply::Written(count) => Called {
+        Ok(count) => Called {
             refusal: 0,
             written: count,
         },
-        Reply::Refused(refusal) => Called {
+        Err(refusal) => Called {
             refusal: number_of(refusal),
             written: 0,
         },

@@ -2,7 +2,8 @@ use native.Mathlib.Omega.{arith}
 use Prim.Native.Nat.{◌*◌}
 use mathlib.Core.List.{[], ◌∷◌}
 use Rattle.tree.specs.Cells.{start_of, length_of}
-use Rattle.closing.proofs.Atoms.{no_atom, atom_done, alone_is}
+use Rattle.closing.proofs.Atoms.{atom_done, alone_is}
+use Rattle.closing.proofs.AtomTrees.{no_atom}
 use Rattle.tree.proofs.Areas.{grown_same}
 use Rattle.closing.proofs.atom.Goals as goal
 

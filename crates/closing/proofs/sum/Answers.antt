@@ -1,6 +1,6 @@
 use native.Mathlib.Omega.{arith}
 use Prim.Native.Nat.{◌+◌, ◌*◌}
-use mathlib.Core.Option.{some}
+use Rattle.std.specs.Prelude.{Some}
 use Rattle.rules.specs.Tree.{count}
 use Rattle.tree.specs.Cells.{tree_at, trees_at}
 use Rattle.closing.specs.Closing.{summed}
@@ -30,14 +30,14 @@ returns-in_default c =
     let x = c.share.ensures.1 in
     let f = front_count a.sheet.now a.work.now a.start a.chain c.requires.arena (omega arith) c.requires.chain_lt_start.0 c.next_of-second.ensures.0 (omega arith) x in
     let v = c.share.new.work in
-    let o = closes_is a.sheet.now v c.nest-nested.new.work (a.start + 1) (a.start + 1 + 2 * count (trees_at a.sheet.now v c.next_of-second.result)) 0 (some (summed (tree_at a.sheet.now v a.start) (trees_at a.sheet.now v c.next_of-second.result))) c.nest-nested.ensures c.in_default.is in
+    let o = closes_is a.sheet.now v c.nest-nested.new.work (a.start + 1) (a.start + 1 + 2 * count (trees_at a.sheet.now v c.next_of-second.result)) 0 (Some (summed (tree_at a.sheet.now v a.start) (trees_at a.sheet.now v c.next_of-second.result))) c.nest-nested.ensures c.in_default.is in
     (sum_over a.sheet.now a.work.now a.start a.chain c.requires.arena (omega arith) c.requires.chain_lt_start.0 c.next_of-second.ensures.0 (omega arith) x o.0, grown_more (omega arith) (grown_on (omega arith) (omega arith) x.grown o.1))
 
 pub overflow_sub-last : goal.overflow_sub-last
 overflow_sub-last c =
     let a = c.args in
     let v = c.share.new.work in
-    let o = closes_is a.sheet.now v c.nest-nested.new.work (a.start + 1) (a.start + 1 + 2 * count (trees_at a.sheet.now v c.next_of-second.result)) 0 (some (summed (tree_at a.sheet.now v a.start) (trees_at a.sheet.now v c.next_of-second.result))) c.nest-nested.ensures c.in-At.is in
+    let o = closes_is a.sheet.now v c.nest-nested.new.work (a.start + 1) (a.start + 1 + 2 * count (trees_at a.sheet.now v c.next_of-second.result)) 0 (Some (summed (tree_at a.sheet.now v a.start) (trees_at a.sheet.now v c.next_of-second.result))) c.nest-nested.ensures c.in-At.is in
     omega (arith, o.made.some)
 
 pub share-requires-2 : goal.share-requires-2
@@ -46,7 +46,7 @@ share-requires-2 c =
     let x = c.share.ensures.1 in
     let f = front_count a.sheet.now a.work.now a.start a.chain c.requires.arena (omega arith) c.requires.chain_lt_start.0 c.next_of-second.ensures.0 (omega arith) x in
     let v = c.share.new.work in
-    let o = closes_is a.sheet.now v c.nest-nested.new.work (a.start + 1) (a.start + 1 + 2 * count (trees_at a.sheet.now v c.next_of-second.result)) 0 (some (summed (tree_at a.sheet.now v a.start) (trees_at a.sheet.now v c.next_of-second.result))) c.nest-nested.ensures c.in-At.is in
+    let o = closes_is a.sheet.now v c.nest-nested.new.work (a.start + 1) (a.start + 1 + 2 * count (trees_at a.sheet.now v c.next_of-second.result)) 0 (Some (summed (tree_at a.sheet.now v a.start) (trees_at a.sheet.now v c.next_of-second.result))) c.nest-nested.ensures c.in-At.is in
     let n = o.made.some in
     let r = o.room in
     let l = o.made.grown.len in
@@ -59,5 +59,5 @@ returns c =
     let x = c.share.ensures.1 in
     let f = front_count a.sheet.now a.work.now a.start a.chain c.requires.arena (omega arith) c.requires.chain_lt_start.0 c.next_of-second.ensures.0 (omega arith) x in
     let v = c.share.new.work in
-    let o = closes_is a.sheet.now v c.nest-nested.new.work (a.start + 1) (a.start + 1 + 2 * count (trees_at a.sheet.now v c.next_of-second.result)) 0 (some (summed (tree_at a.sheet.now v a.start) (trees_at a.sheet.now v c.next_of-second.result))) c.nest-nested.ensures c.in-At.is in
+    let o = closes_is a.sheet.now v c.nest-nested.new.work (a.start + 1) (a.start + 1 + 2 * count (trees_at a.sheet.now v c.next_of-second.result)) 0 (Some (summed (tree_at a.sheet.now v a.start) (trees_at a.sheet.now v c.next_of-second.result))) c.nest-nested.ensures c.in-At.is in
     sum_done a.sheet.now a.work.now a.start a.chain c.requires.arena (omega arith) c.requires.chain_lt_start.0 c.next_of-second.ensures.0 (omega arith) x _ o (omega (arith, o.made.some)) c.requires.chain_lt_start.1 c.share-2.ensures.1 c.share-2.ensures.0 (omega arith)

@@ -1,9 +1,8 @@
-use Prim.Native.Nat.{◌-◌}
-use Rattle.fingerprints.proofs.Fingerprinting.{Printing}
+use mathlib.Core.Path.{◌≡◌}
+use lib.ListN.{take}
+use Rattle.runs.specs.Texts.{texts}
+use Rattle.fingerprints.specs.Fingerprints.{fingerprint}
 use Rattle.fingerprints.proofs.fingerprint.Given as goal
 
-abbrev pub invariant-loop-p : goal.invariant-loop-p
-invariant-loop-p l = Printing l.sheet l.work l.from l.to l.p l.r
-
-abbrev pub decreases-loop-p : goal.decreases-loop-p
-decreases-loop-p l = l.to - l.p
+abbrev pub invariant-loop-word : goal.invariant-loop-word
+invariant-loop-word l = l.mixed ≡ fingerprint (texts l.sheet (take l.word-index l.words))

@@ -1,44 +1,33 @@
 use native.Mathlib.Omega.{arith}
-use Prim.Native.Nat.{ℕ}
-use mathlib.Core.Path.{sym, ap, ◌∙◌}
-use Rattle.runs.proofs.WordTexts.{zeros_small, text_zeros}
-use Rattle.fingerprints.specs.Fingerprints.{mixed}
-use Rattle.fingerprints.proofs.Fingerprinting.{mixing_starts, mixing_next, mixing_ends}
-use Rattle.laws.specs.Unspelled.{zeros_name}
+use mathlib.Core.Path.{sym, ap, ap₂, ◌∙◌}
+use Rattle.std.proofs.lemmas.List.{take_all}
+use Rattle.runs.specs.Texts.{word_text}
+use Rattle.runs.proofs.Pieces.{zeros_small, text_zeros}
+use Rattle.runs.proofs.WordTexts.{width_text}
+use Rattle.fingerprints.specs.Fingerprints.{mixed, mixed_byte}
+use Rattle.fingerprints.proofs.Fingerprinting.{mixed_none, mixed_more}
 use Rattle.fingerprints.proofs.mix.Goals as goal
 
 pub mix_zeros-requires : goal.mix_zeros-requires
-mix_zeros-requires c = (omega (arith, c.zeros_of-zeros.ensures, zeros_small c.args.x), c.requires.h_bound)
+mix_zeros-requires c = zeros_small c.args.x c.in-Some.zeros (sym c.in-Some.ensures)
 
-pub returns-then-zeros-gt0 : goal.returns-then-zeros-gt0
-returns-then-zeros-gt0 c =
+pub returns-in-Some : goal.returns-in-Some
+returns-in-Some c =
     let a = c.args in
-    let r = c.mix_zeros.ensures in
-    let z = c.zeros_of-zeros in
-    (r.0, r.1 ∙ ap (λ (n : ℕ). mixed a.h (zeros_name n)) z.ensures ∙ sym (ap (mixed a.h) (text_zeros a.sheet.now a.x (omega (arith, z.ensures, c.if-zeros-gt0.true)))))
+    c.mix_zeros.ensures ∙ sym (ap (mixed a.h) (text_zeros a.sheet.now a.x c.in-Some.zeros (sym c.in-Some.ensures)))
 
-pub loop-a-init : goal.loop-a-init
-loop-a-init c =
+pub loop-i-init : goal.loop-i-init
+loop-i-init c = mixed_none c.args.h
+
+pub loop-i-preserved : goal.loop-i-preserved
+loop-i-preserved c =
     let a = c.args in
-    mixing_starts a.sheet.now a.x a.h c.requires.h_bound
-
-pub byte_of-b-requires : goal.byte_of-b-requires
-byte_of-b-requires c = record { token = c.requires.token; a_bound = omega (arith, c.loop-a-test.true, c.width_of-width.ensures) }
-
-pub mix_byte-r-requires : goal.mix_byte-r-requires
-mix_byte-r-requires c = c.loop-a.invariant.small
-
-pub loop-a-smaller : goal.loop-a-smaller
-loop-a-smaller c = omega (arith, c.loop-a-test.true)
-
-pub loop-a-preserved : goal.loop-a-preserved
-loop-a-preserved c =
-    let a = c.args in
-    let l = c.loop-a in
-    mixing_next a.sheet.now a.x a.h c.requires.token l.a l.r l.invariant c.byte_of-b.result c.mix_byte-r.result c.byte_of-b.ensures c.mix_byte-r.ensures (omega (arith, c.loop-a-test.true, c.width_of-width.ensures))
+    let t = word_text a.sheet.now a.x in
+    let i = c.loop-i.i in
+    c.mix_byte-mixed.ensures ∙ ap₂ mixed_byte c.loop-i.invariant c.byte_of.ensures ∙ sym (mixed_more a.h t i (omega (arith, c.loop-i-test.true, c.width_of-i-end.ensures, width_text a.sheet.now a.x c.requires)))
 
 pub returns : goal.returns
 returns c =
     let a = c.args in
-    let l = c.loop-a in
-    mixing_ends a.sheet.now a.x a.h c.requires.token l.a l.r l.invariant (omega (arith, c.loop-a-test.false, c.width_of-width.ensures))
+    let t = word_text a.sheet.now a.x in
+    c.loop-i.invariant ∙ ap (mixed a.h) (take_all c.loop-i.i t (omega (arith, c.loop-i-test.false, c.width_of-i-end.ensures, width_text a.sheet.now a.x c.requires)))

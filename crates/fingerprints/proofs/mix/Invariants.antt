@@ -1,9 +1,8 @@
-use Prim.Native.Nat.{◌-◌}
-use Rattle.fingerprints.proofs.Fingerprinting.{Mixing}
+use mathlib.Core.Path.{◌≡◌}
+use lib.ListN.{take}
+use Rattle.runs.specs.Texts.{word_text}
+use Rattle.fingerprints.specs.Fingerprints.{mixed}
 use Rattle.fingerprints.proofs.mix.Given as goal
 
-abbrev pub invariant-loop-a : goal.invariant-loop-a
-invariant-loop-a l = Mixing l.sheet l.x l.h l.a l.r
-
-abbrev pub decreases-loop-a : goal.decreases-loop-a
-decreases-loop-a l = l.width - l.a
+abbrev pub invariant-loop-i : goal.invariant-loop-i
+invariant-loop-i l = l.mixed ≡ mixed l.h (take l.i (word_text l.sheet l.x))

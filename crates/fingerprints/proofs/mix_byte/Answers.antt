@@ -5,4 +5,4 @@ pub returns-then-b-eq48 : goal.returns-then-b-eq48
 returns-then-b-eq48 c = byte_zero c.args.h c.args.b c.if-b-eq48.true
 
 pub returns : goal.returns
-returns c = byte_other c.args.h c.args.b c.if-b-eq48.false
+returns c = byte_other c.args.h c.args.b c.from.result c.if-b-eq48.false c.from.ensures

@@ -34,4 +34,4 @@ pub returns : goal.returns
 returns c =
     let a = c.args in
     let p = subst (Parses a.sheet.now a.work.now c.parse-parsed.new.work 1 a.term.from a.term.to) c.in-Tree.is c.parse-parsed.ensures in
-    complete_decided a.sheet.now a.term a.members.at c.requires.complete_asked p c.complete-claim.result c.complete-claim.ensures.0 c.claimed.ensures
+    complete_decided a.sheet.now a.term a.members.at c.requires.complete_asked p c.complete-claim.result c.complete-claim.ensures.0

@@ -25,4 +25,4 @@ returns c =
     let a = c.args in
     let k = c.requires.cover_asked in
     let r = rw c.in-Stack.is at (c.read_pairs-read.ensures k.entries k.rest k.lines) in
-    cover_decided a.sheet.now a.pairs.at k r c.covered-claim.result c.covered-claim.ensures.0 c.claimed.ensures
+    cover_decided a.sheet.now a.pairs.at k r c.covered-claim.result c.covered-claim.ensures.0

@@ -25,4 +25,4 @@ pub returns : goal.returns
 returns c =
     let a = c.args in
     let p = subst (Parses a.sheet.now a.work.now c.parse-parsed.new.work 1 a.term.from a.term.to) c.in-Tree.is c.parse-parsed.ensures in
-    λ m h. decides_as (sound_line (take (a.term.to - a.term.from) (drop a.term.from a.sheet.now)) m _ c.sound-claim.result p.reads (c.sound-claim.ensures.0 m h)) (claim_decides key.Sound c.sound-claim.result c.claimed.ensures)
+    λ m h. decides_as (sound_line (take (a.term.to - a.term.from) (drop a.term.from a.sheet.now)) m _ c.sound-claim.result p.reads (c.sound-claim.ensures.0 m h)) (claim_decides key.Sound c.sound-claim.result)

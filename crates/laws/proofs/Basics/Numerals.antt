@@ -2,7 +2,7 @@
 use mathlib.Core.Path.{◌≡◌, refl, sym, ◌∙◌, ap}
 use mathlib.Core.Bool.{Bool, true, false, cond, not, ◌&&◌, true≢false}
 use mathlib.Core.List.{[], ◌∷◌, ◌++◌}
-use mathlib.Core.Option.{some, none}
+use Rattle.std.specs.Prelude.{Some, None}
 use Prim.Native.Nat.{ℕ, zero, suc, ◌+◌, ◌-◌, ◌*◌, ◌/◌, ◌%◌, ◌≤◌, ◌<◌}
 use native.Mathlib.Omega.{arith}
 use lib.Dec.{ltb, leb, eqb}
@@ -116,10 +116,10 @@ pub decimal_number : (n : ℕ) → number (decimal n) ≡ true
 unfolding decimal
 decimal_number n = digits_number n n
 
-pub decimal_read : (n : ℕ) → read_number (decimal n) ≡ some n
+pub decimal_read : (n : ℕ) → read_number (decimal n) ≡ Some n
 unfolding read_number decimal
 decimal_read n =
-    ap (λ (b : Bool). cond b (some (value_from 0 (digits_in (suc n) n))) none) (digits_proper n) ∙ ap some (digits_value (suc n) n (omega arith))
+    ap (λ (b : Bool). cond b (Some (value_from 0 (digits_in (suc n) n))) None) (digits_proper n) ∙ ap Some (digits_value (suc n) n (omega arith))
 
 pub decimal_proper : (n : ℕ) → proper (decimal n) ≡ true
 unfolding decimal

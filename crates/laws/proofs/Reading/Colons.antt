@@ -4,7 +4,8 @@ use Prim.Native.Nat.{ℕ, zero, suc, ◌+◌, ◌≤◌}
 use native.Mathlib.Omega.{arith}
 use mathlib.Core.Path.{◌≡◌, refl, ap, subst}
 use mathlib.Core.List.{[], ◌∷◌, ◌++◌}
-use mathlib.Core.Option.{Option, some, none as nothing, some-injective, none-ne-some}
+use Rattle.std.specs.Prelude.{Option, Some, None}
+use Rattle.laws.proofs.Basics.Somes.{some_injective, none_ne_some}
 use mathlib.Core.Bool.{Bool, true, false, cond, true≢false}
 use lib.Dec.{eqb}
 use lib.ListN.{length, length-append, get_or}
@@ -13,7 +14,8 @@ use Rattle.rules.specs.Text.{count_of}
 use Rattle.rules.specs.Maybe.{guard}
 use Rattle.rules.specs.Names.{digit, all, letter_name}
 use Rattle.rules.specs.Tree.{Tree, variable, atom, apply, Trees, none, more, count, size, sizes, tamtplus, variable_names, variable_names_in}
-use Rattle.rules.specs.Reduction.{Rule, rule_named}
+use Rattle.rules.specs.declared.Rule.{Rule}
+use Rattle.rules.specs.Reduction.{rule_named}
 use Rattle.laws.specs.Memory.{rule_node, rule_nodes, rule_nodes_in}
 use Rattle.rules.specs.Reading.{leaf, single, constant_name, atom_of, nested, sum_of, close, parse}
 use Rattle.laws.proofs.Basics.Tests.{same_eq}
@@ -24,28 +26,28 @@ use Rattle.laws.proofs.Reading.Measures.{total, Measure, read_measured}
 module _ (P : Text → Trees → Tree → Type 0) (atoms : (n : Text) (ts : Trees) (c : ℕ) (d : Text) → P n ts (atom c d))
     (sums : (n : Text) (t u : Tree) (us : Trees) → n ≡ tamtplus → P n (more t (more u us)) (nested t (more u us)))
     (applications : (n : Text) (ts : Trees) → P n ts (apply n ts)) where
-  atom_closed : (n : Text) (ts : Trees) (t : Tree) → atom_of n ts ≡ some t → P n ts t
+  atom_closed : (n : Text) (ts : Trees) (t : Tree) → atom_of n ts ≡ Some t → P n ts t
   unfolding atom_of
   atom_closed n ts t h =
       let (u, e, h₁) = bound (single ts) _ t h in
       let (d, k, h₂) = bound (constant_name u) _ t h₁ in
-      let (x, g, h₃) = bound (guard (all digit d)) (λ _. some (atom (get_or n 0 0) d)) t h₂ in
-      subst (P n ts) (some-injective (atom (get_or n 0 0) d) t h₃) (atoms n ts (get_or n 0 0) d)
+      let (x, g, h₃) = bound (guard (all digit d)) (λ _. Some (atom (get_or n 0 0) d)) t h₂ in
+      subst (P n ts) (some_injective (atom (get_or n 0 0) d) t h₃) (atoms n ts (get_or n 0 0) d)
 
-  sum_closed : (n : Text) (ts : Trees) (t : Tree) → n ≡ tamtplus → sum_of ts ≡ some t → P n ts t
+  sum_closed : (n : Text) (ts : Trees) (t : Tree) → n ≡ tamtplus → sum_of ts ≡ Some t → P n ts t
   unfolding sum_of
-  sum_closed n none t e h = absurd (none-ne-some t h)
-  sum_closed n (more a none) t e h = absurd (none-ne-some t h)
-  sum_closed n (more a (more b us)) t e h = subst (P n (more a (more b us))) (some-injective (nested a (more b us)) t h) (sums n a b us e)
+  sum_closed n none t e h = absurd (none_ne_some t h)
+  sum_closed n (more a none) t e h = absurd (none_ne_some t h)
+  sum_closed n (more a (more b us)) t e h = subst (P n (more a (more b us))) (some_injective (nested a (more b us)) t h) (sums n a b us e)
 
-  pub closed_cases : (n : Text) (ts : Trees) (t : Tree) → close n ts ≡ some t → P n ts t
+  pub closed_cases : (n : Text) (ts : Trees) (t : Tree) → close n ts ≡ Some t → P n ts t
   unfolding close
   closed_cases n ts t h = go (letter_name n) (same n tamtplus) refl h
     where
-      go : (b c : Bool) → same n tamtplus ≡ c → elim b [ true ↦ atom_of n ts | false ↦ elim c [ true ↦ sum_of ts | false ↦ some (apply n ts) ] ] ≡ some t → P n ts t
+      go : (b c : Bool) → same n tamtplus ≡ c → elim b [ true ↦ atom_of n ts | false ↦ elim c [ true ↦ sum_of ts | false ↦ Some (apply n ts) ] ] ≡ Some t → P n ts t
       go true c e k = atom_closed n ts t k
       go false true e k = sum_closed n ts t (same_eq n tamtplus e) k
-      go false false e k = subst (P n ts) (some-injective (apply n ts) t k) (applications n ts)
+      go false false e k = subst (P n ts) (some_injective (apply n ts) t k) (applications n ts)
 
 -- Colons
 
@@ -98,7 +100,7 @@ colons_upto (b ∷ s) = go (eqb b 58) (colons_upto s)
     go true h = omega arith
     go false h = omega arith
 
-names_closed : (n : Text) (ts : Trees) (t : Tree) → close n ts ≡ some t → names_count t ≤ names_counts ts
+names_closed : (n : Text) (ts : Trees) (t : Tree) → close n ts ≡ Some t → names_count t ≤ names_counts ts
 unfolding variable_names
 names_closed = closed_cases (λ n ts t. names_count t ≤ names_counts ts) (λ n ts c d. omega arith)
     (λ n t u us e. omega (arith, nested_names t (more u us), names_more t (more u us))) (λ n ts. omega arith)
@@ -121,7 +123,7 @@ colon_measure = record {
 }
 
 -- each variable of the tree has a colon of its own
-pub parse_colons : (s : Text) (t : Tree) → parse s ≡ some t → length (variable_names t) ≤ count_of 58 s
+pub parse_colons : (s : Text) (t : Tree) → parse s ≡ Some t → length (variable_names t) ≤ count_of 58 s
 unfolding colon_measure
 parse_colons s t h = omega (arith, read_measured colon_measure s t h, colons_total s)
 
@@ -145,7 +147,7 @@ unfolding total
 bytes_total [] = refl
 bytes_total (b ∷ s) = let h = bytes_total s in omega arith
 
-size_closed : (n : Text) (ts : Trees) (t : Tree) → close n ts ≡ some t → size t ≤ 1 + (sizes ts + count ts)
+size_closed : (n : Text) (ts : Trees) (t : Tree) → close n ts ≡ Some t → size t ≤ 1 + (sizes ts + count ts)
 unfolding size
 size_closed = closed_cases (λ n ts t. size t ≤ 1 + (sizes ts + count ts)) (λ n ts c d. omega arith) (λ n t u us e. omega (arith, nested_size t (more u us)))
     (λ n ts. omega arith)
@@ -168,7 +170,7 @@ node_measure = record {
 }
 
 -- each node of the tree has a byte of its own
-pub parse_size : (s : Text) (t : Tree) → parse s ≡ some t → size t ≤ length s
+pub parse_size : (s : Text) (t : Tree) → parse s ≡ Some t → size t ≤ length s
 unfolding node_measure
 parse_size s t h = omega (arith, read_measured node_measure s t h, bytes_total s)
 
@@ -184,19 +186,19 @@ unfolding leaf rule_nodes
 leaf_rules n = go (eqb (count_of 58 n) 0)
   where
     at : (o : Option Rule) → rule_node o none + 0 ≡ 0
-    at nothing = refl
-    at (some r) = refl
+    at None = refl
+    at (Some r) = refl
 
     go : (b : Bool) → rule_nodes (cond b (apply n none) (variable n)) ≡ 0
     go true = at (rule_named n)
     go false = refl
 
 rule_upto : (o : Option Rule) (ts : Trees) → rule_node o ts ≤ 1
-rule_upto nothing ts = omega arith
-rule_upto (some r) none = omega arith
-rule_upto (some r) (more t ts) = omega arith
+rule_upto None ts = omega arith
+rule_upto (Some r) none = omega arith
+rule_upto (Some r) (more t ts) = omega arith
 
-rules_closed : (n : Text) (ts : Trees) (t : Tree) → close n ts ≡ some t → rule_nodes t ≤ 1 + rule_nodes_in ts
+rules_closed : (n : Text) (ts : Trees) (t : Tree) → close n ts ≡ Some t → rule_nodes t ≤ 1 + rule_nodes_in ts
 unfolding rule_nodes
 rules_closed = closed_cases (λ n ts t. rule_nodes t ≤ 1 + rule_nodes_in ts) (λ n ts c d. omega arith)
     (λ n t u us e. omega (arith, nested_rules t (more u us))) (λ n ts. omega (arith, rule_upto (rule_named n) ts))
@@ -227,6 +229,6 @@ bracket_measure = record {
 }
 
 -- each application of a rule's function with children has a bracket of its own
-pub parse_brackets : (s : Text) (t : Tree) → parse s ≡ some t → rule_nodes t ≤ count_of 40 s
+pub parse_brackets : (s : Text) (t : Tree) → parse s ≡ Some t → rule_nodes t ≤ count_of 40 s
 unfolding bracket_measure
 parse_brackets s t h = omega (arith, read_measured bracket_measure s t h, openings_total s)

@@ -3,7 +3,8 @@ use Prim.Native.Nat.{ℕ, zero, suc}
 use mathlib.Core.Path.{◌≡◌, refl, sym, ◌∙◌, ap, subst}
 use mathlib.Core.List.{List, [], ◌∷◌}
 use mathlib.Core.Logic.{◌↔◌}
-use mathlib.Core.Option.{Option, some, none as nothing, some-injective, none-ne-some}
+use Rattle.std.specs.Prelude.{Option, Some, None}
+use Rattle.laws.proofs.Basics.Somes.{some_injective, none_ne_some}
 use mathlib.Core.Bool.{Bool, true, false, cond, not}
 use lib.Dec.{eqb}
 use lib.ListN.{length}
@@ -28,14 +29,14 @@ Term = Tree × List Text
 abbrev Listed : Type 0
 Listed = Trees × List Text
 
-token_front : (s : Text) (ts us : List Text) → after_token s ts ≡ some us → ts ≡ s ∷ us
+token_front : (s : Text) (ts us : List Text) → after_token s ts ≡ Some us → ts ≡ s ∷ us
 unfolding after_token
-token_front s [] us h = absurd (none-ne-some us h)
+token_front s [] us h = absurd (none_ne_some us h)
 token_front s (t ∷ ts) us h = go (same s t) refl h
   where
-    go : (b : Bool) → same s t ≡ b → cond b (some ts) nothing ≡ some us → t ∷ ts ≡ s ∷ us
-    go true e k = let p = same_eq s t e in let q = some-injective ts us k in cc
-    go false e k = absurd (none-ne-some us k)
+    go : (b : Bool) → same s t ≡ b → cond b (Some ts) None ≡ Some us → t ∷ ts ≡ s ∷ us
+    go true e k = let p = same_eq s t e in let q = some_injective ts us k in cc
+    go false e k = absurd (none_ne_some us k)
 
 leaf_tokens : (n : Text) (r : List Text) → n ∷ r ≡ tree_tokens (leaf n) r
 unfolding leaf
@@ -59,61 +60,61 @@ inner_rest none us r h = absurd h
 inner_rest (more t ts) us r h = ap (λ (l : List Text). bytes "," ∷ l) h
 
 named : (n : Text) (ts : List Text) (p : Term) (o : Option (List Text)) → after_token (bytes "(") ts ≡ o → (go : List Text → Option Listed)
-    → ((us : List Text) (q : Listed) → go us ≡ some q → Inner q.0 us q.1)
-    → elim o [ nothing ↦ some (leaf n, ts) | some us ↦ go us >>= λ q. as_written n q.0 >>= λ t. some (t, q.1) ] ≡ some p
+    → ((us : List Text) (q : Listed) → go us ≡ Some q → Inner q.0 us q.1)
+    → elim o [ None ↦ Some (leaf n, ts) | Some us ↦ go us >>= λ q. as_written n q.0 >>= λ t. Some (t, q.1) ] ≡ Some p
     → n ∷ ts ≡ tree_tokens p.0 p.1
-named n ts p nothing e go ih h = leaf_tokens n ts ∙ ap (λ (q : Term). tree_tokens q.0 q.1) (some-injective (leaf n, ts) p h)
-named n ts p (some us) e go ih h =
-    let (q, f, h₁) = bound (go us) (λ q. some (apply n q.0, q.1)) p h in
+named n ts p None e go ih h = leaf_tokens n ts ∙ ap (λ (q : Term). tree_tokens q.0 q.1) (some_injective (leaf n, ts) p h)
+named n ts p (Some us) e go ih h =
+    let (q, f, h₁) = bound (go us) (λ q. Some (apply n q.0, q.1)) p h in
     ap (λ (l : List Text). n ∷ l) (token_front (bytes "(") ts us e) ∙ inner_list n q.0 us q.1 (ih us q f)
-    ∙ ap (λ (z : Term). tree_tokens z.0 z.1) (some-injective (apply n q.0, q.1) p h₁)
+    ∙ ap (λ (z : Term). tree_tokens z.0 z.1) (some_injective (apply n q.0, q.1) p h₁)
 
 listing : (ts : List Text) (p : Term) (q : Listed) → ts ≡ tree_tokens p.0 p.1 → (o : Option (List Text)) → after_token (bytes ",") p.1 ≡ o
-    → (go : List Text → Option Listed) → ((us : List Text) (r : Listed) → go us ≡ some r → Inner r.0 us r.1)
-    → elim o [ some vs ↦ go vs >>= λ r. some (more p.0 r.0, r.1) | nothing ↦ after_token (bytes ")") p.1 >>= λ vs. some (more p.0 none, vs) ] ≡ some q
+    → (go : List Text → Option Listed) → ((us : List Text) (r : Listed) → go us ≡ Some r → Inner r.0 us r.1)
+    → elim o [ Some vs ↦ go vs >>= λ r. Some (more p.0 r.0, r.1) | None ↦ after_token (bytes ")") p.1 >>= λ vs. Some (more p.0 none, vs) ] ≡ Some q
     → Inner q.0 ts q.1
-listing ts p q b nothing e go ih h =
-    let (vs, f, h₁) = bound (after_token (bytes ")") p.1) (λ us. some (more p.0 none, us)) q h in
-    subst (λ (z : Listed). Inner z.0 ts z.1) (some-injective (more p.0 none, vs) q h₁)
+listing ts p q b None e go ih h =
+    let (vs, f, h₁) = bound (after_token (bytes ")") p.1) (λ us. Some (more p.0 none, us)) q h in
+    subst (λ (z : Listed). Inner z.0 ts z.1) (some_injective (more p.0 none, vs) q h₁)
     (b ∙ ap (tree_tokens p.0) (token_front (bytes ")") p.1 vs f))
-listing ts p q b (some vs) e go ih h =
-    let (r, f, h₁) = bound (go vs) (λ r. some (more p.0 r.0, r.1)) q h in
-    subst (λ (z : Listed). Inner z.0 ts z.1) (some-injective (more p.0 r.0, r.1) q h₁)
+listing ts p q b (Some vs) e go ih h =
+    let (r, f, h₁) = bound (go vs) (λ r. Some (more p.0 r.0, r.1)) q h in
+    subst (λ (z : Listed). Inner z.0 ts z.1) (some_injective (more p.0 r.0, r.1) q h₁)
     (b ∙ ap (tree_tokens p.0) (token_front (bytes ",") p.1 vs e ∙ inner_rest r.0 vs r.1 (ih vs r f)))
 
 mutual
   unfolding read_term
 
-  term_tokens : (k : ℕ) (ts : List Text) (p : Term) → read_term as_written k ts ≡ some p → ts ≡ tree_tokens p.0 p.1
-  term_tokens zero ts p h = absurd (none-ne-some p h)
-  term_tokens (suc k) [] p h = absurd (none-ne-some p h)
+  term_tokens : (k : ℕ) (ts : List Text) (p : Term) → read_term as_written k ts ≡ Some p → ts ≡ tree_tokens p.0 p.1
+  term_tokens zero ts p h = absurd (none_ne_some p h)
+  term_tokens (suc k) [] p h = absurd (none_ne_some p h)
   term_tokens (suc k) (n ∷ ts) p h =
       let (x, g, h₁) = bound (guard (not (is_mark n))) _ p h in
       named n ts p (after_token (bytes "(") ts) refl (read_list as_written k) (λ us q f. inner_tokens k us q f) h₁
 
-  inner_tokens : (k : ℕ) (ts : List Text) (q : Listed) → read_list as_written k ts ≡ some q → Inner q.0 ts q.1
-  inner_tokens zero ts q h = absurd (none-ne-some q h)
+  inner_tokens : (k : ℕ) (ts : List Text) (q : Listed) → read_list as_written k ts ≡ Some q → Inner q.0 ts q.1
+  inner_tokens zero ts q h = absurd (none_ne_some q h)
   inner_tokens (suc k) ts q h =
       let (p, e, h₁) = bound (read_term as_written k ts) _ q h in
       listing ts p q (term_tokens k ts p e) (after_token (bytes ",") p.1) refl (read_list as_written k) (λ us r f. inner_tokens k us r f) h₁
 
-whole_tokens : (ts : List Text) (o : Option Term) (t : Tree) → ((p : Term) → o ≡ some p → ts ≡ tree_tokens p.0 p.1) → wholly o ≡ some t → ts ≡ tree_tokens t []
-whole_tokens ts nothing t f h = absurd (none-ne-some t h)
-whole_tokens ts (some (v, [])) t f h = f (v, []) refl ∙ ap (λ (u : Tree). tree_tokens u []) (some-injective v t h)
-whole_tokens ts (some (v, x ∷ r)) t f h = absurd (none-ne-some t h)
+whole_tokens : (ts : List Text) (o : Option Term) (t : Tree) → ((p : Term) → o ≡ Some p → ts ≡ tree_tokens p.0 p.1) → wholly o ≡ Some t → ts ≡ tree_tokens t []
+whole_tokens ts None t f h = absurd (none_ne_some t h)
+whole_tokens ts (Some (v, [])) t f h = f (v, []) refl ∙ ap (λ (u : Tree). tree_tokens u []) (some_injective v t h)
+whole_tokens ts (Some (v, x ∷ r)) t f h = absurd (none_ne_some t h)
 
-read_tokens : (s : Text) (t : Tree) → read_written s ≡ some t → tokens s ≡ some (tree_tokens t [])
+read_tokens : (s : Text) (t : Tree) → read_written s ≡ Some t → tokens s ≡ Some (tree_tokens t [])
 unfolding read_written read_text
 read_tokens s t h =
     let (ts, e, h₁) = bound (tokens s) (λ us. wholly (read_term as_written (length us) us)) t h in
-    e ∙ ap some (whole_tokens ts (read_term as_written (length ts) ts) t (λ p f. term_tokens (length ts) ts p f) h₁)
+    e ∙ ap Some (whole_tokens ts (read_term as_written (length ts) ts) t (λ p f. term_tokens (length ts) ts p f) h₁)
 
 -- texts of the same tokens read alike
 tokens_read : (s r : Text) → tokens s ≡ tokens r → read_written s ≡ read_written r
 unfolding read_written read_text
 tokens_read s r e = ap (λ (o : Option (List Text)). o >>= λ us. wholly (read_term as_written (length us) us)) e
 
-pub one_reading : (s : Text) (t : Tree) → (read_written s ≡ some t) ↔ (Written t × (tokens s ≡ tokens (render t)))
+pub one_reading : (s : Text) (t : Tree) → (read_written s ≡ Some t) ↔ (Written t × (tokens s ≡ tokens (render t)))
 one_reading s t = (
   λ h. (writes s t h, read_tokens s t h ∙ sym (tokens_written t (lexes (writes s t h)))),
   λ z. tokens_read s (render t) z.1 ∙ written_reread t z.0,

@@ -3,7 +3,8 @@ use Prim.Native.Nat.{ℕ, zero, suc, ◌≤◌}
 use native.Mathlib.Omega.{arith}
 use mathlib.Core.Path.{◌≡◌, refl, sym, ◌∙◌, ap, subst}
 use mathlib.Core.List.{List, [], ◌∷◌, ◌++◌, append_assoc}
-use mathlib.Core.Option.{Option, some, none as nothing, some-injective, none-ne-some}
+use Rattle.std.specs.Prelude.{Option, Some, None}
+use Rattle.laws.proofs.Basics.Somes.{some_injective, none_ne_some}
 use mathlib.Core.Bool.{Bool, true, false, cond, not}
 use lib.Dec.{eqb, leb}
 use lib.ListN.{length, take, drop, length-append, take-append-drop}
@@ -130,7 +131,7 @@ module _ (P : Text → Type 0) where
   nested_named p t none h k = h
   nested_named p t (more u us) h k = (p, (h, (nested_named p u us k.0 k.1, tt)))
 
-  close_named : (n : Text) (ts : Trees) (t : Tree) → close n ts ≡ some t → P n → NamedIn P P ts → AllNames P t
+  close_named : (n : Text) (ts : Trees) (t : Tree) → close n ts ≡ Some t → P n → NamedIn P P ts → AllNames P t
   close_named =
       closed_cases (λ n ts t. P n → NamedIn P P ts → AllNames P t) (λ n ts c d p h. tt)
       (λ n t u us e p h. nested_named (subst P e p) t (more u us) h.0 h.1) (λ n ts p h. (p, h))
@@ -141,65 +142,65 @@ module _ (P : Text → Type 0) where
   abbrev NamedList : Listed → Type 0
   NamedList q = NamedIn P P q.0 × All P q.1
 
-  next_named : (s : Text) (ts us : List Text) → after_token s ts ≡ some us → All P ts → All P us
+  next_named : (s : Text) (ts us : List Text) → after_token s ts ≡ Some us → All P ts → All P us
   unfolding after_token
-  next_named s [] us h k = absurd (none-ne-some us h)
+  next_named s [] us h k = absurd (none_ne_some us h)
   next_named s (t ∷ ts) us h k = go (same s t) h
     where
-      go : (x : Bool) → cond x (some ts) nothing ≡ some us → All P us
-      go true e = subst (All P) (some-injective ts us e) k.1
-      go false e = absurd (none-ne-some us e)
+      go : (x : Bool) → cond x (Some ts) None ≡ Some us → All P us
+      go true e = subst (All P) (some_injective ts us e) k.1
+      go false e = absurd (none_ne_some us e)
 
-  named : (n : Text) (ts : List Text) (p : Term) (go : List Text → Option Listed) → ((us : List Text) (q : Listed) → go us ≡ some q → All P us → NamedList q)
+  named : (n : Text) (ts : List Text) (p : Term) (go : List Text → Option Listed) → ((us : List Text) (q : Listed) → go us ≡ Some q → All P us → NamedList q)
       → P n → All P ts → (o : Option (List Text)) → after_token (bytes "(") ts ≡ o
-      → elim o [ nothing ↦ some (leaf n, ts) | some us ↦ go us >>= λ q. close n q.0 >>= λ t. some (t, q.1) ] ≡ some p → NamedTerm p
-  named n ts p go ih a b nothing e h = subst NamedTerm (some-injective (leaf n, ts) p h) (leaf_named n a, b)
-  named n ts p go ih a b (some us) e h =
-      let (q, f, h₁) = bound (go us) (λ r. close n r.0 >>= λ t. some (t, r.1)) p h in
-      let (t, g, h₂) = bound (close n q.0) (λ t. some (t, q.1)) p h₁ in
+      → elim o [ None ↦ Some (leaf n, ts) | Some us ↦ go us >>= λ q. close n q.0 >>= λ t. Some (t, q.1) ] ≡ Some p → NamedTerm p
+  named n ts p go ih a b None e h = subst NamedTerm (some_injective (leaf n, ts) p h) (leaf_named n a, b)
+  named n ts p go ih a b (Some us) e h =
+      let (q, f, h₁) = bound (go us) (λ r. close n r.0 >>= λ t. Some (t, r.1)) p h in
+      let (t, g, h₂) = bound (close n q.0) (λ t. Some (t, q.1)) p h₁ in
       let k = ih us q f (next_named (bytes "(") ts us e b) in
-      subst NamedTerm (some-injective (t, q.1) p h₂) (close_named n q.0 t g a k.0, k.1)
+      subst NamedTerm (some_injective (t, q.1) p h₂) (close_named n q.0 t g a k.0, k.1)
 
-  listed : (p : Term) (q : Listed) (go : List Text → Option Listed) → ((us : List Text) (r : Listed) → go us ≡ some r → All P us → NamedList r)
+  listed : (p : Term) (q : Listed) (go : List Text → Option Listed) → ((us : List Text) (r : Listed) → go us ≡ Some r → All P us → NamedList r)
       → NamedTerm p → (o : Option (List Text)) → after_token (bytes ",") p.1 ≡ o
-      → elim o [ some vs ↦ go vs >>= λ r. some (more p.0 r.0, r.1) | nothing ↦ after_token (bytes ")") p.1 >>= λ vs. some (more p.0 none, vs) ] ≡ some q
+      → elim o [ Some vs ↦ go vs >>= λ r. Some (more p.0 r.0, r.1) | None ↦ after_token (bytes ")") p.1 >>= λ vs. Some (more p.0 none, vs) ] ≡ Some q
       → NamedList q
-  listed p q go ih a nothing e h =
-      let (vs, f, h₁) = bound (after_token (bytes ")") p.1) (λ us. some (more p.0 none, us)) q h in
-      subst NamedList (some-injective (more p.0 none, vs) q h₁) ((a.0, tt), next_named (bytes ")") p.1 vs f a.1)
-  listed p q go ih a (some vs) e h =
-      let (r, f, h₁) = bound (go vs) (λ s. some (more p.0 s.0, s.1)) q h in
+  listed p q go ih a None e h =
+      let (vs, f, h₁) = bound (after_token (bytes ")") p.1) (λ us. Some (more p.0 none, us)) q h in
+      subst NamedList (some_injective (more p.0 none, vs) q h₁) ((a.0, tt), next_named (bytes ")") p.1 vs f a.1)
+  listed p q go ih a (Some vs) e h =
+      let (r, f, h₁) = bound (go vs) (λ s. Some (more p.0 s.0, s.1)) q h in
       let k = ih vs r f (next_named (bytes ",") p.1 vs e a.1) in
-      subst NamedList (some-injective (more p.0 r.0, r.1) q h₁) ((a.0, k.0), k.1)
+      subst NamedList (some_injective (more p.0 r.0, r.1) q h₁) ((a.0, k.0), k.1)
 
   mutual
     unfolding read_term
 
-    term_named : (k : ℕ) (ts : List Text) (p : Term) → read_term close k ts ≡ some p → All P ts → NamedTerm p
-    term_named zero ts p h a = absurd (none-ne-some p h)
-    term_named (suc k) [] p h a = absurd (none-ne-some p h)
+    term_named : (k : ℕ) (ts : List Text) (p : Term) → read_term close k ts ≡ Some p → All P ts → NamedTerm p
+    term_named zero ts p h a = absurd (none_ne_some p h)
+    term_named (suc k) [] p h a = absurd (none_ne_some p h)
     term_named (suc k) (n ∷ ts) p h a =
         let (x, g, h₁) = bound (guard (not (is_mark n))) _ p h in
         named n ts p (read_list close k) (λ us q e b. list_named k us q e b) a.0 a.1 (after_token (bytes "(") ts) refl h₁
 
-    list_named : (k : ℕ) (ts : List Text) (q : Listed) → read_list close k ts ≡ some q → All P ts → NamedList q
-    list_named zero ts q h a = absurd (none-ne-some q h)
+    list_named : (k : ℕ) (ts : List Text) (q : Listed) → read_list close k ts ≡ Some q → All P ts → NamedList q
+    list_named zero ts q h a = absurd (none_ne_some q h)
     list_named (suc k) ts q h a =
         let (p, e, h₁) = bound (read_term close k ts) _ q h in
         listed p q (read_list close k) (λ us r f b. list_named k us r f b) (term_named k ts p e a) (after_token (bytes ",") p.1) refl h₁
 
-  whole_named : (o : Option Term) (t : Tree) → ((p : Term) → o ≡ some p → NamedTerm p) → wholly o ≡ some t → AllNames P t
-  whole_named nothing t f h = absurd (none-ne-some t h)
-  whole_named (some (v, [])) t f h = subst (AllNames P) (some-injective v t h) (f (v, []) refl).0
-  whole_named (some (v, x ∷ r)) t f h = absurd (none-ne-some t h)
+  whole_named : (o : Option Term) (t : Tree) → ((p : Term) → o ≡ Some p → NamedTerm p) → wholly o ≡ Some t → AllNames P t
+  whole_named None t f h = absurd (none_ne_some t h)
+  whole_named (Some (v, [])) t f h = subst (AllNames P) (some_injective v t h) (f (v, []) refl).0
+  whole_named (Some (v, x ∷ r)) t f h = absurd (none_ne_some t h)
 
-  tokens_named : (s : Text) (t : Tree) → parse s ≡ some t → ((ts : List Text) → tokens s ≡ some ts → All P ts) → AllNames P t
+  tokens_named : (s : Text) (t : Tree) → parse s ≡ Some t → ((ts : List Text) → tokens s ≡ Some ts → All P ts) → AllNames P t
   unfolding parse read_text
   tokens_named s t h a =
       let (v, e, h₁) = bound (read_text close s) _ t h in
-      let (x, g, h₂) = bound (guard (leb (size v) 4096)) (λ _. some v) t h₁ in
+      let (x, g, h₂) = bound (guard (leb (size v) 4096)) (λ _. Some v) t h₁ in
       let (ts, f, k) = bound (tokens s) (λ us. wholly (read_term close (length us) us)) v e in
-      subst (AllNames P) (some-injective v t h₂)
+      subst (AllNames P) (some_injective v t h₂)
       (whole_named (read_term close (length ts) ts) v (λ p l. term_named (length ts) ts p l (a ts f)) k)
 
 -- Tokens
@@ -208,26 +209,26 @@ pub later_parts : (b : ℕ) (s : Text) (ts : List Text) → All (PartOf s) ts �
 later_parts b s [] h = tt
 later_parts b s (t ∷ ts) h = (part_later b s t h.0, later_parts b s ts h.1)
 
-token_parts : (k : ℕ) (s : Text) (ts : List Text) → tokens_after k s ≡ some ts → All (PartOf s) ts
+token_parts : (k : ℕ) (s : Text) (ts : List Text) → tokens_after k s ≡ Some ts → All (PartOf s) ts
 unfolding tokens_after
-token_parts k [] ts h = subst (All (PartOf [])) (some-injective [] ts h) tt
+token_parts k [] ts h = subst (All (PartOf [])) (some_injective [] ts h) tt
 token_parts (suc k) (b ∷ s) ts h = later_parts b s ts (token_parts k s ts h)
 token_parts zero (b ∷ s) ts h = go (eqb b 32) h (λ k us e. token_parts k s us e)
   where
-    go : (x : Bool) → elim x [ true ↦ tokens_after 0 s | false ↦ rest_length b s >>= λ n. tokens_after n s >>= λ us. some ((b ∷ take n s) ∷ us) ] ≡ some ts
-        → ((k : ℕ) (us : List Text) → tokens_after k s ≡ some us → All (PartOf s) us) → All (PartOf (b ∷ s)) ts
+    go : (x : Bool) → elim x [ true ↦ tokens_after 0 s | false ↦ rest_length b s >>= λ n. tokens_after n s >>= λ us. Some ((b ∷ take n s) ∷ us) ] ≡ Some ts
+        → ((k : ℕ) (us : List Text) → tokens_after k s ≡ Some us → All (PartOf s) us) → All (PartOf (b ∷ s)) ts
     go true k ih = later_parts b s ts (ih 0 ts k)
     go false k ih =
         let (n, e, h₁) = bound (rest_length b s) _ ts k in
-        let (us, f, h₂) = bound (tokens_after n s) (λ vs. some ((b ∷ take n s) ∷ vs)) ts h₁ in
-        subst (All (PartOf (b ∷ s))) (some-injective ((b ∷ take n s) ∷ us) ts h₂) ((0, suc n, refl), later_parts b s us (ih n us f))
+        let (us, f, h₂) = bound (tokens_after n s) (λ vs. Some ((b ∷ take n s) ∷ vs)) ts h₁ in
+        subst (All (PartOf (b ∷ s))) (some_injective ((b ∷ take n s) ∷ us) ts h₂) ((0, suc n, refl), later_parts b s us (ih n us f))
 
 -- each name of the tree is a part of the text
-pub parse_spelled : (s : Text) (t : Tree) → parse s ≡ some t → AllNames (PartOf s) t
+pub parse_spelled : (s : Text) (t : Tree) → parse s ≡ Some t → AllNames (PartOf s) t
 unfolding tokens
 parse_spelled s t h = tokens_named (PartOf s) s t h (λ ts e. token_parts 0 s ts e)
 
 -- and of each text that the text is a part of
-pub part_spelled : (s x : Text) (t : Tree) → PartOf s x → parse x ≡ some t → AllNames (PartOf s) t
+pub part_spelled : (s x : Text) (t : Tree) → PartOf s x → parse x ≡ Some t → AllNames (PartOf s) t
 part_spelled s x t p h =
     named_map (PartOf x) (PartOf s) (PartOf x) (PartOf s) (λ y k. part_of_part s x y p k) (λ y k. part_of_part s x y p k) t (parse_spelled x t h)

@@ -2,7 +2,8 @@
 use Prim.Native.Nat.{ℕ, zero, suc}
 use mathlib.Core.Path.{◌≡◌, refl, subst}
 use mathlib.Core.List.{List, [], ◌∷◌}
-use mathlib.Core.Option.{Option, some, none as nothing, some-injective, none-ne-some}
+use Rattle.std.specs.Prelude.{Option, Some, None}
+use Rattle.laws.proofs.Basics.Somes.{some_injective, none_ne_some}
 use mathlib.Core.Bool.{Bool, true, false, not, cond, ◌||◌, false≢true}
 use lib.ListN.{length}
 use Rattle.rules.specs.Bytes.{Text, same}
@@ -15,14 +16,14 @@ use Rattle.rules.specs.Reading.{leaf, after_token, wholly, read_term, read_list,
 use Rattle.laws.proofs.Basics.Options.{bound, guarded}
 use Rattle.laws.proofs.Reading.TokenKinds.{is_mark, is_token, Tokens, kinds}
 
-next_tokens : (s : Text) (ts us : List Text) → after_token s ts ≡ some us → Tokens ts → Tokens us
+next_tokens : (s : Text) (ts us : List Text) → after_token s ts ≡ Some us → Tokens ts → Tokens us
 unfolding after_token
-next_tokens s [] us h k = absurd (none-ne-some us h)
+next_tokens s [] us h k = absurd (none_ne_some us h)
 next_tokens s (t ∷ ts) us h k = go (same s t) h
   where
-    go : (x : Bool) → cond x (some ts) nothing ≡ some us → Tokens us
-    go true e = subst Tokens (some-injective ts us e) k.1
-    go false e = absurd (none-ne-some us e)
+    go : (x : Bool) → cond x (Some ts) None ≡ Some us → Tokens us
+    go true e = subst Tokens (some_injective ts us e) k.1
+    go false e = absurd (none_ne_some us e)
 
 no_mark : (n : Text) → is_token n ≡ true → not (is_mark n) ≡ true → (word n || variable_token n) ≡ true
 no_mark n h k = go (is_mark n) h k
@@ -43,74 +44,74 @@ AllIn P none = Unit {0}
 AllIn P (more t ts) = P t × AllIn P ts
 
 -- and the list is not empty
-abbrev Some : (Tree → Type 0) → Trees → Type 0
-Some P none = ⊥
-Some P (more t ts) = P t × AllIn P ts
+abbrev NonEmpty : (Tree → Type 0) → Trees → Type 0
+NonEmpty P none = ⊥
+NonEmpty P (more t ts) = P t × AllIn P ts
 
 module _ (closing : Text → Trees → Option Tree) (P : Tree → Type 0)
     (of_leaf : (n : Text) → (word n || variable_token n) ≡ true → P (leaf n))
-    (of_list : (n : Text) (t : Tree) (us : Trees) (v : Tree) → (word n || variable_token n) ≡ true → P t → AllIn P us → closing n (more t us) ≡ some v → P v) where
-  some_all : (ts : Trees) → Some P ts → AllIn P ts
+    (of_list : (n : Text) (t : Tree) (us : Trees) (v : Tree) → (word n || variable_token n) ≡ true → P t → AllIn P us → closing n (more t us) ≡ Some v → P v) where
+  some_all : (ts : Trees) → NonEmpty P ts → AllIn P ts
   some_all none b = absurd b
   some_all (more t ts) b = b
 
-  of_some : (n : Text) (ts : Trees) (v : Tree) → (word n || variable_token n) ≡ true → Some P ts → closing n ts ≡ some v → P v
+  of_some : (n : Text) (ts : Trees) (v : Tree) → (word n || variable_token n) ≡ true → NonEmpty P ts → closing n ts ≡ Some v → P v
   of_some n none v w b h = absurd b
   of_some n (more t us) v w b h = of_list n t us v w b.0 b.1 h
 
   named : (n : Text) (ts : List Text) (p : Term) → (word n || variable_token n) ≡ true → Tokens ts
       → (o : Option (List Text)) → after_token (bytes "(") ts ≡ o → (go : List Text → Option Listed)
-      → ((us : List Text) (q : Listed) → Tokens us → go us ≡ some q → Some P q.0 × Tokens q.1)
-      → elim o [ nothing ↦ some (leaf n, ts) | some us ↦ go us >>= λ q. closing n q.0 >>= λ t. some (t, q.1) ] ≡ some p
+      → ((us : List Text) (q : Listed) → Tokens us → go us ≡ Some q → NonEmpty P q.0 × Tokens q.1)
+      → elim o [ None ↦ Some (leaf n, ts) | Some us ↦ go us >>= λ q. closing n q.0 >>= λ t. Some (t, q.1) ] ≡ Some p
       → P p.0 × Tokens p.1
-  named n ts p w a nothing e go ih h =
-      let f = some-injective (leaf n, ts) p h in
+  named n ts p w a None e go ih h =
+      let f = some_injective (leaf n, ts) p h in
       (subst (λ (r : Term). P r.0) f (of_leaf n w), subst (λ (r : Term). Tokens r.1) f a)
-  named n ts p w a (some us) e go ih h =
+  named n ts p w a (Some us) e go ih h =
       let (q, f, h₁) = bound (go us) _ p h in
-      let (t, k, h₂) = bound (closing n q.0) (λ u. some (u, q.1)) p h₁ in
+      let (t, k, h₂) = bound (closing n q.0) (λ u. Some (u, q.1)) p h₁ in
       let (b, c) = ih us q (next_tokens (bytes "(") ts us e a) f in
-      let g = some-injective (t, q.1) p h₂ in
+      let g = some_injective (t, q.1) p h₂ in
       (subst (λ (r : Term). P r.0) g (of_some n q.0 t w b k), subst (λ (r : Term). Tokens r.1) g c)
 
   listing : (p : Term) (q : Listed) → P p.0 → Tokens p.1
       → (o : Option (List Text)) → after_token (bytes ",") p.1 ≡ o → (go : List Text → Option Listed)
-      → ((us : List Text) (r : Listed) → Tokens us → go us ≡ some r → Some P r.0 × Tokens r.1)
-      → elim o [ some vs ↦ go vs >>= λ r. some (more p.0 r.0, r.1) | nothing ↦ after_token (bytes ")") p.1 >>= λ vs. some (more p.0 none, vs) ] ≡ some q
-      → Some P q.0 × Tokens q.1
-  listing p q b a nothing e go ih h =
-      let (vs, f, h₁) = bound (after_token (bytes ")") p.1) (λ us. some (more p.0 none, us)) q h in
-      let g = some-injective (more p.0 none, vs) q h₁ in
-      (subst (λ (r : Listed). Some P r.0) g (b, tt), subst (λ (r : Listed). Tokens r.1) g (next_tokens (bytes ")") p.1 vs f a))
-  listing p q b a (some vs) e go ih h =
-      let (r, f, h₁) = bound (go vs) (λ s. some (more p.0 s.0, s.1)) q h in
+      → ((us : List Text) (r : Listed) → Tokens us → go us ≡ Some r → NonEmpty P r.0 × Tokens r.1)
+      → elim o [ Some vs ↦ go vs >>= λ r. Some (more p.0 r.0, r.1) | None ↦ after_token (bytes ")") p.1 >>= λ vs. Some (more p.0 none, vs) ] ≡ Some q
+      → NonEmpty P q.0 × Tokens q.1
+  listing p q b a None e go ih h =
+      let (vs, f, h₁) = bound (after_token (bytes ")") p.1) (λ us. Some (more p.0 none, us)) q h in
+      let g = some_injective (more p.0 none, vs) q h₁ in
+      (subst (λ (r : Listed). NonEmpty P r.0) g (b, tt), subst (λ (r : Listed). Tokens r.1) g (next_tokens (bytes ")") p.1 vs f a))
+  listing p q b a (Some vs) e go ih h =
+      let (r, f, h₁) = bound (go vs) (λ s. Some (more p.0 s.0, s.1)) q h in
       let (c, d) = ih vs r (next_tokens (bytes ",") p.1 vs e a) f in
-      let g = some-injective (more p.0 r.0, r.1) q h₁ in
-      (subst (λ (s : Listed). Some P s.0) g (b, some_all r.0 c), subst (λ (s : Listed). Tokens s.1) g d)
+      let g = some_injective (more p.0 r.0, r.1) q h₁ in
+      (subst (λ (s : Listed). NonEmpty P s.0) g (b, some_all r.0 c), subst (λ (s : Listed). Tokens s.1) g d)
 
   mutual
     unfolding read_term
 
-    of_term : (k : ℕ) (ts : List Text) (p : Term) → Tokens ts → read_term closing k ts ≡ some p → P p.0 × Tokens p.1
-    of_term zero ts p a h = absurd (none-ne-some p h)
-    of_term (suc k) [] p a h = absurd (none-ne-some p h)
+    of_term : (k : ℕ) (ts : List Text) (p : Term) → Tokens ts → read_term closing k ts ≡ Some p → P p.0 × Tokens p.1
+    of_term zero ts p a h = absurd (none_ne_some p h)
+    of_term (suc k) [] p a h = absurd (none_ne_some p h)
     of_term (suc k) (n ∷ ts) p a h =
         let (x, g, h₁) = bound (guard (not (is_mark n))) _ p h in
         named n ts p (no_mark n a.0 (guarded _ x g)) a.1 (after_token (bytes "(") ts) refl (read_list closing k) (λ us q b e. of_terms k us q b e) h₁
 
-    of_terms : (k : ℕ) (ts : List Text) (q : Listed) → Tokens ts → read_list closing k ts ≡ some q → Some P q.0 × Tokens q.1
-    of_terms zero ts q a h = absurd (none-ne-some q h)
+    of_terms : (k : ℕ) (ts : List Text) (q : Listed) → Tokens ts → read_list closing k ts ≡ Some q → NonEmpty P q.0 × Tokens q.1
+    of_terms zero ts q a h = absurd (none_ne_some q h)
     of_terms (suc k) ts q a h =
         let (p, e, h₁) = bound (read_term closing k ts) _ q h in
         let (b, c) = of_term k ts p a e in
         listing p q b c (after_token (bytes ",") p.1) refl (read_list closing k) (λ us r d f. of_terms k us r d f) h₁
 
-  of_whole : (o : Option Term) (t : Tree) → ((p : Term) → o ≡ some p → P p.0) → wholly o ≡ some t → P t
-  of_whole nothing t f h = absurd (none-ne-some t h)
-  of_whole (some (v, [])) t f h = subst P (some-injective v t h) (f (v, []) refl)
-  of_whole (some (v, x ∷ r)) t f h = absurd (none-ne-some t h)
+  of_whole : (o : Option Term) (t : Tree) → ((p : Term) → o ≡ Some p → P p.0) → wholly o ≡ Some t → P t
+  of_whole None t f h = absurd (none_ne_some t h)
+  of_whole (Some (v, [])) t f h = subst P (some_injective v t h) (f (v, []) refl)
+  of_whole (Some (v, x ∷ r)) t f h = absurd (none_ne_some t h)
 
-  pub throughout : (s : Text) (t : Tree) → read_text closing s ≡ some t → P t
+  pub throughout : (s : Text) (t : Tree) → read_text closing s ≡ Some t → P t
   unfolding read_text
   throughout s t h =
       let (ts, f, k) = bound (tokens s) (λ us. wholly (read_term closing (length us) us)) t h in

@@ -5,7 +5,8 @@ use mathlib.Core.Bool.{Bool, true, false, ◌||◌}
 use mathlib.Core.List.Permᴰ
 use mathlib.Core.List.{List, [], ◌∷◌, ◌++◌, map, Permᴰ}
 use mathlib.Core.Logic.{◌↔◌}
-use mathlib.Core.Option.{some, some-injective}
+use Rattle.std.specs.Prelude.{Some}
+use Rattle.laws.proofs.Basics.Somes.{some_injective}
 use native.Mathlib.Omega.{arith}
 use Rattle.rules.specs.Bytes.{Text, same}
 use Rattle.rules.specs.Text.{count_of}
@@ -42,10 +43,10 @@ all_written : (ts : Trees) → AllIn Written ts → Writtens ts
 all_written none h = no_more
 all_written (more t ts) h = one_more h.0 (all_written ts h.1)
 
-pub writes : (s : Text) (t : Tree) → read_written s ≡ some t → Written t
+pub writes : (s : Text) (t : Tree) → read_written s ≡ Some t → Written t
 unfolding read_written
 writes = throughout as_written Written leaf_written
-    (λ n t us v w h hs e. subst Written (some-injective (apply n (more t us)) v e) (a_list w h (all_written us hs)))
+    (λ n t us v w h hs e. subst Written (some_injective (apply n (more t us)) v e) (a_list w h (all_written us hs)))
 
 -- What is written out
 
@@ -70,13 +71,13 @@ mutual
   continues no_more = continues_none as_written
   continues (one_more {t = t} {ts = ts} h hs) = continues_more as_written t ts (reads h) (continues hs)
 
-pub written_reread : (t : Tree) → Written t → read_written (render t) ≡ some t
+pub written_reread : (t : Tree) → Written t → read_written (render t) ≡ Some t
 unfolding read_written
 written_reread t h = whole_read as_written t (lexes h) (reads h)
 
 -- so two such trees have different texts
 one_text : {a b : Tree} → Written a → Written b → render a ≡ render b → a ≡ b
-one_text {a} {b} p q e = some-injective a b (sym (written_reread a p) ∙ ap read_written e ∙ written_reread b q)
+one_text {a} {b} p q e = some_injective a b (sym (written_reread a p) ∙ ap read_written e ∙ written_reread b q)
 
 -- The normal form is such a tree
 
@@ -144,22 +145,22 @@ canonical_same {a} {b} p q e =
     transitive (same_normal a) (symmetric (subst (SameSums b) (sym g) (same_normal b)))
 
 -- a text that `equal` reads has the canonical text of its tree, and no other text has one
-pub written_text : (s : Text) (t : Tree) → read_written s ≡ some t → canonical_text s ≡ some (canonical t)
+pub written_text : (s : Text) (t : Tree) → read_written s ≡ Some t → canonical_text s ≡ Some (canonical t)
 unfolding canonical_text read_written
 written_text s t e = rw e
 
-pub text_written : (s c : Text) → canonical_text s ≡ some c → (t : Tree) × (read_written s ≡ some t) × (canonical t ≡ c)
+pub text_written : (s c : Text) → canonical_text s ≡ Some c → (t : Tree) × (read_written s ≡ Some t) × (canonical t ≡ c)
 unfolding canonical_text read_written
-text_written s c e = let (t, f, g) = bound (read_written s) (λ u. some (canonical u)) c e in (t, f, some-injective (canonical t) c g)
+text_written s c e = let (t, f, g) = bound (read_written s) (λ u. Some (canonical u)) c e in (t, f, some_injective (canonical t) c g)
 
-pub reads_written : (s : Text) → ((t : Tree) × (read_written s ≡ some t)) ↔ ((c : Text) × (canonical_text s ≡ some c))
+pub reads_written : (s : Text) → ((t : Tree) × (read_written s ≡ Some t)) ↔ ((c : Text) × (canonical_text s ≡ Some c))
 reads_written s = (λ z. (canonical z.0, written_text s z.0 z.1), λ z. let (t, e, f) = text_written s z.0 z.1 in (t, e))
 
-pub written_equality : (s r : Text) (t u : Tree) → read_written s ≡ some t → read_written r ≡ some u → SameSums t u ↔ (canonical_text s ≡ canonical_text r)
+pub written_equality : (s r : Text) (t u : Tree) → read_written s ≡ Some t → read_written r ≡ Some u → SameSums t u ↔ (canonical_text s ≡ canonical_text r)
 written_equality s r t u e f = (
-  λ h. written_text s t e ∙ ap some (same_canonical h) ∙ sym (written_text r u f),
+  λ h. written_text s t e ∙ ap Some (same_canonical h) ∙ sym (written_text r u f),
   λ h. canonical_same (writes s t e) (writes r u f)
-      (some-injective (canonical t) (canonical u) (sym (written_text s t e) ∙ h ∙ written_text r u f)),
+      (some_injective (canonical t) (canonical u) (sym (written_text s t e) ∙ h ∙ written_text r u f)),
 )
 
 -- on trees as `parse` builds them it is Ac equality
@@ -167,10 +168,10 @@ pub built_equality : {a b : Tree} → Built a → Built b → Ac a b ↔ SameSum
 built_equality p q = (two_same, λ h. canonical_complete p q (same_canonical h))
 
 -- and between the two readings of texts
-pub both_readings : (s r : Text) (t u v w : Tree) → parse s ≡ some t → parse r ≡ some u → read_written s ≡ some v → read_written r ≡ some w → Ac t u ↔ SameSums v w
+pub both_readings : (s r : Text) (t u v w : Tree) → parse s ≡ Some t → parse r ≡ Some u → read_written s ≡ Some v → read_written r ≡ Some w → Ac t u ↔ SameSums v w
 both_readings s r t u v w e f g h =
-    let p : canonical t ≡ canonical v = some-injective (canonical t) (canonical v) (sym (same_text s t e) ∙ written_text s v g) in
-    let q : canonical u ≡ canonical w = some-injective (canonical u) (canonical w) (sym (same_text r u f) ∙ written_text r w h) in (
+    let p : canonical t ≡ canonical v = some_injective (canonical t) (canonical v) (sym (same_text s t e) ∙ written_text s v g) in
+    let q : canonical u ≡ canonical w = some_injective (canonical u) (canonical w) (sym (same_text r u f) ∙ written_text r w h) in (
       λ z. canonical_same (writes s v g) (writes r w h) (sym p ∙ canonical_sound z ∙ q),
       λ z. canonical_complete (builds s t e) (builds r u f) (p ∙ same_canonical z ∙ sym q),
     )

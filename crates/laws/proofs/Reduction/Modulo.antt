@@ -6,7 +6,8 @@ use native.Mathlib.Omega.{arith}
 use Rattle.rules.specs.Tree.{Tree, Trees, size, sizes}
 use Rattle.rules.specs.Tidy.{Built}
 use Rattle.rules.specs.Equality.{Ac, reflexive, transitive}
-use Rattle.rules.specs.Reduction.{Rule, normalize}
+use Rattle.rules.specs.declared.Rule.{Rule}
+use Rattle.rules.specs.Reduction.{normalize}
 use Rattle.rules.specs.Rewriting.{Fires, takes_first, takes_second, flips_a, flips_b, opens_senc, opens_kem, Rewrites, here, inside, RewritesIn, first, later, Steps, done, then, StepsModulo, equal, step, Normal, NormalModulo, Reduced}
 use Rattle.laws.proofs.Equality.Kept.{size_kept}
 use Rattle.laws.proofs.Equality.Rebuilding.{of_path}

@@ -1,14 +1,15 @@
 -- A reduced tree has no more nodes, so that it reads where the tree was read.
 use Prim.Native.Nat.{◌+◌, ◌≤◌}
 use mathlib.Core.Path.{◌≡◌}
-use mathlib.Core.Option.{some}
+use Rattle.std.specs.Prelude.{Some}
 use native.Mathlib.Omega.{arith}
 use Rattle.rules.specs.Bytes.{Text}
 use Rattle.rules.specs.Tree.{Tree, variable, atom, apply, Trees, none, more, size, sizes}
 use Rattle.rules.specs.Writing.{render}
 use Rattle.rules.specs.Tidy.{Built}
 use Rattle.rules.specs.Reading.{parse}
-use Rattle.rules.specs.Reduction.{Rule, root, normalize, normalizes}
+use Rattle.rules.specs.declared.Rule.{Rule}
+use Rattle.rules.specs.Reduction.{root, normalize, normalizes}
 use Rattle.laws.proofs.Basics.Tests.{true_leb}
 use Rattle.laws.proofs.Reading.RoundTrip.{reread}
 use Rattle.laws.proofs.Reduction.Shapes.{Shape, fst_shape, snd_shape, a_shape, b_shape, sdec_shape, kdec_shape, Rooted, fired, stays, rooted}
@@ -43,5 +44,5 @@ mutual
   normalizes_size none = omega arith
   normalizes_size (more t ts) = let h = normalize_size t in let k = normalizes_size ts in omega arith
 
-pub normal_reads : (t : Tree) → Built t → size t ≤ 4096 → parse (render (normalize t)) ≡ some (normalize t)
+pub normal_reads : (t : Tree) → Built t → size t ≤ 4096 → parse (render (normalize t)) ≡ Some (normalize t)
 normal_reads t b h = reread (normalize t) (built_normal t b) (true_leb (size (normalize t)) 4096 (let k = normalize_size t in omega arith))

@@ -5,7 +5,8 @@ use native.Mathlib.Omega.{arith}
 use mathlib.Core.Path.{◌≡◌, sym, ◌∙◌, ap, subst}
 use mathlib.Core.Bool.{Bool, true, false, cond}
 use mathlib.Core.List.{List, [], ◌∷◌, map}
-use mathlib.Core.Option.{some, some-injective}
+use Rattle.std.specs.Prelude.{Some}
+use Rattle.laws.proofs.Basics.Somes.{some_injective}
 use lib.ListN.{length}
 use Rattle.rules.specs.Bytes.{Text}
 use Rattle.rules.specs.Names.{variable_token}
@@ -46,7 +47,7 @@ module _ (P Q : Tree → Type 0) (f : (t : Tree) → P t → Q t) where
 -- The base is above every index of the term
 
 abbrev pub Below : ℕ → Text → Type 0
-Below base x = (i : ℕ) × (index_of x ≡ some i) × (i < base)
+Below base x = (i : ℕ) × (index_of x ≡ Some i) × (i < base)
 
 raise_below : (b c : ℕ) → b ≤ c → (x : Text) → Below b x → Below c x
 raise_below b c h x (i, e, l) = (i, e, omega arith)
@@ -54,16 +55,16 @@ raise_below b c h x (i, e, l) = (i, e, omega arith)
 mutual
   unfolding fresh_base variable_names
 
-  pub indices_below : (t : Tree) (b c : ℕ) → fresh_base t b ≡ some c → (b ≤ c) × All (Below c) (variable_names t)
+  pub indices_below : (t : Tree) (b c : ℕ) → fresh_base t b ≡ Some c → (b ≤ c) × All (Below c) (variable_names t)
   indices_below (variable x) b c h =
-      let (i, e, k) = bound (index_of x) (λ j. some (max b (suc j))) c h in
-      let m = some-injective (max b (suc i)) c k in
+      let (i, e, k) = bound (index_of x) (λ j. Some (max b (suc j))) c h in
+      let m = some_injective (max b (suc i)) c k in
       (omega arith, ((i, e, omega arith), tt))
-  indices_below (atom k d) b c h = let m = some-injective b c h in (omega arith, tt)
+  indices_below (atom k d) b c h = let m = some_injective b c h in (omega arith, tt)
   indices_below (apply f ts) b c h = indices_in_below ts b c h
 
-  indices_in_below : (ts : Trees) (b c : ℕ) → fresh_base_in ts b ≡ some c → (b ≤ c) × All (Below c) (variable_names_in ts)
-  indices_in_below none b c h = let m = some-injective b c h in (omega arith, tt)
+  indices_in_below : (ts : Trees) (b c : ℕ) → fresh_base_in ts b ≡ Some c → (b ≤ c) × All (Below c) (variable_names_in ts)
+  indices_in_below none b c h = let m = some_injective b c h in (omega arith, tt)
   indices_in_below (more t ts) b c h =
       let (d, e, k) = bound (fresh_base t b) (λ a. fresh_base_in ts a) c h in
       let (l, p) = indices_below t b d e in
@@ -97,7 +98,7 @@ module _ (base : ℕ) (spelled : ℕ → Bool) where
   abbrev pub MemberTree : Tree → Type 0
   MemberTree t = Built t × AllHeads Stays t
 
-  module _ (term : Tree) (built : Built term) (based : fresh_base term 0 ≡ some base) where
+  module _ (term : Tree) (built : Built term) (based : fresh_base term 0 ≡ Some base) where
     fixed : All (Fixed (exchange base spelled)) (variable_names term)
     fixed =
         all_weaken (Below base) (Fixed (exchange base spelled)) (λ x (i, e, l). below_stays base spelled x i e l) (variable_names term)
@@ -129,12 +130,12 @@ module _ (base : ℕ) (spelled : ℕ → Bool) where
 
 -- The members of a sheet
 
-module _ (s : Text) (short : length s ≤ 65536) (text : Text) (members : List Member) (read : read_sheet s ≡ some (asks_complete text members)) (base : ℕ)
+module _ (s : Text) (short : length s ≤ 65536) (text : Text) (members : List Member) (read : read_sheet s ≡ Some (asks_complete text members)) (base : ℕ)
     (spelled : ℕ → Bool) (spells : (n : ℕ) → PartOf s (fresh_from base n) → spelled n ≡ true) where
   part_stays : (x : Text) → PartOf s x → Stays base spelled x
   part_stays x p = (part_short s short x p, λ n e. spells n (subst (PartOf s) e p))
 
-  part_member : (x : Text) (t : Tree) → PartOf s x → parse x ≡ some t → MemberTree base spelled t
+  part_member : (x : Text) (t : Tree) → PartOf s x → parse x ≡ Some t → MemberTree base spelled t
   part_member x t p e =
       (builds x t e, named_map (PartOf s) (λ y. Unit {0}) (PartOf s) (Stays base spelled) (λ y k. tt) part_stays t (part_spelled s x t p e))
 
@@ -143,10 +144,10 @@ module _ (s : Text) (short : length s ≤ 65536) (text : Text) (members : List M
   parts = (sheet_parts s (asks_complete text members) read).1
 
   -- where each fresh name that the sheet spells is chosen, the chosen names serve for the fresh ones
-  pub judged_chosen : (term : Tree) (ms : List Variant) → parse text ≡ some term → every (map read_member members) ≡ some ms → fresh_base term 0 ≡ some base
+  pub judged_chosen : (term : Tree) (ms : List Variant) → parse text ≡ Some term → every (map read_member members) ≡ Some ms → fresh_base term 0 ≡ Some base
       → judged_from (chosen base spelled) term (variables term []) ms 0 pending ≡ judged_from (fresh_from base) term (variables term []) ms 0 pending
   judged_chosen term ms e f g = any_names base spelled term (builds text term e) g ms (members_all (PartOf s) (MemberTree base spelled) part_member members ms f parts)
 
-  pub complete_chosen : (term : Tree) (ms : List Variant) → parse text ≡ some term → every (map read_member members) ≡ some ms → fresh_base term 0 ≡ some base
+  pub complete_chosen : (term : Tree) (ms : List Variant) → parse text ≡ Some term → every (map read_member members) ≡ Some ms → fresh_base term 0 ≡ Some base
       → scheme_count term ≤ 4096 → complete term members ≡ judged_from (chosen base spelled) term (variables term []) ms 0 pending
   complete_chosen term ms e f g h = complete_judged term members ms base f g h ∙ sym (judged_chosen term ms e f g)

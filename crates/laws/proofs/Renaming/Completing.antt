@@ -3,7 +3,7 @@
 use mathlib.Core.Path.{◌≡◌, refl, sym, ◌∙◌, ap, ap₂}
 use mathlib.Core.Bool.{Bool, true, false}
 use mathlib.Core.List.{List, [], ◌∷◌, ◌++◌, map, map-append}
-use mathlib.Core.Option.{Option, some, none as nothing}
+use Rattle.std.specs.Prelude.{Option, Some, None}
 use Prim.Native.Nat.{ℕ}
 use lib.Dec.{leb}
 use Rattle.rules.specs.Bytes.{Text, same, upto}
@@ -122,12 +122,12 @@ pattern_at r (b ∷ bs) x h v = go (same b.0 x) (pattern_at r bs x h.1 v)
     go false k = k
 
 abbrev AllFound : Option (List Variant) → Type 0
-AllFound nothing = Unit {0}
-AllFound (some vs) = All BuiltVariant vs
+AllFound None = Unit {0}
+AllFound (Some vs) = All BuiltVariant vs
 
 -- what becomes of a scheme
 abbrev found_at : Verdict → Tree → Option (List Variant) → Option (List Variant)
-found_at v value o = elim v [ solved bs ↦ o >>= λ rest. some ((value, bs) ∷ rest) | failed ↦ o | unsupported ↦ nothing ]
+found_at v value o = elim v [ solved bs ↦ o >>= λ rest. Some ((value, bs) ∷ rest) | failed ↦ o | unsupported ↦ None ]
 
 module _ {r : Text → Text} (h : Renaming r) (term : Tree) (built : Built term) (fixed : All (Fixed r) (variable_names term)) where
   -- Solving
@@ -150,10 +150,10 @@ module _ {r : Text → Text} (h : Renaming r) (term : Tree) (built : Built term)
       ∙ go (unify 65536 (system term s)).0 (solved_schemes term ss)
     where
       more_found : (bs : List Binding) (o : Option (List Variant))
-          → (mapped (map (rename_variant r)) o >>= λ rest. some ((rename r s.value, rename_bindings r bs) ∷ rest))
-          ≡ mapped (map (rename_variant r)) (o >>= λ rest. some ((s.value, bs) ∷ rest))
-      more_found bs nothing = refl
-      more_found bs (some vs) = refl
+          → (mapped (map (rename_variant r)) o >>= λ rest. Some ((rename r s.value, rename_bindings r bs) ∷ rest))
+          ≡ mapped (map (rename_variant r)) (o >>= λ rest. Some ((s.value, bs) ∷ rest))
+      more_found bs None = refl
+      more_found bs (Some vs) = refl
 
       go : (w : Verdict) (o : Option (List Variant))
           → found_at (rename_verdict r w) (rename r s.value) (mapped (map (rename_variant r)) o) ≡ mapped (map (rename_variant r)) (found_at w s.value o)
@@ -168,8 +168,8 @@ module _ {r : Text → Text} (h : Renaming r) (term : Tree) (built : Built term)
       go (unify 65536 (system term s)).0 (unify_writable 65536 (system term s) (system_built s b.0)) (solved_schemes term ss) (solved_built ss b.1)
     where
       go : (w : Verdict) → Writable w → (o : Option (List Variant)) → AllFound o → AllFound (found_at w s.value o)
-      go (solved bs) k nothing m = tt
-      go (solved bs) k (some vs) m = ((b.0.0, k.0), m)
+      go (solved bs) k None m = tt
+      go (solved bs) k (Some vs) m = ((b.0.0, k.0), m)
       go failed k o m = m
       go unsupported k o m = tt
 
@@ -202,7 +202,7 @@ module _ {r : Text → Text} (h : Renaming r) (xs : List Text) (fixed : All (Fix
 
   module _ (ms : List Variant) (patterns : All (PatternVariant r) ms) where
     abbrev verdict_at : Bool → Bool → Option Bool → Option Bool
-    verdict_at normal general o = elim normal [ false ↦ o | true ↦ elim general [ true ↦ o | false ↦ some false ] ]
+    verdict_at normal general o = elim normal [ false ↦ o | true ↦ elim general [ true ↦ o | false ↦ Some false ] ]
 
     abbrev judge : List Binding → Option Bool → Tree → Option Bool
     judge bs o value = verdict_at (equivalent value (normalize value)) (generalized xs ms bs value) o
@@ -218,13 +218,13 @@ module _ {r : Text → Text} (h : Renaming r) (xs : List Text) (fixed : All (Fix
     unfolding all_generalized instance_of
     all_renamed [] b = refl
     all_renamed (v ∷ vs) b =
-        ap₂ (λ (n : ℕ) (t : Tree). (guard (leb n 4096) >>= λ u. some t) >>= judge (rename_bindings r v.1) (all_generalized xs ms (map (rename_variant r) vs)))
+        ap₂ (λ (n : ℕ) (t : Tree). (guard (leb n 4096) >>= λ u. Some t) >>= judge (rename_bindings r v.1) (all_generalized xs ms (map (rename_variant r) vs)))
         (instance_size h v.1 v.0) (instance_renamed h v.1 v.0)
         ∙ go (leb (size (instantiate v.1 v.0)) 4096) (all_renamed vs b.1)
       where
         go : (c : Bool) → all_generalized xs ms (map (rename_variant r) vs) ≡ all_generalized xs ms vs
-            → ((guard c >>= λ u. some (rename r (instantiate v.1 v.0))) >>= judge (rename_bindings r v.1) (all_generalized xs ms (map (rename_variant r) vs)))
-            ≡ ((guard c >>= λ u. some (instantiate v.1 v.0)) >>= judge v.1 (all_generalized xs ms vs))
+            → ((guard c >>= λ u. Some (rename r (instantiate v.1 v.0))) >>= judge (rename_bindings r v.1) (all_generalized xs ms (map (rename_variant r) vs)))
+            ≡ ((guard c >>= λ u. Some (instantiate v.1 v.0)) >>= judge v.1 (all_generalized xs ms vs))
         go true e = judge_renamed v.1 _ _ (instantiate v.1 v.0) b.0.1 (instance_built v.1 b.0.1 b.0.0) e
         go false e = refl
 
@@ -239,6 +239,6 @@ judged_alike {r} h term built fixed ms patterns ss b =
   where
     go : (o : Option (List Variant)) → AllFound o
         → (mapped (map (rename_variant r)) o >>= all_generalized (variables term []) ms) ≡ (o >>= all_generalized (variables term []) ms)
-    go nothing m = refl
-    go (some vs) m =
+    go None m = refl
+    go (Some vs) m =
         all_renamed h (variables term []) (variables_all (Fixed r) term [] fixed tt) (variables_all Token term [] (names_tokens term built) tt) ms patterns vs m

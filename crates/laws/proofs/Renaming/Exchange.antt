@@ -5,7 +5,8 @@ use native.Mathlib.Omega.{arith}
 use mathlib.Core.Path.{◌≡◌, refl, sym, ◌∙◌, ap, ap₂}
 use mathlib.Core.Bool.{Bool, true, false, cond, not, ◌&&◌, true≢false, false≢true}
 use mathlib.Core.List.{[], ◌∷◌, ◌++◌, head-eq_of_cons-eq, tail-eq_of_cons-eq}
-use mathlib.Core.Option.{some, none as nothing, some-injective, none-ne-some}
+use Rattle.std.specs.Prelude.{Some, None}
+use Rattle.laws.proofs.Basics.Somes.{some_injective, none_ne_some}
 use lib.Dec.{leb, eqb}
 use lib.ListN.{length, take, drop}
 use Rattle.rules.specs.Bytes.{Text, same}
@@ -13,7 +14,8 @@ use Rattle.rules.specs.Text.{bytes}
 use Rattle.rules.specs.Names.{digit, all, variable_token}
 use Rattle.rules.specs.Decimal.{value_from, proper, number_up_to, decimal}
 use Rattle.rules.specs.Tokens.{run_length}
-use Rattle.rules.specs.Sorts.{Msg, variable_sort}
+use Rattle.rules.specs.declared.Sort.TheVariants.{Msg}
+use Rattle.rules.specs.Sorts.{variable_sort}
 use Rattle.rules.specs.Variants.{index_of, fresh_name, fresh_from}
 use Rattle.laws.specs.Unspelled.{zeros, unspelled, chosen}
 use Rattle.laws.proofs.Basics.Tests.{and_left, and_right, and_both, leb_true, true_leb, same_eq, same_of_eq, differ_of_ne}
@@ -39,12 +41,12 @@ index_digits (b ∷ d) h = go (digit b) (and_left (digit b) (all digit d) h) (in
 decimal_digits : (i : ℕ) → take (run_length digit (decimal i ++ bytes ":Msg")) (decimal i ++ bytes ":Msg") ≡ decimal i
 decimal_digits i = index_digits (decimal i) (number_all (decimal i) (decimal_number i))
 
-digits_sort : (d : Text) → all digit d ≡ true → variable_sort (d ++ bytes ":Msg") ≡ some Msg
+digits_sort : (d : Text) → all digit d ≡ true → variable_sort (d ++ bytes ":Msg") ≡ Some Msg
 unfolding all variable_sort
 digits_sort [] h = refl
 digits_sort (b ∷ d) h = rw (no_colon b (and_left (digit b) (all digit d) h)) (digits_sort d (and_right (digit b) (all digit d) h))
 
-pub fresh_sort : (i : ℕ) → variable_sort (fresh_name i) ≡ some Msg
+pub fresh_sort : (i : ℕ) → variable_sort (fresh_name i) ≡ Some Msg
 unfolding fresh_name variable_sort
 fresh_sort i = digits_sort (decimal i) (number_all (decimal i) (decimal_number i))
 
@@ -186,7 +188,7 @@ module _ (base : ℕ) (spelled : ℕ → Bool) where
   pub exchanging : Renaming exchange
   exchanging = record {
     twice = λ x. twice x (exchanged x);
-    sort_kept = kept variable_sort (some Msg) unspelled_sort (λ n. fresh_sort (base + n));
+    sort_kept = kept variable_sort (Some Msg) unspelled_sort (λ n. fresh_sort (base + n));
     token_kept = kept variable_token true unspelled_token (fresh_tokens base);
   }
     where
@@ -206,19 +208,19 @@ module _ (base : ℕ) (spelled : ℕ → Bool) where
       go (of_fresh n s e) = absurd (true≢false (sym (k n e) ∙ s))
       go (other e) = e
 
-  read_index : (j i : ℕ) → index_of (fresh_name j) ≡ some i → i ≡ j
+  read_index : (j i : ℕ) → index_of (fresh_name j) ≡ Some i → i ≡ j
   unfolding index_of fresh_name number_up_to
   read_index j i e = go (proper (decimal j) && leb (value_from 0 (decimal j)) 9223372036854775807) (sym (ap (number_up_to 9223372036854775807) (decimal_digits j)) ∙ e)
     where
-      go : (b : Bool) → cond b (some (value_from 0 (decimal j))) nothing ≡ some i → i ≡ j
-      go true k = sym (some-injective (value_from 0 (decimal j)) i k) ∙ decimal_value j
-      go false k = absurd (none-ne-some i k)
+      go : (b : Bool) → cond b (Some (value_from 0 (decimal j))) None ≡ Some i → i ≡ j
+      go true k = sym (some_injective (value_from 0 (decimal j)) i k) ∙ decimal_value j
+      go false k = absurd (none_ne_some i k)
 
   -- a name with an index below the base
-  pub below_stays : (x : Text) (i : ℕ) → index_of x ≡ some i → i < base → exchange x ≡ x
+  pub below_stays : (x : Text) (i : ℕ) → index_of x ≡ Some i → i < base → exchange x ≡ x
   below_stays x i f l = go (exchanged x)
     where
       go : Exchanged x → exchange x ≡ x
-      go (of_unspelled n s e) = absurd (none-ne-some i (sym (unspelled_unindexed n) ∙ ap index_of (sym e) ∙ f))
+      go (of_unspelled n s e) = absurd (none_ne_some i (sym (unspelled_unindexed n) ∙ ap index_of (sym e) ∙ f))
       go (of_fresh n s e) = absurd (let k = read_index (base + n) i (ap index_of (sym e) ∙ f) in omega arith)
       go (other e) = e

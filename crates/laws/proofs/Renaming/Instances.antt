@@ -2,7 +2,7 @@
 use mathlib.Core.Path.{◌≡◌, refl, ◌∙◌, ap, ap₂}
 use mathlib.Core.Bool.{Bool, true, false}
 use mathlib.Core.List.{List, [], ◌∷◌}
-use mathlib.Core.Option.{Option, some, none as nothing}
+use Rattle.std.specs.Prelude.{Option, Some, None}
 use Prim.Native.Nat.{ℕ}
 use lib.Dec.{leb}
 use Rattle.rules.specs.Bytes.{Text, same}
@@ -52,8 +52,8 @@ module _ {r : Text → Text} (h : Renaming r) where
 
   over_renamed : (x : Text) (v : Tree) (o : Option (List Binding))
       → compose_over (r x) (rename r v) (mapped (rename_bindings r) o) ≡ mapped (rename_bindings r) (compose_over x v o)
-  over_renamed x v nothing = refl
-  over_renamed x v (some bs) =
+  over_renamed x v None = refl
+  over_renamed x v (Some bs) =
       ap₂ (λ (n : ℕ) (t : Tree). extended (leb n 4096) (r x) t (rename_bindings r bs)) (instance_size bs v) (instance_renamed bs v)
       ∙ fit (leb (size (instantiate bs v)) 4096)
     where

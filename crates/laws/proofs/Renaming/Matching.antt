@@ -3,7 +3,7 @@
 use mathlib.Core.Path.{◌≡◌, refl, sym, ◌∙◌, ap}
 use mathlib.Core.Bool.{Bool, true, false, not, ◌&&◌, ◌||◌, true≢false, false≢true}
 use mathlib.Core.List.{List, [], ◌∷◌, map}
-use mathlib.Core.Option.{Option, some, none as nothing}
+use Rattle.std.specs.Prelude.{Option, Some, None}
 use Prim.Native.Nat.{ℕ, zero, suc, ◌+◌}
 use lib.Dec.{eqb}
 use Rattle.rules.specs.Bytes.{Text, same}
@@ -11,7 +11,8 @@ use Rattle.rules.specs.Names.{variable_token}
 use Rattle.rules.specs.Tree.{Tree, variable, atom, apply, Trees, none, more, head, children, ground, tamtplus}
 use Rattle.rules.specs.Substitution.{substitute, Binding, Pair}
 use Rattle.rules.specs.Sums.{equivalent}
-use Rattle.rules.specs.Sorts.{Sort, variable_sort, sorted}
+use Rattle.rules.specs.declared.Sort.{Sort}
+use Rattle.rules.specs.Sorts.{variable_sort, sorted}
 use Rattle.rules.specs.Solving.{Rest, emptied, mismatch, stuck, equation, cancel_sums, push_children, Verdict, solved, failed, unsupported, Answer}
 use Rattle.rules.specs.Matching.{or_else, bound, Move, onward, clash, beyond, agree, bind_new, sort_new, match_key, match_rest, ground_eq, match_at, match_roots, move, moved, matching, matcher}
 use Rattle.rules.specs.Cover.{is_failed, covering}
@@ -99,8 +100,8 @@ extended_built unchanged v = v
 extended_built (added p q e) v = (q, v)
 
 abbrev BuiltMaybe : Option Tree → Type 0
-BuiltMaybe nothing = Unit {0}
-BuiltMaybe (some t) = Built t
+BuiltMaybe None = Unit {0}
+BuiltMaybe (Some t) = Built t
 
 bound_built : (x : Text) (bs : List Binding) → BuiltValues bs → BuiltMaybe (bound x bs)
 unfolding bound
@@ -159,20 +160,20 @@ module _ {r : Text → Text} (h : Renaming r) where
   module _ (ps : List Pair) (bs : List Binding) where
     key_renamed : (x : Text) (u : Tree) (o : Option Tree) → Built u → BuiltMaybe o
         → match_key (mapped (rename r) o) x (rename r u) (rename_subjects r ps) (rename_values r bs) ≡ rename_move r (match_key o x u ps bs)
-    key_renamed x u (some v) q m = ap (λ (c : Bool). agree c (rename_subjects r ps) (rename_values r bs)) (equivalent_renamed h v u m q) ∙ go (equivalent v u)
+    key_renamed x u (Some v) q m = ap (λ (c : Bool). agree c (rename_subjects r ps) (rename_values r bs)) (equivalent_renamed h v u m q) ∙ go (equivalent v u)
       where
         go : (c : Bool) → agree c (rename_subjects r ps) (rename_values r bs) ≡ rename_move r (agree c ps bs)
         go true = refl
         go false = refl
-    key_renamed x u nothing q m = for (variable_sort x)
+    key_renamed x u None q m = for (variable_sort x)
       where
         new : (c : Bool) → bind_new c x (rename r u) (rename_subjects r ps) (rename_values r bs) ≡ rename_move r (bind_new c x u ps bs)
         new true = refl
         new false = refl
 
         for : (o : Option Sort) → sort_new o x (rename r u) (rename_subjects r ps) (rename_values r bs) ≡ rename_move r (sort_new o x u ps bs)
-        for nothing = refl
-        for (some s) = ap (λ (c : Bool). bind_new c x (rename r u) (rename_subjects r ps) (rename_values r bs)) (sorted_renamed h s u) ∙ new (sorted s u)
+        for None = refl
+        for (Some s) = ap (λ (c : Bool). bind_new c x (rename r u) (rename_subjects r ps) (rename_values r bs)) (sorted_renamed h s u) ∙ new (sorted s u)
 
     push_subjects : (ts us : Trees) → push_children ts (renames r us) (rename_subjects r ps) ≡ rename_subjects r (push_children ts us ps)
     unfolding push_children substitute

@@ -2,11 +2,13 @@
 use Prim.Native.Nat.{ℕ, ◌+◌}
 use mathlib.Core.Path.{◌≡◌, refl, ◌∙◌, ap, ap₂}
 use mathlib.Core.List.{List, [], ◌∷◌, ◌++◌, map, flat_map, map-append}
-use mathlib.Core.Option.{Option, some, none as nothing}
+use Rattle.std.specs.Prelude.{Option, Some, None}
 use Rattle.rules.specs.Bytes.{Text}
 use Rattle.rules.specs.Tree.{Tree, variable, atom, apply, Trees, none, more}
 use Rattle.rules.specs.Substitution.{substitute, Pair}
-use Rattle.rules.specs.Reduction.{Rule, fst, snd, flip, sdec, kdec, rule_named, pair, senc, kem, arguments1, arguments2}
+use Rattle.rules.specs.declared.Rule.{Rule}
+use Rattle.rules.specs.declared.Rule.TheVariants.{Fst, Snd, Flip, Sdec, Kdec}
+use Rattle.rules.specs.Reduction.{rule_named, pair, senc, kem, arguments1, arguments2}
 use Rattle.rules.specs.Variants.{Scheme, scheme, Joined, only, firings, before, root_schemes, join_first, schemes_from, joined}
 use Rattle.laws.proofs.Renaming.Renamed.{rename, renames, rename_pair, rename_pairs, rename_scheme}
 
@@ -46,17 +48,17 @@ module _ (r : Text → Text) (name name₂ : ℕ → Text) (names : (n : ℕ) �
 
   firings_renamed : (q : Rule) (ts : Trees) (n : ℕ) → map (rename_scheme r) (firings name q ts n) ≡ firings name₂ q (renames r ts) n
   unfolding firings substitute
-  firings_renamed fst ts n =
+  firings_renamed Fst ts n =
       one_renamed _ _
       (λ a. ap₂ (λ (x y : Text). scheme (variable x) ((rename r a, pair (variable x) (variable y)) ∷ []) (n + 2) ∷ []) (names n) (names (n + 1))) ts
-  firings_renamed snd ts n =
+  firings_renamed Snd ts n =
       one_renamed _ _
       (λ a. ap₂ (λ (x y : Text). scheme (variable y) ((rename r a, pair (variable x) (variable y)) ∷ []) (n + 2) ∷ []) (names n) (names (n + 1))) ts
-  firings_renamed flip ts n = one_renamed _ _ (λ a. refl) ts
-  firings_renamed sdec ts n =
+  firings_renamed Flip ts n = one_renamed _ _ (λ a. refl) ts
+  firings_renamed Sdec ts n =
       two_renamed _ _
       (λ a b. ap₂ (λ (x y : Text). scheme (variable x) ((rename r a, senc (variable x) (variable y)) ∷ (rename r b, variable y) ∷ []) (n + 2) ∷ []) (names n) (names (n + 1))) ts
-  firings_renamed kdec ts n =
+  firings_renamed Kdec ts n =
       two_renamed _ _
       (λ a b. ap₂ (λ (x y : Text). scheme (variable x) ((rename r a, kem (variable x) (variable y)) ∷ (rename r b, variable y) ∷ []) (n + 2) ∷ []) (names n) (names (n + 1))) ts
 
@@ -75,8 +77,8 @@ module _ (r : Text → Text) (name name₂ : ℕ → Text) (names : (n : ℕ) �
       go : (o : Option Rule)
           → map (rename_scheme r) (only o λ q. map (before j.equations) (firings name q j.values j.next))
           ≡ only o λ q. map (before (rename_pairs r j.equations)) (firings name₂ q (renames r j.values) j.next)
-      go nothing = refl
-      go (some q) =
+      go None = refl
+      go (Some q) =
           twice_mapped (before j.equations) (before (rename_pairs r j.equations)) (rename_scheme r) (rename_scheme r) (before_renamed j.equations) (firings name q j.values j.next)
           ∙ ap (map (before (rename_pairs r j.equations))) (firings_renamed q j.values j.next)
 

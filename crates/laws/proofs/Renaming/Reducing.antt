@@ -5,7 +5,8 @@ use Rattle.rules.specs.Bytes.{Text}
 use Rattle.rules.specs.Tree.{Tree, variable, atom, apply, Trees, none, more}
 use Rattle.rules.specs.Substitution.{substitute}
 use Rattle.rules.specs.Sorts.{message}
-use Rattle.rules.specs.Reduction.{Rule, opens, root, normalize, normalizes}
+use Rattle.rules.specs.declared.Rule.{Rule}
+use Rattle.rules.specs.Reduction.{opens, root, normalize, normalizes}
 use Rattle.rules.specs.Tidy.{Built, Builts}
 use Rattle.laws.proofs.Equality.Building.{built_first, built_rest, built_children, builts}
 use Rattle.laws.proofs.Reduction.Shapes.{Shape, fst_shape, snd_shape, a_shape, b_shape, sdec_shape, kdec_shape, Rooted, fired, stays, rooted, root_fires}

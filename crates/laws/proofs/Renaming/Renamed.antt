@@ -3,13 +3,15 @@
 use mathlib.Core.Path.{◌≡◌, refl, sym, ◌∙◌, ap, ap₂}
 use mathlib.Core.Bool.{Bool, true, false, ◌&&◌, ◌||◌}
 use mathlib.Core.List.{List, map}
-use mathlib.Core.Option.{Option, some, none as nothing}
+use Rattle.std.specs.Prelude.{Option, Some, None}
 use Prim.Native.Nat.{ℕ, ◌+◌}
 use Rattle.rules.specs.Bytes.{Text, same}
 use Rattle.rules.specs.Names.{variable_token}
 use Rattle.rules.specs.Tree.{Tree, variable, atom, apply, Trees, none, more, children, size, sizes, same_tree, occurs, occurs_in}
 use Rattle.rules.specs.Substitution.{Substitution, substitute, substitutes, Binding, Pair}
-use Rattle.rules.specs.Sorts.{Sort, Pub, Fresh, Msg, TamNat, Node, symbol, Symbol, addition, unit, frame, free, variable_sort, has_sort, has_message_sort, natural_at, natural, naturals, message_at, message, messages, basic, sorted, may_meet, refinable_at, refinable, refinables, sort_refuted}
+use Rattle.rules.specs.declared.Sort.{Sort}
+use Rattle.rules.specs.declared.Sort.TheVariants.{Pub, Fresh, Msg, TamNat, Node}
+use Rattle.rules.specs.Sorts.{symbol, Symbol, addition, unit, frame, free, variable_sort, has_sort, has_message_sort, natural_at, natural, naturals, message_at, message, messages, basic, sorted, may_meet, refinable_at, refinable, refinables, sort_refuted}
 use Rattle.rules.specs.Equality.{Ac}
 use Rattle.rules.specs.Sums.{equivalent}
 use Rattle.rules.specs.Solving.{Verdict, solved, failed, unsupported, Answer}
@@ -66,8 +68,8 @@ module _ (r : Text → Text) where
 module _ {A B : Type 0} where
   -- the value of a reading changed
   abbrev pub mapped : (A → B) → Option A → Option B
-  mapped f nothing = nothing
-  mapped f (some a) = some (f a)
+  mapped f None = None
+  mapped f (Some a) = Some (f a)
 
 -- tests that pass together are one
 pub same_test : (b c : Bool) → (b ≡ true → c ≡ true) → (c ≡ true → b ≡ true) → b ≡ c

@@ -3,7 +3,7 @@
 use mathlib.Core.Path.{◌≡◌, refl, sym, ◌∙◌, ap, ap₂}
 use mathlib.Core.Bool.{Bool, true, false}
 use mathlib.Core.List.{List, [], ◌∷◌, ◌++◌, map, map-append}
-use mathlib.Core.Option.{Option, some, none as nothing}
+use Rattle.std.specs.Prelude.{Option, Some, None}
 use Rattle.rules.specs.Bytes.{Text, same}
 use Rattle.rules.specs.Tree.{Tree, variable, atom, apply, Trees, none, more, tamtplus, plus}
 use Rattle.rules.specs.Substitution.{substitute}
@@ -40,8 +40,8 @@ module _ (α β : Tree → Tree) (P Q : Tree → Type 0) (test : Tree → Tree �
       ∙ go (test t u) (remove test t us)
     where
       kept : (o : Option (List Tree)) → keep (β u) (mapped (map β) o) ≡ mapped (map β) (keep u o)
-      kept nothing = refl
-      kept (some vs) = refl
+      kept None = refl
+      kept (Some vs) = refl
 
       go : (b : Bool) (o : Option (List Tree)) → remove_at b (β u) (map β us) (mapped (map β) o) ≡ mapped (map β) (remove_at b u us o)
       go true o = refl
@@ -59,8 +59,8 @@ module _ (α β : Tree → Tree) (P Q : Tree → Type 0) (test : Tree → Tree �
     where
       go : (o : Option (List Tree)) → AllMaybe Q o → ((vs : List Tree) → AllOf Q vs → cancel test (map α ts) (map β vs) ≡ both_lists (cancel test ts vs))
           → cancel_at (mapped (map β) o) (α t) (λ vs. cancel test (map α ts) vs) (map β us) ≡ both_lists (cancel_at o t (λ vs. cancel test ts vs) us)
-      go nothing m k = ap (λ (c : List Tree × List Tree). (α t ∷ c.0, c.1)) (k us q)
-      go (some vs) m k = k vs m
+      go None m k = ap (λ (c : List Tree × List Tree). (α t ∷ c.0, c.1)) (k us q)
+      go (Some vs) m k = k vs m
 
   module _ (sα : OverSums α) (sβ : OverSums β) where
     remainder_over : (b : Bool) (ks os : List Tree) → remainder b (map α ks) (map β os) ≡ rest_map α β (remainder b ks os)

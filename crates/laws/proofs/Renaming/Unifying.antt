@@ -2,14 +2,15 @@
 use mathlib.Core.Path.{◌≡◌, refl, ◌∙◌, ap, ap₂}
 use mathlib.Core.Bool.{Bool, true, false}
 use mathlib.Core.List.{List, [], ◌∷◌}
-use mathlib.Core.Option.{Option, some, none as nothing}
+use Rattle.std.specs.Prelude.{Option, Some, None}
 use Prim.Native.Nat.{ℕ, zero, suc, ◌+◌}
 use lib.Dec.{leb}
 use Rattle.rules.specs.Bytes.{Text, same}
 use Rattle.rules.specs.Tree.{Tree, variable, atom, apply, Trees, none, more, head, children, same_tree, occurs, tamtplus}
 use Rattle.rules.specs.Substitution.{substitute, Binding, Pair, instantiate_pairs, size_pairs}
 use Rattle.rules.specs.Sums.{equivalent}
-use Rattle.rules.specs.Sorts.{Sort, variable_sort, sorted, refinable, sort_refuted}
+use Rattle.rules.specs.declared.Sort.{Sort}
+use Rattle.rules.specs.Sorts.{variable_sort, sorted, refinable, sort_refuted}
 use Rattle.rules.specs.Solving.{Rest, emptied, mismatch, stuck, equation, cancel_sums, Step, goes_on, bind, fails, unknown, fits, bind_into, unless_refinable, swap_at, swap_for, swap_key, sort_check, occurs_check, eliminate_at, eliminate, push_children, if_refuted, sum_step, decompose_at, decompose, against, differ, step_at, step, Verdict, solved, failed, unsupported, Answer, with_binding, after, run, compose, composed, finish, unify}
 use Rattle.rules.specs.Tidy.{Built}
 use Rattle.laws.proofs.Equality.Summands.{summands_built}
@@ -57,8 +58,8 @@ module _ {r : Text → Text} (h : Renaming r) where
       at false = unless_renamed s (variable y)
 
       for : (o : Option Sort) → swap_for o s (r x) (r y) (rename_pairs r ps) ≡ rename_step r (swap_for o s x y ps)
-      for nothing = unless_renamed s (variable y)
-      for (some q) = ap (λ (c : Bool). swap_at c s (r x) (r y) (rename_pairs r ps)) (sorted_renamed h q (variable x)) ∙ at (sorted q (variable x))
+      for None = unless_renamed s (variable y)
+      for (Some q) = ap (λ (c : Bool). swap_at c s (r x) (r y) (rename_pairs r ps)) (sorted_renamed h q (variable x)) ∙ at (sorted q (variable x))
   swap_renamed s x (atom c d) ps = unless_renamed s (atom c d)
   swap_renamed s x (apply f ts) ps = unless_renamed s (apply f ts)
 
@@ -78,8 +79,8 @@ module _ {r : Text → Text} (h : Renaming r) where
   eliminate_renamed x v ps = ap (λ (o : Option Sort). eliminate_at o (r x) (rename r v) (rename_pairs r ps)) (h.sort_kept x) ∙ go (variable_sort x)
     where
       go : (o : Option Sort) → eliminate_at o (r x) (rename r v) (rename_pairs r ps) ≡ rename_step r (eliminate_at o x v ps)
-      go nothing = refl
-      go (some s) =
+      go None = refl
+      go (Some s) =
           ap (λ (c : Bool). occurs_check c s (r x) (rename r v) (rename_pairs r ps)) (occurs_renamed h x v) ∙ check_renamed (occurs x v) s x v ps
 
   -- Two applications or atoms
@@ -171,8 +172,8 @@ module _ {r : Text → Text} (h : Renaming r) where
   finish_renamed (solved bs) = ap composed (compose_renamed h bs) ∙ go (compose bs)
     where
       go : (o : Option (List Binding)) → composed (mapped (rename_bindings r) o) ≡ rename_verdict r (composed o)
-      go nothing = refl
-      go (some cs) = refl
+      go None = refl
+      go (Some cs) = refl
   finish_renamed failed = refl
   finish_renamed unsupported = refl
 

@@ -4,12 +4,13 @@ use native.Mathlib.Omega.{arith}
 use mathlib.Core.Path.{◌≡◌, refl, ◌∙◌, ap}
 use mathlib.Core.Bool.{true}
 use mathlib.Core.List.{◌∷◌, ◌++◌}
-use mathlib.Core.Option.{some, none as nothing}
+use Rattle.std.specs.Prelude.{Some, None}
 use lib.ListN.{length}
 use Rattle.rules.specs.Bytes.{Text}
 use Rattle.rules.specs.Text.{bytes}
 use Rattle.rules.specs.Names.{indexed, variable_token}
-use Rattle.rules.specs.Sorts.{Msg, variable_sort}
+use Rattle.rules.specs.declared.Sort.TheVariants.{Msg}
+use Rattle.rules.specs.Sorts.{variable_sort}
 use Rattle.rules.specs.Variants.{index_of}
 use Rattle.laws.specs.Parts.{PartOf}
 use Rattle.laws.specs.Unspelled.{zeros, unspelled, zeros_name}
@@ -47,24 +48,24 @@ two_token k = zeros_indexed k
 pub unspelled_token : (n : ℕ) → variable_token (unspelled n) ≡ true
 unspelled_token n = ap variable_token (unspelled_begins n) ∙ two_token (65534 + n)
 
-zeros_sort : (k : ℕ) → variable_sort (zeros k ++ bytes ":Msg") ≡ some Msg
+zeros_sort : (k : ℕ) → variable_sort (zeros k ++ bytes ":Msg") ≡ Some Msg
 unfolding zeros variable_sort
 zeros_sort zero = refl
 zeros_sort (suc k) = zeros_sort k
 
-two_sort : (k : ℕ) → variable_sort (two_zeros k) ≡ some Msg
+two_sort : (k : ℕ) → variable_sort (two_zeros k) ≡ Some Msg
 unfolding variable_sort
 two_sort k = zeros_sort k
 
-pub unspelled_sort : (n : ℕ) → variable_sort (unspelled n) ≡ some Msg
+pub unspelled_sort : (n : ℕ) → variable_sort (unspelled n) ≡ Some Msg
 unspelled_sort n = ap variable_sort (unspelled_begins n) ∙ two_sort (65534 + n)
 
 -- two zeros begin no index
-two_unindexed : (k : ℕ) → index_of (two_zeros k) ≡ nothing
+two_unindexed : (k : ℕ) → index_of (two_zeros k) ≡ None
 unfolding index_of
 two_unindexed k = refl
 
-pub unspelled_unindexed : (n : ℕ) → index_of (unspelled n) ≡ nothing
+pub unspelled_unindexed : (n : ℕ) → index_of (unspelled n) ≡ None
 unspelled_unindexed n = ap index_of (unspelled_begins n) ∙ two_unindexed (65534 + n)
 
 -- Its length

@@ -4,7 +4,8 @@ use mathlib.Core.Path.{◌≡◌, refl, sym, ◌∙◌, ap, subst}
 use mathlib.Core.Bool.{Bool, true, false, ◌&&◌}
 use mathlib.Core.List.{List, [], ◌∷◌, ◌++◌}
 use mathlib.Core.Logic.{◌↔◌, inr}
-use mathlib.Core.Option.{Option, some, none as nothing, none-ne-some}
+use Rattle.std.specs.Prelude.{Option, Some, None}
+use Rattle.laws.proofs.Basics.Somes.{none_ne_some}
 use Prim.Native.Nat.{ℕ, ◌≤◌}
 use native.Mathlib.Omega.{arith}
 use lib.Dec.{leb}
@@ -22,7 +23,8 @@ use Rattle.rules.specs.Sheet.{Sheet, Entry, asks_unify, asks_match, pairs, membe
 use Rattle.rules.specs.SheetLines.{ended as joined, IsSheet}
 use Rattle.rules.specs.Answer.{verdict_lines, read_pairs, answer_of}
 use Rattle.rules.specs.Alike.{AlikeButFuel, SolvedOrFailed, AlikeOutcome}
-use Rattle.rules.specs.RefusalNumbers.{number_for, TooLong, ShortWorkArea, ShortOutput}
+use Rattle.rules.specs.declared.Refusal.TheVariants.{TooLong, ShortWorkArea, ShortOutput}
+use Rattle.rules.specs.RefusalNumbers.{number_for}
 use Rattle.rules.specs.Call.{Reply, refused, passed, plain, call}
 use Rattle.rules.specs.Refusals.{Screened, Admitted, Outcome}
 use Rattle.laws.proofs.Basics.Tests.{and_left, and_right, and_both, leb_true, leb_false}
@@ -46,16 +48,16 @@ record Fuelled (kind : Kind) : Type 0 where
   asks : ℕ → List Entry → Sheet
   solve : ℕ → List Pair → Answer
   rules : Rules asks solve
-  reads : (digits : Text) (k : ℕ) (ls : List Text) → number_up_to 65536 digits ≡ some k → read_kind kind (fuel_line digits ∷ ls) ≡ with_fuel asks k ls
-  answers : (k : ℕ) (texts : List Entry) (ps : List Pair) → read_pairs texts ≡ some ps → answer_of (asks k texts) ≡ some (verdict_lines (solve k ps))
+  reads : (digits : Text) (k : ℕ) (ls : List Text) → number_up_to 65536 digits ≡ Some k → read_kind kind (fuel_line digits ∷ ls) ≡ with_fuel asks k ls
+  answers : (k : ℕ) (texts : List Entry) (ps : List Pair) → read_pairs texts ≡ Some ps → answer_of (asks k texts) ≡ Some (verdict_lines (solve k ps))
 
-fuel_read : (asks : ℕ → List Entry → Sheet) (digits : Text) (k : ℕ) (ls : List Text) → number_up_to 65536 digits ≡ some k
+fuel_read : (asks : ℕ → List Entry → Sheet) (digits : Text) (k : ℕ) (ls : List Text) → number_up_to 65536 digits ≡ Some k
     → (number_up_to 65536 digits >>= λ fuel. with_fuel asks fuel ls) ≡ with_fuel asks k ls
 fuel_read asks digits k ls e = ap (λ (o : Option ℕ). o >>= λ fuel. with_fuel asks fuel ls) e
 
-pairs_answer : (solve : ℕ → List Pair → Answer) (k : ℕ) (texts : List Entry) (ps : List Pair) → read_pairs texts ≡ some ps
-    → (read_pairs texts >>= λ qs. some (verdict_lines (solve k qs))) ≡ some (verdict_lines (solve k ps))
-pairs_answer solve k texts ps e = ap (λ (o : Option (List Pair)). o >>= λ qs. some (verdict_lines (solve k qs))) e
+pairs_answer : (solve : ℕ → List Pair → Answer) (k : ℕ) (texts : List Entry) (ps : List Pair) → read_pairs texts ≡ Some ps
+    → (read_pairs texts >>= λ qs. Some (verdict_lines (solve k qs))) ≡ Some (verdict_lines (solve k ps))
+pairs_answer solve k texts ps e = ap (λ (o : Option (List Pair)). o >>= λ qs. Some (verdict_lines (solve k qs))) e
 
 fuelled_unify : Fuelled Unify
 unfolding read_kind value after_key answer_of
@@ -66,20 +68,20 @@ unfolding read_kind value after_key answer_of
 fuelled_match = record { asks = asks_match; solve = matcher; rules = of_match; reads = fuel_read asks_match; answers = pairs_answer matcher }
 
 -- no other kind reads a `fuel` line there
-fuelled : (kind : Kind) (digits : Text) (ls : List Text) (sheet : Sheet) → read_kind kind (fuel_line digits ∷ ls) ≡ some sheet → Fuelled kind
+fuelled : (kind : Kind) (digits : Text) (ls : List Text) (sheet : Sheet) → read_kind kind (fuel_line digits ∷ ls) ≡ Some sheet → Fuelled kind
 unfolding read_kind value after_key pairs members_from
 fuelled Unify digits ls sheet e = fuelled_unify
 fuelled Match digits ls sheet e = fuelled_match
-fuelled Equal digits ls sheet e = absurd (none-ne-some sheet e)
-fuelled Reduce digits ls sheet e = absurd (none-ne-some sheet e)
-fuelled Sound digits ls sheet e = absurd (none-ne-some sheet e)
-fuelled Complete digits ls sheet e = absurd (none-ne-some sheet e)
-fuelled Cover digits [] sheet e = absurd (none-ne-some sheet e)
-fuelled Cover digits (l ∷ ls) sheet e = absurd (none-ne-some sheet e)
+fuelled Equal digits ls sheet e = absurd (none_ne_some sheet e)
+fuelled Reduce digits ls sheet e = absurd (none_ne_some sheet e)
+fuelled Sound digits ls sheet e = absurd (none_ne_some sheet e)
+fuelled Complete digits ls sheet e = absurd (none_ne_some sheet e)
+fuelled Cover digits [] sheet e = absurd (none_ne_some sheet e)
+fuelled Cover digits (l ∷ ls) sheet e = absurd (none_ne_some sheet e)
 
 -- what is done with the lines, and with the value of the first
 abbrev with_rest : List Text → Option Text → Option (Text × List Text)
-with_rest ls o = o >>= λ v. some (v, ls)
+with_rest ls o = o >>= λ v. Some (v, ls)
 
 abbrev from_kind : Option (Text × List Text) → Option Sheet
 from_kind o = o >>= λ p. kind_in kinds p.0 >>= λ kind. read_kind kind p.1
@@ -90,29 +92,29 @@ from_lines o = o >>= λ ls. from_kind (value (bytes "kind=") ls)
 abbrev from_value : List Text → Option Text → Option Sheet
 from_value ls o = o >>= λ name. kind_in kinds name >>= λ kind. read_kind kind ls
 
-first_read : (first : Text) (ls : List Text) → from_lines (some (first ∷ ls)) ≡ from_value ls (after_key (bytes "kind=") first)
+first_read : (first : Text) (ls : List Text) → from_lines (Some (first ∷ ls)) ≡ from_value ls (after_key (bytes "kind=") first)
 unfolding value
 first_read first ls = go (after_key (bytes "kind=") first)
   where
     go : (o : Option Text) → from_kind (with_rest ls o) ≡ from_value ls o
-    go nothing = refl
-    go (some v) = refl
+    go None = refl
+    go (Some v) = refl
 
 -- the first line gives the kind
-kind_read : (first : Text) (ls : List Text) (sheet : Sheet) → from_lines (some (first ∷ ls)) ≡ some sheet
-    → (kind : Kind) × ((ms : List Text) → from_lines (some (first ∷ ms)) ≡ read_kind kind ms)
+kind_read : (first : Text) (ls : List Text) (sheet : Sheet) → from_lines (Some (first ∷ ls)) ≡ Some sheet
+    → (kind : Kind) × ((ms : List Text) → from_lines (Some (first ∷ ms)) ≡ read_kind kind ms)
 kind_read first ls sheet h =
     let (name, f, h₁) = bound (after_key (bytes "kind=") first) _ sheet (sym (first_read first ls) ∙ h) in
     let (kind, g, h₂) = bound (kind_in kinds name) (λ k. read_kind k ls) sheet h₁ in
     (kind, λ ms. first_read first ms ∙ ap (from_value ms) f ∙ ap (λ (o : Option Kind). o >>= λ k. read_kind k ms) g)
 
-ended : (ls : List Text) (made sheet : Sheet) → at_end ls made ≡ some sheet → ls ≡ []
+ended : (ls : List Text) (made sheet : Sheet) → at_end ls made ≡ Some sheet → ls ≡ []
 ended [] made sheet e = refl
-ended (l ∷ ls) made sheet e = absurd (none-ne-some sheet e)
+ended (l ∷ ls) made sheet e = absurd (none_ne_some sheet e)
 
 -- where one amount of fuel reads, any does, with the same texts
-texts_read : (asks : ℕ → List Entry → Sheet) (k : ℕ) (ls : List Text) (sheet : Sheet) → with_fuel asks k ls ≡ some sheet
-    → (texts : List Entry) × ((m : ℕ) → with_fuel asks m ls ≡ some (asks m texts))
+texts_read : (asks : ℕ → List Entry → Sheet) (k : ℕ) (ls : List Text) (sheet : Sheet) → with_fuel asks k ls ≡ Some sheet
+    → (texts : List Entry) × ((m : ℕ) → with_fuel asks m ls ≡ Some (asks m texts))
 texts_read asks k ls sheet h =
     let (p, e, f) = bound (pairs ls) (λ p. at_end p.1 (asks k p.0)) sheet h in
     (p.0, λ m. ap (λ (o : Option (List Entry × List Text)). o >>= λ z. at_end z.1 (asks m z.0)) e ∙ ap (λ (rs : List Text). at_end rs (asks m p.0)) (ended p.1 _ sheet f))
@@ -122,19 +124,19 @@ record SameTexts (s r : Text) (k m : ℕ) : Type 0 where
   kind : Kind
   by : Fuelled kind
   texts : List Entry
-  less_reads : read_sheet s ≡ some (by.asks k texts)
-  more_reads : read_sheet r ≡ some (by.asks m texts)
+  less_reads : read_sheet s ≡ Some (by.asks k texts)
+  more_reads : read_sheet r ≡ Some (by.asks m texts)
 
-fuel_sheet : (kind : Kind) (by : Fuelled kind) (first : Text) → ((ms : List Text) → from_lines (some (first ∷ ms)) ≡ read_kind kind ms)
-    → (s digits : Text) (k : ℕ) (ls : List Text) → number_up_to 65536 digits ≡ some k → lines s ≡ some (first ∷ fuel_line digits ∷ ls)
+fuel_sheet : (kind : Kind) (by : Fuelled kind) (first : Text) → ((ms : List Text) → from_lines (Some (first ∷ ms)) ≡ read_kind kind ms)
+    → (s digits : Text) (k : ℕ) (ls : List Text) → number_up_to 65536 digits ≡ Some k → lines s ≡ Some (first ∷ fuel_line digits ∷ ls)
     → read_sheet s ≡ with_fuel by.asks k ls
 unfolding read_sheet
 fuel_sheet kind by first g s digits k ls e l = ap from_lines l ∙ g (fuel_line digits ∷ ls) ∙ by.reads digits k ls e
 
-same_texts : {s r : Text} {k m : ℕ} → AlikeButFuel s r k m → (sheet : Sheet) → read_sheet s ≡ some sheet → SameTexts s r k m
+same_texts : {s r : Text} {k m : ℕ} → AlikeButFuel s r k m → (sheet : Sheet) → read_sheet s ≡ Some sheet → SameTexts s r k m
 unfolding read_sheet
 same_texts {s} {r} {k} {m} c sheet e =
-    let f : from_lines (some (c.kind ∷ fuel_line c.less_digits ∷ c.after)) ≡ some sheet = sym (ap from_lines c.less_lines) ∙ e in
+    let f : from_lines (Some (c.kind ∷ fuel_line c.less_digits ∷ c.after)) ≡ Some sheet = sym (ap from_lines c.less_lines) ∙ e in
     let (kind, g) = kind_read c.kind (fuel_line c.less_digits ∷ c.after) sheet f in
     let by = fuelled kind c.less_digits c.after sheet (sym (g (fuel_line c.less_digits ∷ c.after)) ∙ f) in
     let p = fuel_sheet kind by c.kind g s c.less_digits k c.after c.less_number c.less_lines in
@@ -184,7 +186,7 @@ unfolding number all
 number_digits [] e = refl
 number_digits (b ∷ s) e = e
 
-fuel_plain : (digits : Text) (n : ℕ) → number_up_to 65536 digits ≡ some n → all plain (fuel_line digits) ≡ true
+fuel_plain : (digits : Text) (n : ℕ) → number_up_to 65536 digits ≡ Some n → all plain (fuel_line digits) ≡ true
 unfolding all
 fuel_plain digits n e =
     digits_plain digits (number_digits digits (subst (λ (z : Text). number z ≡ true) (sym (number_found 65536 digits n e).0) (decimal_number n)))
@@ -200,7 +202,7 @@ alike_plain {s} {r} {k} {m} c e =
 
 -- The other call
 
-module _ (r : Text) (words room : ℕ) (a : Text) (sheet : Sheet) (form : IsSheet r sheet) (bytes_plain : all plain r ≡ true) (answers : answer_of sheet ≡ some a) where
+module _ (r : Text) (words room : ℕ) (a : Text) (sheet : Sheet) (form : IsSheet r sheet) (bytes_plain : all plain r ≡ true) (answers : answer_of sheet ≡ Some a) where
   screened : length r ≤ 65536 → Screened r
   screened h = record { short = h; allowed = λ p k. plain_allowed (get_or r p 0) (all_at plain r bytes_plain p k) }
 
@@ -213,18 +215,18 @@ module _ (r : Text) (words room : ℕ) (a : Text) (sheet : Sheet) (form : IsShee
   outcome (AlikeOutcome.short_output h k l) = Outcome.short_output (admitted h k) answers l
   outcome (AlikeOutcome.same_bytes h k l) = Outcome.answered (admitted h k) answers l
 
-  abbrev Some : Type 0
-  Some = (reply : Reply Text) × AlikeOutcome r sheet words room a reply
+  abbrev Settled : Type 0
+  Settled = (reply : Reply Text) × AlikeOutcome r sheet words room a reply
 
-  by_room : length r ≤ 65536 → words_needed r sheet ≤ words → (b : Bool) → leb (length a) room ≡ b → Some
+  by_room : length r ≤ 65536 → words_needed r sheet ≤ words → (b : Bool) → leb (length a) room ≡ b → Settled
   by_room h k true e = (passed a, AlikeOutcome.same_bytes h k (leb_true (length a) room e))
   by_room h k false e = (refused (number_for ShortOutput), AlikeOutcome.short_output h k (leb_false (length a) room e))
 
-  by_words : length r ≤ 65536 → (b : Bool) → leb (words_needed r sheet) words ≡ b → Some
+  by_words : length r ≤ 65536 → (b : Bool) → leb (words_needed r sheet) words ≡ b → Settled
   by_words h true e = by_room h (leb_true (words_needed r sheet) words e) (leb (length a) room) refl
   by_words h false e = (refused (number_for ShortWorkArea), AlikeOutcome.short_work h (leb_false (words_needed r sheet) words e))
 
-  by_length : (b : Bool) → leb (length r) 65536 ≡ b → Some
+  by_length : (b : Bool) → leb (length r) 65536 ≡ b → Settled
   by_length true e = by_words (leb_true (length r) 65536 e) (leb (words_needed r sheet) words) refl
   by_length false e = (refused (number_for TooLong), AlikeOutcome.too_long (leb_false (length r) 65536 e))
 
@@ -253,7 +255,7 @@ alike_call s r k m c h words room a p y =
       t.by.asks m t.texts,
       form,
       λ words' room'. alike_gives r words' room' a (t.by.asks m t.texts) form (alike_plain c (answered_plain s words room a p))
-          (t.by.answers m t.texts ps f ∙ ap some (same_written t.by.rules x m y.verdict y.spent y.reads y.decided h)),
+          (t.by.answers m t.texts ps f ∙ ap Some (same_written t.by.rules x m y.verdict y.spent y.reads y.decided h)),
     )
 
 -- so another answer is the same

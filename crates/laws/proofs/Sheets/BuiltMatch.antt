@@ -2,7 +2,7 @@
 use mathlib.Core.Path.{◌≡◌}
 use mathlib.Core.Bool.{Bool, true, false, true≢false}
 use mathlib.Core.List.{List, [], ◌∷◌, ◌++◌}
-use mathlib.Core.Option.{Option, some, none as nothing}
+use Rattle.std.specs.Prelude.{Option, Some, None}
 use Prim.Native.Nat.{ℕ, zero, suc, ◌+◌, ◌≤◌}
 use native.Mathlib.Omega.{arith}
 use Rattle.rules.specs.Bytes.{Text, same}
@@ -10,7 +10,8 @@ use Rattle.rules.specs.Names.{variable_token}
 use Rattle.rules.specs.Tree.{Tree, variable, atom, apply, Trees, none, more, head, children, size, sizes, tamtplus}
 use Rattle.rules.specs.Substitution.{Binding, Pair}
 use Rattle.rules.specs.Sums.{summands, summands_of, unless_sum, rebuild, equivalent}
-use Rattle.rules.specs.Sorts.{Sort, variable_sort, sorted}
+use Rattle.rules.specs.declared.Sort.{Sort}
+use Rattle.rules.specs.Sorts.{variable_sort, sorted}
 use Rattle.rules.specs.Solving.{Answer, Rest, emptied, mismatch, stuck, equation, keep, remove_at, remove, cancel_at, cancel, remainder, cancel_sums, push_children}
 use Rattle.rules.specs.Matching.{Move, onward, clash, beyond, bound, agree, bind_new, sort_new, match_key, match_rest, ground_eq, match_at, match_roots, move, moved, matching, matcher}
 use Rattle.rules.specs.Tidy.{Built, a_variable, an_atom, a_leaf, a_list, a_sum}
@@ -54,8 +55,8 @@ rebuild_mass t [] = omega arith
 rebuild_mass t (u ∷ us) = let h = rebuild_mass u us in omega arith
 
 abbrev MaybeMass : ℕ → Option (List Tree) → Type 0
-MaybeMass n nothing = Unit {0}
-MaybeMass n (some ts) = mass ts ≤ n
+MaybeMass n None = Unit {0}
+MaybeMass n (Some ts) = mass ts ≤ n
 
 remove_mass : (test : Tree → Tree → Bool) (t : Tree) (us : List Tree) → MaybeMass (mass us) (remove test t us)
 unfolding remove
@@ -63,8 +64,8 @@ remove_mass test t [] = tt
 remove_mass test t (u ∷ us) = go (test t u) (remove test t us) (remove_mass test t us)
   where
     kept : (o : Option (List Tree)) → MaybeMass (mass us) o → MaybeMass (mass (u ∷ us)) (keep u o)
-    kept nothing m = tt
-    kept (some vs) m = omega arith
+    kept None m = tt
+    kept (Some vs) m = omega arith
 
     go : (c : Bool) (o : Option (List Tree)) → MaybeMass (mass us) o → MaybeMass (mass (u ∷ us)) (remove_at c u us o)
     go true o m = omega arith
@@ -77,8 +78,8 @@ cancel_mass test (t ∷ ts) us = go (remove test t us) (remove_mass test t us) (
   where
     go : (o : Option (List Tree)) → MaybeMass (mass us) o → ((vs : List Tree) → mass (cancel test ts vs).1 ≤ mass vs)
         → mass (cancel_at o t (λ vs. cancel test ts vs) us).1 ≤ mass us
-    go nothing m r = r us
-    go (some vs) m r = let h = r vs in omega arith
+    go None m r = r us
+    go (Some vs) m r = let h = r vs in omega arith
 
 abbrev SmallRest : ℕ → Rest → Type 0
 SmallRest n emptied = Unit {0}
@@ -136,20 +137,20 @@ KeptMove beyond = Unit {0}
 
 key_kept : (x : Text) (u : Tree) (ps : List Pair) (bs : List Binding) → variable_token x ≡ true → Built u → size u ≤ 4096 → Kept ps bs
     → (o : Option Tree) → KeptMove (match_key o x u ps bs)
-key_kept x u ps bs t b s k (some v) = go (equivalent v u)
+key_kept x u ps bs t b s k (Some v) = go (equivalent v u)
   where
     go : (c : Bool) → KeptMove (agree c ps bs)
     go true = k
     go false = tt
-key_kept x u ps bs t b s k nothing = for (variable_sort x)
+key_kept x u ps bs t b s k None = for (variable_sort x)
   where
     new : (c : Bool) → KeptMove (bind_new c x u ps bs)
     new true = (k.0, k.1, (t, b, k.2), (true_leb (size u) 4096 s, k.3))
     new false = tt
 
     for : (o : Option Sort) → KeptMove (sort_new o x u ps bs)
-    for nothing = tt
-    for (some r) = new (sorted r u)
+    for None = tt
+    for (Some r) = new (sorted r u)
 
 roots_kept : (t u : Tree) (ps : List Pair) (bs : List Binding) → Built t → Built u → size u ≤ 4096 → Kept ps bs → KeptMove (match_roots t u ps bs)
 unfolding match_roots

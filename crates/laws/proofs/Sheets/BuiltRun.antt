@@ -2,7 +2,7 @@
 use mathlib.Core.Path.{◌≡◌, refl}
 use mathlib.Core.Bool.{Bool, true, false}
 use mathlib.Core.List.{List, [], ◌∷◌}
-use mathlib.Core.Option.{Option, some, none as nothing}
+use Rattle.std.specs.Prelude.{Option, Some, None}
 use Prim.Native.Nat.{ℕ, zero, suc, ◌≤◌}
 use lib.Dec.{leb}
 use Rattle.rules.specs.Bytes.{Text, same}
@@ -10,7 +10,8 @@ use Rattle.rules.specs.Names.{variable_token}
 use Rattle.rules.specs.Tree.{Tree, variable, atom, apply, Trees, none, more, head, children, size, same_tree, occurs, tamtplus}
 use Rattle.rules.specs.Substitution.{Substitution, substitute, substitutes, Binding, Pair, pick, lookup, instantiate, instantiate_pairs, size_pairs}
 use Rattle.rules.specs.Sums.{summands, rebuild, equivalent}
-use Rattle.rules.specs.Sorts.{Sort, variable_sort, sorted, refinable, sort_refuted}
+use Rattle.rules.specs.declared.Sort.{Sort}
+use Rattle.rules.specs.Sorts.{variable_sort, sorted, refinable, sort_refuted}
 use Rattle.rules.specs.Solving.{Verdict, solved, failed, unsupported, Answer, Step, goes_on, bind, fails, unknown, Rest, emptied, mismatch, stuck, equation, keep, remove_at, remove, cancel_at, cancel, remainder, cancel_sums, fits, bind_into, unless_refinable, swap_at, swap_for, swap_key, sort_check, occurs_check, eliminate_at, eliminate, push_children, if_refuted, sum_step, decompose_at, decompose, against, differ, step_at, step, with_binding, after, run, extended, compose_over, compose, composed, finish, unify}
 use Rattle.rules.specs.Tidy.{Built, a_variable, an_atom, a_leaf, a_list, a_sum, Builts, nil, both}
 pub use Rattle.rules.specs.Tidy.{BuiltPairs, BuiltBindings}
@@ -64,8 +65,8 @@ rebuild_built t [] b k = b
 rebuild_built t (u ∷ us) b k = a_sum b (rebuild_built u us k.0 k.1)
 
 abbrev BuiltMaybe : Option (List Tree) → Type 0
-BuiltMaybe nothing = Unit {0}
-BuiltMaybe (some ts) = BuiltList ts
+BuiltMaybe None = Unit {0}
+BuiltMaybe (Some ts) = BuiltList ts
 
 remove_built : (test : Tree → Tree → Bool) (t : Tree) (us : List Tree) → BuiltList us → BuiltMaybe (remove test t us)
 unfolding remove
@@ -73,8 +74,8 @@ remove_built test t [] k = tt
 remove_built test t (u ∷ us) k = go (test t u) (remove test t us) (remove_built test t us k.1)
   where
     kept : (o : Option (List Tree)) → BuiltMaybe o → BuiltMaybe (keep u o)
-    kept nothing m = tt
-    kept (some vs) m = (k.0, m)
+    kept None m = tt
+    kept (Some vs) m = (k.0, m)
 
     go : (c : Bool) (o : Option (List Tree)) → BuiltMaybe o → BuiltMaybe (remove_at c u us o)
     go true o m = k.1
@@ -90,8 +91,8 @@ cancel_built test (t ∷ ts) us p q = go (remove test t us) (remove_built test t
   where
     go : (o : Option (List Tree)) → BuiltMaybe o → ((vs : List Tree) → BuiltList vs → BuiltTwo (cancel test ts vs))
         → BuiltTwo (cancel_at o t (λ vs. cancel test ts vs) us)
-    go nothing m r = let c = r us q in ((p.0, c.0), c.1)
-    go (some vs) m r = r vs m
+    go None m r = let c = r us q in ((p.0, c.0), c.1)
+    go (Some vs) m r = r vs m
 
 abbrev pub BuiltRest : Rest → Type 0
 BuiltRest emptied = Unit {0}
@@ -147,8 +148,8 @@ module _ (x : Text) (tx : variable_token x ≡ true) (ps : List Pair) (k : Built
       at false = unless_step (refinable s (variable y))
 
       for : (o : Option Sort) → BuiltStep (swap_for o s x y ps)
-      for nothing = unless_step (refinable s (variable y))
-      for (some r) = at (sorted r (variable x))
+      for None = unless_step (refinable s (variable y))
+      for (Some r) = at (sorted r (variable x))
   swap_built s (atom c d) b = unless_step (refinable s (atom c d))
   swap_built s (apply f ts) b = unless_step (refinable s (apply f ts))
 
@@ -165,8 +166,8 @@ module _ (x : Text) (tx : variable_token x ≡ true) (ps : List Pair) (k : Built
   eliminate_built v b = go (variable_sort x)
     where
       go : (o : Option Sort) → BuiltStep (eliminate_at o x v ps)
-      go nothing = tt
-      go (some s) = occurs_built (occurs x v) s v b
+      go None = tt
+      go (Some s) = occurs_built (occurs x v) s v b
 
 pub zip_built : (ts us : Trees) (ps : List Pair) → Builts ts → Builts us → BuiltPairs ps → BuiltPairs (push_children ts us ps)
 unfolding push_children
@@ -258,8 +259,8 @@ compose_built [] h = (tt, tt)
 compose_built (b ∷ es) h = over (compose es) (compose_built es h.2)
   where
     over : (o : Option (List Binding)) → Writable (composed o) → Writable (composed (compose_over b.0 b.1 o))
-    over nothing m = tt
-    over (some bs) m = fit (leb (size (instantiate bs b.1)) 4096) refl
+    over None m = tt
+    over (Some bs) m = fit (leb (size (instantiate bs b.1)) 4096) refl
       where
         fit : (c : Bool) → leb (size (instantiate bs b.1)) 4096 ≡ c → Writable (composed (extended c b.0 (instantiate bs b.1) bs))
         fit true e = ((h.0, instance_built bs m.0 h.1, m.0), (e, m.1))

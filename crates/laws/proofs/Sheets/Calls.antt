@@ -2,7 +2,8 @@
 use mathlib.Core.Path.{◌≡◌, refl, sym, ◌∙◌, ap, subst}
 use mathlib.Core.Bool.{Bool, true, false, false≢true}
 use mathlib.Core.List.{List, [], ◌∷◌, map}
-use mathlib.Core.Option.{Option, some, none as nothing, some-injective}
+use Rattle.std.specs.Prelude.{Option, Some, None}
+use Rattle.laws.proofs.Basics.Somes.{some_injective}
 use Prim.Native.Nat.{ℕ}
 use lib.Dec.{leb}
 use lib.ListN.{length}
@@ -35,9 +36,9 @@ module _ {A : Type 0} where
   passed_injective : (a b : A) → passed a ≡ passed b → a ≡ b
   passed_injective a b e = ap (what_passed a) e
 
-  given_passed : (o : Option A) (n : ℕ) (a : A) → given o n ≡ passed a → o ≡ some a
-  given_passed nothing n a e = absurd (false≢true (ap has_passed e))
-  given_passed (some b) n a e = ap some (passed_injective b a e)
+  given_passed : (o : Option A) (n : ℕ) (a : A) → given o n ≡ passed a → o ≡ Some a
+  given_passed None n a e = absurd (false≢true (ap has_passed e))
+  given_passed (Some b) n a e = ap Some (passed_injective b a e)
 
 module _ {A B : Type 0} where
   replied : (r : Reply A) (f : A → Reply B) (b : B) → Call.◌>>=◌ r f ≡ passed b → (a : A) × (r ≡ passed a) × (f a ≡ passed b)
@@ -46,66 +47,66 @@ module _ {A B : Type 0} where
 
 -- The call
 
-admitted_sheet : (s : Text) (words : ℕ) (sheet : Sheet) → admitted s words ≡ passed sheet → read_sheet s ≡ some sheet
+admitted_sheet : (s : Text) (words : ℕ) (sheet : Sheet) → admitted s words ≡ passed sheet → read_sheet s ≡ Some sheet
 unfolding admitted
 admitted_sheet s words sheet e =
     let (u, p, e₁) = replied (need (leb (length s) 65536) 1) _ sheet e in
     let (v, q, e₂) = replied (need (all plain s) 2) _ sheet e₁ in
     let (h, r, e₃) = replied (given (read_sheet s) 3) _ sheet e₂ in
     let (w, t, e₄) = replied (need (leb (words_needed s h) words) 11) _ sheet e₃ in
-    given_passed (read_sheet s) 3 h r ∙ ap some (passed_injective h sheet e₄)
+    given_passed (read_sheet s) 3 h r ∙ ap Some (passed_injective h sheet e₄)
 
-settled_answer : (sheet : Sheet) (room : ℕ) (a : Text) → settled sheet room ≡ passed a → answer_of sheet ≡ some a
+settled_answer : (sheet : Sheet) (room : ℕ) (a : Text) → settled sheet room ≡ passed a → answer_of sheet ≡ Some a
 unfolding settled
 settled_answer sheet room a e =
     let (b, p, e₁) = replied (given (answer_of sheet) 4) _ a e in
     let (u, q, e₂) = replied (need (leb (length b) room) 12) _ a e₁ in
-    given_passed (answer_of sheet) 4 b p ∙ ap some (passed_injective b a e₂)
+    given_passed (answer_of sheet) 4 b p ∙ ap Some (passed_injective b a e₂)
 
 -- a sheet that is answered reads
-pub call_sheet : (s : Text) (words room : ℕ) (a : Text) → call s words room ≡ passed a → (sheet : Sheet) × (read_sheet s ≡ some sheet)
+pub call_sheet : (s : Text) (words room : ℕ) (a : Text) → call s words room ≡ passed a → (sheet : Sheet) × (read_sheet s ≡ Some sheet)
 unfolding call
 call_sheet s words room a e = let (h, p, e₁) = replied (admitted s words) (λ h. settled h room) a e in (h, admitted_sheet s words h p)
 
-pub call_answer : (s : Text) (words room : ℕ) (sheet : Sheet) (a : Text) → read_sheet s ≡ some sheet → call s words room ≡ passed a → answer_of sheet ≡ some a
+pub call_answer : (s : Text) (words room : ℕ) (sheet : Sheet) (a : Text) → read_sheet s ≡ Some sheet → call s words room ≡ passed a → answer_of sheet ≡ Some a
 unfolding call
 call_answer s words room sheet a r e =
     let (h, p, e₁) = replied (admitted s words) (λ h. settled h room) a e in
-    let q = some-injective h sheet (sym (admitted_sheet s words h p) ∙ r) in
-    subst (λ (z : Sheet). answer_of z ≡ some a) q (settled_answer h room a e₁)
+    let q = some_injective h sheet (sym (admitted_sheet s words h p) ∙ r) in
+    subst (λ (z : Sheet). answer_of z ≡ Some a) q (settled_answer h room a e₁)
 
 -- The pairs
 
-pub pair_read : (e : Entry) (p : Pair) → read_pair e ≡ some p → (parse e.0 ≡ some p.0) × (parse e.1 ≡ some p.1)
+pub pair_read : (e : Entry) (p : Pair) → read_pair e ≡ Some p → (parse e.0 ≡ Some p.0) × (parse e.1 ≡ Some p.1)
 unfolding read_pair
 pair_read e p h =
     let (l, k, h₁) = bound (parse e.0) _ p h in
     let (r, j, h₂) = bound (parse e.1) _ p h₁ in
-    let q = some-injective (l, r) p h₂ in
-    (k ∙ ap (λ (z : Pair). some z.0) q, j ∙ ap (λ (z : Pair). some z.1) q)
+    let q = some_injective (l, r) p h₂ in
+    (k ∙ ap (λ (z : Pair). Some z.0) q, j ∙ ap (λ (z : Pair). Some z.1) q)
 
-pub pairs_read : (es : List Entry) (ps : List Pair) → read_pairs es ≡ some ps → BuiltPairs ps × SmallPairs ps
+pub pairs_read : (es : List Entry) (ps : List Pair) → read_pairs es ≡ Some ps → BuiltPairs ps × SmallPairs ps
 unfolding read_pairs
-pairs_read [] ps h = subst (λ (z : List Pair). BuiltPairs z × SmallPairs z) (some-injective [] ps h) (tt, tt)
+pairs_read [] ps h = subst (λ (z : List Pair). BuiltPairs z × SmallPairs z) (some_injective [] ps h) (tt, tt)
 pairs_read (e ∷ es) ps h =
     let (p, k, h₁) = bound (read_pair e) _ ps h in
     let (qs, j, h₂) = bound (every (map read_pair es)) _ ps h₁ in
     let (l, r) = pair_read e p k in
     let i = pairs_read es qs j in
-    subst (λ (z : List Pair). BuiltPairs z × SmallPairs z) (some-injective (p ∷ qs) ps h₂)
+    subst (λ (z : List Pair). BuiltPairs z × SmallPairs z) (some_injective (p ∷ qs) ps h₂)
     ((builds e.0 p.0 l, builds e.1 p.1 r, i.0), (reads_within e.1 p.1 r, i.1))
 
 -- the answer to a sheet of pairs
-pub unify_text : (k : ℕ) (texts : List Entry) (a : Text) → answer_of (asks_unify k texts) ≡ some a
-    → (ps : List Pair) × (read_pairs texts ≡ some ps) × (verdict_lines (unify k ps) ≡ a)
+pub unify_text : (k : ℕ) (texts : List Entry) (a : Text) → answer_of (asks_unify k texts) ≡ Some a
+    → (ps : List Pair) × (read_pairs texts ≡ Some ps) × (verdict_lines (unify k ps) ≡ a)
 unfolding answer_of
 unify_text k texts a e =
     let (ps, r, e₁) = bound (read_pairs texts) _ a e in
-    (ps, r, some-injective _ a e₁)
+    (ps, r, some_injective _ a e₁)
 
-pub match_text : (k : ℕ) (texts : List Entry) (a : Text) → answer_of (asks_match k texts) ≡ some a
-    → (ps : List Pair) × (read_pairs texts ≡ some ps) × (verdict_lines (matcher k ps) ≡ a)
+pub match_text : (k : ℕ) (texts : List Entry) (a : Text) → answer_of (asks_match k texts) ≡ Some a
+    → (ps : List Pair) × (read_pairs texts ≡ Some ps) × (verdict_lines (matcher k ps) ≡ a)
 unfolding answer_of
 match_text k texts a e =
     let (ps, r, e₁) = bound (read_pairs texts) _ a e in
-    (ps, r, some-injective _ a e₁)
+    (ps, r, some_injective _ a e₁)

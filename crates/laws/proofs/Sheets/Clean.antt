@@ -3,7 +3,7 @@ use mathlib.Core.Path.{◌≡◌, refl, sym, ◌∙◌, ap, ap₂}
 use mathlib.Core.Logic.{◌⊎◌, inl, inr}
 use mathlib.Core.Bool.{Bool, true, false, cond, ◌&&◌, ◌||◌, true≢false, false≢true}
 use mathlib.Core.List.{List, [], ◌∷◌, ◌++◌, append_assoc}
-use mathlib.Core.Option.{Option, some}
+use Rattle.std.specs.Prelude.{Option, Some}
 use Prim.Native.Nat.{ℕ}
 use lib.Dec.{eqb}
 use Rattle.rules.specs.Bytes.{Text}
@@ -113,13 +113,13 @@ mutual
   commas_clean (both {t} {ts} b bs) = (refl, clean_append (render t) (commas (renders ts)) (render_clean b) (commas_clean bs))
 
 -- a line and the lines after it
-pub line_read : (l : Text) → Clean l → (s : Text) (ls : List Text) → lines s ≡ some ls → lines (l ++ (10 ∷ s)) ≡ some (l ∷ ls)
+pub line_read : (l : Text) → Clean l → (s : Text) (ls : List Text) → lines s ≡ Some ls → lines (l ++ (10 ∷ s)) ≡ Some (l ∷ ls)
 unfolding lines
 line_read [] c s ls e = ap (on_first true 10) e
 line_read (b ∷ l) c s ls e = ap₂ (λ (x : Bool) (o : Option (List Text)). on_first x b o) c.0 (line_read l c.1 s ls e)
 
-pub two_lines : (a c s : Text) (ls : List Text) → Clean a → Clean c → lines s ≡ some ls
-    → lines (((a ++ (10 ∷ [])) ++ (c ++ (10 ∷ []))) ++ s) ≡ some (a ∷ c ∷ ls)
+pub two_lines : (a c s : Text) (ls : List Text) → Clean a → Clean c → lines s ≡ Some ls
+    → lines (((a ++ (10 ∷ [])) ++ (c ++ (10 ∷ []))) ++ s) ≡ Some (a ∷ c ∷ ls)
 two_lines a c s ls p q e =
     ap lines (append_assoc (a ++ (10 ∷ [])) (c ++ (10 ∷ [])) s
     ∙ append_assoc a (10 ∷ []) ((c ++ (10 ∷ [])) ++ s)

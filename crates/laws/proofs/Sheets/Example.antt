@@ -3,7 +3,7 @@
 use mathlib.Core.Path.{◌≡◌, refl, ap}
 use mathlib.Core.Bool.{cond, ◌||◌}
 use mathlib.Core.List.{List, [], ◌∷◌}
-use mathlib.Core.Option.{some}
+use Rattle.std.specs.Prelude.{Some}
 use Prim.Native.Nat.{ℕ}
 use Prim.Native.String.{String}
 use native.Mathlib.Omega.{arith}
@@ -12,7 +12,8 @@ use Rattle.rules.specs.Text.{bytes}
 use Rattle.rules.specs.Names.{word, number, variable_token, letter, letter_name}
 use Rattle.rules.specs.Tree.{Tree, variable, atom, apply, none, more, tamtplus}
 use Rattle.rules.specs.Substitution.{Binding, Pair}
-use Rattle.rules.specs.Sorts.{Msg, Pub, variable_sort}
+use Rattle.rules.specs.declared.Sort.TheVariants.{Msg, Pub}
+use Rattle.rules.specs.Sorts.{variable_sort}
 use Rattle.rules.specs.Solving.{Answer, solved, unify}
 use Rattle.rules.specs.Tidy.{Arity, TidyPairs}
 use Rattle.rules.specs.Meaning.{MostGeneral}
@@ -103,7 +104,7 @@ answered = record {
   answered = called;
 }
 
-read : read_answer written ≡ some (solved bindings, 3)
+read : read_answer written ≡ Some (solved bindings, 3)
 unfolding read_answer
 read = refl
 

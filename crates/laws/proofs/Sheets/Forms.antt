@@ -3,7 +3,8 @@ use Prim.Native.Nat.{ℕ}
 use mathlib.Core.Path.{◌≡◌, refl, ap, sym, subst, ◌∙◌}
 use mathlib.Core.List.{List, [], ◌∷◌, ◌++◌}
 use mathlib.Core.Logic.{◌↔◌}
-use mathlib.Core.Option.{Option, some, none as nothing, some-injective, none-ne-some}
+use Rattle.std.specs.Prelude.{Option, Some, None}
+use Rattle.laws.proofs.Basics.Somes.{some_injective, none_ne_some}
 use mathlib.Core.Bool.{Bool, true, false, not}
 use borrow.Author.Tests.{not-true}
 use Rattle.rules.specs.Bytes.{Text, same}
@@ -20,35 +21,35 @@ use Rattle.laws.proofs.Sheets.LineForms.{lines_has, key_found, value_found, valu
 
 -- Pairs
 
-pairs_found : (ls : List Text) (p : List Entry × List Text) → pairs ls ≡ some p → PairLines ls p.0 p.1
+pairs_found : (ls : List Text) (p : List Entry × List Text) → pairs ls ≡ Some p → PairLines ls p.0 p.1
 unfolding pairs
 pairs_found [] p h = none_found [] p h
   where
-    none_found : (ks : List Text) (q : List Entry × List Text) → some ([], ks) ≡ some q → PairLines ks q.0 q.1
-    none_found ks q e = subst (λ (z : List Entry × List Text). PairLines ks z.0 z.1) (some-injective ([], ks) q e) PairLines.no_more
+    none_found : (ks : List Text) (q : List Entry × List Text) → Some ([], ks) ≡ Some q → PairLines ks q.0 q.1
+    none_found ks q e = subst (λ (z : List Entry × List Text). PairLines ks z.0 z.1) (some_injective ([], ks) q e) PairLines.no_more
 pairs_found (l ∷ []) p h = go (after_key (bytes "left=") l) h
   where
-    go : (o : Option Text) → elim o [ nothing ↦ some ([], l ∷ []) | some v ↦ nothing ] ≡ some p → PairLines (l ∷ []) p.0 p.1
-    go nothing e = subst (λ (z : List Entry × List Text). PairLines (l ∷ []) z.0 z.1) (some-injective ([], l ∷ []) p e) PairLines.no_more
-    go (some v) e = absurd (none-ne-some p e)
+    go : (o : Option Text) → elim o [ None ↦ Some ([], l ∷ []) | Some v ↦ None ] ≡ Some p → PairLines (l ∷ []) p.0 p.1
+    go None e = subst (λ (z : List Entry × List Text). PairLines (l ∷ []) z.0 z.1) (some_injective ([], l ∷ []) p e) PairLines.no_more
+    go (Some v) e = absurd (none_ne_some p e)
 pairs_found (l ∷ r ∷ ls) p h = go (after_key (bytes "left=") l) refl (λ q e. pairs_found ls q e) h
   where
     more : (v w : Text) → l ≡ bytes "left=" ++ v → r ≡ bytes "right=" ++ w → (o : Option (List Entry × List Text))
-        → ((q : List Entry × List Text) → o ≡ some q → PairLines ls q.0 q.1) → with_entry (v, w) o ≡ some p → PairLines (l ∷ r ∷ ls) p.0 p.1
-    more v w a b nothing ih k = absurd (none-ne-some p k)
-    more v w a b (some (es, ks)) ih k =
-        subst (λ (z : List Entry × List Text). PairLines (l ∷ r ∷ ls) z.0 z.1) (some-injective ((v, w) ∷ es, ks) p k) (PairLines.pair a b (ih (es, ks) refl))
+        → ((q : List Entry × List Text) → o ≡ Some q → PairLines ls q.0 q.1) → with_entry (v, w) o ≡ Some p → PairLines (l ∷ r ∷ ls) p.0 p.1
+    more v w a b None ih k = absurd (none_ne_some p k)
+    more v w a b (Some (es, ks)) ih k =
+        subst (λ (z : List Entry × List Text). PairLines (l ∷ r ∷ ls) z.0 z.1) (some_injective ((v, w) ∷ es, ks) p k) (PairLines.pair a b (ih (es, ks) refl))
 
-    go : (o : Option Text) → after_key (bytes "left=") l ≡ o → ((q : List Entry × List Text) → pairs ls ≡ some q → PairLines ls q.0 q.1)
-        → elim o [ nothing ↦ some ([], l ∷ r ∷ ls) | some v ↦ after_key (bytes "right=") r >>= λ w. with_entry (v, w) (pairs ls) ] ≡ some p
+    go : (o : Option Text) → after_key (bytes "left=") l ≡ o → ((q : List Entry × List Text) → pairs ls ≡ Some q → PairLines ls q.0 q.1)
+        → elim o [ None ↦ Some ([], l ∷ r ∷ ls) | Some v ↦ after_key (bytes "right=") r >>= λ w. with_entry (v, w) (pairs ls) ] ≡ Some p
         → PairLines (l ∷ r ∷ ls) p.0 p.1
-    go nothing e ih k = subst (λ (z : List Entry × List Text). PairLines (l ∷ r ∷ ls) z.0 z.1) (some-injective ([], l ∷ r ∷ ls) p k) PairLines.no_more
-    go (some v) e ih k =
+    go None e ih k = subst (λ (z : List Entry × List Text). PairLines (l ∷ r ∷ ls) z.0 z.1) (some_injective ([], l ∷ r ∷ ls) p k) PairLines.no_more
+    go (Some v) e ih k =
         let (w, f, k₁) = bound (after_key (bytes "right=") r) (λ u. with_entry (v, u) (pairs ls)) p k in
         more v w (key_found (bytes "left=") l v e) (key_found (bytes "right=") r w f) (pairs ls) ih k₁
 
 -- where no pair begins the lines after them
-pairs_read : {ls ks : List Text} {es : List Entry} → PairLines ls es ks → pairs ks ≡ some ([], ks) → pairs ls ≡ some (es, ks)
+pairs_read : {ls ks : List Text} {es : List Entry} → PairLines ls es ks → pairs ks ≡ Some ([], ks) → pairs ls ≡ Some (es, ks)
 unfolding pairs after_key
 pairs_read PairLines.no_more e = e
 pairs_read (PairLines.pair {v = v} {w = w} {ls = ls} a b c) e = rw (a, b, pairs_read c e)
@@ -94,40 +95,40 @@ outside_none (e ∷ es) = (refl, outside_none es)
 abbrev Found : List Text → Members → Type 0
 Found ls p = MemberLines ls p.0 p.1
 
-member_found : (l v : Text) (ls : List Text) → l ≡ bytes "member=" ++ v → (o : Option Members) → ((q : Members) → o ≡ some q → Found ls q)
-    → (p : Members) → member_before v o ≡ some p → Found (l ∷ ls) p
-member_found l v ls a nothing ih p h = absurd (none-ne-some p h)
-member_found l v ls a (some (es, ms)) ih p h =
-    let (x, g, h₁) = bound (guard (distinct_keys es [])) (λ _. some ([], (v, es) ∷ ms)) p h in
-    subst (Found (l ∷ ls)) (some-injective ([], (v, es) ∷ ms) p h₁)
+member_found : (l v : Text) (ls : List Text) → l ≡ bytes "member=" ++ v → (o : Option Members) → ((q : Members) → o ≡ Some q → Found ls q)
+    → (p : Members) → member_before v o ≡ Some p → Found (l ∷ ls) p
+member_found l v ls a None ih p h = absurd (none_ne_some p h)
+member_found l v ls a (Some (es, ms)) ih p h =
+    let (x, g, h₁) = bound (guard (distinct_keys es [])) (λ _. Some ([], (v, es) ∷ ms)) p h in
+    subst (Found (l ∷ ls)) (some_injective ([], (v, es) ∷ ms) p h₁)
     (MemberLines.member a (distinct_found es [] (guarded (distinct_keys es []) x g)).0 (ih (es, ms) refl))
 
-entry_found : (l r k v : Text) (ls : List Text) → l ≡ bytes "key=" ++ k → r ≡ bytes "value=" ++ v → (o : Option Members) → ((q : Members) → o ≡ some q → Found ls q)
-    → (p : Members) → entry_before (k, v) o ≡ some p → Found (l ∷ r ∷ ls) p
-entry_found l r k v ls a b nothing ih p h = absurd (none-ne-some p h)
-entry_found l r k v ls a b (some (es, ms)) ih p h =
-    subst (Found (l ∷ r ∷ ls)) (some-injective ((k, v) ∷ es, ms) p h) (MemberLines.key_value a b (ih (es, ms) refl))
+entry_found : (l r k v : Text) (ls : List Text) → l ≡ bytes "key=" ++ k → r ≡ bytes "value=" ++ v → (o : Option Members) → ((q : Members) → o ≡ Some q → Found ls q)
+    → (p : Members) → entry_before (k, v) o ≡ Some p → Found (l ∷ r ∷ ls) p
+entry_found l r k v ls a b None ih p h = absurd (none_ne_some p h)
+entry_found l r k v ls a b (Some (es, ms)) ih p h =
+    subst (Found (l ∷ r ∷ ls)) (some_injective ((k, v) ∷ es, ms) p h) (MemberLines.key_value a b (ih (es, ms) refl))
 
-none_found : (p : Members) → some ([], []) ≡ some p → Found [] p
-none_found p h = subst (Found []) (some-injective ([], []) p h) MemberLines.no_more
+none_found : (p : Members) → Some ([], []) ≡ Some p → Found [] p
+none_found p h = subst (Found []) (some_injective ([], []) p h) MemberLines.no_more
 
-members_found : (ls : List Text) (p : Members) → members_from ls ≡ some p → Found ls p
+members_found : (ls : List Text) (p : Members) → members_from ls ≡ Some p → Found ls p
 unfolding members_from
 members_found [] p h = none_found p h
 members_found (l ∷ []) p h =
-    let (v, e, h₁) = bound (after_key (bytes "member=") l) (λ w. member_before w (some ([], []))) p h in
-    member_found l v [] (key_found (bytes "member=") l v e) (some ([], [])) none_found p h₁
+    let (v, e, h₁) = bound (after_key (bytes "member=") l) (λ w. member_before w (Some ([], []))) p h in
+    member_found l v [] (key_found (bytes "member=") l v e) (Some ([], [])) none_found p h₁
 members_found (l ∷ r ∷ ls) p h =
     go (after_key (bytes "key=") l) refl (λ q k. members_found (r ∷ ls) q k) (λ q k. members_found ls q k) h
   where
-    go : (o : Option Text) → after_key (bytes "key=") l ≡ o → ((q : Members) → members_from (r ∷ ls) ≡ some q → Found (r ∷ ls) q)
-        → ((q : Members) → members_from ls ≡ some q → Found ls q)
-        → elim o [ nothing ↦ after_key (bytes "member=") l >>= λ v. member_before v (members_from (r ∷ ls)) | some k ↦ after_key (bytes "value=") r >>= λ v. entry_before (k, v) (members_from ls) ] ≡ some p
+    go : (o : Option Text) → after_key (bytes "key=") l ≡ o → ((q : Members) → members_from (r ∷ ls) ≡ Some q → Found (r ∷ ls) q)
+        → ((q : Members) → members_from ls ≡ Some q → Found ls q)
+        → elim o [ None ↦ after_key (bytes "member=") l >>= λ v. member_before v (members_from (r ∷ ls)) | Some k ↦ after_key (bytes "value=") r >>= λ v. entry_before (k, v) (members_from ls) ] ≡ Some p
         → Found (l ∷ r ∷ ls) p
-    go nothing e ih ih₂ k =
+    go None e ih ih₂ k =
         let (v, f, k₁) = bound (after_key (bytes "member=") l) (λ w. member_before w (members_from (r ∷ ls))) p k in
         member_found l v (r ∷ ls) (key_found (bytes "member=") l v f) (members_from (r ∷ ls)) ih p k₁
-    go (some x) e ih ih₂ k =
+    go (Some x) e ih ih₂ k =
         let (v, f, k₁) = bound (after_key (bytes "value=") r) (λ w. entry_before (x, w) (members_from ls)) p k in
         entry_found l r x v ls (key_found (bytes "key=") l x e) (key_found (bytes "value=") r v f) (members_from ls) ih₂ p k₁
 
@@ -136,31 +137,31 @@ unfolding members_from after_key
 member_line l v [] a = subst (λ (z : Text). members_from (z ∷ []) ≡ member_before v (members_from [])) (sym a) refl
 member_line l v (r ∷ ls) a = subst (λ (z : Text). members_from (z ∷ r ∷ ls) ≡ member_before v (members_from (r ∷ ls))) (sym a) refl
 
-members_read : {ls : List Text} {es : List Entry} {ms : List Member} → MemberLines ls es ms → members_from ls ≡ some (es, ms)
+members_read : {ls : List Text} {es : List Entry} {ms : List Member} → MemberLines ls es ms → members_from ls ≡ Some (es, ms)
 unfolding members_from after_key
 members_read MemberLines.no_more = refl
 members_read (MemberLines.key_value {k = k} {v = v} a b c) = rw (a, b) (ap (entry_before (k, v)) (members_read c))
 members_read (MemberLines.member {l = l} {v = v} {ls = ls} {es = es} {ms = ms} a d c) =
     member_line l v ls a ∙ ap (member_before v) (members_read c)
-    ∙ ap (λ (b : Bool). guard b >>= λ _. some ([], (v, es) ∷ ms)) (distinct_read es [] d (outside_none es))
+    ∙ ap (λ (b : Bool). guard b >>= λ _. Some ([], (v, es) ∷ ms)) (distinct_read es [] d (outside_none es))
 
-waited : (o : Option Members) (ms : List Member) → none_waiting o ≡ some ms → o ≡ some ([], ms)
-waited nothing ms h = absurd (none-ne-some ms h)
-waited (some ([], ns)) ms h = ap (λ (z : List Member). some ([], z)) (some-injective ns ms h)
-waited (some (e ∷ es, ns)) ms h = absurd (none-ne-some ms h)
+waited : (o : Option Members) (ms : List Member) → none_waiting o ≡ Some ms → o ≡ Some ([], ms)
+waited None ms h = absurd (none_ne_some ms h)
+waited (Some ([], ns)) ms h = ap (λ (z : List Member). Some ([], z)) (some_injective ns ms h)
+waited (Some (e ∷ es, ns)) ms h = absurd (none_ne_some ms h)
 
-all_found : (ls : List Text) (ms : List Member) → none_waiting (members_from ls) ≡ some ms → MemberLines ls [] ms
+all_found : (ls : List Text) (ms : List Member) → none_waiting (members_from ls) ≡ Some ms → MemberLines ls [] ms
 all_found ls ms h = members_found ls ([], ms) (waited (members_from ls) ms h)
 
 -- members begin with no pair
-members_unpaired : {ls : List Text} {ms : List Member} → MemberLines ls [] ms → pairs ls ≡ some ([], ls)
+members_unpaired : {ls : List Text} {ms : List Member} → MemberLines ls [] ms → pairs ls ≡ Some ([], ls)
 unfolding pairs after_key
 members_unpaired MemberLines.no_more = refl
 members_unpaired (MemberLines.member {l = l} {v = v} {ls = ls} a d c) = go ls
   where
-    go : (ks : List Text) → pairs (l ∷ ks) ≡ some ([], l ∷ ks)
-    go [] = subst (λ (z : Text). pairs (z ∷ []) ≡ some ([], z ∷ [])) (sym a) refl
-    go (r ∷ ks) = subst (λ (z : Text). pairs (z ∷ r ∷ ks) ≡ some ([], z ∷ r ∷ ks)) (sym a) refl
+    go : (ks : List Text) → pairs (l ∷ ks) ≡ Some ([], l ∷ ks)
+    go [] = subst (λ (z : Text). pairs (z ∷ []) ≡ Some ([], z ∷ [])) (sym a) refl
+    go (r ∷ ks) = subst (λ (z : Text). pairs (z ∷ r ∷ ks) ≡ Some ([], z ∷ r ∷ ks)) (sym a) refl
 
 -- Kinds
 
@@ -177,22 +178,22 @@ abbrev Named : List KindName → Type 0
 Named [] = Unit {0}
 Named (r ∷ rs) = (r.0 ≡ name_of r.1) × Named rs
 
-kind_named : (rs : List KindName) → Named rs → (name : Text) (kind : Kind) → kind_in rs name ≡ some kind → name ≡ name_of kind
+kind_named : (rs : List KindName) → Named rs → (name : Text) (kind : Kind) → kind_in rs name ≡ Some kind → name ≡ name_of kind
 unfolding kind_in
-kind_named [] n name kind h = absurd (none-ne-some kind h)
+kind_named [] n name kind h = absurd (none_ne_some kind h)
 kind_named (r ∷ rs) n name kind h = go (same name r.0) refl (kind_named rs n.1 name kind) h
   where
-    go : (b : Bool) → same name r.0 ≡ b → (kind_in rs name ≡ some kind → name ≡ name_of kind)
-        → elim b [ true ↦ some r.1 | false ↦ kind_in rs name ] ≡ some kind → name ≡ name_of kind
-    go true e ih i = same_eq name r.0 e ∙ n.0 ∙ ap name_of (some-injective r.1 kind i)
+    go : (b : Bool) → same name r.0 ≡ b → (kind_in rs name ≡ Some kind → name ≡ name_of kind)
+        → elim b [ true ↦ Some r.1 | false ↦ kind_in rs name ] ≡ Some kind → name ≡ name_of kind
+    go true e ih i = same_eq name r.0 e ∙ n.0 ∙ ap name_of (some_injective r.1 kind i)
     go false e ih i = ih i
 
 all_named : Named kinds
 all_named = (refl, (refl, (refl, (refl, (refl, (refl, (refl, tt)))))))
 
-at_the_end : (ls : List Text) (a sheet : Sheet) → at_end ls a ≡ some sheet → (ls ≡ []) × (a ≡ sheet)
-at_the_end [] a sheet h = (refl, some-injective a sheet h)
-at_the_end (l ∷ ls) a sheet h = absurd (none-ne-some sheet h)
+at_the_end : (ls : List Text) (a sheet : Sheet) → at_end ls a ≡ Some sheet → (ls ≡ []) × (a ≡ sheet)
+at_the_end [] a sheet h = (refl, some_injective a sheet h)
+at_the_end (l ∷ ls) a sheet h = absurd (none_ne_some sheet h)
 
 -- the sheet of lines
 abbrev of_lines : List Text → Option Sheet
@@ -206,7 +207,7 @@ Forms kind ls sheet = KindLines ((bytes "kind=" ++ name_of kind) ∷ ls) sheet
 fuel_found : (asks : ℕ → List Entry → Sheet) (kind : Kind)
     → ((f : Text) (fuel : ℕ) (ms : List Text) (es : List Entry) → FuelLine f fuel → PairLines ms es [] → Forms kind (f ∷ ms) (asks fuel es))
     → (ls : List Text) (sheet : Sheet)
-    → (value (bytes "fuel=") ls >>= λ v. number_up_to 65536 v.0 >>= λ fuel. pairs v.1 >>= λ p. at_end p.1 (asks fuel p.0)) ≡ some sheet
+    → (value (bytes "fuel=") ls >>= λ v. number_up_to 65536 v.0 >>= λ fuel. pairs v.1 >>= λ p. at_end p.1 (asks fuel p.0)) ≡ Some sheet
     → Forms kind ls sheet
 fuel_found asks kind make ls sheet h =
     let (v, e, h₁) = bound (value (bytes "fuel=") ls) _ sheet h in
@@ -219,7 +220,7 @@ fuel_found asks kind make ls sheet h =
     (subst (λ (z : Sheet). Forms kind ((bytes "fuel=" ++ v.0) ∷ v.1) z) j
     (make (bytes "fuel=" ++ v.0) fuel v.1 p.0 (record { line = ap (λ (z : Text). bytes "fuel=" ++ z) d; bound = k }) c))
 
-kind_found : (kind : Kind) (ls : List Text) (sheet : Sheet) → read_kind kind ls ≡ some sheet → Forms kind ls sheet
+kind_found : (kind : Kind) (ls : List Text) (sheet : Sheet) → read_kind kind ls ≡ Some sheet → Forms kind ls sheet
 unfolding read_kind
 kind_found Equal ls sheet h =
     let (v, e, h₁) = bound (value (bytes "left=") ls) _ sheet h in
@@ -240,23 +241,23 @@ kind_found Reduce ls sheet h =
     (subst (λ (z : Sheet). Forms Reduce ((bytes "term=" ++ v.0) ∷ []) z) j (KindLines.reduce refl refl))
 kind_found Cover ls sheet h =
     let (p, e, h₁) = bound (pairs ls) _ sheet h in
-    let (ms, f, h₂) = bound (none_waiting (members_from p.1)) (λ ns. some (asks_cover p.0 ns)) sheet h₁ in
-    subst (Forms Cover ls) (some-injective (asks_cover p.0 ms) sheet h₂) (KindLines.cover refl (pairs_found ls p e) (all_found p.1 ms f))
+    let (ms, f, h₂) = bound (none_waiting (members_from p.1)) (λ ns. Some (asks_cover p.0 ns)) sheet h₁ in
+    subst (Forms Cover ls) (some_injective (asks_cover p.0 ms) sheet h₂) (KindLines.cover refl (pairs_found ls p e) (all_found p.1 ms f))
 kind_found Sound ls sheet h =
     let (v, e, h₁) = bound (value (bytes "term=") ls) _ sheet h in
-    let (ms, f, h₂) = bound (none_waiting (members_from v.1)) (λ ns. one_member ns >>= λ m. some (asks_sound v.0 m)) sheet h₁ in
-    let (m, g, h₃) = bound (one_member ms) (λ n. some (asks_sound v.0 n)) sheet h₂ in
+    let (ms, f, h₂) = bound (none_waiting (members_from v.1)) (λ ns. one_member ns >>= λ m. Some (asks_sound v.0 m)) sheet h₁ in
+    let (m, g, h₃) = bound (one_member ms) (λ n. Some (asks_sound v.0 n)) sheet h₂ in
     let c : MemberLines v.1 [] (m ∷ []) = subst (MemberLines v.1 []) (the_member ms m g) (all_found v.1 ms f) in
     subst (λ (z : List Text). Forms Sound z sheet) (sym (value_found (bytes "term=") ls v e))
-    (subst (λ (z : Sheet). Forms Sound ((bytes "term=" ++ v.0) ∷ v.1) z) (some-injective (asks_sound v.0 m) sheet h₃) (KindLines.sound refl refl c))
+    (subst (λ (z : Sheet). Forms Sound ((bytes "term=" ++ v.0) ∷ v.1) z) (some_injective (asks_sound v.0 m) sheet h₃) (KindLines.sound refl refl c))
 kind_found Complete ls sheet h =
     let (v, e, h₁) = bound (value (bytes "term=") ls) _ sheet h in
-    let (ms, f, h₂) = bound (none_waiting (members_from v.1)) (λ ns. some (asks_complete v.0 ns)) sheet h₁ in
+    let (ms, f, h₂) = bound (none_waiting (members_from v.1)) (λ ns. Some (asks_complete v.0 ns)) sheet h₁ in
     subst (λ (z : List Text). Forms Complete z sheet) (sym (value_found (bytes "term=") ls v e))
-    (subst (λ (z : Sheet). Forms Complete ((bytes "term=" ++ v.0) ∷ v.1) z) (some-injective (asks_complete v.0 ms) sheet h₂)
+    (subst (λ (z : Sheet). Forms Complete ((bytes "term=" ++ v.0) ∷ v.1) z) (some_injective (asks_complete v.0 ms) sheet h₂)
     (KindLines.complete refl refl (all_found v.1 ms f)))
 
-lines_form : (ls : List Text) (sheet : Sheet) → of_lines ls ≡ some sheet → KindLines ls sheet
+lines_form : (ls : List Text) (sheet : Sheet) → of_lines ls ≡ Some sheet → KindLines ls sheet
 lines_form ls sheet h =
     let (v, f, h₁) = bound (value (bytes "kind=") ls) (λ w. kind_in kinds w.0 >>= λ kind. read_kind kind w.1) sheet h in
     let (kind, g, h₂) = bound (kind_in kinds v.0) (λ k. read_kind k v.1) sheet h₁ in
@@ -277,11 +278,11 @@ first_line Sound k ls e = subst (λ (z : Text). of_lines (z ∷ ls) ≡ read_kin
 first_line Complete k ls e = subst (λ (z : Text). of_lines (z ∷ ls) ≡ read_kind Complete ls) (sym e) refl
 
 -- the value of a line that has the key
-line_value : (key l v : Text) (ls : List Text) → l ≡ key ++ v → value key (l ∷ ls) ≡ some (v, ls)
+line_value : (key l v : Text) (ls : List Text) → l ≡ key ++ v → value key (l ∷ ls) ≡ Some (v, ls)
 line_value key l v ls e = ap (λ (z : Text). value key (z ∷ ls)) e ∙ value_read key v ls
 
 fuel_read : (asks : ℕ → List Entry → Sheet) (f : Text) (fuel : ℕ) (ls : List Text) (es : List Entry) → FuelLine f fuel → PairLines ls es []
-    → (value (bytes "fuel=") (f ∷ ls) >>= λ v. number_up_to 65536 v.0 >>= λ k. pairs v.1 >>= λ p. at_end p.1 (asks k p.0)) ≡ some (asks fuel es)
+    → (value (bytes "fuel=") (f ∷ ls) >>= λ v. number_up_to 65536 v.0 >>= λ k. pairs v.1 >>= λ p. at_end p.1 (asks k p.0)) ≡ Some (asks fuel es)
 unfolding pairs
 fuel_read asks f fuel ls es a c =
     ap (λ (o : Option (Text × List Text)). o >>= λ v. number_up_to 65536 v.0 >>= λ k. pairs v.1 >>= λ p. at_end p.1 (asks k p.0))
@@ -289,10 +290,10 @@ fuel_read asks f fuel ls es a c =
     ∙ ap (λ (o : Option ℕ). o >>= λ k. pairs ls >>= λ p. at_end p.1 (asks k p.0)) (number_read 65536 fuel a.bound)
     ∙ ap (λ (o : Option (List Entry × List Text)). o >>= λ p. at_end p.1 (asks fuel p.0)) (pairs_read c refl)
 
-members_all : {ls : List Text} {ms : List Member} → MemberLines ls [] ms → none_waiting (members_from ls) ≡ some ms
+members_all : {ls : List Text} {ms : List Member} → MemberLines ls [] ms → none_waiting (members_from ls) ≡ Some ms
 members_all c = ap none_waiting (members_read c)
 
-form_read : {ls : List Text} {sheet : Sheet} → KindLines ls sheet → of_lines ls ≡ some sheet
+form_read : {ls : List Text} {sheet : Sheet} → KindLines ls sheet → of_lines ls ≡ Some sheet
 unfolding read_kind
 form_read (KindLines.equal {k} {l} {r} {left} {right} a b c) =
     first_line Equal k (l ∷ r ∷ []) a
@@ -305,31 +306,31 @@ form_read (KindLines.reduce {k} {t} {term} a b) =
     first_line Reduce k (t ∷ []) a ∙ ap (λ (o : Option (Text × List Text)). o >>= λ v. at_end v.1 (asks_reduce v.0)) (line_value (bytes "term=") t term [] b)
 form_read (KindLines.cover {k} {ls} {ks} {es} {ms} a b c) =
     first_line Cover k ls a
-    ∙ ap (λ (o : Option (List Entry × List Text)). o >>= λ p. none_waiting (members_from p.1) >>= λ ns. some (asks_cover p.0 ns)) (pairs_read b (members_unpaired c))
-    ∙ ap (λ (o : Option (List Member)). o >>= λ ns. some (asks_cover es ns)) (members_all c)
+    ∙ ap (λ (o : Option (List Entry × List Text)). o >>= λ p. none_waiting (members_from p.1) >>= λ ns. Some (asks_cover p.0 ns)) (pairs_read b (members_unpaired c))
+    ∙ ap (λ (o : Option (List Member)). o >>= λ ns. Some (asks_cover es ns)) (members_all c)
 form_read (KindLines.sound {k} {t} {term} {ls} {m} a b c) =
     first_line Sound k (t ∷ ls) a
-    ∙ ap (λ (o : Option (Text × List Text)). o >>= λ v. none_waiting (members_from v.1) >>= λ ns. one_member ns >>= λ n. some (asks_sound v.0 n))
+    ∙ ap (λ (o : Option (Text × List Text)). o >>= λ v. none_waiting (members_from v.1) >>= λ ns. one_member ns >>= λ n. Some (asks_sound v.0 n))
     (line_value (bytes "term=") t term ls b)
-    ∙ ap (λ (o : Option (List Member)). o >>= λ ns. one_member ns >>= λ n. some (asks_sound term n)) (members_all c)
+    ∙ ap (λ (o : Option (List Member)). o >>= λ ns. one_member ns >>= λ n. Some (asks_sound term n)) (members_all c)
 form_read (KindLines.complete {k} {t} {term} {ls} {ms} a b c) =
     first_line Complete k (t ∷ ls) a
-    ∙ ap (λ (o : Option (Text × List Text)). o >>= λ v. none_waiting (members_from v.1) >>= λ ns. some (asks_complete v.0 ns)) (line_value (bytes "term=") t term ls b)
-    ∙ ap (λ (o : Option (List Member)). o >>= λ ns. some (asks_complete term ns)) (members_all c)
+    ∙ ap (λ (o : Option (Text × List Text)). o >>= λ v. none_waiting (members_from v.1) >>= λ ns. Some (asks_complete v.0 ns)) (line_value (bytes "term=") t term ls b)
+    ∙ ap (λ (o : Option (List Member)). o >>= λ ns. Some (asks_complete term ns)) (members_all c)
 
 -- a sheet is read exactly where its lines are as 01 says
-pub reads_form : (s : Text) (sheet : Sheet) → (read_sheet s ≡ some sheet) ↔ IsSheet s sheet
+pub reads_form : (s : Text) (sheet : Sheet) → (read_sheet s ≡ Some sheet) ↔ IsSheet s sheet
 unfolding read_sheet
 reads_form s sheet = (found, λ h. ap (λ (o : Option (List Text)). o >>= λ ls. of_lines ls) ((lines_has s h.lines).1 h.has) ∙ form_read h.form)
   where
-    found : (lines s >>= λ ls. of_lines ls) ≡ some sheet → IsSheet s sheet
+    found : (lines s >>= λ ls. of_lines ls) ≡ Some sheet → IsSheet s sheet
     found h =
         let (ls, e, h₁) = bound (lines s) (λ z. of_lines z) sheet h in
         record { lines = ls; has = (lines_has s ls).0 e; form = lines_form ls sheet h₁ }
 
-pub unread_form : (s : Text) → (read_sheet s ≡ nothing) ↔ ((sheet : Sheet) → ¬ IsSheet s sheet)
-unread_form s = (λ e sheet h. none-ne-some sheet (sym e ∙ (reads_form s sheet).1 h), λ n. go (read_sheet s) refl n)
+pub unread_form : (s : Text) → (read_sheet s ≡ None) ↔ ((sheet : Sheet) → ¬ IsSheet s sheet)
+unread_form s = (λ e sheet h. none_ne_some sheet (sym e ∙ (reads_form s sheet).1 h), λ n. go (read_sheet s) refl n)
   where
-    go : (o : Option Sheet) → read_sheet s ≡ o → ((sheet : Sheet) → ¬ IsSheet s sheet) → o ≡ nothing
-    go nothing e n = refl
-    go (some sheet) e n = absurd (n sheet ((reads_form s sheet).0 e))
+    go : (o : Option Sheet) → read_sheet s ≡ o → ((sheet : Sheet) → ¬ IsSheet s sheet) → o ≡ None
+    go None e n = refl
+    go (Some sheet) e n = absurd (n sheet ((reads_form s sheet).0 e))

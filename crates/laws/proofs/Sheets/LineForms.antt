@@ -4,7 +4,8 @@ use native.Mathlib.Omega.{arith}
 use mathlib.Core.Path.{◌≡◌, refl, ap, ap₂, sym, subst, ◌∙◌}
 use mathlib.Core.List.{List, [], ◌∷◌, ◌++◌, append-nil, append_assoc}
 use mathlib.Core.Logic.{◌↔◌}
-use mathlib.Core.Option.{Option, some, none as nothing, some-injective, none-ne-some}
+use Rattle.std.specs.Prelude.{Option, Some, None}
+use Rattle.laws.proofs.Basics.Somes.{some_injective, none_ne_some}
 use mathlib.Core.Bool.{Bool, true, false, not, cond, ◌&&◌, true≢false, false≢true}
 use borrow.Author.Tests.{not-true}
 use lib.Dec.{eqb, leb, ltb}
@@ -30,65 +31,65 @@ differs_eqb b c e p = true≢false (sym (subst (λ (z : ℕ). eqb b z ≡ true) 
 
 -- Lines
 
-lines_found : (s : Text) (ls : List Text) → lines s ≡ some ls → HasLines s ls
+lines_found : (s : Text) (ls : List Text) → lines s ≡ Some ls → HasLines s ls
 unfolding lines ended
-lines_found [] ls h = subst (HasLines []) (some-injective [] ls h) (record { text = refl; unbroken = tt })
+lines_found [] ls h = subst (HasLines []) (some_injective [] ls h) (record { text = refl; unbroken = tt })
 lines_found (b ∷ s) ls h = go (eqb b 10) refl (lines s) (λ ks e. lines_found s ks e) h
   where
-    go : (x : Bool) → eqb b 10 ≡ x → (o : Option (List Text)) → ((ks : List Text) → o ≡ some ks → HasLines s ks) → on_first x b o ≡ some ls → HasLines (b ∷ s) ls
-    go true f nothing ih k = absurd (none-ne-some ls k)
-    go true f (some ks) ih k =
+    go : (x : Bool) → eqb b 10 ≡ x → (o : Option (List Text)) → ((ks : List Text) → o ≡ Some ks → HasLines s ks) → on_first x b o ≡ Some ls → HasLines (b ∷ s) ls
+    go true f None ih k = absurd (none_ne_some ls k)
+    go true f (Some ks) ih k =
         let i = ih ks refl in
-        subst (HasLines (b ∷ s)) (some-injective ([] ∷ ks) ls k)
+        subst (HasLines (b ∷ s)) (some_injective ([] ∷ ks) ls k)
         (record { text = ap₂ (λ (c : ℕ) (r : Text). c ∷ r) (eqb_true b 10 f) i.text; unbroken = (tt, i.unbroken) })
-    go false f nothing ih k = absurd (none-ne-some ls k)
-    go false f (some []) ih k = absurd (none-ne-some ls k)
-    go false f (some (l ∷ ks)) ih k =
+    go false f None ih k = absurd (none_ne_some ls k)
+    go false f (Some []) ih k = absurd (none_ne_some ls k)
+    go false f (Some (l ∷ ks)) ih k =
         let i = ih (l ∷ ks) refl in
-        subst (HasLines (b ∷ s)) (some-injective ((b ∷ l) ∷ ks) ls k)
+        subst (HasLines (b ∷ s)) (some_injective ((b ∷ l) ∷ ks) ls k)
         (record { text = ap (λ (r : Text). b ∷ r) i.text; unbroken = ((differs_eqb b 10 f, i.unbroken.0), i.unbroken.1) })
 
-line_read : (l r : Text) (ks : List Text) → Unbroken l → lines r ≡ some ks → lines (l ++ (10 ∷ r)) ≡ some (l ∷ ks)
+line_read : (l r : Text) (ks : List Text) → Unbroken l → lines r ≡ Some ks → lines (l ++ (10 ∷ r)) ≡ Some (l ∷ ks)
 unfolding lines
 line_read [] r ks u e = ap (on_first true 10) e
 line_read (b ∷ l) r ks u e = ap₂ (λ (c : Bool) (o : Option (List Text)). on_first c b o) (eqb_differs b 10 u.0) (line_read l r ks u.1 e)
 
-ended_read : (ls : List Text) → AllUnbroken ls → lines (ended ls) ≡ some ls
+ended_read : (ls : List Text) → AllUnbroken ls → lines (ended ls) ≡ Some ls
 unfolding lines ended
 ended_read [] u = refl
 ended_read (l ∷ ls) u = line_read l (ended ls) ls u.0 (ended_read ls u.1)
 
-pub lines_has : (s : Text) (ls : List Text) → (lines s ≡ some ls) ↔ HasLines s ls
+pub lines_has : (s : Text) (ls : List Text) → (lines s ≡ Some ls) ↔ HasLines s ls
 lines_has s ls = (lines_found s ls, λ h. ap lines h.text ∙ ended_read ls h.unbroken)
 
 -- Keys
 
-pub key_found : (key l v : Text) → after_key key l ≡ some v → l ≡ key ++ v
+pub key_found : (key l v : Text) → after_key key l ≡ Some v → l ≡ key ++ v
 unfolding after_key
-key_found [] l v h = some-injective l v h
-key_found (k ∷ ks) [] v h = absurd (none-ne-some v h)
+key_found [] l v h = some_injective l v h
+key_found (k ∷ ks) [] v h = absurd (none_ne_some v h)
 key_found (k ∷ ks) (b ∷ l) v h = go (eqb k b) refl h (key_found ks l v)
   where
-    go : (x : Bool) → eqb k b ≡ x → elim x [ true ↦ after_key ks l | false ↦ nothing ] ≡ some v → (after_key ks l ≡ some v → l ≡ ks ++ v) → b ∷ l ≡ k ∷ (ks ++ v)
+    go : (x : Bool) → eqb k b ≡ x → elim x [ true ↦ after_key ks l | false ↦ None ] ≡ Some v → (after_key ks l ≡ Some v → l ≡ ks ++ v) → b ∷ l ≡ k ∷ (ks ++ v)
     go true e i r = ap₂ (λ (c : ℕ) (m : Text). c ∷ m) (sym (eqb_true k b e)) (r i)
-    go false e i r = absurd (none-ne-some v i)
+    go false e i r = absurd (none_ne_some v i)
 
-key_read : (key v : Text) → after_key key (key ++ v) ≡ some v
+key_read : (key v : Text) → after_key key (key ++ v) ≡ Some v
 unfolding after_key
 key_read [] v = refl
-key_read (k ∷ ks) v = ap (λ (b : Bool). elim b [ true ↦ after_key ks (ks ++ v) | false ↦ nothing ]) (eqb_self k) ∙ key_read ks v
+key_read (k ∷ ks) v = ap (λ (b : Bool). elim b [ true ↦ after_key ks (ks ++ v) | false ↦ None ]) (eqb_self k) ∙ key_read ks v
 
 -- the first line, and the lines after it
-pub value_found : (key : Text) (ls : List Text) (r : Text × List Text) → value key ls ≡ some r → ls ≡ (key ++ r.0) ∷ r.1
+pub value_found : (key : Text) (ls : List Text) (r : Text × List Text) → value key ls ≡ Some r → ls ≡ (key ++ r.0) ∷ r.1
 unfolding value
-value_found key [] r h = absurd (none-ne-some r h)
+value_found key [] r h = absurd (none_ne_some r h)
 value_found key (l ∷ ls) r h =
-    let (v, e, h₁) = bound (after_key key l) (λ w. some (w, ls)) r h in
-    ap (λ (m : Text). m ∷ ls) (key_found key l v e) ∙ ap (λ (z : Text × List Text). (key ++ z.0) ∷ z.1) (some-injective (v, ls) r h₁)
+    let (v, e, h₁) = bound (after_key key l) (λ w. Some (w, ls)) r h in
+    ap (λ (m : Text). m ∷ ls) (key_found key l v e) ∙ ap (λ (z : Text × List Text). (key ++ z.0) ∷ z.1) (some_injective (v, ls) r h₁)
 
-pub value_read : (key v : Text) (ls : List Text) → value key ((key ++ v) ∷ ls) ≡ some (v, ls)
+pub value_read : (key v : Text) (ls : List Text) → value key ((key ++ v) ∷ ls) ≡ Some (v, ls)
 unfolding value
-value_read key v ls = ap (λ (o : Option Text). o >>= λ w. some (w, ls)) (key_read key v)
+value_read key v ls = ap (λ (o : Option Text). o >>= λ w. Some (w, ls)) (key_read key v)
 
 -- Fuel
 
@@ -159,20 +160,20 @@ proper_decimal (b ∷ c ∷ s) e =
     sym (digits_after (c ∷ s) (b ∷ []) (0 * 10 + (b - 48)) (leading b g n) (one_digit b (0 * 10 + (b - 48)) g (omega arith)) (and_right (digit b) (all digit (c ∷ s)) f)
     (suc (value_from 0 (b ∷ c ∷ s))) (omega arith))
 
-pub number_found : (k : ℕ) (s : Text) (n : ℕ) → number_up_to k s ≡ some n → (s ≡ decimal n) × (n ≤ k)
+pub number_found : (k : ℕ) (s : Text) (n : ℕ) → number_up_to k s ≡ Some n → (s ≡ decimal n) × (n ≤ k)
 unfolding number_up_to
 number_found k s n h = go (proper s && leb (value_from 0 s) k) refl h
   where
-    go : (b : Bool) → (proper s && leb (value_from 0 s) k) ≡ b → cond b (some (value_from 0 s)) nothing ≡ some n → (s ≡ decimal n) × (n ≤ k)
+    go : (b : Bool) → (proper s && leb (value_from 0 s) k) ≡ b → cond b (Some (value_from 0 s)) None ≡ Some n → (s ≡ decimal n) × (n ≤ k)
     go true e i =
-        let j = some-injective (value_from 0 s) n i in
+        let j = some_injective (value_from 0 s) n i in
         let l = leb_true (value_from 0 s) k (and_right (proper s) (leb (value_from 0 s) k) e) in
         (proper_decimal s (and_left (proper s) (leb (value_from 0 s) k) e) ∙ ap decimal j, omega arith)
-    go false e i = absurd (none-ne-some n i)
+    go false e i = absurd (none_ne_some n i)
 
-pub number_read : (k n : ℕ) → n ≤ k → number_up_to k (decimal n) ≡ some n
+pub number_read : (k n : ℕ) → n ≤ k → number_up_to k (decimal n) ≡ Some n
 unfolding number_up_to
 number_read k n h =
-    ap (λ (b : Bool). cond b (some (value_from 0 (decimal n))) nothing)
+    ap (λ (b : Bool). cond b (Some (value_from 0 (decimal n))) None)
     (and_both (proper (decimal n)) (leb (value_from 0 (decimal n)) k) (decimal_proper n) (true_leb (value_from 0 (decimal n)) k (let e = decimal_value n in omega arith)))
-    ∙ ap some (decimal_value n)
+    ∙ ap Some (decimal_value n)

@@ -4,7 +4,8 @@ use Prim.Native.Nat.{ℕ, ◌+◌, ◌≤◌, ◌<◌}
 use native.Mathlib.Omega.{arith}
 use mathlib.Core.Path.{◌≡◌, refl, sym, ◌∙◌, ap, subst}
 use mathlib.Core.List.{List, [], ◌∷◌, ◌++◌, map}
-use mathlib.Core.Option.{Option, some, none as nothing, some-injective}
+use Rattle.std.specs.Prelude.{Option, Some, None}
+use Rattle.laws.proofs.Basics.Somes.{some_injective}
 use mathlib.Core.Bool.{true}
 use lib.ListN.{length, length-append}
 use Rattle.rules.specs.Bytes.{Text, same}
@@ -29,17 +30,17 @@ use Rattle.laws.proofs.Sheets.SheetTexts.{sheet_within}
 unfoldable pub total_read : (Tree → ℕ) → List Text → ℕ
 unfolding parse
 total_read f [] = 0
-total_read f (s ∷ ss) = elim (parse s) [ nothing ↦ total_read f ss | some t ↦ f t + total_read f ss ]
+total_read f (s ∷ ss) = elim (parse s) [ None ↦ total_read f ss | Some t ↦ f t + total_read f ss ]
 
-module _ (f : Tree → ℕ) (g : Text → ℕ) (bounded : (s : Text) (t : Tree) → parse s ≡ some t → f t ≤ g s) where
+module _ (f : Tree → ℕ) (g : Text → ℕ) (bounded : (s : Text) (t : Tree) → parse s ≡ Some t → f t ≤ g s) where
   read_within : (ss : List Text) → total_read f ss ≤ total g ss
   unfolding total_read total
   read_within [] = omega arith
   read_within (s ∷ ss) = go (parse s) refl (read_within ss)
     where
-      go : (o : Option Tree) → parse s ≡ o → total_read f ss ≤ total g ss → elim o [ nothing ↦ total_read f ss | some t ↦ f t + total_read f ss ] ≤ g s + total g ss
-      go nothing e ih = omega arith
-      go (some t) e ih = let h = bounded s t e in omega arith
+      go : (o : Option Tree) → parse s ≡ o → total_read f ss ≤ total g ss → elim o [ None ↦ total_read f ss | Some t ↦ f t + total_read f ss ] ≤ g s + total g ss
+      go None e ih = omega arith
+      go (Some t) e ih = let h = bounded s t e in omega arith
 
 names_total : (ss : List Text) → length (names_read ss) ≡ total_read (λ t. length (variable_names t)) ss
 unfolding names_read total_read
@@ -47,10 +48,10 @@ names_total [] = refl
 names_total (s ∷ ss) = go (parse s) (names_total ss)
   where
     go : (o : Option Tree) → length (names_read ss) ≡ total_read (λ t. length (variable_names t)) ss
-        → length {A = Text} (elim o [ nothing ↦ names_read ss | some t ↦ variable_names t ++ names_read ss ])
-        ≡ elim o [ nothing ↦ total_read (λ t. length (variable_names t)) ss | some t ↦ length (variable_names t) + total_read (λ t. length (variable_names t)) ss ]
-    go nothing ih = ih
-    go (some t) ih = let h = length-append (variable_names t) (names_read ss) in omega arith
+        → length {A = Text} (elim o [ None ↦ names_read ss | Some t ↦ variable_names t ++ names_read ss ])
+        ≡ elim o [ None ↦ total_read (λ t. length (variable_names t)) ss | Some t ↦ length (variable_names t) + total_read (λ t. length (variable_names t)) ss ]
+    go None ih = ih
+    go (Some t) ih = let h = length-append (variable_names t) (names_read ss) in omega arith
 
 total_alike : (g h : Text → ℕ) → ((s : Text) → g s ≡ h s) → (ss : List Text) → total g ss ≡ total h ss
 unfolding total
@@ -62,7 +63,7 @@ pub names_bytes : (ss : List Text) → length (names_read ss) ≤ total length s
 names_bytes ss =
     omega (arith, names_total ss, read_within (λ t. length (variable_names t)) length (λ s t e. omega (arith, parse_colons s t e, colons_upto s)) ss)
 
-module _ (s : Text) (sheet : Sheet) (reads : read_sheet s ≡ some sheet) where
+module _ (s : Text) (sheet : Sheet) (reads : read_sheet s ≡ Some sheet) where
   -- the texts and the keys have colons of their own
   pub texts_colons : total (count_of 58) (sheet_texts sheet) + total (count_of 58) (sheet_keys sheet) ≤ count_of 58 s
   texts_colons =
@@ -98,32 +99,32 @@ module _ (s : Text) (sheet : Sheet) (reads : read_sheet s ≡ some sheet) where
 
 -- what is read of pairs of texts, by the first and the others
 module _ (P : List Entry → List Pair → Type 0) (nil : P [] [])
-    (cons : (e : Entry) (es : List Entry) (p : Pair) (ps : List Pair) → parse e.0 ≡ some p.0 → parse e.1 ≡ some p.1 → P es ps → P (e ∷ es) (p ∷ ps)) where
-  pub pairs_read_by : (es : List Entry) (ps : List Pair) → read_pairs es ≡ some ps → P es ps
+    (cons : (e : Entry) (es : List Entry) (p : Pair) (ps : List Pair) → parse e.0 ≡ Some p.0 → parse e.1 ≡ Some p.1 → P es ps → P (e ∷ es) (p ∷ ps)) where
+  pub pairs_read_by : (es : List Entry) (ps : List Pair) → read_pairs es ≡ Some ps → P es ps
   unfolding read_pairs
-  pairs_read_by [] ps h = subst (P []) (some-injective [] ps h) nil
+  pairs_read_by [] ps h = subst (P []) (some_injective [] ps h) nil
   pairs_read_by (e ∷ es) ps h =
       let (p, k, h₁) = bound (read_pair e) _ ps h in
       let (qs, j, h₂) = bound (every (map read_pair es)) _ ps h₁ in
       let (l, r) = pair_read e p k in
-      subst (P (e ∷ es)) (some-injective (p ∷ qs) ps h₂) (cons e es p qs l r (pairs_read_by es qs j))
+      subst (P (e ∷ es)) (some_injective (p ∷ qs) ps h₂) (cons e es p qs l r (pairs_read_by es qs j))
 
-read_some : (f : Tree → ℕ) (s : Text) (ss : List Text) (t : Tree) → parse s ≡ some t → total_read f (s ∷ ss) ≡ f t + total_read f ss
+read_some : (f : Tree → ℕ) (s : Text) (ss : List Text) (t : Tree) → parse s ≡ Some t → total_read f (s ∷ ss) ≡ f t + total_read f ss
 unfolding total_read
-read_some f s ss t e = ap {B = ℕ} (λ (o : Option Tree). elim o [ nothing ↦ total_read f ss | some u ↦ f u + total_read f ss ]) e
+read_some f s ss t e = ap {B = ℕ} (λ (o : Option Tree). elim o [ None ↦ total_read f ss | Some u ↦ f u + total_read f ss ]) e
 
-pub names_some : (s : Text) (ss : List Text) (t : Tree) → parse s ≡ some t → names_read (s ∷ ss) ≡ variable_names t ++ names_read ss
+pub names_some : (s : Text) (ss : List Text) (t : Tree) → parse s ≡ Some t → names_read (s ∷ ss) ≡ variable_names t ++ names_read ss
 unfolding names_read
-names_some s ss t e = ap {B = List Text} (λ (o : Option Tree). elim o [ nothing ↦ names_read ss | some u ↦ variable_names u ++ names_read ss ]) e
+names_some s ss t e = ap {B = List Text} (λ (o : Option Tree). elim o [ None ↦ names_read ss | Some u ↦ variable_names u ++ names_read ss ]) e
 
-pub pairs_names : (es : List Entry) (ps : List Pair) → read_pairs es ≡ some ps → variable_names_of_pairs ps ≡ names_read (side_texts es)
+pub pairs_names : (es : List Entry) (ps : List Pair) → read_pairs es ≡ Some ps → variable_names_of_pairs ps ≡ names_read (side_texts es)
 unfolding variable_names_of_pairs names_read side_texts
 pairs_names = pairs_read_by (λ es ps. variable_names_of_pairs ps ≡ names_read (side_texts es)) refl
     (λ e es p ps l r h. ap (λ (ns : List Text). variable_names p.0 ++ (variable_names p.1 ++ ns)) h
     ∙ sym (names_some e.0 (e.1 ∷ side_texts es) p.0 l
     ∙ ap (λ (ns : List Text). variable_names p.0 ++ ns) (names_some e.1 (side_texts es) p.1 r)))
 
-pub pairs_size : (es : List Entry) (ps : List Pair) → read_pairs es ≡ some ps → size_pairs ps ≡ total_read size (side_texts es)
+pub pairs_size : (es : List Entry) (ps : List Pair) → read_pairs es ≡ Some ps → size_pairs ps ≡ total_read size (side_texts es)
 unfolding size_pairs total_read side_texts
 pairs_size = pairs_read_by (λ es ps. size_pairs ps ≡ total_read size (side_texts es)) refl
     (λ e es p ps l r h. omega (arith, h, read_some size e.0 (e.1 ∷ side_texts es) p.0 l, read_some size e.1 (side_texts es) p.1 r))
@@ -135,9 +136,9 @@ read_append f [] ys = omega arith
 read_append f (x ∷ xs) ys = go (parse x) (read_append f xs ys)
   where
     go : (o : Option Tree) → total_read f xs ≤ total_read f (xs ++ ys)
-        → elim o [ nothing ↦ total_read f xs | some t ↦ f t + total_read f xs ] ≤ elim o [ nothing ↦ total_read f (xs ++ ys) | some t ↦ f t + total_read f (xs ++ ys) ]
-    go nothing h = h
-    go (some t) h = omega arith
+        → elim o [ None ↦ total_read f xs | Some t ↦ f t + total_read f xs ] ≤ elim o [ None ↦ total_read f (xs ++ ys) | Some t ↦ f t + total_read f (xs ++ ys) ]
+    go None h = h
+    go (Some t) h = omega arith
 
 sides_within : (f : Tree → ℕ) (sheet : Sheet) → total_read f (side_texts (sheet_pairs sheet)) ≤ total_read f (sheet_texts sheet)
 unfolding sheet_texts side_texts total_read
@@ -149,7 +150,7 @@ sides_within f (asks_cover es ms) = read_append f (side_texts es) (member_texts 
 sides_within f (asks_sound t m) = omega arith
 sides_within f (asks_complete t ms) = omega arith
 
-module _ (s : Text) (sheet : Sheet) (reads : read_sheet s ≡ some sheet) (ps : List Pair) (pairs : read_pairs (sheet_pairs sheet) ≡ some ps) where
+module _ (s : Text) (sheet : Sheet) (reads : read_sheet s ≡ Some sheet) (ps : List Pair) (pairs : read_pairs (sheet_pairs sheet) ≡ Some ps) where
   -- the variables of the pairs, and the colons of the members' keys
   pub pairs_keys_colons : length (variable_names_of_pairs ps) + total (count_of 58) (sheet_keys sheet) ≤ count_of 58 s
   pairs_keys_colons =
@@ -208,7 +209,7 @@ module _ (ns : List Text) where
   -- each of the texts that reads has its variables among the names
   abbrev pub Held : List Text → Type 0
   Held [] = Unit {0}
-  Held (s ∷ ss) = ((t : Tree) → parse s ≡ some t → Over ns t) × Held ss
+  Held (s ∷ ss) = ((t : Tree) → parse s ≡ Some t → Over ns t) × Held ss
 
   pub held_left : (xs ys : List Text) → Held (xs ++ ys) → Held xs
   held_left [] ys h = tt
@@ -219,15 +220,15 @@ module _ (ns : List Text) where
   read_held [] h = tt
   read_held (s ∷ ss) h = (λ t e. names_over t (includes_left ns (variable_names t) (names_read ss) (at_tree t e)), read_held ss (others (parse s) h))
     where
-      at_tree : (t : Tree) → parse s ≡ some t → Includes ns (variable_names t ++ names_read ss)
+      at_tree : (t : Tree) → parse s ≡ Some t → Includes ns (variable_names t ++ names_read ss)
       at_tree t e = subst (Includes ns) (names_some s ss t e) h
 
-      others : (o : Option Tree) → Includes ns (elim o [ nothing ↦ names_read ss | some u ↦ variable_names u ++ names_read ss ]) → Includes ns (names_read ss)
-      others nothing k = k
-      others (some u) k = includes_right ns (variable_names u) (names_read ss) k
+      others : (o : Option Tree) → Includes ns (elim o [ None ↦ names_read ss | Some u ↦ variable_names u ++ names_read ss ]) → Includes ns (names_read ss)
+      others None k = k
+      others (Some u) k = includes_right ns (variable_names u) (names_read ss) k
 
   -- the sides
-  pub pairs_over : (es : List Entry) (ps : List Pair) → read_pairs es ≡ some ps → Held (side_texts es) → OverPairs ns ps
+  pub pairs_over : (es : List Entry) (ps : List Pair) → read_pairs es ≡ Some ps → Held (side_texts es) → OverPairs ns ps
   unfolding side_texts
   pairs_over = pairs_read_by (λ es ps. Held (side_texts es) → OverPairs ns ps) (λ h. tt)
       (λ e es p ps l r ih h. (h.0 p.0 l, h.1.0 p.1 r, ih h.1.1))
@@ -243,7 +244,7 @@ module _ (ns : List Text) where
   sides_held (asks_complete t ms) h = tt
 
 -- as many names as there are colons, at most, hold every variable that is read from the sheet
-pub sheet_names : (s : Text) (sheet : Sheet) → read_sheet s ≡ some sheet
+pub sheet_names : (s : Text) (sheet : Sheet) → read_sheet s ≡ Some sheet
     → (ns : List Text) × (length ns ≤ count_of 58 s) × Held ns (sheet_texts sheet)
 sheet_names s sheet h =
     let ns = names_read (sheet_texts sheet) in

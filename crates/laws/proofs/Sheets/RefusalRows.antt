@@ -9,7 +9,8 @@ use lib.ListN.{get_or, length-replicate, get_or-replicate}
 use Rattle.rules.specs.Bytes.{Text}
 use Rattle.rules.specs.Text.{bytes}
 use Rattle.rules.specs.Sheet.{Sheet}
-use Rattle.rules.specs.RefusalNumbers.{number_for, TooLong, LineOutOfPlace}
+use Rattle.rules.specs.declared.Refusal.TheVariants.{TooLong, LineOutOfPlace}
+use Rattle.rules.specs.RefusalNumbers.{number_for}
 use Rattle.rules.specs.Call.{refused, call}
 use Rattle.rules.specs.Refusals.{Screened, Outcome}
 use Rattle.rules.specs.SheetLines.{ended, KindLines, IsSheet}

@@ -4,7 +4,7 @@ use mathlib.Core.Path.{◌≡◌, refl, sym, subst, ap, ◌∙◌}
 use mathlib.Core.Bool.{Bool, true, false, true≢false}
 use mathlib.Core.List.{List, [], ◌∷◌, ◌++◌}
 use mathlib.Core.Logic.{◌↔◌, ◌⊎◌, inl, inr}
-use mathlib.Core.Option.{Option, some, none}
+use Rattle.std.specs.Prelude.{Option, Some, None}
 use Prim.Native.Nat.{ℕ, zero, suc, ◌+◌, ◌-◌, ◌≤◌, ◌<◌}
 use native.Mathlib.Omega.{arith}
 use lib.Dec.{leb, eqb}
@@ -15,7 +15,8 @@ use Rattle.rules.specs.Text.{within}
 use Rattle.rules.specs.Names.{all}
 use Rattle.rules.specs.Sheet.{Sheet, read_sheet, words_needed}
 use Rattle.rules.specs.Answer.{answer_of}
-use Rattle.rules.specs.RefusalNumbers.{number_for, TooLong, ForeignByte, LineOutOfPlace, UnreadableTerm, ShortWorkArea, ShortOutput}
+use Rattle.rules.specs.declared.Refusal.TheVariants.{TooLong, ForeignByte, LineOutOfPlace, UnreadableTerm, ShortWorkArea, ShortOutput}
+use Rattle.rules.specs.RefusalNumbers.{number_for}
 use Rattle.rules.specs.Call.{Reply, refused, passed, refusal_number, plain, admitted, settled, call, written, output_after, work_after}
 use Rattle.rules.specs.Refusals.{Allowed, Screened, Admitted, Outcome, too_long, foreign_byte, out_of_place, short_work, unreadable, short_output, answered, Overwritten, KeepsWork, Cleared}
 use Rattle.rules.specs.SheetLines.{IsSheet}
@@ -80,11 +81,11 @@ module _ (s : Text) (words : ℕ) where
   unfolding admitted
   refuses_2 h e = rw (true_leb (length s) 65536 h, e)
 
-  refuses_3 : Screened s → read_sheet s ≡ none → admitted s words ≡ refused (number_for LineOutOfPlace)
+  refuses_3 : Screened s → read_sheet s ≡ None → admitted s words ≡ refused (number_for LineOutOfPlace)
   unfolding admitted
   refuses_3 h e = rw (true_leb (length s) 65536 h.short, all_plain h, e)
 
-  refuses_11 : (sheet : Sheet) → Screened s → read_sheet s ≡ some sheet → words < words_needed s sheet → admitted s words ≡ refused (number_for ShortWorkArea)
+  refuses_11 : (sheet : Sheet) → Screened s → read_sheet s ≡ Some sheet → words < words_needed s sheet → admitted s words ≡ refused (number_for ShortWorkArea)
   unfolding admitted
   refuses_11 sheet h e k = rw (true_leb (length s) 65536 h.short, all_plain h, e, false_leb (words_needed s sheet) words k)
 
@@ -102,15 +103,15 @@ module _ (s : Text) (words room : ℕ) where
   unfolding call
   goes_on sheet r h e = rw (admits s words sheet h) e
 
-  refuses_4 : (sheet : Sheet) → answer_of sheet ≡ none → settled sheet room ≡ refused (number_for UnreadableTerm)
+  refuses_4 : (sheet : Sheet) → answer_of sheet ≡ None → settled sheet room ≡ refused (number_for UnreadableTerm)
   unfolding settled
   refuses_4 sheet e = rw e
 
-  refuses_12 : (sheet : Sheet) (answer : Text) → answer_of sheet ≡ some answer → room < length answer → settled sheet room ≡ refused (number_for ShortOutput)
+  refuses_12 : (sheet : Sheet) (answer : Text) → answer_of sheet ≡ Some answer → room < length answer → settled sheet room ≡ refused (number_for ShortOutput)
   unfolding settled
   refuses_12 sheet answer e h = rw (e, false_leb (length answer) room h)
 
-  answers : (sheet : Sheet) (answer : Text) → answer_of sheet ≡ some answer → length answer ≤ room → settled sheet room ≡ passed answer
+  answers : (sheet : Sheet) (answer : Text) → answer_of sheet ≡ Some answer → length answer ≤ room → settled sheet room ≡ passed answer
   unfolding settled
   answers sheet answer e h = rw (e, true_leb (length answer) room h)
 
@@ -125,34 +126,34 @@ module _ (s : Text) (words room : ℕ) where
 
   -- One of the seven cases holds
 
-  abbrev Some : Type 0
-  Some = (r : Reply Text) × Outcome s words room r
+  abbrev Settled : Type 0
+  Settled = (r : Reply Text) × Outcome s words room r
 
-  by_room : {sheet : Sheet} {answer : Text} → Admitted s words sheet → answer_of sheet ≡ some answer → (b : Bool) → leb (length answer) room ≡ b → Some
+  by_room : {sheet : Sheet} {answer : Text} → Admitted s words sheet → answer_of sheet ≡ Some answer → (b : Bool) → leb (length answer) room ≡ b → Settled
   by_room {answer = answer} h e true k = (passed answer, answered h e (leb_true (length answer) room k))
   by_room {answer = answer} h e false k = (refused (number_for ShortOutput), short_output h e (leb_false (length answer) room k))
 
-  by_answer : {sheet : Sheet} → Admitted s words sheet → (o : Option Text) → answer_of sheet ≡ o → Some
-  by_answer {sheet} h none e = (refused (number_for UnreadableTerm), unreadable h ((sheet_unread sheet).0 e))
-  by_answer h (some answer) e = by_room h e (leb (length answer) room) refl
+  by_answer : {sheet : Sheet} → Admitted s words sheet → (o : Option Text) → answer_of sheet ≡ o → Settled
+  by_answer {sheet} h None e = (refused (number_for UnreadableTerm), unreadable h ((sheet_unread sheet).0 e))
+  by_answer h (Some answer) e = by_room h e (leb (length answer) room) refl
 
-  by_words : {sheet : Sheet} → Screened s → IsSheet s sheet → (b : Bool) → leb (words_needed s sheet) words ≡ b → Some
+  by_words : {sheet : Sheet} → Screened s → IsSheet s sheet → (b : Bool) → leb (words_needed s sheet) words ≡ b → Settled
   by_words {sheet} h e true k =
       by_answer (record { screened = h; form = e; enough = leb_true (words_needed s sheet) words k }) (answer_of sheet) refl
   by_words {sheet} h e false k = (refused (number_for ShortWorkArea), short_work h e (leb_false (words_needed s sheet) words k))
 
-  by_lines : Screened s → (o : Option Sheet) → read_sheet s ≡ o → Some
-  by_lines h none e = (refused (number_for LineOutOfPlace), out_of_place h ((unread_form s).0 e))
-  by_lines h (some sheet) e = by_words h ((reads_form s sheet).0 e) (leb (words_needed s sheet) words) refl
+  by_lines : Screened s → (o : Option Sheet) → read_sheet s ≡ o → Settled
+  by_lines h None e = (refused (number_for LineOutOfPlace), out_of_place h ((unread_form s).0 e))
+  by_lines h (Some sheet) e = by_words h ((reads_form s sheet).0 e) (leb (words_needed s sheet) words) refl
 
-  by_bytes : length s ≤ 65536 → (b : Bool) → all plain s ≡ b → Some
+  by_bytes : length s ≤ 65536 → (b : Bool) → all plain s ≡ b → Settled
   by_bytes h true e =
       by_lines (record { short = h; allowed = λ p k. plain_allowed (get_or s p 0) (all_at plain s e p k) }) (read_sheet s) refl
   by_bytes h false e =
       let (p, k, f) = not_at plain s e in
       (refused (number_for ForeignByte), foreign_byte h p k (λ a. true≢false (sym (allowed_plain (get_or s p 0) a) ∙ f)))
 
-  by_length : (b : Bool) → leb (length s) 65536 ≡ b → Some
+  by_length : (b : Bool) → leb (length s) 65536 ≡ b → Settled
   by_length true e = by_bytes (leb_true (length s) 65536 e) (all plain s) refl
   by_length false e = (refused (number_for TooLong), too_long (leb_false (length s) 65536 e))
 
@@ -234,7 +235,7 @@ module _ (s : Text) (work : List ℕ) where
   unfolding work_after
   keeps n e = rw e
 
-  clears_needed : {sheet : Sheet} → Admitted s (length work) sheet → (h : Sheet) × (read_sheet s ≡ some h) × Cleared (words_needed s h) work (work_after s work)
+  clears_needed : {sheet : Sheet} → Admitted s (length work) sheet → (h : Sheet) × (read_sheet s ≡ Some h) × Cleared (words_needed s h) work (work_after s work)
   unfolding work_after
   clears_needed {sheet} a = (sheet, (reads_form s sheet).1 a.form, rw (admits s (length work) sheet a) (clears (words_needed s sheet) work a.enough))
 
@@ -254,11 +255,11 @@ module _ (s : Text) (work : List ℕ) where
 
     -- after every other call the needed words are zero
     pub needed_cleared : ¬ KeepsWork (call s (length work) room)
-        → (sheet : Sheet) × (read_sheet s ≡ some sheet) × Cleared (words_needed s sheet) work (work_after s work)
+        → (sheet : Sheet) × (read_sheet s ≡ Some sheet) × Cleared (words_needed s sheet) work (work_after s work)
     needed_cleared = go (holds s (length work) room)
       where
         go : {r : Reply Text} → Outcome s (length work) room r → ¬ KeepsWork r
-            → (sheet : Sheet) × (read_sheet s ≡ some sheet) × Cleared (words_needed s sheet) work (work_after s work)
+            → (sheet : Sheet) × (read_sheet s ≡ Some sheet) × Cleared (words_needed s sheet) work (work_after s work)
         go (too_long h) k = absurd (k (inl refl))
         go (foreign_byte h p l a) k = absurd (k (inr (inl refl)))
         go (out_of_place h e) k = absurd (k (inr (inr (inl refl))))

@@ -2,7 +2,8 @@
 use mathlib.Core.Path.{◌≡◌, refl, sym, ap}
 use mathlib.Core.List.{List, [], ◌∷◌, map}
 use mathlib.Core.Logic.{◌↔◌, ◌⊎◌, inl, inr}
-use mathlib.Core.Option.{Option, some, none as nothing, none-ne-some}
+use Rattle.std.specs.Prelude.{Option, Some, None}
+use Rattle.laws.proofs.Basics.Somes.{none_ne_some}
 use Rattle.rules.specs.Bytes.{Text}
 use Rattle.rules.specs.Maybe.{◌>>=◌, every}
 use Rattle.rules.specs.Tree.{Tree}
@@ -16,77 +17,77 @@ use Rattle.rules.specs.Refusals.{UnreadablePair, UnreadableSheet}
 
 module _ {A B : Type 0} where
   -- its first link gives nothing, or a link after it does
-  ended_at : (o : Option A) (f : A → Option B) → (o >>= f) ≡ nothing → (o ≡ nothing) ⊎ ((a : A) × (o ≡ some a) × (f a ≡ nothing))
-  ended_at nothing f h = inl refl
-  ended_at (some a) f h = inr (a, refl, h)
+  ended_at : (o : Option A) (f : A → Option B) → (o >>= f) ≡ None → (o ≡ None) ⊎ ((a : A) × (o ≡ Some a) × (f a ≡ None))
+  ended_at None f h = inl refl
+  ended_at (Some a) f h = inr (a, refl, h)
 
   -- so the first, where a value is made of what it gives
-  only_first : (o : Option A) (f : A → B) → (o >>= λ a. some (f a)) ≡ nothing → o ≡ nothing
-  only_first nothing f h = refl
-  only_first (some a) f h = absurd (none-ne-some (f a) (sym h))
+  only_first : (o : Option A) (f : A → B) → (o >>= λ a. Some (f a)) ≡ None → o ≡ None
+  only_first None f h = refl
+  only_first (Some a) f h = absurd (none_ne_some (f a) (sym h))
 
   -- a later link that gives nothing, whatever stands before
-  whatever : (o : Option A) (f : A → Option B) → ((a : A) → f a ≡ nothing) → (o >>= f) ≡ nothing
-  whatever nothing f h = refl
-  whatever (some a) f h = h a
+  whatever : (o : Option A) (f : A → Option B) → ((a : A) → f a ≡ None) → (o >>= f) ≡ None
+  whatever None f h = refl
+  whatever (Some a) f h = h a
 
-  first_ends : (o : Option A) (f : A → Option B) → o ≡ nothing → (o >>= f) ≡ nothing
+  first_ends : (o : Option A) (f : A → Option B) → o ≡ None → (o >>= f) ≡ None
   first_ends o f e = ap (λ (z : Option A). z >>= f) e
 
 -- one of two links, where a value is made of what they give
-one_of_two : {A B C : Type 0} (o : Option A) (q : Option B) (f : A → B → C) → (o >>= λ a. q >>= λ b. some (f a b)) ≡ nothing → (o ≡ nothing) ⊎ (q ≡ nothing)
-one_of_two nothing q f h = inl refl
-one_of_two (some a) q f h = inr (only_first q (f a) h)
+one_of_two : {A B C : Type 0} (o : Option A) (q : Option B) (f : A → B → C) → (o >>= λ a. q >>= λ b. Some (f a b)) ≡ None → (o ≡ None) ⊎ (q ≡ None)
+one_of_two None q f h = inl refl
+one_of_two (Some a) q f h = inr (only_first q (f a) h)
 
 -- Pairs
 
 abbrev two : Tree → Tree → Pair
 two l r = (l, r)
 
-pair_unread : (e : Entry) → read_pair e ≡ nothing → (parse e.0 ≡ nothing) ⊎ (parse e.1 ≡ nothing)
+pair_unread : (e : Entry) → read_pair e ≡ None → (parse e.0 ≡ None) ⊎ (parse e.1 ≡ None)
 unfolding read_pair
 pair_unread e h = one_of_two (parse e.0) (parse e.1) two h
 
-left_unread : (e : Entry) → parse e.0 ≡ nothing → read_pair e ≡ nothing
+left_unread : (e : Entry) → parse e.0 ≡ None → read_pair e ≡ None
 unfolding read_pair
-left_unread e h = first_ends (parse e.0) (λ l. parse e.1 >>= λ r. some (two l r)) h
+left_unread e h = first_ends (parse e.0) (λ l. parse e.1 >>= λ r. Some (two l r)) h
 
-right_unread : (e : Entry) → parse e.1 ≡ nothing → read_pair e ≡ nothing
+right_unread : (e : Entry) → parse e.1 ≡ None → read_pair e ≡ None
 unfolding read_pair
-right_unread e h = whatever (parse e.0) (λ l. parse e.1 >>= λ r. some (two l r)) (λ l. first_ends (parse e.1) (λ r. some (two l r)) h)
+right_unread e h = whatever (parse e.0) (λ l. parse e.1 >>= λ r. Some (two l r)) (λ l. first_ends (parse e.1) (λ r. Some (two l r)) h)
 
 -- the pairs after one
 abbrev then : List Entry → Pair → Option (List Pair)
-then es p = every (map read_pair es) >>= λ ps. some (p ∷ ps)
+then es p = every (map read_pair es) >>= λ ps. Some (p ∷ ps)
 
-pairs_unread : (es : List Entry) → read_pairs es ≡ nothing → UnreadablePair es
+pairs_unread : (es : List Entry) → read_pairs es ≡ None → UnreadablePair es
 unfolding read_pairs every
-pairs_unread [] h = absurd (none-ne-some [] (sym h))
+pairs_unread [] h = absurd (none_ne_some [] (sym h))
 pairs_unread (e ∷ es) h = go (ended_at (read_pair e) (then es) h) (pairs_unread es)
   where
-    sides : (parse e.0 ≡ nothing) ⊎ (parse e.1 ≡ nothing) → UnreadablePair (e ∷ es)
+    sides : (parse e.0 ≡ None) ⊎ (parse e.1 ≡ None) → UnreadablePair (e ∷ es)
     sides (inl i) = UnreadablePair.left i
     sides (inr i) = UnreadablePair.right i
 
-    go : (read_pair e ≡ nothing) ⊎ ((p : Pair) × (read_pair e ≡ some p) × (then es p ≡ nothing)) → (every (map read_pair es) ≡ nothing → UnreadablePair es)
+    go : (read_pair e ≡ None) ⊎ ((p : Pair) × (read_pair e ≡ Some p) × (then es p ≡ None)) → (every (map read_pair es) ≡ None → UnreadablePair es)
         → UnreadablePair (e ∷ es)
     go (inl i) ih = sides (pair_unread e i)
     go (inr (p, i, j)) ih = UnreadablePair.later (ih (only_first (every (map read_pair es)) (λ ps. p ∷ ps) j))
 
-unread_pairs : {es : List Entry} → UnreadablePair es → read_pairs es ≡ nothing
+unread_pairs : {es : List Entry} → UnreadablePair es → read_pairs es ≡ None
 unfolding read_pairs every
 unread_pairs (UnreadablePair.left {l} {r} {es} h) = first_ends (read_pair (l, r)) (then es) (left_unread (l, r) h)
 unread_pairs (UnreadablePair.right {l} {r} {es} h) = first_ends (read_pair (l, r)) (then es) (right_unread (l, r) h)
 unread_pairs (UnreadablePair.later {e} {es} h) =
-    whatever (read_pair e) (then es) (λ p. first_ends (every (map read_pair es)) (λ ps. some (p ∷ ps)) (unread_pairs h))
+    whatever (read_pair e) (then es) (λ p. first_ends (every (map read_pair es)) (λ ps. Some (p ∷ ps)) (unread_pairs h))
 
 -- Sheets
 
-no_answer : (sheet : Sheet) → answer_of sheet ≡ nothing → UnreadableSheet sheet
+no_answer : (sheet : Sheet) → answer_of sheet ≡ None → UnreadableSheet sheet
 unfolding answer_of
 no_answer (asks_equal l r) h = go (one_of_two (canonical_text l) (canonical_text r) _ h)
   where
-    go : (canonical_text l ≡ nothing) ⊎ (canonical_text r ≡ nothing) → UnreadableSheet (asks_equal l r)
+    go : (canonical_text l ≡ None) ⊎ (canonical_text r ≡ None) → UnreadableSheet (asks_equal l r)
     go (inl i) = UnreadableSheet.equal_left i
     go (inr i) = UnreadableSheet.equal_right i
 no_answer (asks_unify k es) h = UnreadableSheet.unify_pair (pairs_unread es (only_first (read_pairs es) _ h))
@@ -96,7 +97,7 @@ no_answer (asks_cover es ms) h = UnreadableSheet.cover_pair (pairs_unread es (on
 no_answer (asks_sound t m) h = UnreadableSheet.sound_term (only_first (parse t) _ h)
 no_answer (asks_complete t ms) h = UnreadableSheet.complete_term (only_first (parse t) _ h)
 
-none_answered : {sheet : Sheet} → UnreadableSheet sheet → answer_of sheet ≡ nothing
+none_answered : {sheet : Sheet} → UnreadableSheet sheet → answer_of sheet ≡ None
 unfolding answer_of
 none_answered (UnreadableSheet.equal_left {l} {r} h) = first_ends (canonical_text l) _ h
 none_answered (UnreadableSheet.equal_right {l} {r} h) = whatever (canonical_text l) _ (λ a. first_ends (canonical_text r) _ h)
@@ -107,25 +108,25 @@ none_answered (UnreadableSheet.cover_pair {es} {ms} h) = first_ends (read_pairs 
 none_answered (UnreadableSheet.sound_term {t} {m} h) = first_ends (parse t) _ h
 none_answered (UnreadableSheet.complete_term {t} {ms} h) = first_ends (parse t) _ h
 
-pub sheet_unread : (sheet : Sheet) → (answer_of sheet ≡ nothing) ↔ UnreadableSheet sheet
+pub sheet_unread : (sheet : Sheet) → (answer_of sheet ≡ None) ↔ UnreadableSheet sheet
 sheet_unread sheet = (no_answer sheet, none_answered)
 
 -- so the texts of members give none
 
-pub cover_unread : (es : List Entry) (ms : List Member) → (answer_of (asks_cover es ms) ≡ nothing) ↔ UnreadablePair es
+pub cover_unread : (es : List Entry) (ms : List Member) → (answer_of (asks_cover es ms) ≡ None) ↔ UnreadablePair es
 cover_unread es ms = (λ e. go ((sheet_unread (asks_cover es ms)).0 e), λ h. none_answered (UnreadableSheet.cover_pair h))
   where
     go : UnreadableSheet (asks_cover es ms) → UnreadablePair es
     go (UnreadableSheet.cover_pair h) = h
 
-pub sound_unread : (t : Text) (m : Member) → (answer_of (asks_sound t m) ≡ nothing) ↔ (parse t ≡ nothing)
+pub sound_unread : (t : Text) (m : Member) → (answer_of (asks_sound t m) ≡ None) ↔ (parse t ≡ None)
 sound_unread t m = (λ e. go ((sheet_unread (asks_sound t m)).0 e), λ h. none_answered (UnreadableSheet.sound_term h))
   where
-    go : UnreadableSheet (asks_sound t m) → parse t ≡ nothing
+    go : UnreadableSheet (asks_sound t m) → parse t ≡ None
     go (UnreadableSheet.sound_term h) = h
 
-pub complete_unread : (t : Text) (ms : List Member) → (answer_of (asks_complete t ms) ≡ nothing) ↔ (parse t ≡ nothing)
+pub complete_unread : (t : Text) (ms : List Member) → (answer_of (asks_complete t ms) ≡ None) ↔ (parse t ≡ None)
 complete_unread t ms = (λ e. go ((sheet_unread (asks_complete t ms)).0 e), λ h. none_answered (UnreadableSheet.complete_term h))
   where
-    go : UnreadableSheet (asks_complete t ms) → parse t ≡ nothing
+    go : UnreadableSheet (asks_complete t ms) → parse t ≡ None
     go (UnreadableSheet.complete_term h) = h

@@ -4,14 +4,15 @@ use mathlib.Core.Path.{◌≡◌, refl, sym, subst, ◌∙◌}
 use mathlib.Core.Bool.{Bool, true, false}
 use mathlib.Core.List.{List, [], ◌∷◌}
 use mathlib.Core.Logic.{◌↔◌}
-use mathlib.Core.Option.{some}
+use Rattle.std.specs.Prelude.{Some}
 use Prim.Native.Nat.{ℕ}
 use Rattle.rules.specs.Bytes.{Text, same}
 use Rattle.rules.specs.Names.{variable_token}
 use Rattle.rules.specs.Tree.{Tree}
 use Rattle.rules.specs.Substitution.{Substitution, substitute, Binding, Pair, pick, lookup, instantiate, instantiate_pairs}
 use Rattle.rules.specs.Equality.{Ac, reflexive, symmetric, transitive}
-use Rattle.rules.specs.Sorts.{Sort, variable_sort, sorted}
+use Rattle.rules.specs.declared.Sort.{Sort}
+use Rattle.rules.specs.Sorts.{variable_sort, sorted}
 use Rattle.rules.specs.Tidy.{Arity, Tidy, TidyPairs}
 use Rattle.rules.specs.Meaning.{WellSorted, Unifier, Free}
 pub use Rattle.rules.specs.Derivation.{GoodBinding, GoodBindings}
@@ -33,12 +34,12 @@ at_lookup P x v bs p q y = go (same x y) refl
 pub good_bindings : (arity : Text → ℕ) (bs : List Binding) → GoodBindings arity bs → WellSorted arity (lookup bs)
 unfolding lookup
 good_bindings arity [] g x s e n = (sorted_variable s s x e ∙ below_self s, (s, e, n))
-good_bindings arity (b ∷ bs) g x s e n = at_lookup (λ y t. variable_sort y ≡ some s → variable_token y ≡ true → (sorted s t ≡ true) × Tidy arity t)
+good_bindings arity (b ∷ bs) g x s e n = at_lookup (λ y t. variable_sort y ≡ Some s → variable_token y ≡ true → (sorted s t ≡ true) × Tidy arity t)
     b.0 b.1 bs (λ q m. here q) (λ y d q m. good_bindings arity bs g.1 y s q m) x e n
   where
-    here : variable_sort b.0 ≡ some s → (sorted s b.1 ≡ true) × Tidy arity b.1
+    here : variable_sort b.0 ≡ Some s → (sorted s b.1 ≡ true) × Tidy arity b.1
     here q =
-        let p : some g.0.key_sort ≡ some s = sym g.0.key_has ∙ q in
+        let p : Some g.0.key_sort ≡ Some s = sym g.0.key_has ∙ q in
         let r : g.0.key_sort ≡ s = cc in
         (subst (λ (z : Sort). sorted z b.1 ≡ true) r g.0.value_has, g.0.tidy)
 

@@ -3,7 +3,7 @@ use mathlib.Core.Path.{◌≡◌, refl, ap, sym, subst, ◌∙◌}
 use mathlib.Core.Bool.{Bool, true, false}
 use mathlib.Core.List.{List, [], ◌∷◌}
 use mathlib.Core.Logic.{◌↔◌}
-use mathlib.Core.Option.{Option, some, none as nothing}
+use Rattle.std.specs.Prelude.{Option, Some, None}
 use Prim.Native.Nat.{ℕ, ◌+◌}
 use native.Mathlib.Omega.{arith}
 use Rattle.rules.specs.Bytes.{Text}
@@ -46,16 +46,16 @@ module _ (arity : Text → ℕ) (counts : Arity arity) (test : Tree → Tree →
     (passed : (σ : Substitution) → WellSorted arity σ → (t u : Tree) → Tidy arity t → Tidy arity u → test t u ≡ true → Ac (substitute σ t) (substitute (other σ) u)) where
   -- what `remove` leaves: a list with the others, lighter by the tree; and what the test says of the tree
   abbrev Removed : Tree → List Tree → Option (List Tree) → Type 1
-  Removed t us nothing = Unit {1}
-  Removed t us (some vs) =
+  Removed t us None = Unit {1}
+  Removed t us (Some vs) =
       ((P : Tree → Type 0) → AllOf P us → AllOf P vs)
       × ((σ : Substitution) → WellSorted arity σ → (w : Text) → weigh (other σ) w us ≡ weight w (substitute σ t) + weigh (other σ) w vs)
       × ((P : Tree → Type 0) → ((a b : Tree) → test a b ≡ true → P a) → P t)
 
   removed_keep : (t u : Tree) (us : List Tree) (r : Option (List Tree)) → Removed t us r → Removed t (u ∷ us) (keep u r)
   unfolding weigh
-  removed_keep t u us nothing h = tt
-  removed_keep t u us (some vs) h = (λ P d. (d.0, h.0 P d.1), (λ σ g w. let k = h.1 σ g w in omega arith), h.2)
+  removed_keep t u us None h = tt
+  removed_keep t u us (Some vs) h = (λ P d. (d.0, h.0 P d.1), (λ σ g w. let k = h.1 σ g w in omega arith), h.2)
 
   removed : (t : Tree) (us : List Tree) → Tidy arity t → AllOf (Tidy arity) us → Removed t us (remove test t us)
   unfolding remove weigh
@@ -80,13 +80,13 @@ module _ (arity : Text → ℕ) (counts : Arity arity) (test : Tree → Tree →
     where
       go : (r : Option (List Tree)) → Removed t us r → ((vs : List Tree) → AllOf (Tidy arity) vs → Cancelled ts vs (cancel test ts vs))
           → Cancelled (t ∷ ts) us (cancel_at r t (λ vs. cancel test ts vs) us)
-      go nothing h k = let c = k us du in record {
+      go None h k = let c = k us du in record {
         lefts = λ P p. (p.0, c.lefts P p.1);
         rights = c.rights;
         balance = λ σ g w. let e = c.balance σ g w in omega arith;
         came = λ P q p. (p.0, c.came P q p.1);
       }
-      go (some vs) h k = let c = k vs (h.0 (Tidy arity) du) in record {
+      go (Some vs) h k = let c = k vs (h.0 (Tidy arity) du) in record {
         lefts = λ P p. c.lefts P p.1;
         rights = λ P p. c.rights P (h.0 P p);
         balance = λ σ g w. let e = c.balance σ g w in let l = h.1 σ g w in omega arith;

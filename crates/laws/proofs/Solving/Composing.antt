@@ -3,7 +3,7 @@ use mathlib.Core.Path.{◌≡◌, refl, ap, sym, subst}
 use mathlib.Core.Bool.{Bool, true, false}
 use mathlib.Core.List.{List, [], ◌∷◌}
 use mathlib.Core.Logic.{◌⊎◌, inl, inr}
-use mathlib.Core.Option.{Option, some, none as nothing}
+use Rattle.std.specs.Prelude.{Option, Some, None}
 use Prim.Native.Nat.{ℕ}
 use lib.Dec.{leb}
 use Rattle.rules.specs.Bytes.{Text, same}
@@ -81,8 +81,8 @@ module _ (arity : Text → ℕ) (counts : Arity arity) where
     general : (σ : Substitution) → Satisfies σ es → (x : Text) → Ac (σ x) (substitute σ (lookup bs x))
 
   abbrev ComposeMeans : List Binding → Option (List Binding) → Type 0
-  ComposeMeans es nothing = Unit {0}
-  ComposeMeans es (some bs) = Composed es bs
+  ComposeMeans es None = Unit {0}
+  ComposeMeans es (Some bs) = Composed es bs
 
   extend : (x : Text) (v : Tree) (es bs : List Binding) → GoodBinding arity x v → Free x v → FreeBindings x es → Composed es bs
       → Composed ((x, v) ∷ es) ((x, instantiate bs v) ∷ bs)
@@ -115,8 +115,8 @@ module _ (arity : Text → ℕ) (counts : Arity arity) where
 
   over_means : (x : Text) (v : Tree) (es : List Binding) (o : Option (List Binding)) → GoodBinding arity x v → Free x v → FreeBindings x es → ComposeMeans es o
       → ComposeMeans ((x, v) ∷ es) (compose_over x v o)
-  over_means x v es nothing g f fe c = tt
-  over_means x v es (some bs) g f fe c = go (leb (size (instantiate bs v)) 4096)
+  over_means x v es None g f fe c = tt
+  over_means x v es (Some bs) g f fe c = go (leb (size (instantiate bs v)) 4096)
     where
       go : (b : Bool) → ComposeMeans ((x, v) ∷ es) (extended b x (instantiate bs v) bs)
       go true = extend x v es bs g f fe c
@@ -128,8 +128,8 @@ module _ (arity : Text → ℕ) (counts : Arity arity) where
   compose_means (b ∷ es) t = over_means b.0 b.1 es (compose es) t.0 t.1 t.2 (compose_means es t.3)
 
   composed_means : (ps : List Pair) (es : List Binding) (o : Option (List Binding)) → Runs arity ps es → ComposeMeans es o → UnifyMeans arity ps (composed o)
-  composed_means ps es nothing m c = tt
-  composed_means ps es (some bs) m c =
+  composed_means ps es None m c = tt
+  composed_means ps es (Some bs) m c =
       let w = good_bindings arity bs c.good in
       record {
         well_sorted = w;

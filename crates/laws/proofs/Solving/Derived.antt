@@ -3,7 +3,7 @@ use mathlib.Core.Path.{◌≡◌, refl, ap, ap₂, sym, subst, ◌∙◌}
 use mathlib.Core.Bool.{Bool, true, false}
 use mathlib.Core.List.{List, [], ◌∷◌}
 use mathlib.Core.Logic.{◌↔◌}
-use mathlib.Core.Option.{Option, some, none as nothing}
+use Rattle.std.specs.Prelude.{Option, Some, None}
 use Prim.Native.Nat.{ℕ, zero, suc, ◌+◌, ◌<◌}
 use native.Mathlib.Omega.{arith}
 use lib.Dec.{leb}
@@ -146,8 +146,8 @@ put_over x u ds v = ap (λ (σ : Substitution). substitute σ v) at_once ∙ sym
 
 -- what composing gives
 abbrev Composed : List Binding → Option (List Binding) → Type 0
-Composed bs nothing = Outgrows bs
-Composed bs (some cs) = Composes bs cs
+Composed bs None = Outgrows bs
+Composed bs (Some cs) = Composes bs cs
 
 composes_put : {bs cs : List Binding} → Composes bs cs → (v : Tree) → instantiate cs v ≡ put_in bs v
 unfolding put_in lookup
@@ -161,34 +161,34 @@ composing [] = nil
 composing (b ∷ bs) = over (compose bs) (composing bs)
   where
     over : (o : Option (List Binding)) → Composed bs o → Composed (b ∷ bs) (compose_over b.0 b.1 o)
-    over nothing m = later m
-    over (some cs) m = fit (leb (size (instantiate cs b.1)) 4096) refl
+    over None m = later m
+    over (Some cs) m = fit (leb (size (instantiate cs b.1)) 4096) refl
       where
         fit : (c : Bool) → leb (size (instantiate cs b.1)) 4096 ≡ c → Composed (b ∷ bs) (extended c b.0 (instantiate cs b.1) cs)
         fit true e = next (sym (composes_put m b.1)) (leb_true _ _ e) m
         fit false e = here (subst (λ (t : Tree). 4096 < size t) (composes_put m b.1) (leb_false _ _ e))
 
-composes_only : {bs cs : List Binding} → Composes bs cs → compose bs ≡ some cs
+composes_only : {bs cs : List Binding} → Composes bs cs → compose bs ≡ Some cs
 unfolding compose
 composes_only nil = refl
 composes_only (next {x = x} {v = v} {w = w} {bs = bs} {cs = cs} e h c) =
     ap (compose_over x v) (composes_only c) ∙ ap (λ (t : Tree). extended (leb (size t) 4096) x t cs) (composes_put c v ∙ e)
     ∙ ap (λ (b : Bool). extended b x w cs) (true_leb (size w) 4096 h)
 
-outgrows_only : {bs : List Binding} → Outgrows bs → compose bs ≡ nothing
+outgrows_only : {bs : List Binding} → Outgrows bs → compose bs ≡ None
 unfolding compose
 outgrows_only (later {b = b} o) = ap (compose_over b.0 b.1) (outgrows_only o)
 outgrows_only (here {x = x} {v = v} {bs = bs} h) = go (compose bs) (composing bs)
   where
-    go : (o : Option (List Binding)) → Composed bs o → compose_over x v o ≡ nothing
-    go nothing m = refl
-    go (some cs) m =
+    go : (o : Option (List Binding)) → Composed bs o → compose_over x v o ≡ None
+    go None m = refl
+    go (Some cs) m =
         ap (λ (t : Tree). extended (leb (size t) 4096) x t cs) (composes_put m v) ∙ ap (λ (b : Bool). extended b x (put_in bs v) cs) (false_leb (size (put_in bs v)) 4096 h)
 
-pub compose_composes : (bs cs : List Binding) → (compose bs ≡ some cs) ↔ Composes bs cs
+pub compose_composes : (bs cs : List Binding) → (compose bs ≡ Some cs) ↔ Composes bs cs
 compose_composes bs cs = (λ e. subst (Composed bs) e (composing bs), composes_only)
 
-pub compose_outgrows : (bs : List Binding) → (compose bs ≡ nothing) ↔ Outgrows bs
+pub compose_outgrows : (bs : List Binding) → (compose bs ≡ None) ↔ Outgrows bs
 compose_outgrows bs = (λ e. subst (Composed bs) e (composing bs), outgrows_only)
 
 -- The answer of unify
@@ -203,8 +203,8 @@ module _ (fuel : ℕ) (ps : List Pair) (b : BuiltPairs ps) where
   concluded emptied bs n d = go (compose bs) (composing bs)
     where
       go : (o : Option (List Binding)) → Composed bs o → UnifyDerives fuel ps (composed o) n
-      go nothing m = UnifyDerives.outgrown d m
-      go (some cs) m = UnifyDerives.composed d m
+      go None m = UnifyDerives.outgrown d m
+      go (Some cs) m = UnifyDerives.composed d m
   concluded pair_fails bs n d = UnifyDerives.by_failing d
   concluded pair_unknown bs n d = UnifyDerives.by_unknown d
   concluded fuel_used_up bs n d = UnifyDerives.by_fuel d

@@ -1,7 +1,7 @@
 -- What fuel and the count of pairs taken mean, for unify and for match.
 use mathlib.Core.Path.{◌≡◌, refl, ap, ◌∙◌}
 use mathlib.Core.List.{List, [], ◌∷◌}
-use mathlib.Core.Option.{Option, some, none as nothing}
+use Rattle.std.specs.Prelude.{Option, Some, None}
 use Prim.Native.Nat.{ℕ, zero, suc, ◌+◌, ◌≤◌, ◌<◌}
 use native.Mathlib.Omega.{arith}
 use Rattle.rules.specs.Bytes.{Text}
@@ -104,8 +104,8 @@ finish_decides : (v : Verdict) (n : ℕ) → Decided (finish v) → Decided v ×
 finish_decides (solved bs) n d = (tt, go (compose bs) d)
   where
     go : (o : Option (List Binding)) → Decided (composed o) → needed (composed o) n ≡ suc n
-    go nothing d' = absurd d'
-    go (some cs) d' = refl
+    go None d' = absurd d'
+    go (Some cs) d' = refl
 finish_decides failed n d = (tt, refl)
 finish_decides unsupported n d = (d, refl)
 
@@ -113,8 +113,8 @@ finish_needs : (v : Verdict) (n : ℕ) → needed (finish v) n ≤ needed v n
 finish_needs (solved bs) n = go (compose bs)
   where
     go : (o : Option (List Binding)) → needed (composed o) n ≤ suc n
-    go nothing = omega arith
-    go (some cs) = omega arith
+    go None = omega arith
+    go (Some cs) = omega arith
 finish_needs failed n = omega arith
 finish_needs unsupported n = omega arith
 

@@ -3,14 +3,15 @@
 use mathlib.Core.Path.{◌≡◌, refl, sym}
 use mathlib.Core.Bool.{Bool, true, false}
 use mathlib.Core.List.{List, [], ◌∷◌}
-use mathlib.Core.Option.{Option, some, none as nothing}
+use Rattle.std.specs.Prelude.{Option, Some, None}
 use Prim.Native.Nat.{◌≤◌}
 use lib.Dec.{leb}
 use Rattle.rules.specs.Bytes.{Text, same}
 use Rattle.rules.specs.Tree.{Tree, variable, atom, apply, Trees, none, more, head, children, same_tree, occurs, tamtplus, plus}
 use Rattle.rules.specs.Substitution.{Binding, Pair, instantiate_pairs, size_pairs}
 use Rattle.rules.specs.Sums.{summands, summands_of, rebuild, equivalent}
-use Rattle.rules.specs.Sorts.{Sort, variable_sort, sorted, refinable, sort_refuted}
+use Rattle.rules.specs.declared.Sort.{Sort}
+use Rattle.rules.specs.Sorts.{variable_sort, sorted, refinable, sort_refuted}
 use Rattle.rules.specs.Solving.{Step, goes_on, bind, fails, unknown, Rest, emptied, mismatch, stuck, equation, keep, remove_at, remove, cancel_at, cancel, remainder, cancel_sums, fits, bind_into, unless_refinable, swap_at, swap_for, swap_key, sort_check, occurs_check, eliminate_at, eliminate, push_children, if_refuted, sum_step, decompose_at, decompose, against, differ, step_at, step}
 use Rattle.rules.specs.Matching.{Move, onward, clash, beyond, bound, agree, bind_new, sort_new, match_key, match_rest, ground_eq, match_at, match_roots, move}
 use Rattle.laws.proofs.Basics.Tests.{leb_true, differ_of_ne, ne_of_differ}
@@ -59,8 +60,8 @@ module _ (P : Tree → Type 0) (k : Kept P) where
   children_keep (apply f ts) h = k.parts f ts h
 
 abbrev pub AllMaybe : (Tree → Type 0) → Option (List Tree) → Type 0
-AllMaybe P nothing = Unit {0}
-AllMaybe P (some ts) = AllOf P ts
+AllMaybe P None = Unit {0}
+AllMaybe P (Some ts) = AllOf P ts
 
 pub remove_keep : (P : Tree → Type 0) (test : Tree → Tree → Bool) (t : Tree) (us : List Tree) → AllOf P us → AllMaybe P (remove test t us)
 unfolding remove
@@ -68,8 +69,8 @@ remove_keep P test t [] h = tt
 remove_keep P test t (u ∷ us) h = go (test t u) (remove test t us) (remove_keep P test t us h.1)
   where
     kept : (o : Option (List Tree)) → AllMaybe P o → AllMaybe P (keep u o)
-    kept nothing m = tt
-    kept (some vs) m = (h.0, m)
+    kept None m = tt
+    kept (Some vs) m = (h.0, m)
 
     go : (c : Bool) (o : Option (List Tree)) → AllMaybe P o → AllMaybe P (remove_at c u us o)
     go true o m = h.1
@@ -84,8 +85,8 @@ module _ (P Q : Tree → Type 0) where
     where
       go : (o : Option (List Tree)) → AllMaybe Q o → ((vs : List Tree) → AllOf Q vs → AllOf P (cancel test ts vs).0 × AllOf Q (cancel test ts vs).1)
           → AllOf P (cancel_at o t (λ vs. cancel test ts vs) us).0 × AllOf Q (cancel_at o t (λ vs. cancel test ts vs) us).1
-      go nothing m r = let c = r us q in ((p.0, c.0), c.1)
-      go (some vs) m r = r vs m
+      go None m r = let c = r us q in ((p.0, c.0), c.1)
+      go (Some vs) m r = r vs m
 
   abbrev KeptRest : Rest → Type 0
   KeptRest emptied = Unit {0}
@@ -165,8 +166,8 @@ module _ (P : Tree → Type 0) (k : Kept P) (ps : List Pair) (waiting : Sides P 
       at false = unless_keep (refinable s (variable y))
 
       for : (o : Option Sort) → KeptStep P ps (swap_for o s x y ps)
-      for nothing = unless_keep (refinable s (variable y))
-      for (some r) = at (sorted r (variable x))
+      for None = unless_keep (refinable s (variable y))
+      for (Some r) = at (sorted r (variable x))
   swap_keep s x (atom c d) p q e = unless_keep (refinable s (atom c d))
   swap_keep s x (apply f ts) p q e = unless_keep (refinable s (apply f ts))
 
@@ -183,8 +184,8 @@ module _ (P : Tree → Type 0) (k : Kept P) (ps : List Pair) (waiting : Sides P 
       check false s e = sort (sorted s v) s e
 
       go : (o : Option Sort) → KeptStep P ps (eliminate_at o x v ps)
-      go nothing = tt
-      go (some s) = check (occurs x v) s refl
+      go None = tt
+      go (Some s) = check (occurs x v) s refl
 
   decompose_keep : (l r : Tree) → P l → P r → KeptStep P ps (decompose l r ps)
   unfolding decompose
@@ -228,7 +229,7 @@ module _ (P : Tree → Type 0) (k : Kept P) (ps : List Pair) (waiting : Sides P 
 -- the bindings as they were, or with a new variable in front
 pub data Extends (P Q : Tree → Type 0) (bs : List Binding) : List Binding → Type 0 where
   unchanged : Extends P Q bs bs
-  added : {x : Text} {u : Tree} → P (variable x) → Q u → bound x bs ≡ nothing → Extends P Q bs ((x, u) ∷ bs)
+  added : {x : Text} {u : Tree} → P (variable x) → Q u → bound x bs ≡ None → Extends P Q bs ((x, u) ∷ bs)
 
 abbrev pub KeptMove : (Tree → Type 0) → (Tree → Type 0) → List Binding → Move → Type 0
 KeptMove P Q bs (onward qs cs) = Sides P Q qs × Extends P Q bs cs
@@ -237,20 +238,20 @@ KeptMove P Q bs beyond = Unit {0}
 
 module _ (P Q : Tree → Type 0) (kp : Kept P) (kq : Kept Q) (ps : List Pair) (waiting : Sides P Q ps) (bs : List Binding) where
   key_keep : (x : Text) (u : Tree) → P (variable x) → Q u → (o : Option Tree) → bound x bs ≡ o → KeptMove P Q bs (match_key o x u ps bs)
-  key_keep x u p q (some v) e = go (equivalent v u)
+  key_keep x u p q (Some v) e = go (equivalent v u)
     where
       go : (c : Bool) → KeptMove P Q bs (agree c ps bs)
       go true = (waiting, unchanged)
       go false = tt
-  key_keep x u p q nothing e = for (variable_sort x)
+  key_keep x u p q None e = for (variable_sort x)
     where
       new : (c : Bool) → KeptMove P Q bs (bind_new c x u ps bs)
       new true = (waiting, added p q e)
       new false = tt
 
       for : (o : Option Sort) → KeptMove P Q bs (sort_new o x u ps bs)
-      for nothing = tt
-      for (some r) = new (sorted r u)
+      for None = tt
+      for (Some r) = new (sorted r u)
 
   roots_keep : (t u : Tree) → P t → Q u → KeptMove P Q bs (match_roots t u ps bs)
   unfolding match_roots

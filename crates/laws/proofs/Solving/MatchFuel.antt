@@ -4,13 +4,14 @@ use native.Mathlib.Omega.{arith}
 use mathlib.Core.Path.{◌≡◌, refl, sym, ap, subst}
 use mathlib.Core.Bool.{Bool, true, false, false≢true}
 use mathlib.Core.List.{List, [], ◌∷◌}
-use mathlib.Core.Option.{Option, some, none as nothing}
+use Rattle.std.specs.Prelude.{Option, Some, None}
 use lib.Dec.{eqb}
 use Rattle.rules.specs.Bytes.{Text, same}
 use Rattle.rules.specs.Tree.{Tree, variable, atom, apply, Trees, none, more, head, children, size, sizes, tamtplus}
 use Rattle.rules.specs.Substitution.{Binding, Pair}
 use Rattle.rules.specs.Sums.{unless_sum, summands, summands_of, equivalent}
-use Rattle.rules.specs.Sorts.{Sort, variable_sort, sorted}
+use Rattle.rules.specs.declared.Sort.{Sort}
+use Rattle.rules.specs.Sorts.{variable_sort, sorted}
 use Rattle.rules.specs.Solving.{Answer, Rest, emptied, mismatch, stuck, equation, cancel, remainder, cancel_sums, push_children}
 use Rattle.rules.specs.Matching.{Move, onward, clash, beyond, bound, agree, bind_new, sort_new, match_key, match_rest, ground_eq, match_at, match_roots, move, moved, matching, matcher}
 use Rattle.laws.specs.Memory.{pattern_nodes}
@@ -75,20 +76,20 @@ Fewer n clash = Unit {0}
 Fewer n beyond = Unit {0}
 
 key_fewer : (x : Text) (u : Tree) (ps : List Pair) (bs : List Binding) (o : Option Tree) → Fewer (1 + pattern_nodes ps) (match_key o x u ps bs)
-key_fewer x u ps bs (some v) = go (equivalent v u)
+key_fewer x u ps bs (Some v) = go (equivalent v u)
   where
     go : (c : Bool) → Fewer (1 + pattern_nodes ps) (agree c ps bs)
     go true = omega arith
     go false = tt
-key_fewer x u ps bs nothing = for (variable_sort x)
+key_fewer x u ps bs None = for (variable_sort x)
   where
     new : (c : Bool) → Fewer (1 + pattern_nodes ps) (bind_new c x u ps bs)
     new true = omega arith
     new false = tt
 
     for : (o : Option Sort) → Fewer (1 + pattern_nodes ps) (sort_new o x u ps bs)
-    for nothing = tt
-    for (some s) = new (sorted s u)
+    for None = tt
+    for (Some s) = new (sorted s u)
 
 roots_fewer : (t u : Tree) (ps : List Pair) (bs : List Binding) → (same (head t) tamtplus ≡ true → AllOf (Upto (sizes (children t))) (summands t))
     → Fewer (size t + pattern_nodes ps) (match_roots t u ps bs)

@@ -2,13 +2,14 @@
 use mathlib.Core.Path.{◌≡◌, refl, ap, ap₂, sym, subst, ◌∙◌}
 use mathlib.Core.Bool.{Bool, true, false, ◌&&◌}
 use mathlib.Core.List.{List, [], ◌∷◌}
-use mathlib.Core.Option.{Option, some, none as nothing}
+use Rattle.std.specs.Prelude.{Option, Some, None}
 use Rattle.rules.specs.Bytes.{Text, same}
 use Rattle.rules.specs.Names.{variable_token}
 use Rattle.rules.specs.Tree.{Tree, variable, atom, apply, Trees, head, children, ground, tamtplus}
 use Rattle.rules.specs.Substitution.{Binding, Pair}
 use Rattle.rules.specs.Sums.{summands, equivalent}
-use Rattle.rules.specs.Sorts.{Sort, variable_sort, sorted}
+use Rattle.rules.specs.declared.Sort.{Sort}
+use Rattle.rules.specs.Sorts.{variable_sort, sorted}
 use Rattle.rules.specs.Solving.{Rest, emptied, mismatch, stuck, equation, remove_at, remove, cancel_at, cancel, remainder, cancel_sums, push_children}
 use Rattle.rules.specs.Matching.{or_else, bound, Move, onward, clash, beyond, agree, bind_new, sort_new, match_key, match_rest, ground_eq, match_at, match_roots, move}
 use Rattle.rules.specs.Tidy.{Built, BuiltPairs, BuiltBindings}
@@ -46,8 +47,8 @@ subject_children (of_application a) = applied_children a
 module _ (x : Text) where
   -- what a search of the bindings for x says
   abbrev Found : List Binding → Option Tree → Type 0
-  Found bs nothing = NoKey x bs
-  Found bs (some v) = Bound x v bs
+  Found bs None = NoKey x bs
+  Found bs (Some v) = Bound x v bs
 
   found : (bs : List Binding) → Found bs (bound x bs)
   unfolding bound
@@ -56,15 +57,15 @@ module _ (x : Text) where
     where
       go : (c : Bool) → same b.0 x ≡ c → (o : Option Tree) → Found bs o → Found (b ∷ bs) (or_else c b.1 o)
       go true e o f = subst (λ (z : Text). Bound x b.1 ((z, b.1) ∷ bs)) (sym (same_eq b.0 x e)) newest
-      go false e nothing f = (ne_of_differ e, f)
-      go false e (some v) f = older (ne_of_differ e) f
+      go false e None f = (ne_of_differ e, f)
+      go false e (Some v) f = older (ne_of_differ e) f
 
-  no_key : (bs : List Binding) → NoKey x bs → bound x bs ≡ nothing
+  no_key : (bs : List Binding) → NoKey x bs → bound x bs ≡ None
   unfolding bound
   no_key [] h = refl
   no_key (b ∷ bs) h = ap (λ (c : Bool). or_else c b.1 (bound x bs)) (differ_of_ne h.0) ∙ no_key bs h.1
 
-bound_only : {x : Text} {v : Tree} {bs : List Binding} → Bound x v bs → bound x bs ≡ some v
+bound_only : {x : Text} {v : Tree} {bs : List Binding} → Bound x v bs → bound x bs ≡ Some v
 unfolding bound
 bound_only (newest {x = x} {v = v} {bs = bs}) = ap (λ (c : Bool). or_else c v (bound x bs)) (same_self x)
 bound_only (older {x = x} {w = w} {bs = bs} n b) = ap (λ (c : Bool). or_else c w (bound x bs)) (differ_of_ne n) ∙ bound_only b
@@ -81,7 +82,7 @@ module _ (t : Tree) where
   ground_remove g [] = refl
   ground_remove g (u ∷ us) = ap₂ (λ (b : Bool) (o : Option (List Tree)). remove_at (b && equivalent t u) u us o) g (ground_remove g us)
 
-  held_remove : ground t ≡ false → (us : List Tree) → remove ground_eq t us ≡ nothing
+  held_remove : ground t ≡ false → (us : List Tree) → remove ground_eq t us ≡ None
   unfolding remove
   held_remove g [] = refl
   held_remove g (u ∷ us) = ap₂ (λ (b : Bool) (o : Option (List Tree)). remove_at (b && equivalent t u) u us o) g (held_remove g us)
@@ -93,8 +94,8 @@ ground_cancels (t ∷ ts) us bt bu = by_ground (ground t) refl (λ vs bv. ground
   where
     by_partner : ground t ≡ true → (o : Option (List Tree)) → Removed t bt.0 us o → ((vs : List Tree) → BuiltList vs → GroundCancels ts vs (cancel ground_eq ts vs).0 (cancel ground_eq ts vs).1)
         → GroundCancels (t ∷ ts) us (cancel_at o t (λ vs. cancel ground_eq ts vs) us).0 (cancel_at o t (λ vs. cancel ground_eq ts vs) us).1
-    by_partner g nothing h k = single g h (k us bu)
-    by_partner g (some vs) h k = paired g h (k vs (removes_built h bu))
+    by_partner g None h k = single g h (k us bu)
+    by_partner g (Some vs) h k = paired g h (k vs (removes_built h bu))
 
     by_ground : (b : Bool) → ground t ≡ b → ((vs : List Tree) → BuiltList vs → GroundCancels ts vs (cancel ground_eq ts vs).0 (cancel ground_eq ts vs).1)
         → GroundCancels (t ∷ ts) us (cancel_at (remove ground_eq t us) t (λ vs. cancel ground_eq ts vs) us).0 (cancel_at (remove ground_eq t us) t (λ vs. cancel ground_eq ts vs) us).1
@@ -124,17 +125,17 @@ module _ (u : Tree) (bu : Built u) (ps : List Pair) (bs : List Binding) where
       agreeing v f true e = Matches.bound_equal f (equivalent_sound (bound_built f h) bu e)
       agreeing v f false e = Matches.bound_different f (not_ac e)
 
-      sorting : NoKey x bs → (s : Sort) → variable_sort x ≡ some s → (b : Bool) → sorted s u ≡ b → Matches (variable x) u ps bs (bind_new b x u ps bs)
+      sorting : NoKey x bs → (s : Sort) → variable_sort x ≡ Some s → (b : Bool) → sorted s u ≡ b → Matches (variable x) u ps bs (bind_new b x u ps bs)
       sorting n s q true e = Matches.binds n q e
       sorting n s q false e = Matches.sort_clash n q e
 
       new : NoKey x bs → (o : Option Sort) → variable_sort x ≡ o → Matches (variable x) u ps bs (sort_new o x u ps bs)
-      new n nothing q = Matches.unknown_sort n q
-      new n (some s) q = sorting n s q (sorted s u) refl
+      new n None q = Matches.unknown_sort n q
+      new n (Some s) q = sorting n s q (sorted s u) refl
 
       go : (o : Option Tree) → Found x bs o → Matches (variable x) u ps bs (match_key o x u ps bs)
-      go nothing n = new n (variable_sort x) refl
-      go (some v) f = agreeing v f (equivalent v u) refl
+      go None n = new n (variable_sort x) refl
+      go (Some v) f = agreeing v f (equivalent v u) refl
 
   module _ (t : Tree) (bt : Built t) where
     rest_matches : (ks os : List Tree) → PatternLeaves t u ks os → Matches t u ps bs (match_rest (remainder false ks os) ps bs)
@@ -198,13 +199,13 @@ module _ (x : Text) (u : Tree) (ps : List Pair) (bs : List Binding) where
   key_move o e = ap (λ (z : Option Tree). match_key z x u ps bs) e
 
   new_move : NoKey x bs → (o : Option Sort) → variable_sort x ≡ o → move (variable x) u ps bs ≡ sort_new o x u ps bs
-  new_move n o q = key_move nothing (no_key x bs n) ∙ ap (λ (z : Option Sort). sort_new z x u ps bs) q
+  new_move n o q = key_move None (no_key x bs n) ∙ ap (λ (z : Option Sort). sort_new z x u ps bs) q
 
-  sorted_move : NoKey x bs → (s : Sort) → variable_sort x ≡ some s → (b : Bool) → sorted s u ≡ b → move (variable x) u ps bs ≡ bind_new b x u ps bs
-  sorted_move n s q b e = new_move n (some s) q ∙ ap (λ (z : Bool). bind_new z x u ps bs) e
+  sorted_move : NoKey x bs → (s : Sort) → variable_sort x ≡ Some s → (b : Bool) → sorted s u ≡ b → move (variable x) u ps bs ≡ bind_new b x u ps bs
+  sorted_move n s q b e = new_move n (Some s) q ∙ ap (λ (z : Bool). bind_new z x u ps bs) e
 
   bound_move : (v : Tree) → Bound x v bs → (b : Bool) → equivalent v u ≡ b → move (variable x) u ps bs ≡ agree b ps bs
-  bound_move v f b e = key_move (some v) (bound_only f) ∙ ap (λ (z : Bool). agree z ps bs) e
+  bound_move v f b e = key_move (Some v) (bound_only f) ∙ ap (λ (z : Bool). agree z ps bs) e
 
 several : (k j o : Tree) (ks os : List Tree) (ps : List Pair) (bs : List Binding) → match_rest (remainder false (k ∷ j ∷ ks) (o ∷ os)) ps bs ≡ beyond
 several k j o ks [] ps bs = refl
@@ -216,7 +217,7 @@ matches_only bt bu h (Matches.bound_different {x = x} {v = v} {u = u} {ps = ps} 
     bound_move x u ps bs v f false (not_equivalent (bound_built f h) bu e)
 matches_only bt bu h (Matches.binds {x = x} {s = s} {u = u} {ps = ps} {bs = bs} n q e) = sorted_move x u ps bs n s q true e
 matches_only bt bu h (Matches.sort_clash {x = x} {s = s} {u = u} {ps = ps} {bs = bs} n q e) = sorted_move x u ps bs n s q false e
-matches_only bt bu h (Matches.unknown_sort {x = x} {u = u} {ps = ps} {bs = bs} n q) = new_move x u ps bs n nothing q
+matches_only bt bu h (Matches.unknown_sort {x = x} {u = u} {ps = ps} {bs = bs} n q) = new_move x u ps bs n None q
 matches_only bt bu h (Matches.symbol_clash {t = t} {u = u} {f = f} {ps = ps} {bs = bs} p q n) =
     applied_move ps bs p q ∙ ap (λ (b : Bool). match_at b (same f tamtplus) t u ps bs) (differ_of_ne n)
 matches_only bt bu h (Matches.decomposition {ps = ps} {bs = bs} p q m w) = decomposed_move ps bs p q m ∙ ap (λ (qs : List Pair). onward qs bs) (pairwise_only w)
@@ -236,20 +237,20 @@ BuiltMove beyond = Unit {0}
 
 module _ (u : Tree) (bu : Built u) (ps : List Pair) (bs : List Binding) (k : BuiltPairs ps) (h : BuiltBindings bs) where
   key_built : (x : Text) → variable_token x ≡ true → (o : Option Tree) → BuiltMove (match_key o x u ps bs)
-  key_built x t (some v) = go (equivalent v u)
+  key_built x t (Some v) = go (equivalent v u)
     where
       go : (c : Bool) → BuiltMove (agree c ps bs)
       go true = (k, h)
       go false = tt
-  key_built x t nothing = for (variable_sort x)
+  key_built x t None = for (variable_sort x)
     where
       new : (c : Bool) → BuiltMove (bind_new c x u ps bs)
       new true = (k, (t, bu, h))
       new false = tt
 
       for : (o : Option Sort) → BuiltMove (sort_new o x u ps bs)
-      for nothing = tt
-      for (some r) = new (sorted r u)
+      for None = tt
+      for (Some r) = new (sorted r u)
 
   roots_built : (t : Tree) → Built t → BuiltMove (match_roots t u ps bs)
   unfolding match_roots

@@ -3,7 +3,7 @@ use mathlib.Core.Path.{◌≡◌, refl, sym, subst, ◌∙◌}
 use mathlib.Core.Bool.{true, false, true≢false}
 use mathlib.Core.List.{List, [], ◌∷◌}
 use mathlib.Core.Logic.{◌↔◌}
-use mathlib.Core.Option.{Option, some, none as nothing}
+use Rattle.std.specs.Prelude.{Option, Some, None}
 use Prim.Native.Nat.{ℕ, zero, suc}
 use Rattle.rules.specs.Bytes.{Text}
 use Rattle.rules.specs.Tree.{Tree, occurs}
@@ -87,8 +87,8 @@ module _ (arity : Text → ℕ) (counts : Arity arity) where
   at_key ps bs c σ a x f = go (bound x bs) (finds x bs)
     where
       go : (o : Option Tree) → Finds x bs o → Ac (σ x) (lookup bs x)
-      go nothing k = absurd (true≢false (sym f ∙ free_patterns x ps (c x k)))
-      go (some v) k = subst (Ac (σ x)) (sym k.looked_up) (k.given σ a)
+      go None k = absurd (true≢false (sym f ∙ free_patterns x ps (c x k)))
+      go (Some v) k = subst (Ac (σ x)) (sym k.looked_up) (k.given σ a)
 
   answer_means : (ps : List Pair) (v : Verdict) → RunMeans ps [] v → MatchMeans arity ps v
   answer_means ps (solved bs) m =

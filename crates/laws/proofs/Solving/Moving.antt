@@ -4,7 +4,7 @@ use mathlib.Core.Path.{◌≡◌, refl, ap, sym, subst, ◌∙◌}
 use mathlib.Core.Bool.{Bool, true, false, true≢false}
 use mathlib.Core.List.{List, [], ◌∷◌}
 use mathlib.Core.Logic.{◌↔◌}
-use mathlib.Core.Option.{Option, some, none as nothing}
+use Rattle.std.specs.Prelude.{Option, Some, None}
 use Prim.Native.Nat.{ℕ}
 use native.Mathlib.Omega.{arith}
 use Rattle.rules.specs.Bytes.{Text, same}
@@ -12,7 +12,8 @@ use Rattle.rules.specs.Tree.{Tree, variable, atom, apply, Trees, none, more, hea
 use Rattle.rules.specs.Substitution.{Substitution, substitute, Binding, Pair, pick, lookup}
 use Rattle.rules.specs.Sums.{equivalent}
 use Rattle.rules.specs.Equality.{Ac, symmetric, transitive}
-use Rattle.rules.specs.Sorts.{Sort, variable_sort, sorted}
+use Rattle.rules.specs.declared.Sort.{Sort}
+use Rattle.rules.specs.Sorts.{variable_sort, sorted}
 use Rattle.rules.specs.Solving.{Rest, emptied, mismatch, stuck, equation, cancel_sums, push_children}
 use Rattle.rules.specs.Matching.{or_else, bound, Move, onward, clash, beyond, agree, bind_new, sort_new, match_key, match_rest, ground_eq, match_at, match_roots, move}
 use Rattle.rules.specs.Tidy.{Arity, Tidy, TidyPairs}
@@ -51,8 +52,8 @@ module _ (x : Text) where
     pub tidy : (arity : Text → ℕ) → GoodBindings arity bs → Tidy arity v
 
   abbrev pub Finds : List Binding → Option Tree → Type 0
-  Finds bs nothing = NoKey x bs
-  Finds bs (some v) = Value bs v
+  Finds bs None = NoKey x bs
+  Finds bs (Some v) = Value bs v
 
   finds_over : (b : Binding) (bs : List Binding) (o : Option Tree) → Finds bs o → (c : Bool) → same b.0 x ≡ c → Finds (b ∷ bs) (or_else c b.1 o)
   unfolding lookup
@@ -62,8 +63,8 @@ module _ (x : Text) where
     looked_up = ap (λ (c : Bool). pick c b.1 (lookup bs x)) e;
     tidy = λ arity g. g.0.tidy;
   }
-  finds_over b bs nothing f false e = (ne_of_differ e, f)
-  finds_over b bs (some v) f false e = record {
+  finds_over b bs None f false e = (ne_of_differ e, f)
+  finds_over b bs (Some v) f false e = record {
     key = λ n. f.key n.1;
     given = λ σ a. f.given σ a.1;
     looked_up = ap (λ (c : Bool). pick c b.1 (lookup bs x)) e ∙ f.looked_up;
@@ -132,7 +133,7 @@ module _ (arity : Text → ℕ) where
       }
       agree_means x v f false e = λ σ w h a. true≢false (sym (equivalent_complete (transitive (symmetric (f.given σ a)) (subst (Ac (σ x)) (still u) h))) ∙ e)
 
-      new_means : (x : Text) (s : Sort) → variable_sort x ≡ some s → Tidy arity (variable x) → NoKey x bs → (b : Bool) → sorted s u ≡ b
+      new_means : (x : Text) (s : Sort) → variable_sort x ≡ Some s → Tidy arity (variable x) → NoKey x bs → (b : Bool) → sorted s u ≡ b
           → MoveMeans (variable x) u ps bs (bind_new b x u ps bs)
       unfolding substitute
       new_means x s q dx k true e = record {
@@ -148,8 +149,8 @@ module _ (arity : Text → ℕ) where
       key_means x dx = go (bound x bs) (finds x bs)
         where
           go : (o : Option Tree) → Finds x bs o → MoveMeans (variable x) u ps bs (match_key o x u ps bs)
-          go (some v) f = agree_means x v f (equivalent v u) refl
-          go nothing f =
+          go (Some v) f = agree_means x v f (equivalent v u) refl
+          go None f =
               subst (λ (o : Option Sort). MoveMeans (variable x) u ps bs (sort_new o x u ps bs)) (sym dx.1) (new_means x dx.0 dx.1 dx f (sorted dx.0 u) refl)
 
       -- a pattern that is no variable

@@ -4,7 +4,7 @@ use mathlib.Core.Path.{◌≡◌, refl, ap, ap₂, sym, subst, ◌∙◌}
 use mathlib.Core.Bool.{Bool, true, false}
 use mathlib.Core.List.{List, [], ◌∷◌}
 use mathlib.Mathlib.Data.Bool.Basic.{eq-false_of_not-eq-true, eq-true_of_not-eq-false}
-use mathlib.Core.Option.{Option, some, none as nothing}
+use Rattle.std.specs.Prelude.{Option, Some, None}
 use Prim.Native.Nat.{ℕ}
 use lib.Dec.{leb}
 use Rattle.rules.specs.Bytes.{Text, same}
@@ -12,7 +12,8 @@ use Rattle.rules.specs.Tree.{Tree, variable, atom, apply, Trees, head, children,
 use Rattle.rules.specs.Substitution.{Pair, size_pairs}
 use Rattle.rules.specs.Sums.{equivalent}
 use Rattle.rules.specs.Equality.{Ac}
-use Rattle.rules.specs.Sorts.{Sort, variable_sort, sorted, refinable}
+use Rattle.rules.specs.declared.Sort.{Sort}
+use Rattle.rules.specs.Sorts.{variable_sort, sorted, refinable}
 use Rattle.rules.specs.Solving.{remove_at, remove, cancel_at, cancel, remainder, cancel_sums, Step, goes_on, bind, fails, unknown, fits, bind_into, unless_refinable, swap_at, swap_for, swap_key, sort_check, occurs_check, eliminate_at, eliminate, push_children, if_refuted, sum_step, decompose_at, decompose, differ, step_at, step}
 use Rattle.rules.specs.Tidy.{Built, Arity, Tidy, TidyPairs}
 use Rattle.rules.specs.Meaning.{Free}
@@ -32,12 +33,12 @@ pub not_equivalent : {t u : Tree} → Built t → Built u → ¬ Ac t u → equi
 not_equivalent {t} {u} bt bu h = eq-false_of_not-eq-true (λ e. h (equivalent_sound bt bu e))
 
 module _ (t : Tree) (bt : Built t) where
-  pub removes_only : {us vs : List Tree} → BuiltList us → Removes t us vs → remove equivalent t us ≡ some vs
+  pub removes_only : {us vs : List Tree} → BuiltList us → Removes t us vs → remove equivalent t us ≡ Some vs
   unfolding remove
   removes_only b (first {u = u} {us = us} h) = ap (λ (c : Bool). remove_at c u us (remove equivalent t us)) (equivalent_complete h)
   removes_only b (later {u = u} {us = us} n h) = rw (not_equivalent bt b.0 n, removes_only b.1 h)
 
-  pub without_only : (us : List Tree) → BuiltList us → Without t us → remove equivalent t us ≡ nothing
+  pub without_only : (us : List Tree) → BuiltList us → Without t us → remove equivalent t us ≡ None
   unfolding remove
   without_only [] b h = refl
   without_only (u ∷ us) b h = rw (not_equivalent bt b.0 h.0, without_only us b.1 h.1)
@@ -109,8 +110,8 @@ module _ (x : Text) (v : Tree) (ps : List Pair) where
   unfolding eliminate
   sort_step o q n = different ps n ∙ ap (λ (z : Option Sort). eliminate_at z x v ps) q
 
-  occurrence_step : (s : Sort) → variable_sort x ≡ some s → (b : Bool) → occurs x v ≡ b → ¬ (variable x ≡ v) → step (variable x) v ps ≡ occurs_check b s x v ps
-  occurrence_step s q b e n = sort_step (some s) q n ∙ ap (λ (z : Bool). occurs_check z s x v ps) e
+  occurrence_step : (s : Sort) → variable_sort x ≡ Some s → (b : Bool) → occurs x v ≡ b → ¬ (variable x ≡ v) → step (variable x) v ps ≡ occurs_check b s x v ps
+  occurrence_step s q b e n = sort_step (Some s) q n ∙ ap (λ (z : Bool). occurs_check z s x v ps) e
 
   key_differs : Free x v → ¬ (variable x ≡ v)
   key_differs f e = subst (Free x) (sym e) f refl
@@ -124,7 +125,7 @@ module _ (x : Text) (v : Tree) (ps : List Pair) where
   bound_step b e = ap (λ (z : Bool). fits z x v (put x v ps)) e
 
 -- a variable in place of the key
-swapped_step : (x y : Text) (s r : Sort) (ps : List Pair) → variable_sort y ≡ some r → sorted r (variable x) ≡ true
+swapped_step : (x y : Text) (s r : Sort) (ps : List Pair) → variable_sort y ≡ Some r → sorted r (variable x) ≡ true
     → swap_key s x (variable y) ps ≡ bind_into y (variable x) ps
 swapped_step x y s r ps q e = ap (λ (z : Option Sort). swap_for z s x y ps) q ∙ ap (λ (b : Bool). swap_at b s x y ps) e
 
@@ -132,12 +133,12 @@ swapped_step x y s r ps q e = ap (λ (z : Option Sort). swap_for z s x y ps) q �
 unswapped_step : (x : Text) (s : Sort) (v : Tree) (ps : List Pair) → ¬ Orientable x v → swap_key s x v ps ≡ unless_refinable (refinable s v)
 unswapped_step x s (variable y) ps n = go (variable_sort y) refl
   where
-    by_sort : (r : Sort) → variable_sort y ≡ some r → swap_at (sorted r (variable x)) s x y ps ≡ unless_refinable (refinable s (variable y))
+    by_sort : (r : Sort) → variable_sort y ≡ Some r → swap_at (sorted r (variable x)) s x y ps ≡ unless_refinable (refinable s (variable y))
     by_sort r q = ap (λ (b : Bool). swap_at b s x y ps) (eq-false_of_not-eq-true (λ e. n (r, q, e)))
 
     go : (o : Option Sort) → variable_sort y ≡ o → swap_for o s x y ps ≡ unless_refinable (refinable s (variable y))
-    go nothing q = refl
-    go (some r) q = by_sort r q
+    go None q = refl
+    go (Some r) q = by_sort r q
 unswapped_step x s (atom c d) ps n = refl
 unswapped_step x s (apply f ts) ps n = refl
 
@@ -160,7 +161,7 @@ gives bl br (Infers.one_on_right {ps = ps} c) = sums_step ps bl br c
 gives bl br (Infers.natural_clash {l = l} {r = r} {ps = ps} c h) = sums_step ps bl br c ∙ ap if_refuted (refuted l r h)
 gives bl br (Infers.several_left {l = l} {r = r} {ps = ps} c n) =
     sums_step ps bl br c ∙ ap if_refuted (eq-false_of_not-eq-true (λ e. n (never_equal l r e)))
-gives bl br (Infers.unknown_sort {x = x} {v = v} {ps = ps} q n) = sort_step x v ps nothing q n
+gives bl br (Infers.unknown_sort {x = x} {v = v} {ps = ps} q n) = sort_step x v ps None q n
 gives bl br (Infers.occurs_check {x = x} {s = s} {v = v} {ps = ps} q n f) =
     occurrence_step x v ps s q true (eq-true_of_not-eq-false (λ e. f (free_of x v e))) n
 gives bl br (Infers.variable_elimination {x = x} {v = v} {ps = ps} k e h) = key_step x v ps k true e ∙ bound_step x v ps true (true_leb _ _ h)

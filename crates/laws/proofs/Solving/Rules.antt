@@ -3,7 +3,7 @@ use mathlib.Core.Path.{◌≡◌, refl, ap, sym, subst, ◌∙◌}
 use mathlib.Core.Bool.{Bool, true, false, not, ◌&&◌, true≢false}
 use mathlib.Core.List.{List, [], ◌∷◌}
 use mathlib.Core.Logic.{◌⊎◌, inl, inr}
-use mathlib.Core.Option.{Option, some, none as nothing}
+use Rattle.std.specs.Prelude.{Option, Some, None}
 use Prim.Native.Nat.{ℕ}
 use native.Mathlib.Omega.{arith}
 use lib.Dec.{leb}
@@ -13,7 +13,9 @@ use Rattle.rules.specs.Tree.{Tree, variable, atom, apply, Trees, none, more, hea
 use Rattle.rules.specs.Substitution.{Pair, size_pairs}
 use Rattle.rules.specs.Sums.{summands, equivalent}
 use Rattle.rules.specs.Equality.{Ac}
-use Rattle.rules.specs.Sorts.{Sort, TamNat, variable_sort, natural, sorted, refinable, sort_refuted}
+use Rattle.rules.specs.declared.Sort.{Sort}
+use Rattle.rules.specs.declared.Sort.TheVariants.{TamNat}
+use Rattle.rules.specs.Sorts.{variable_sort, natural, sorted, refinable, sort_refuted}
 use Rattle.rules.specs.Solving.{remove_at, remove, cancel_at, cancel, remainder, cancel_sums, goes_on, fits, bind_into, unless_refinable, swap_at, swap_for, swap_key, sort_check, occurs_check, eliminate_at, eliminate, push_children, if_refuted, sum_step, decompose_at, decompose, differ, step_at, step}
 use Rattle.rules.specs.Tidy.{Built}
 use Rattle.rules.specs.Inference.{Applies, of_atom, of_apply, Pairwise, left_ends, right_ends, both_go_on, Removes, first, later, Without, Cancels, done, paired, single, SumsLeave, sums, NeverEqual, Key, Orientable, put, Infers}
@@ -45,8 +47,8 @@ mutual
 module _ (t : Tree) (bt : Built t) where
   -- what taking t out of a list gives
   abbrev pub Removed : List Tree → Option (List Tree) → Type 0
-  Removed us nothing = Without t us
-  Removed us (some vs) = Removes t us vs
+  Removed us None = Without t us
+  Removed us (Some vs) = Removes t us vs
 
   pub removed : (us : List Tree) → BuiltList us → Removed us (remove equivalent t us)
   unfolding remove
@@ -55,8 +57,8 @@ module _ (t : Tree) (bt : Built t) where
     where
       go : (c : Bool) → equivalent t u ≡ c → (o : Option (List Tree)) → Removed us o → Removed (u ∷ us) (remove_at c u us o)
       go true e o h = first (equivalent_sound bt b.0 e)
-      go false e nothing h = (not_ac e, h)
-      go false e (some vs) h = later (not_ac e) h
+      go false e None h = (not_ac e, h)
+      go false e (Some vs) h = later (not_ac e) h
 
 pub removes_built : {t : Tree} {us vs : List Tree} → Removes t us vs → BuiltList us → BuiltList vs
 removes_built (first h) b = b.1
@@ -70,8 +72,8 @@ cancels (t ∷ ts) us bt bu = go (remove equivalent t us) (removed t bt.0 us bu)
     go : (o : Option (List Tree)) → Removed t bt.0 us o
         → ((vs : List Tree) → BuiltList vs → Cancels ts vs (cancel equivalent ts vs).0 (cancel equivalent ts vs).1)
         → Cancels (t ∷ ts) us (cancel_at o t (λ vs. cancel equivalent ts vs) us).0 (cancel_at o t (λ vs. cancel equivalent ts vs) us).1
-    go nothing h k = single h (k us bu)
-    go (some vs) h k = paired h (k vs (removes_built h bu))
+    go None h k = single h (k us bu)
+    go (Some vs) h k = paired h (k vs (removes_built h bu))
 
 -- one side is always natural and the other can never be
 
@@ -156,19 +158,19 @@ module _ (ps : List Pair) where
   swap_infers : {x : Text} {s : Sort} (v : Tree) → Key x s v → sorted s v ≡ false → Infers (variable x) v ps (swap_key s x v ps)
   swap_infers {x} {s} (variable y) k e = go (variable_sort y) refl
     where
-      some_sort : (r : Sort) → variable_sort y ≡ some r → (b : Bool) → sorted r (variable x) ≡ b → Infers (variable x) (variable y) ps (swap_at b s x y ps)
+      some_sort : (r : Sort) → variable_sort y ≡ Some r → (b : Bool) → sorted r (variable x) ≡ b → Infers (variable x) (variable y) ps (swap_at b s x y ps)
       some_sort r q true p = Infers.orient_variables k e (r, q, p) (binding_infers (record { sort = q; apart = λ z. k.apart (sym z) }) p)
       some_sort r q false p = refinable_infers k e (λ z.
-          let o : some r ≡ some z.0 = sym q ∙ z.1 in
+          let o : Some r ≡ Some z.0 = sym q ∙ z.1 in
           let i : r ≡ z.0 = cc in
           true≢false (sym z.2 ∙ ap (λ (c : Sort). sorted c (variable x)) (sym i) ∙ p))
 
       go : (o : Option Sort) → variable_sort y ≡ o → Infers (variable x) (variable y) ps (swap_for o s x y ps)
-      go nothing q = refinable_infers k e (λ z. never (sym q ∙ z.1))
+      go None q = refinable_infers k e (λ z. never (sym q ∙ z.1))
         where
-          never : {r : Sort} → nothing ≡ some r → ⊥
+          never : {r : Sort} → None ≡ Some r → ⊥
           never w = let z : ◌≡◌ {A = ℕ} 0 1 = cc in omega arith
-      go (some r) q = some_sort r q (sorted r (variable x)) refl
+      go (Some r) q = some_sort r q (sorted r (variable x)) refl
   swap_infers (atom c d) k e = refinable_infers k e (λ z. z)
   swap_infers (apply f ts) k e = refinable_infers k e (λ z. z)
 
@@ -180,13 +182,13 @@ module _ (ps : List Pair) where
       by_sort k true p = binding_infers k p
       by_sort k false p = swap_infers v k p
 
-      by_occurrence : (s : Sort) → variable_sort x ≡ some s → (b : Bool) → occurs x v ≡ b → Infers (variable x) v ps (occurs_check b s x v ps)
+      by_occurrence : (s : Sort) → variable_sort x ≡ Some s → (b : Bool) → occurs x v ≡ b → Infers (variable x) v ps (occurs_check b s x v ps)
       by_occurrence s q true p = Infers.occurs_check q n (λ f. true≢false (sym p ∙ free_occurs x v f))
       by_occurrence s q false p = by_sort (record { sort = q; apart = free_of x v p }) (sorted s v) refl
 
       go : (o : Option Sort) → variable_sort x ≡ o → Infers (variable x) v ps (eliminate_at o x v ps)
-      go nothing q = Infers.unknown_sort q n
-      go (some s) q = by_occurrence s q (occurs x v) refl
+      go None q = Infers.unknown_sort q n
+      go (Some s) q = by_occurrence s q (occurs x v) refl
 
   differ_infers : (l r : Tree) → Built l → Built r → ¬ (l ≡ r) → Infers l r ps (differ l r ps)
   differ_infers (variable x) r bl br n = eliminate_infers x r n

@@ -4,7 +4,7 @@ use mathlib.Core.Path.{◌≡◌, refl, ap, sym, subst, ◌∙◌}
 use mathlib.Core.Bool.{Bool, true, false, not, ◌&&◌, ◌||◌, true≢false, false≢true}
 use mathlib.Core.List.{List, [], ◌∷◌}
 use mathlib.Core.Logic.{◌↔◌, ◌⊎◌, inl, inr}
-use mathlib.Core.Option.{Option, some}
+use Rattle.std.specs.Prelude.{Option, Some}
 use Prim.Native.Nat.{ℕ, ◌+◌, ◌≤◌}
 use native.Mathlib.Omega.{arith}
 use lib.Dec.{leb}
@@ -14,7 +14,9 @@ use Rattle.rules.specs.Tree.{Tree, variable, atom, apply, Trees, none, more, hea
 use Rattle.rules.specs.Substitution.{Substitution, substitute, substitutes, Pair, instantiate_pairs, size_pairs}
 use Rattle.rules.specs.Sums.{equivalent}
 use Rattle.rules.specs.Equality.{Ac, reflexive, symmetric}
-use Rattle.rules.specs.Sorts.{Sort, TamNat, variable_sort, natural, sorted, refinable, sort_refuted}
+use Rattle.rules.specs.declared.Sort.{Sort}
+use Rattle.rules.specs.declared.Sort.TheVariants.{TamNat}
+use Rattle.rules.specs.Sorts.{variable_sort, natural, sorted, refinable, sort_refuted}
 use Rattle.rules.specs.Solving.{Rest, emptied, mismatch, stuck, equation, cancel_sums, Step, goes_on, bind, fails, unknown, fits, bind_into, unless_refinable, swap_at, swap_for, swap_key, sort_check, occurs_check, eliminate_at, eliminate, if_refuted, sum_step, decompose_at, decompose, against, differ, step_at, step}
 use Rattle.rules.specs.Tidy.{Arity, Tidy, TidyPairs}
 use Rattle.rules.specs.Meaning.{WellSorted, Unifier, Free}
@@ -117,7 +119,7 @@ module _ (arity : Text → ℕ) where
         go false = tt
 
     -- the key x of sort s against another tree
-    module _ (x : Text) (s : Sort) (e : variable_sort x ≡ some s) (token : variable_token x ≡ true) (ps : List Pair) (d : TidyPairs arity ps) where
+    module _ (x : Text) (s : Sort) (e : variable_sort x ≡ Some s) (token : variable_token x ≡ true) (ps : List Pair) (d : TidyPairs arity ps) where
       refinable_means : (v : Tree) → Tidy arity v → StepMeans (variable x) v ps (unless_refinable (refinable s v))
       unfolding substitute
       refinable_means v dv = go (refinable s v) refl
@@ -126,7 +128,7 @@ module _ (arity : Text → ℕ) where
           go true p = tt
           go false p = λ σ g h. true≢false (sym (sorted_refinable arity counts σ g s v dv (sym (sorted_kept s h) ∙ (g x s e token).0)) ∙ p)
 
-      swap_at_means : (y : Text) (r : Sort) → variable_sort y ≡ some r → variable_token y ≡ true → (y ≡ x → ⊥)
+      swap_at_means : (y : Text) (r : Sort) → variable_sort y ≡ Some r → variable_token y ≡ true → (y ≡ x → ⊥)
           → StepMeans (variable x) (variable y) ps (swap_at (sorted r (variable x)) s x y ps)
       unfolding substitute
       swap_at_means y r q m n = go (sorted r (variable x)) refl

@@ -5,7 +5,7 @@ use native.Mathlib.Omega.{arith}
 use mathlib.Core.Path.{◌≡◌, refl, sym, ◌∙◌, ap, subst}
 use mathlib.Core.Bool.{Bool, true, false, cond, true≢false, false≢true}
 use mathlib.Core.List.{List, [], ◌∷◌, ◌++◌}
-use mathlib.Core.Option.{Option, some, none as nothing}
+use Rattle.std.specs.Prelude.{Option, Some, None}
 use lib.Dec.{eqb}
 use lib.ListN.{length}
 use Rattle.rules.specs.Bytes.{Text, same}
@@ -146,8 +146,8 @@ cancel_mass_left test [] us = omega arith
 cancel_mass_left test (t ∷ ts) us = go (remove test t us) (λ vs. cancel_mass_left test ts vs)
   where
     go : (o : Option (List Tree)) → ((vs : List Tree) → mass (cancel test ts vs).0 ≤ mass ts) → mass (cancel_at o t (λ vs. cancel test ts vs) us).0 ≤ mass (t ∷ ts)
-    go nothing r = let h = r us in omega arith
-    go (some vs) r = let h = r vs in omega arith
+    go None r = let h = r us in omega arith
+    go (Some vs) r = let h = r vs in omega arith
 
 mass_length : (ts : List Tree) → 2 * length ts ≤ mass ts
 mass_length [] = omega arith

@@ -7,7 +7,9 @@ use native.Mathlib.Omega.{arith}
 use Rattle.rules.specs.Bytes.{Text}
 use Rattle.rules.specs.Tree.{Tree, variable, atom, apply, Trees, none, more, count}
 use Rattle.rules.specs.Substitution.{Substitution, substitute, substitutes}
-use Rattle.rules.specs.Sorts.{Sort, Pub, Fresh, Msg, TamNat, Node, same_sort, Symbol, addition, unit, frame, free, symbol, natural, naturals, message, messages, sorted, may_meet, refinable, refinables, refinable_at}
+use Rattle.rules.specs.declared.Sort.{Sort}
+use Rattle.rules.specs.declared.Sort.TheVariants.{Pub, Fresh, Msg, TamNat, Node}
+use Rattle.rules.specs.Sorts.{same_sort, Symbol, addition, unit, frame, free, symbol, natural, naturals, message, messages, sorted, may_meet, refinable, refinables, refinable_at}
 use Rattle.rules.specs.Tidy.{Arity, Tidy, Tidies}
 use Rattle.rules.specs.Meaning.{WellSorted}
 use Rattle.laws.proofs.Basics.Tests.{and_left, and_right, and_both}

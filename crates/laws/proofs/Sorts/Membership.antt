@@ -9,7 +9,9 @@ use Rattle.rules.specs.Bytes.{Text, same}
 use Rattle.rules.specs.Text.{bytes}
 use Rattle.rules.specs.Names.{letter}
 use Rattle.rules.specs.Tree.{Tree, variable, atom, apply, Trees, none, more, count, tamtplus, plus}
-use Rattle.rules.specs.Sorts.{Sort, Pub, Fresh, Msg, TamNat, Node, Symbol, addition, unit, frame, free, tone, is_frame, symbol, natural, naturals, message, messages, basic, sorted}
+use Rattle.rules.specs.declared.Sort.{Sort}
+use Rattle.rules.specs.declared.Sort.TheVariants.{Pub, Fresh, Msg, TamNat, Node}
+use Rattle.rules.specs.Sorts.{Symbol, addition, unit, frame, free, tone, is_frame, symbol, natural, naturals, message, messages, basic, sorted}
 use Rattle.rules.specs.Membership.{Subsort, pub_msg, fresh_msg, tamnat_msg, reserved, NoneOf, HasSort, of_variable, of_p, of_f, of_c, of_t, of_n, of_tone, of_sum, of_other, of_subsort, HaveSort, nil, both, Ranked, Rankeds}
 use Rattle.rules.specs.Tidy.{Arity, Tidy, Tidies}
 use Rattle.laws.proofs.Basics.Tests.{and_left, and_right, and_both, neither_left, neither_right, same_eq, differ_of_ne, ne_of_differ}

@@ -2,14 +2,16 @@
 use mathlib.Core.Path.{◌≡◌, refl, ap, sym, subst, ◌∙◌}
 use mathlib.Core.Bool.{Bool, true, false, cond, not, ◌&&◌, ◌||◌, false≢true}
 use mathlib.Core.Logic.{⊎_elim}
-use mathlib.Core.Option.{Option, some, none as nothing}
+use Rattle.std.specs.Prelude.{Option, Some, None}
 use Prim.Native.Nat.{ℕ}
 use native.Mathlib.Omega.{arith}
 use lib.Dec.{eqb}
 use Rattle.rules.specs.Bytes.{Text, same}
 use Rattle.rules.specs.Names.{letter}
 use Rattle.rules.specs.Tree.{Tree, variable, atom, apply, Trees, none, more, count, tamtplus}
-use Rattle.rules.specs.Sorts.{Sort, Pub, Fresh, Msg, TamNat, Node, sort_discrete, decided, same_sort, intersects, variable_sort, Symbol, addition, unit, frame, free, tone, is_frame, symbol, has_sort, has_message_sort, natural, naturals, natural_at, message, messages, message_at, basic, sorted}
+use Rattle.rules.specs.declared.Sort.{Sort}
+use Rattle.rules.specs.declared.Sort.TheVariants.{Pub, Fresh, Msg, TamNat, Node}
+use Rattle.rules.specs.Sorts.{same_sort, intersects, variable_sort, Symbol, addition, unit, frame, free, tone, is_frame, symbol, has_sort, has_message_sort, natural, naturals, natural_at, message, messages, message_at, basic, sorted}
 use Rattle.rules.specs.Tidy.{Arity, Tidy}
 use Rattle.laws.proofs.Basics.Tests.{and_left, and_right, and_both, or_cases, eqb_true, same_eq}
 
@@ -60,15 +62,35 @@ below_meet a b c h k = implies (below a b && below a c) (intersects b c)
     (and_both (below a b) (below a c) h k)
 
 pub same_sort_eq : (a b : Sort) → same_sort a b ≡ true → a ≡ b
-same_sort_eq a b e = go (sort_discrete a b) e
-  where
-    go : (d : Dec (a ≡ b)) → decided d ≡ true → a ≡ b
-    go (yes p) e' = p
-    go (no h) e' = absurd (false≢true e')
+same_sort_eq Pub Pub e = refl
+same_sort_eq Pub Fresh e = absurd (false≢true e)
+same_sort_eq Pub Msg e = absurd (false≢true e)
+same_sort_eq Pub TamNat e = absurd (false≢true e)
+same_sort_eq Pub Node e = absurd (false≢true e)
+same_sort_eq Fresh Pub e = absurd (false≢true e)
+same_sort_eq Fresh Fresh e = refl
+same_sort_eq Fresh Msg e = absurd (false≢true e)
+same_sort_eq Fresh TamNat e = absurd (false≢true e)
+same_sort_eq Fresh Node e = absurd (false≢true e)
+same_sort_eq Msg Pub e = absurd (false≢true e)
+same_sort_eq Msg Fresh e = absurd (false≢true e)
+same_sort_eq Msg Msg e = refl
+same_sort_eq Msg TamNat e = absurd (false≢true e)
+same_sort_eq Msg Node e = absurd (false≢true e)
+same_sort_eq TamNat Pub e = absurd (false≢true e)
+same_sort_eq TamNat Fresh e = absurd (false≢true e)
+same_sort_eq TamNat Msg e = absurd (false≢true e)
+same_sort_eq TamNat TamNat e = refl
+same_sort_eq TamNat Node e = absurd (false≢true e)
+same_sort_eq Node Pub e = absurd (false≢true e)
+same_sort_eq Node Fresh e = absurd (false≢true e)
+same_sort_eq Node Msg e = absurd (false≢true e)
+same_sort_eq Node TamNat e = absurd (false≢true e)
+same_sort_eq Node Node e = refl
 
 -- variables
 
-pub sorted_variable : (s c : Sort) (x : Text) → variable_sort x ≡ some c → sorted s (variable x) ≡ below c s
+pub sorted_variable : (s c : Sort) (x : Text) → variable_sort x ≡ Some c → sorted s (variable x) ≡ below c s
 unfolding sorted natural message basic
 sorted_variable Pub c x e = ap (has_sort Pub) e
 sorted_variable Fresh c x e = ap (has_sort Fresh) e
@@ -76,16 +98,16 @@ sorted_variable Msg c x e = ap has_message_sort e
 sorted_variable TamNat c x e = ap (has_sort TamNat) e
 sorted_variable Node c x e = ap (has_sort Node) e
 
-unnamed : (x : Text) → variable_sort x ≡ nothing → (s : Sort) → not (sorted s (variable x)) ≡ true
+unnamed : (x : Text) → variable_sort x ≡ None → (s : Sort) → not (sorted s (variable x)) ≡ true
 unfolding sorted natural message basic
 unnamed x e = at_sort (λ s. not (sorted s (variable x))) (rw e)
 
-pub named : (s : Sort) (x : Text) → sorted s (variable x) ≡ true → (c : Sort) × (variable_sort x ≡ some c) × (below c s ≡ true)
+pub named : (s : Sort) (x : Text) → sorted s (variable x) ≡ true → (c : Sort) × (variable_sort x ≡ Some c) × (below c s ≡ true)
 named s x e = go (variable_sort x) refl
   where
-    go : (o : Option Sort) → variable_sort x ≡ o → (c : Sort) × (variable_sort x ≡ some c) × (below c s ≡ true)
-    go nothing p = absurd (false≢true (ap not (sym e) ∙ unnamed x p s))
-    go (some c) p = (c, p, sym (sorted_variable s c x p) ∙ e)
+    go : (o : Option Sort) → variable_sort x ≡ o → (c : Sort) × (variable_sort x ≡ Some c) × (below c s ≡ true)
+    go None p = absurd (false≢true (ap not (sym e) ∙ unnamed x p s))
+    go (Some c) p = (c, p, sym (sorted_variable s c x p) ∙ e)
 
 -- atoms: the least sort of a letter
 

@@ -7,7 +7,9 @@ use mathlib.Core.List.{[], ◌∷◌}
 use Prim.Native.Nat.{ℕ}
 use Rattle.rules.specs.Names.{letter, number}
 use Rattle.rules.specs.Tree.{Tree, atom}
-use Rattle.rules.specs.Sorts.{Sort, Pub, Fresh, Msg, TamNat, Node, intersects, natural, message, basic, sorted}
+use Rattle.rules.specs.declared.Sort.{Sort}
+use Rattle.rules.specs.declared.Sort.TheVariants.{Pub, Fresh, Msg, TamNat, Node}
+use Rattle.rules.specs.Sorts.{intersects, natural, message, basic, sorted}
 use Rattle.rules.specs.Membership.{Subsort, pub_msg, fresh_msg, tamnat_msg}
 use Rattle.rules.specs.Tidy.{Built, an_atom}
 use Rattle.laws.proofs.Basics.Tests.{or_cases}

@@ -6,7 +6,8 @@ use mathlib.Core.Bool.{Bool, true, false, true≢false}
 use mathlib.Core.List.Memᴰ
 use mathlib.Core.List.{List, [], ◌∷◌, ◌++◌, map, Memᴰ}
 use mathlib.Core.Logic.{◌↔◌, ◌⊎◌, inl, inr}
-use mathlib.Core.Option.{Option, some, none as nothing, some-injective, none-ne-some}
+use Rattle.std.specs.Prelude.{Option, Some, None}
+use Rattle.laws.proofs.Basics.Somes.{some_injective, none_ne_some}
 use lib.Dec.{leb}
 use Rattle.rules.specs.Bytes.{Text}
 use Rattle.rules.specs.Maybe.{◌>>=◌, guard, every}
@@ -44,44 +45,44 @@ normal_test t b = (
 mutual
   unfolding fresh_base variable_names
 
-  index_absent : (t : Tree) (base : ℕ) → fresh_base t base ≡ nothing → (x : Text) × Memᴰ x (variable_names t) × (index_of x ≡ nothing)
+  index_absent : (t : Tree) (base : ℕ) → fresh_base t base ≡ None → (x : Text) × Memᴰ x (variable_names t) × (index_of x ≡ None)
   index_absent (variable x) base h = (x, Memᴰ.head refl, go (index_of x) h)
     where
-      go : (o : Option ℕ) → (o >>= λ i. some (max base (suc i))) ≡ nothing → o ≡ nothing
-      go nothing k = refl
-      go (some i) k = absurd (none-ne-some (max base (suc i)) (sym k))
-  index_absent (atom c d) base h = absurd (none-ne-some base (sym h))
+      go : (o : Option ℕ) → (o >>= λ i. Some (max base (suc i))) ≡ None → o ≡ None
+      go None k = refl
+      go (Some i) k = absurd (none_ne_some (max base (suc i)) (sym k))
+  index_absent (atom c d) base h = absurd (none_ne_some base (sym h))
   index_absent (apply f ts) base h = index_absent_in ts base h
 
-  index_absent_in : (ts : Trees) (base : ℕ) → fresh_base_in ts base ≡ nothing → (x : Text) × Memᴰ x (variable_names_in ts) × (index_of x ≡ nothing)
-  index_absent_in none base h = absurd (none-ne-some base (sym h))
+  index_absent_in : (ts : Trees) (base : ℕ) → fresh_base_in ts base ≡ None → (x : Text) × Memᴰ x (variable_names_in ts) × (index_of x ≡ None)
+  index_absent_in none base h = absurd (none_ne_some base (sym h))
   index_absent_in (more t ts) base h = go (fresh_base t base) refl h (λ k. index_absent t base k) (λ b k. index_absent_in ts b k)
     where
-      go : (o : Option ℕ) → fresh_base t base ≡ o → (o >>= λ b. fresh_base_in ts b) ≡ nothing
-          → (fresh_base t base ≡ nothing → (x : Text) × Memᴰ x (variable_names t) × (index_of x ≡ nothing))
-          → ((b : ℕ) → fresh_base_in ts b ≡ nothing → (x : Text) × Memᴰ x (variable_names_in ts) × (index_of x ≡ nothing))
-          → (x : Text) × Memᴰ x (variable_names t ++ variable_names_in ts) × (index_of x ≡ nothing)
-      go nothing e k ih ih₂ = let (x, m, i) = ih e in (x, Memᴰ.append_left (variable_names_in ts) m, i)
-      go (some b) e k ih ih₂ = let (x, m, i) = ih₂ b k in (x, Memᴰ.append_right (variable_names t) m, i)
+      go : (o : Option ℕ) → fresh_base t base ≡ o → (o >>= λ b. fresh_base_in ts b) ≡ None
+          → (fresh_base t base ≡ None → (x : Text) × Memᴰ x (variable_names t) × (index_of x ≡ None))
+          → ((b : ℕ) → fresh_base_in ts b ≡ None → (x : Text) × Memᴰ x (variable_names_in ts) × (index_of x ≡ None))
+          → (x : Text) × Memᴰ x (variable_names t ++ variable_names_in ts) × (index_of x ≡ None)
+      go None e k ih ih₂ = let (x, m, i) = ih e in (x, Memᴰ.append_left (variable_names_in ts) m, i)
+      go (Some b) e k ih ih₂ = let (x, m, i) = ih₂ b k in (x, Memᴰ.append_right (variable_names t) m, i)
 
 mutual
   unfolding fresh_base variable_names
 
-  base_absent : (t : Tree) (base : ℕ) (x : Text) → Memᴰ x (variable_names t) → index_of x ≡ nothing → fresh_base t base ≡ nothing
-  base_absent (variable y) base x (Memᴰ.head e) h = ap (λ (o : Option ℕ). o >>= λ i. some (max base (suc i))) (ap index_of (sym e) ∙ h)
+  base_absent : (t : Tree) (base : ℕ) (x : Text) → Memᴰ x (variable_names t) → index_of x ≡ None → fresh_base t base ≡ None
+  base_absent (variable y) base x (Memᴰ.head e) h = ap (λ (o : Option ℕ). o >>= λ i. Some (max base (suc i))) (ap index_of (sym e) ∙ h)
   base_absent (variable y) base x (Memᴰ.tail m) h = absurd (Memᴰ.not-nil m)
   base_absent (atom c d) base x m h = absurd (Memᴰ.not-nil m)
   base_absent (apply f ts) base x m h = base_absent_in ts base x m h
 
-  base_absent_in : (ts : Trees) (base : ℕ) (x : Text) → Memᴰ x (variable_names_in ts) → index_of x ≡ nothing → fresh_base_in ts base ≡ nothing
+  base_absent_in : (ts : Trees) (base : ℕ) (x : Text) → Memᴰ x (variable_names_in ts) → index_of x ≡ None → fresh_base_in ts base ≡ None
   base_absent_in none base x m h = absurd (Memᴰ.not-nil m)
   base_absent_in (more t ts) base x m h = go (Memᴰ.append_cases (variable_names t) m) (λ k. base_absent t base x k h) (λ b k. base_absent_in ts b x k h) (fresh_base t base) refl
     where
-      go : Memᴰ x (variable_names t) ⊎ Memᴰ x (variable_names_in ts) → (Memᴰ x (variable_names t) → fresh_base t base ≡ nothing)
-          → ((b : ℕ) → Memᴰ x (variable_names_in ts) → fresh_base_in ts b ≡ nothing) → (o : Option ℕ) → fresh_base t base ≡ o → (o >>= λ b. fresh_base_in ts b) ≡ nothing
-      go a ih ih₂ nothing e = refl
-      go (inl k) ih ih₂ (some b) e = absurd (none-ne-some b (sym (ih k) ∙ e))
-      go (inr k) ih ih₂ (some b) e = ih₂ b k
+      go : Memᴰ x (variable_names t) ⊎ Memᴰ x (variable_names_in ts) → (Memᴰ x (variable_names t) → fresh_base t base ≡ None)
+          → ((b : ℕ) → Memᴰ x (variable_names_in ts) → fresh_base_in ts b ≡ None) → (o : Option ℕ) → fresh_base t base ≡ o → (o >>= λ b. fresh_base_in ts b) ≡ None
+      go a ih ih₂ None e = refl
+      go (inl k) ih ih₂ (Some b) e = absurd (none_ne_some b (sym (ih k) ∙ e))
+      go (inr k) ih ih₂ (Some b) e = ih₂ b k
 
 -- Schemes that are solved
 
@@ -97,8 +98,8 @@ module _ (term : Tree) where
   Undecided ss = (s : Scheme) × Memᴰ s ss × ((unify 65536 (system term s)).0 ≡ unsupported)
 
   abbrev Sorted : List Scheme → Option (List Variant) → Type 0
-  Sorted ss nothing = Undecided ss
-  Sorted ss (some vs) = Solves ss vs
+  Sorted ss None = Undecided ss
+  Sorted ss (Some vs) = Solves ss vs
 
   sort_schemes : (ss : List Scheme) → Sorted ss (solved_schemes term ss)
   unfolding solved_schemes
@@ -106,11 +107,11 @@ module _ (term : Tree) where
   sort_schemes (s ∷ ss) = go (unify 65536 (system term s)).0 refl (solved_schemes term ss) (sort_schemes ss)
     where
       go : (v : Verdict) → (unify 65536 (system term s)).0 ≡ v → (o : Option (List Variant)) → Sorted ss o
-          → Sorted (s ∷ ss) (elim v [ solved bs ↦ o >>= λ rest. some ((s.value, bs) ∷ rest) | failed ↦ o | unsupported ↦ nothing ])
-      go (solved bs) e nothing h = let (u, m, f) = h in (u, Memᴰ.tail m, f)
-      go (solved bs) e (some vs) h = solved_one refl e h
-      go failed e nothing h = let (u, m, f) = h in (u, Memᴰ.tail m, f)
-      go failed e (some vs) h = failed_one e h
+          → Sorted (s ∷ ss) (elim v [ solved bs ↦ o >>= λ rest. Some ((s.value, bs) ∷ rest) | failed ↦ o | unsupported ↦ None ])
+      go (solved bs) e None h = let (u, m, f) = h in (u, Memᴰ.tail m, f)
+      go (solved bs) e (Some vs) h = solved_one refl e h
+      go failed e None h = let (u, m, f) = h in (u, Memᴰ.tail m, f)
+      go failed e (Some vs) h = failed_one e h
       go unsupported e o h = (s, Memᴰ.head refl, e)
 
   abbrev verdict_number : Verdict → ℕ
@@ -158,15 +159,15 @@ module _ (term : Tree) (ms : List Variant) where
 -- The schemes against the members
 
 abbrev solution : Verdict → Option (List Binding)
-solution (solved bs) = some bs
-solution failed = nothing
-solution unsupported = nothing
+solution (solved bs) = Some bs
+solution failed = None
+solution unsupported = None
 
 -- not normal: the rest; normal and generalized: the rest
 abbrev decide : Bool → Bool → Option Bool → Option Bool
 decide false b r = r
 decide true true r = r
-decide true false r = some false
+decide true false r = Some false
 
 module _ (term : Tree) (ms : List Variant) where
   decided_by : (w : Tree) (bs : List Binding) (vs : List Variant) → size (instantiate bs w) ≤ 4096
@@ -174,13 +175,13 @@ module _ (term : Tree) (ms : List Variant) where
       ≡ decide (equivalent (instantiate bs w) (normalize (instantiate bs w))) (generalized (variables term []) ms bs (instantiate bs w)) (all_generalized (variables term []) ms vs)
   unfolding all_generalized instance_of
   decided_by w bs vs l =
-      ap {B = Option Bool} (λ (c : Bool). (guard c >>= λ _. some (instantiate bs w)) >>= λ value. elim (equivalent value (normalize value)) [
+      ap {B = Option Bool} (λ (c : Bool). (guard c >>= λ _. Some (instantiate bs w)) >>= λ value. elim (equivalent value (normalize value)) [
         | false ↦ all_generalized (variables term []) ms vs
-        | true ↦ elim (generalized (variables term []) ms bs value) [ true ↦ all_generalized (variables term []) ms vs | false ↦ some false ]
+        | true ↦ elim (generalized (variables term []) ms bs value) [ true ↦ all_generalized (variables term []) ms vs | false ↦ Some false ]
       ]) (true_leb (size (instantiate bs w)) 4096 l)
       ∙ go (equivalent (instantiate bs w) (normalize (instantiate bs w))) (generalized (variables term []) ms bs (instantiate bs w)) (all_generalized (variables term []) ms vs)
     where
-      go : (a b : Bool) (r : Option Bool) → elim a [ false ↦ r | true ↦ elim b [ true ↦ r | false ↦ some false ] ] ≡ decide a b r
+      go : (a b : Bool) (r : Option Bool) → elim a [ false ↦ r | true ↦ elim b [ true ↦ r | false ↦ Some false ] ] ≡ decide a b r
       go false b r = refl
       go true true r = refl
       go true false r = refl
@@ -190,27 +191,27 @@ module _ (term : Tree) (ms : List Variant) where
   Met s = (bs : List Binding) → (unify 65536 (system term s)).0 ≡ solved bs → NormalModulo (instantiate bs s.value) → Generalized term ms s bs
 
   abbrev Judged : List Scheme → Option Bool → Type 0
-  Judged ss nothing = ⊥
-  Judged ss (some true) = (s : Scheme) → Memᴰ s ss → Met s
-  Judged ss (some false) =
+  Judged ss None = ⊥
+  Judged ss (Some true) = (s : Scheme) → Memᴰ s ss → Met s
+  Judged ss (Some false) =
       (s : Scheme) × (bs : List Binding) × Memᴰ s ss × ((unify 65536 (system term s)).0 ≡ solved bs) × NormalModulo (instantiate bs s.value)
       × ((m : Variant) → Memᴰ m ms → ¬ Generalizes term m s bs)
 
   with_first : (s : Scheme) (ss : List Scheme) → Met s → (r : Option Bool) → Judged ss r → Judged (s ∷ ss) r
-  with_first s ss q nothing j = j
-  with_first s ss q (some true) j = λ t m. at t m
+  with_first s ss q None j = j
+  with_first s ss q (Some true) j = λ t m. at t m
     where
       at : (t : Scheme) → Memᴰ t (s ∷ ss) → Met t
       at t (Memᴰ.head e) = subst Met (sym e) q
       at t (Memᴰ.tail m) = j t m
-  with_first s ss q (some false) j = let (t, bs, m, u, n, g) = j in (t, bs, Memᴰ.tail m, u, n, g)
+  with_first s ss q (Some false) j = let (t, bs, m, u, n, g) = j in (t, bs, Memᴰ.tail m, u, n, g)
 
   failed_met : (s : Scheme) → (unify 65536 (system term s)).0 ≡ failed → Met s
-  failed_met s f bs u n = absurd (none-ne-some bs (ap solution (sym f ∙ u)))
+  failed_met s f bs u n = absurd (none_ne_some bs (ap solution (sym f ∙ u)))
 
   solved_met : (s : Scheme) (bs : List Binding) → (unify 65536 (system term s)).0 ≡ solved bs → (NormalModulo (instantiate bs s.value) → Generalized term ms s bs) → Met s
   solved_met s bs f k cs u n =
-      subst (λ (ds : List Binding). NormalModulo (instantiate ds s.value) → Generalized term ms s ds) (some-injective bs cs (ap solution (sym f ∙ u))) k n
+      subst (λ (ds : List Binding). NormalModulo (instantiate ds s.value) → Generalized term ms s ds) (some_injective bs cs (ap solution (sym f ∙ u))) k n
 
   module _ (built : Built term) (small : size term ≤ 4096) (base : ℕ) where
     first_judged : (s : Scheme) (ss : List Scheme) (bs : List Binding) (vs : List Variant) → Memᴰ s (schemes_from (fresh_from base) term 0)
@@ -245,55 +246,55 @@ module _ (term : Tree) (ms : List Variant) where
 
 module _ (term : Tree) (built : Built term) (small : size term ≤ 4096) (members : List Member) where
   claimed : (c : Claim term members) (r : Option Bool) → Judged term c.variants (schemes_from (fresh_from c.base) term 0) r → CompleteMeans term members r
-  claimed c nothing j = absurd j
-  claimed c (some true) j = is_complete c (λ s bs t. j s t.listed bs t.solution t.normal)
-  claimed c (some false) j = let (s, bs, m, u, n, g) = j in is_missing c {s = s} {bs = bs} (record { listed = m; solution = u; normal = n }) g
+  claimed c None j = absurd j
+  claimed c (Some true) j = is_complete c (λ s bs t. j s t.listed bs t.solution t.normal)
+  claimed c (Some false) j = let (s, bs, m, u, n, g) = j in is_missing c {s = s} {bs = bs} (record { listed = m; solution = u; normal = n }) g
 
   -- the members read, the base is known, the schemes are not too many
-  after_count : (ms : List Variant) (base : ℕ) → every (map read_member members) ≡ some ms → fresh_base term 0 ≡ some base → scheme_count term ≤ 4096
+  after_count : (ms : List Variant) (base : ℕ) → every (map read_member members) ≡ Some ms → fresh_base term 0 ≡ Some base → scheme_count term ≤ 4096
       → (o : Option (List Variant)) → Sorted term (schemes_from (fresh_from base) term 0) o → CompleteMeans term members (o >>= λ found. all_generalized (variables term []) ms found)
-  after_count ms base e f l nothing h = let (s, m, u) = h in no_claim (scheme_unsupported f m u)
-  after_count ms base e f l (some vs) h =
+  after_count ms base e f l None h = let (s, m, u) = h in no_claim (scheme_unsupported f m u)
+  after_count ms base e f l (Some vs) h =
       claimed (record { variants = ms; base = base; read = e; indexed = f; limited = l; decided = λ s m u. all_decided term h s m u })
       (all_generalized (variables term []) ms vs) (judge term ms built small base (λ s m. m) h)
 
   abbrev from_schemes : List Variant → List Scheme → Option Bool
   from_schemes ms ss = solved_schemes term ss >>= λ found. all_generalized (variables term []) ms found
 
-  after_base : (ms : List Variant) (base : ℕ) → every (map read_member members) ≡ some ms → fresh_base term 0 ≡ some base → (b : Bool) → leb (scheme_count term) 4096 ≡ b
-      → CompleteMeans term members ((guard b >>= λ _. some (schemes_from (fresh_from base) term 0)) >>= from_schemes ms)
+  after_base : (ms : List Variant) (base : ℕ) → every (map read_member members) ≡ Some ms → fresh_base term 0 ≡ Some base → (b : Bool) → leb (scheme_count term) 4096 ≡ b
+      → CompleteMeans term members ((guard b >>= λ _. Some (schemes_from (fresh_from base) term 0)) >>= from_schemes ms)
   after_base ms base e f false g = no_claim (schemes_over (leb_false (scheme_count term) 4096 g))
   after_base ms base e f true g =
       after_count ms base e f (leb_true (scheme_count term) 4096 g) (solved_schemes term (schemes_from (fresh_from base) term 0)) (sort_schemes term (schemes_from (fresh_from base) term 0))
 
-  after_members : (ms : List Variant) → every (map read_member members) ≡ some ms → (o : Option ℕ) → fresh_base term 0 ≡ o
-      → CompleteMeans term members ((o >>= λ base. guard (leb (scheme_count term) 4096) >>= λ _. some (schemes_from (fresh_from base) term 0)) >>= from_schemes ms)
-  after_members ms e nothing f = let (x, m, i) = index_absent term 0 f in no_claim (index_missing m i)
-  after_members ms e (some base) f = after_base ms base e f (leb (scheme_count term) 4096) refl
+  after_members : (ms : List Variant) → every (map read_member members) ≡ Some ms → (o : Option ℕ) → fresh_base term 0 ≡ o
+      → CompleteMeans term members ((o >>= λ base. guard (leb (scheme_count term) 4096) >>= λ _. Some (schemes_from (fresh_from base) term 0)) >>= from_schemes ms)
+  after_members ms e None f = let (x, m, i) = index_absent term 0 f in no_claim (index_missing m i)
+  after_members ms e (Some base) f = after_base ms base e f (leb (scheme_count term) 4096) refl
 
   complete_view : CompleteMeans term members (complete term members)
   unfolding complete schemes
   complete_view = go (every (map read_member members)) refl
     where
       go : (o : Option (List Variant)) → every (map read_member members) ≡ o → CompleteMeans term members (o >>= λ ms. schemes term >>= from_schemes ms)
-      go nothing e = no_claim (member_unreadable (members_unread members e))
-      go (some ms) e = after_members ms e (fresh_base term 0) refl
+      go None e = no_claim (member_unreadable (members_unread members e))
+      go (Some ms) e = after_members ms e (fresh_base term 0) refl
 
   -- no two of the cases hold
 
   not_both : Unclaimed term members → Claim term members → ⊥
-  not_both (member_unreadable u) c = none-ne-some c.variants (sym (unread_members members u) ∙ c.read)
-  not_both (index_missing {x} m i) c = none-ne-some c.base (sym (base_absent term 0 x m i) ∙ c.indexed)
+  not_both (member_unreadable u) c = none_ne_some c.variants (sym (unread_members members u) ∙ c.read)
+  not_both (index_missing {x} m i) c = none_ne_some c.base (sym (base_absent term 0 x m i) ∙ c.indexed)
   not_both (schemes_over h) c = let l = c.limited in omega arith
   not_both (scheme_unsupported {base} {s} f m u) c =
-      c.decided s (subst (λ (b : ℕ). Memᴰ s (schemes_from (fresh_from b) term 0)) (some-injective base c.base (sym f ∙ c.indexed)) m) u
+      c.decided s (subst (λ (b : ℕ). Memᴰ s (schemes_from (fresh_from b) term 0)) (some_injective base c.base (sym f ∙ c.indexed)) m) u
 
   contrary : (c d : Claim term members)
       → ((s : Scheme) (bs : List Binding) → Target term c.base s bs → (m : Variant) × Memᴰ m c.variants × Generalizes term m s bs)
       → {s : Scheme} {bs : List Binding} → Target term d.base s bs → ((m : Variant) → Memᴰ m d.variants → ¬ Generalizes term m s bs) → ⊥
   contrary c d f {s} {bs} t g =
-      let b = some-injective d.base c.base (sym d.indexed ∙ c.indexed) in
-      let v = some-injective c.variants d.variants (sym c.read ∙ d.read) in
+      let b = some_injective d.base c.base (sym d.indexed ∙ c.indexed) in
+      let v = some_injective c.variants d.variants (sym c.read ∙ d.read) in
       let (m, h, k) = f s bs (subst (λ (n : ℕ). Target term n s bs) b t) in
       g m (subst (λ (vs : List Variant). Memᴰ m vs) v h) k
 

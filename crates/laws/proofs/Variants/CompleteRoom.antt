@@ -4,7 +4,8 @@ use native.Mathlib.Omega.{arith}
 use mathlib.Core.Path.{◌≡◌, refl, ◌∙◌, ap, subst}
 use mathlib.Core.Bool.{Bool, true, false}
 use mathlib.Core.List.{List, [], ◌∷◌, ◌++◌, map, Memᴰ}
-use mathlib.Core.Option.{some, some-injective}
+use Rattle.std.specs.Prelude.{Some}
+use Rattle.laws.proofs.Basics.Somes.{some_injective}
 use lib.ListN.{length, length-append}
 use Rattle.rules.specs.Bytes.{Text, same}
 use Rattle.rules.specs.Text.{count_of}
@@ -33,32 +34,32 @@ use Rattle.laws.proofs.Variants.CoverRoom.{read_at, general_read, cover_nodes, c
 
 -- A member that is read gives each variable the tree that it gives in cover
 
-entries_general : (es : List Entry) (bs : List Binding) → every (map read_entry es) ≡ some bs → (x : Text) → read_at x (entry_at es x) ≡ some (lookup bs x)
+entries_general : (es : List Entry) (bs : List Binding) → every (map read_entry es) ≡ Some bs → (x : Text) → read_at x (entry_at es x) ≡ Some (lookup bs x)
 unfolding every read_entry entry_at lookup
-entries_general [] bs h x = ap (λ (cs : List Binding). some (lookup cs x)) (some-injective [] bs h)
+entries_general [] bs h x = ap (λ (cs : List Binding). Some (lookup cs x)) (some_injective [] bs h)
 entries_general (e ∷ es) bs h x =
-    let (b, f, h₁) = bound (parse e.1 >>= λ t. some (e.0, t)) _ bs h in
-    let (t, g, f₁) = bound (parse e.1) (λ u. some (e.0, u)) b f in
+    let (b, f, h₁) = bound (parse e.1 >>= λ t. Some (e.0, t)) _ bs h in
+    let (t, g, f₁) = bound (parse e.1) (λ u. Some (e.0, u)) b f in
     let (cs, i, h₂) = bound (every (map read_entry es)) _ bs h₁ in
-    subst (λ (ds : List Binding). read_at x (entry_at (e ∷ es) x) ≡ some (lookup ds x)) (some-injective (b ∷ cs) bs h₂)
-    (subst (λ (c : Binding). read_at x (entry_at (e ∷ es) x) ≡ some (lookup (c ∷ cs) x)) (some-injective (e.0, t) b f₁)
+    subst (λ (ds : List Binding). read_at x (entry_at (e ∷ es) x) ≡ Some (lookup ds x)) (some_injective (b ∷ cs) bs h₂)
+    (subst (λ (c : Binding). read_at x (entry_at (e ∷ es) x) ≡ Some (lookup (c ∷ cs) x)) (some_injective (e.0, t) b f₁)
     (first (same e.0 x) t cs g (entries_general es cs i x)))
   where
-    first : (c : Bool) (t : Tree) (cs : List Binding) → parse e.1 ≡ some t → read_at x (entry_at es x) ≡ some (lookup cs x)
-        → read_at x (elim c [ true ↦ some e.1 | false ↦ entry_at es x ]) ≡ some (pick c t (lookup cs x))
+    first : (c : Bool) (t : Tree) (cs : List Binding) → parse e.1 ≡ Some t → read_at x (entry_at es x) ≡ Some (lookup cs x)
+        → read_at x (elim c [ true ↦ Some e.1 | false ↦ entry_at es x ]) ≡ Some (pick c t (lookup cs x))
     first true t cs g k = g
     first false t cs g k = k
 
 -- the texts of a member that is read
-member_parts : (m : Member) (v : Variant) → read_member m ≡ some v → (parse m.0 ≡ some v.0) × (every (map read_entry m.1) ≡ some v.1)
+member_parts : (m : Member) (v : Variant) → read_member m ≡ Some v → (parse m.0 ≡ Some v.0) × (every (map read_entry m.1) ≡ Some v.1)
 unfolding read_member
 member_parts m v h =
     let (t, e, h₁) = bound (parse m.0) _ v h in
-    let (bs, f, h₂) = bound (every (map read_entry m.1)) (λ cs. some (t, cs)) v h₁ in
-    let q = some-injective (t, bs) v h₂ in
-    (e ∙ ap (λ (z : Variant). some z.0) q, f ∙ ap (λ (z : Variant). some z.1) q)
+    let (bs, f, h₂) = bound (every (map read_entry m.1)) (λ cs. Some (t, cs)) v h₁ in
+    let q = some_injective (t, bs) v h₂ in
+    (e ∙ ap (λ (z : Variant). Some z.0) q, f ∙ ap (λ (z : Variant). Some z.1) q)
 
-member_against : (m : Member) (v : Variant) → read_member m ≡ some v → (bs : List Binding) (xs : List Text)
+member_against : (m : Member) (v : Variant) → read_member m ≡ Some v → (bs : List Binding) (xs : List Text)
     → Against bs m xs (map (λ x. (lookup v.1 x, lookup bs x)) xs)
 member_against m v h bs [] = nil
 member_against m v h bs (x ∷ xs) =
@@ -82,7 +83,7 @@ sides_last P Q (r ∷ qs) a b h p q = (h.0, h.1, sides_last P Q qs a b h.2 p q)
 
 -- Sheets
 
-module _ (s text : Text) (ms : List Member) (reads : read_sheet s ≡ some (asks_complete text ms)) (term : Tree) (parsed : parse text ≡ some term)
+module _ (s text : Text) (ms : List Member) (reads : read_sheet s ≡ Some (asks_complete text ms)) (term : Tree) (parsed : parse text ≡ Some term)
     (m : Member) (listed : Memᴰ m ms) where
   complete_colons : length (variables term []) + total (count_of 58) (entry_keys m.1) ≤ count_of 58 s
   unfolding sheet_keys sheet_texts
@@ -110,7 +111,7 @@ module _ (s text : Text) (ms : List Member) (reads : read_sheet s ≡ some (asks
       )
 
   -- by names that are variable tokens
-  pub complete_room : (name : ℕ → Text) → ((n : ℕ) → variable_token (name n) ≡ true) → (v : Variant) → read_member m ≡ some v
+  pub complete_room : (name : ℕ → Text) → ((n : ℕ) → variable_token (name n) ≡ true) → (v : Variant) → read_member m ≡ Some v
       → (n : ℕ) (r : Scheme) → Memᴰ r (schemes_from name term n)
       → (k : ℕ) (bs : List Binding) → (unify k (system term r)).0 ≡ solved bs
       → MatchRoom s (map (λ x. (lookup v.1 x, lookup bs x)) (variables term []) ++ ((v.0, instantiate bs r.value) ∷ []))

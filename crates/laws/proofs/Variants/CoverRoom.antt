@@ -5,7 +5,8 @@ use native.Mathlib.Omega.{arith}
 use mathlib.Core.Path.{◌≡◌, refl, sym, ◌∙◌, ap, subst}
 use mathlib.Core.Bool.{Bool, true, false, cond}
 use mathlib.Core.List.{List, [], ◌∷◌, map, Memᴰ}
-use mathlib.Core.Option.{Option, some, none as nothing, some-injective}
+use Rattle.std.specs.Prelude.{Option, Some, None}
+use Rattle.laws.proofs.Basics.Somes.{some_injective}
 use lib.ListN.{length}
 use Rattle.rules.specs.Bytes.{Text, same}
 use Rattle.rules.specs.Text.{count_of}
@@ -38,16 +39,16 @@ use Rattle.laws.proofs.Variants.VariableOrder.{EachOnce, Token, token_colon, all
 -- One entry for a variable
 
 abbrev pub read_at : Text → Option Text → Option Tree
-read_at x nothing = some (variable x)
-read_at x (some text) = parse text
+read_at x None = Some (variable x)
+read_at x (Some text) = parse text
 
 pub general_read : (m : Member) (x : Text) → general m x ≡ read_at x (entry_at m.1 x)
 unfolding general
 general_read m x = go (entry_at m.1 x)
   where
-    go : (o : Option Text) → elim o [ nothing ↦ some (variable x) | some text ↦ parse text ] ≡ read_at x o
-    go nothing = refl
-    go (some text) = refl
+    go : (o : Option Text) → elim o [ None ↦ Some (variable x) | Some text ↦ parse text ] ≡ read_at x o
+    go None = refl
+    go (Some text) = refl
 
 module _ (cost : Entry → ℕ) where
   -- the cost of the first entry with that key
@@ -89,18 +90,18 @@ module _ (cost : Entry → ℕ) where
 
   -- the member's tree at a variable: the variable, or what the first entry with that key reads as
   module _ (P : Tree → ℕ → Type 0) (x : Text) (itself : P (variable x) 0)
-      (reads : (e : Entry) (t : Tree) → e.0 ≡ x → parse e.1 ≡ some t → P t (cost e)) (t : Tree) where
-    entry_by : (es : List Entry) → read_at x (entry_at es x) ≡ some t → P t (paid_at es x)
+      (reads : (e : Entry) (t : Tree) → e.0 ≡ x → parse e.1 ≡ Some t → P t (cost e)) (t : Tree) where
+    entry_by : (es : List Entry) → read_at x (entry_at es x) ≡ Some t → P t (paid_at es x)
     unfolding entry_at paid_at
-    entry_by [] h = subst (λ (u : Tree). P u 0) (some-injective (variable x) t h) itself
+    entry_by [] h = subst (λ (u : Tree). P u 0) (some_injective (variable x) t h) itself
     entry_by (e ∷ es) h = go (same e.0 x) refl h (entry_by es)
       where
-        go : (b : Bool) → same e.0 x ≡ b → read_at x (elim b [ true ↦ some e.1 | false ↦ entry_at es x ]) ≡ some t
-            → (read_at x (entry_at es x) ≡ some t → P t (paid_at es x)) → P t (cond b (cost e) (paid_at es x))
+        go : (b : Bool) → same e.0 x ≡ b → read_at x (elim b [ true ↦ Some e.1 | false ↦ entry_at es x ]) ≡ Some t
+            → (read_at x (entry_at es x) ≡ Some t → P t (paid_at es x)) → P t (cond b (cost e) (paid_at es x))
         go true k f ih = reads e t (same_eq e.0 x k) f
         go false k f ih = ih f
 
-    general_by : (m : Member) → general m x ≡ some t → P t (paid_at m.1 x)
+    general_by : (m : Member) → general m x ≡ Some t → P t (paid_at m.1 x)
     general_by m h = entry_by m.1 (sym (general_read m x) ∙ h)
 
 module _ (f : Text → ℕ) where
@@ -139,7 +140,7 @@ module _ (bs : List Binding) (m : Member) where
   pub cover_nodes : {xs : List Text} {qs : List Pair} → EachOnce xs → Against bs m xs qs → pattern_nodes qs ≤ length xs + total length (entry_values m.1)
   cover_nodes {xs} o a = omega (arith, nodes_paid a, paid_once (λ e. length e.1) m.1 xs o, values_total length m.1)
 
-  load_entry : (x : Text) (u : Tree) → Token x → size u ≤ 4096 → (e : Entry) (t : Tree) → e.0 ≡ x → parse e.1 ≡ some t → load t u ≤ heavy e
+  load_entry : (x : Text) (u : Tree) → Token x → size u ≤ 4096 → (e : Entry) (t : Tree) → e.0 ≡ x → parse e.1 ≡ Some t → load t u ≤ heavy e
   load_entry x u k l e t i r =
       let j = ap (count_of 58) i in
       omega (arith, load_size t u, parse_size e.1 t r, token_colon x k)
@@ -156,7 +157,7 @@ module _ (bs : List Binding) (m : Member) where
       → weight qs ≤ total length (entry_values m.1) + 4095 * total (count_of 58) (entry_keys m.1)
   cover_weight {xs} o k l a = omega (arith, weight_paid k l a, paid_once heavy m.1 xs o, heavy_total m.1)
 
-  general_limited : (x : Text) (t : Tree) → Token x → general m x ≡ some t → Built t × (size t ≤ 4096)
+  general_limited : (x : Text) (t : Tree) → Token x → general m x ≡ Some t → Built t × (size t ≤ 4096)
   unfolding size
   general_limited x t k f =
       general_by heavy (λ u n. Built u × (size u ≤ 4096)) x (a_variable k, omega arith) (λ e u i r. (builds e.1 u r, reads_within e.1 u r)) t m f
@@ -206,7 +207,7 @@ module _ (f : Text → ℕ) where
       omega (arith, total_append f (entry_values n.1) (member_texts ms))
   texts_within (n ∷ ms) m (Memᴰ.tail h) = omega (arith, texts_within ms m h, total_append f (entry_values n.1) (member_texts ms))
 
-module _ (s : Text) (es : List Entry) (ms : List Member) (reads : read_sheet s ≡ some (asks_cover es ms)) (ps : List Pair) (pairs : read_pairs es ≡ some ps)
+module _ (s : Text) (es : List Entry) (ms : List Member) (reads : read_sheet s ≡ Some (asks_cover es ms)) (ps : List Pair) (pairs : read_pairs es ≡ Some ps)
     (m : Member) (listed : Memᴰ m ms) where
   -- a colon for each variable, and those of the member's keys
   pub cover_colons : length (variables_of ps) + total (count_of 58) (entry_keys m.1) ≤ count_of 58 s
@@ -238,9 +239,9 @@ pub record MatchRoom (s : Text) (qs : List Pair) (names texts keys last : ℕ) :
   pub built : BuiltPairs qs
   pub within : Sides (Upto 4096) (Upto 4096) qs
 
-pub cover_room : (s : Text) (es : List Entry) (ms : List Member) → read_sheet s ≡ some (asks_cover es ms) → (ps : List Pair) → read_pairs es ≡ some ps
+pub cover_room : (s : Text) (es : List Entry) (ms : List Member) → read_sheet s ≡ Some (asks_cover es ms) → (ps : List Pair) → read_pairs es ≡ Some ps
     → (k : ℕ) (bs : List Binding) → (unify k ps).0 ≡ solved bs → (m : Member) → Memᴰ m ms
-    → (qs : List Pair) → every (map (pair_at bs m) (variables_of ps)) ≡ some qs
+    → (qs : List Pair) → every (map (pair_at bs m) (variables_of ps)) ≡ Some qs
     → MatchRoom s qs (length (variables_of ps)) (total length (entry_values m.1)) (total (count_of 58) (entry_keys m.1)) 0
 cover_room s es ms reads ps pairs k bs e m listed qs f =
     let b = (pairs_read es ps pairs).0 in

@@ -4,14 +4,16 @@ use native.Mathlib.Omega.{arith}
 use mathlib.Core.Path.{◌≡◌, refl, sym, ◌∙◌, ap, subst}
 use mathlib.Core.Bool.{Bool, true, false, ◌||◌, false≢true}
 use mathlib.Core.List.{List, [], ◌∷◌, ◌++◌, map, Memᴰ}
-use mathlib.Core.Option.{Option, some, none as nothing}
+use Rattle.std.specs.Prelude.{Option, Some, None}
 use lib.ListN.{length, length-append}
 use Rattle.rules.specs.Bytes.{Text, same}
 use Rattle.rules.specs.Text.{is_one_of, count_of}
 use Rattle.rules.specs.Tree.{Tree, variable, atom, apply, Trees, none, more, count}
 use Rattle.rules.specs.Substitution.{Pair}
 use Rattle.rules.specs.Reading.{parse}
-use Rattle.rules.specs.Reduction.{Rule, fst, snd, flip, sdec, kdec, rule_named, arguments1, arguments2}
+use Rattle.rules.specs.declared.Rule.{Rule}
+use Rattle.rules.specs.declared.Rule.TheVariants.{Fst, Snd, Flip, Sdec, Kdec}
+use Rattle.rules.specs.Reduction.{rule_named, arguments1, arguments2}
 use Rattle.rules.specs.Variants.{Scheme, Joined, only, fresh, firings, before, root_schemes, join_first, schemes_from, joined, with_one, with_two, firing_count, system}
 use Rattle.laws.specs.Schemes.{root_count, listing}
 use Rattle.laws.specs.Memory.{Over, Overs, OverPairs, site, sites, sites_in}
@@ -63,13 +65,13 @@ module _ (name : ℕ → Text) (ns : List Text) where
         let p = subst (Overs ns) e o in
         subst (λ (m : ℕ). All (Uses n (2 * m)) (f (a, c))) (sym i) (h a c p.0 p.1.0 x y))
 
-    firings_use : (r : Rule) → Fresh n (2 * site (1 + firing_count (some r) us)) → All (Uses n (2 * site (1 + firing_count (some r) us))) (firings name r us n)
+    firings_use : (r : Rule) → Fresh n (2 * site (1 + firing_count (Some r) us)) → All (Uses n (2 * site (1 + firing_count (Some r) us))) (firings name r us n)
     unfolding firings
-    firings_use fst g = one 0 _ g (λ a p x y. ((omega arith, omega arith, x, (p, (x, (y, tt)), tt)), tt))
-    firings_use snd g = one 0 _ g (λ a p x y. ((omega arith, omega arith, y, (p, (x, (y, tt)), tt)), tt))
-    firings_use flip g = one 1 _ g (λ a p x y. ((omega arith, omega arith, tt, (p, tt, tt)), ((omega arith, omega arith, tt, (p, tt, tt)), tt)))
-    firings_use sdec g = two _ g (λ a c p q x y. ((omega arith, omega arith, x, (p, (x, (y, tt)), (q, y, tt))), tt))
-    firings_use kdec g = two _ g (λ a c p q x y. ((omega arith, omega arith, x, (p, (x, ((y, tt), tt)), (q, y, tt))), tt))
+    firings_use Fst g = one 0 _ g (λ a p x y. ((omega arith, omega arith, x, (p, (x, (y, tt)), tt)), tt))
+    firings_use Snd g = one 0 _ g (λ a p x y. ((omega arith, omega arith, y, (p, (x, (y, tt)), tt)), tt))
+    firings_use Flip g = one 1 _ g (λ a p x y. ((omega arith, omega arith, tt, (p, tt, tt)), ((omega arith, omega arith, tt, (p, tt, tt)), tt)))
+    firings_use Sdec g = two _ g (λ a c p q x y. ((omega arith, omega arith, x, (p, (x, (y, tt)), (q, y, tt))), tt))
+    firings_use Kdec g = two _ g (λ a c p q x y. ((omega arith, omega arith, x, (p, (x, ((y, tt), tt)), (q, y, tt))), tt))
 
   before_uses : (n m k l : ℕ) (es : List Pair) → n ≤ m → m ≤ n + k → OverPairs ns es → (s : Scheme) → Uses m l s → Uses n (l + k) (before es s)
   before_uses n m k l es p q o s h =
@@ -84,14 +86,14 @@ module _ (name : ℕ → Text) (ns : List Text) where
     where
       go : (o : Option Rule) → Fresh n (2 * (sites_in ts + site (1 + firing_count o ts)))
           → All (Uses n (2 * (sites_in ts + site (1 + firing_count o ts)))) (only o (λ r. map (before j.equations) (firings name r j.values j.next)))
-      go nothing g = tt
-      go (some r) g =
+      go None g = tt
+      go (Some r) g =
           let a = h.1 in
           let b = h.2 in
-          let c = site_alike (some r) j.values ts h.0 in
-          let k = 2 * site (1 + firing_count (some r) j.values) in
+          let c = site_alike (Some r) j.values ts h.0 in
+          let k = 2 * site (1 + firing_count (Some r) j.values) in
           let fits : Fresh j.next k = λ i p q. g i (omega arith) (omega arith) in
-          let sum : 2 * site (1 + firing_count (some r) j.values) + 2 * sites_in ts ≡ 2 * (sites_in ts + site (1 + firing_count (some r) ts)) = omega arith in
+          let sum : 2 * site (1 + firing_count (Some r) j.values) + 2 * sites_in ts ≡ 2 * (sites_in ts + site (1 + firing_count (Some r) ts)) = omega arith in
           subst (λ (l : ℕ). All (Uses n l) (map (before j.equations) (firings name r j.values j.next))) sum
           (all_map (Uses j.next k) (Uses n (k + 2 * sites_in ts)) (before j.equations) (before_uses n j.next (2 * sites_in ts) k j.equations a b h.4)
           (firings name r j.values j.next) (firings_use j.values h.3 j.next r fits))
@@ -202,7 +204,7 @@ site_names name term ns o n =
     )
 
 -- of a term that is read: as many more as twice its brackets, at most
-pub scheme_names : (name : ℕ → Text) (s : Text) (term : Tree) → parse s ≡ some term → (ns : List Text) → Over ns term → (n : ℕ)
+pub scheme_names : (name : ℕ → Text) (s : Text) (term : Tree) → parse s ≡ Some term → (ns : List Text) → Over ns term → (n : ℕ)
     → (ms : List Text) × (length ms ≤ length ns + 2 * count_of 40 s)
     × ((r : Scheme) → Memᴰ r (schemes_from name term n) → OverPairs ms (system term r) × Over ms r.value)
 scheme_names name s term e ns o n =

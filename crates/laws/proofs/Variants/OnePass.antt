@@ -4,9 +4,10 @@ use native.Mathlib.Omega.{arith}
 use mathlib.Core.Path.{◌≡◌, refl, sym, ◌∙◌, ap, subst}
 use mathlib.Core.Bool.{Bool, true, false}
 use mathlib.Core.List.{List, [], ◌∷◌, map}
-use mathlib.Core.Option.{Option, some, none as nothing, none-ne-some, some-injective}
+use Rattle.std.specs.Prelude.{slice_get, Option, Some, None}
+use Rattle.laws.proofs.Basics.Somes.{none_ne_some, some_injective}
 use lib.Dec.{leb}
-use lib.ListN.{drop, get_elem?, drop_of_length-le}
+use lib.ListN.{drop, drop_of_length-le}
 use Rattle.rules.specs.Bytes.{Text}
 use Rattle.rules.specs.Maybe.{◌>>=◌, guard, every}
 use Rattle.rules.specs.Tree.{Tree}
@@ -40,17 +41,17 @@ module _ (xs : List Text) (ms : List Variant) where
   of_first w bs vs (settled r) = refl
   of_first w bs vs pending = go (instance_of bs w)
     where
-      tests : (a b : Bool) → of_solved (judge_tests a b) vs ≡ elim a [ false ↦ all_generalized xs ms vs | true ↦ elim b [ true ↦ all_generalized xs ms vs | false ↦ some false ] ]
+      tests : (a b : Bool) → of_solved (judge_tests a b) vs ≡ elim a [ false ↦ all_generalized xs ms vs | true ↦ elim b [ true ↦ all_generalized xs ms vs | false ↦ Some false ] ]
       tests false b = refl
       tests true true = refl
       tests true false = refl
 
       go : (o : Option Tree) → of_solved (judge_instance xs ms bs o) vs ≡ (o >>= λ value. elim (equivalent value (normalize value)) [
         | false ↦ all_generalized xs ms vs
-        | true ↦ elim (generalized xs ms bs value) [ true ↦ all_generalized xs ms vs | false ↦ some false ]
+        | true ↦ elim (generalized xs ms bs value) [ true ↦ all_generalized xs ms vs | false ↦ Some false ]
       ])
-      go nothing = refl
-      go (some v) = tests (equivalent v (normalize v)) (generalized xs ms bs v)
+      go None = refl
+      go (Some v) = tests (equivalent v (normalize v)) (generalized xs ms bs v)
 
   module _ (term : Tree) where
     judged_solved : (ss : List Scheme) (j : Judgement) → judged term xs ms ss j ≡ (solved_schemes term ss >>= of_solved j)
@@ -59,13 +60,13 @@ module _ (xs : List Text) (ms : List Variant) where
     judged_solved (s ∷ ss) j = go (unify 65536 (system term s)).0 (judged_solved ss)
       where
         with_first : (bs : List Binding) (o : Option (List Variant))
-            → (o >>= of_solved (judge xs ms bs s.value j)) ≡ ((o >>= λ rest. some ((s.value, bs) ∷ rest)) >>= of_solved j)
-        with_first bs nothing = refl
-        with_first bs (some vs) = of_first s.value bs vs j
+            → (o >>= of_solved (judge xs ms bs s.value j)) ≡ ((o >>= λ rest. Some ((s.value, bs) ∷ rest)) >>= of_solved j)
+        with_first bs None = refl
+        with_first bs (Some vs) = of_first s.value bs vs j
 
         go : (v : Verdict) → ((k : Judgement) → judged term xs ms ss k ≡ (solved_schemes term ss >>= of_solved k))
             → (judge_verdict xs ms s.value v j >>= λ k. judged term xs ms ss k)
-            ≡ (elim v [ solved bs ↦ solved_schemes term ss >>= λ rest. some ((s.value, bs) ∷ rest) | failed ↦ solved_schemes term ss | unsupported ↦ nothing ] >>= of_solved j)
+            ≡ (elim v [ solved bs ↦ solved_schemes term ss >>= λ rest. Some ((s.value, bs) ∷ rest) | failed ↦ solved_schemes term ss | unsupported ↦ None ] >>= of_solved j)
         go (solved bs) ih = ih (judge xs ms bs s.value j) ∙ with_first bs (solved_schemes term ss)
         go failed ih = ih j
         go unsupported ih = refl
@@ -76,9 +77,9 @@ module _ (xs : List Text) (ms : List Variant) where
 -- The schemes by index
 
 module _ {A : Type 0} where
-  drop_found : (l : List A) (i : ℕ) (a : A) → get_elem? l i ≡ some a → drop i l ≡ a ∷ drop (suc i) l
-  drop_found [] i a h = absurd (none-ne-some a h)
-  drop_found (b ∷ l) zero a h = ap (λ (c : A). c ∷ l) (some-injective b a h)
+  drop_found : (l : List A) (i : ℕ) (a : A) → slice_get l i ≡ Some a → drop i l ≡ a ∷ drop (suc i) l
+  drop_found [] i a h = absurd (none_ne_some a h)
+  drop_found (b ∷ l) zero a h = ap (λ (c : A). c ∷ l) (some_injective b a h)
   drop_found (b ∷ l) (suc i) a h = drop_found l i a h
 
 module _ (name : ℕ → Text) (term : Tree) (xs : List Text) (ms : List Variant) where
@@ -104,38 +105,38 @@ module _ (name : ℕ → Text) (term : Tree) (xs : List Text) (ms : List Variant
 
 module _ (term : Tree) (members : List Member) where
   -- an answer, where the members read, each variable has an index and the schemes are not too many
-  pub complete_judged : (ms : List Variant) (base : ℕ) → every (map read_member members) ≡ some ms → fresh_base term 0 ≡ some base → scheme_count term ≤ 4096
+  pub complete_judged : (ms : List Variant) (base : ℕ) → every (map read_member members) ≡ Some ms → fresh_base term 0 ≡ Some base → scheme_count term ≤ 4096
       → complete term members ≡ judged_from (fresh_from base) term (variables term []) ms 0 pending
   unfolding complete schemes judged_from
   complete_judged ms base e f h =
       ap (λ (o : Option (List Variant)). o >>= λ vs. schemes term >>= λ ss. solved_schemes term ss >>= all_generalized (variables term []) vs) e
-      ∙ ap (λ (o : Option ℕ). (o >>= λ b. guard (leb (scheme_count term) 4096) >>= λ _. some (schemes_from (fresh_from b) term 0))
+      ∙ ap (λ (o : Option ℕ). (o >>= λ b. guard (leb (scheme_count term) 4096) >>= λ _. Some (schemes_from (fresh_from b) term 0))
       >>= λ ss. solved_schemes term ss >>= all_generalized (variables term []) ms) f
-      ∙ ap (λ (b : Bool). (guard b >>= λ _. some (schemes_from (fresh_from base) term 0)) >>= λ ss. solved_schemes term ss >>= all_generalized (variables term []) ms)
+      ∙ ap (λ (b : Bool). (guard b >>= λ _. Some (schemes_from (fresh_from base) term 0)) >>= λ ss. solved_schemes term ss >>= all_generalized (variables term []) ms)
       (true_leb (scheme_count term) 4096 h)
       ∙ one_pass (variables term []) ms term (schemes_from (fresh_from base) term 0)
 
   -- no answer otherwise
-  pub complete_unread : every (map read_member members) ≡ nothing → complete term members ≡ nothing
+  pub complete_unread : every (map read_member members) ≡ None → complete term members ≡ None
   unfolding complete
   complete_unread e = ap (λ (o : Option (List Variant)). o >>= λ ms. schemes term >>= λ ss. solved_schemes term ss >>= all_generalized (variables term []) ms) e
 
-  no_schemes : schemes term ≡ nothing → complete term members ≡ nothing
+  no_schemes : schemes term ≡ None → complete term members ≡ None
   unfolding complete
   no_schemes e = go (every (map read_member members))
     where
-      go : (o : Option (List Variant)) → (o >>= λ ms. schemes term >>= λ ss. solved_schemes term ss >>= all_generalized (variables term []) ms) ≡ nothing
-      go nothing = refl
-      go (some ms) = ap (λ (o : Option (List Scheme)). o >>= λ ss. solved_schemes term ss >>= all_generalized (variables term []) ms) e
+      go : (o : Option (List Variant)) → (o >>= λ ms. schemes term >>= λ ss. solved_schemes term ss >>= all_generalized (variables term []) ms) ≡ None
+      go None = refl
+      go (Some ms) = ap (λ (o : Option (List Scheme)). o >>= λ ss. solved_schemes term ss >>= all_generalized (variables term []) ms) e
 
-  pub complete_unindexed : fresh_base term 0 ≡ nothing → complete term members ≡ nothing
+  pub complete_unindexed : fresh_base term 0 ≡ None → complete term members ≡ None
   unfolding schemes
-  complete_unindexed e = no_schemes (ap (λ (o : Option ℕ). o >>= λ base. guard (leb (scheme_count term) 4096) >>= λ _. some (schemes_from (fresh_from base) term 0)) e)
+  complete_unindexed e = no_schemes (ap (λ (o : Option ℕ). o >>= λ base. guard (leb (scheme_count term) 4096) >>= λ _. Some (schemes_from (fresh_from base) term 0)) e)
 
-  pub complete_over : 4096 < scheme_count term → complete term members ≡ nothing
+  pub complete_over : 4096 < scheme_count term → complete term members ≡ None
   unfolding schemes
   complete_over h = no_schemes (go (fresh_base term 0))
     where
-      go : (o : Option ℕ) → (o >>= λ base. guard (leb (scheme_count term) 4096) >>= λ _. some (schemes_from (fresh_from base) term 0)) ≡ nothing
-      go nothing = refl
-      go (some base) = ap (λ (b : Bool). guard b >>= λ _. some (schemes_from (fresh_from base) term 0)) (false_leb (scheme_count term) 4096 h)
+      go : (o : Option ℕ) → (o >>= λ base. guard (leb (scheme_count term) 4096) >>= λ _. Some (schemes_from (fresh_from base) term 0)) ≡ None
+      go None = refl
+      go (Some base) = ap (λ (b : Bool). guard b >>= λ _. Some (schemes_from (fresh_from base) term 0)) (false_leb (scheme_count term) 4096 h)

@@ -4,11 +4,13 @@ use native.Mathlib.Nat.{le_trans, le_of_eq, mul-le-mul}
 use native.Mathlib.Omega.{arith}
 use mathlib.Core.Path.{◌≡◌, refl, ◌∙◌, ap}
 use mathlib.Core.Bool.{Bool, true, false}
-use mathlib.Core.Option.{Option, some, none as nothing}
+use Rattle.std.specs.Prelude.{Option, Some, None}
 use lib.Dec.{leb}
 use lib.Pow.{pow-add, pow_mono}
 use Rattle.rules.specs.Tree.{Tree, variable, atom, apply, Trees, none, more, count}
-use Rattle.rules.specs.Reduction.{Rule, fst, snd, flip, sdec, kdec, rule_named}
+use Rattle.rules.specs.declared.Rule.{Rule}
+use Rattle.rules.specs.declared.Rule.TheVariants.{Fst, Snd, Flip, Sdec, Kdec}
+use Rattle.rules.specs.Reduction.{rule_named}
 use Rattle.rules.specs.Variants.{with_one, with_two, firing_count, scheme_count, scheme_counts}
 use Rattle.laws.specs.Schemes.{root_count}
 use Rattle.laws.specs.Memory.{some_children, rule_node, rule_nodes, rule_nodes_in, site, sites, sites_in}
@@ -77,12 +79,12 @@ two_site (suc k) (more a (more b none)) = le_of_eq (site_some k)
 two_site k (more a (more b (more c ts))) = omega arith
 
 site_node : (o : Option Rule) (ts : Trees) → site (1 + firing_count o ts) ≤ rule_node o ts
-site_node nothing ts = omega arith
-site_node (some fst) ts = one_site 1 ts
-site_node (some snd) ts = one_site 1 ts
-site_node (some flip) ts = one_site 2 ts
-site_node (some sdec) ts = two_site 1 ts
-site_node (some kdec) ts = two_site 1 ts
+site_node None ts = omega arith
+site_node (Some Fst) ts = one_site 1 ts
+site_node (Some Snd) ts = one_site 1 ts
+site_node (Some Flip) ts = one_site 2 ts
+site_node (Some Sdec) ts = two_site 1 ts
+site_node (Some Kdec) ts = two_site 1 ts
 
 mutual
   unfolding sites rule_nodes root_count

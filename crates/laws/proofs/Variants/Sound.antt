@@ -2,7 +2,7 @@
 use mathlib.Core.Path.{◌≡◌, refl, sym, ◌∙◌, ap, subst}
 use mathlib.Core.Bool.{Bool, true, false, true≢false}
 use mathlib.Core.Logic.{◌↔◌}
-use mathlib.Core.Option.{Option, some, none as nothing}
+use Rattle.std.specs.Prelude.{Option, Some, None}
 use Prim.Native.Nat.{◌≤◌}
 use lib.Dec.{leb}
 use Rattle.rules.specs.Maybe.{◌>>=◌, guard}
@@ -22,23 +22,23 @@ use Rattle.laws.proofs.Variants.Readable.{member_unread, unread_member, member_b
 
 module _ (term : Tree) (built : Built term) (m : Member) where
   abbrev judged : Variant → Option Bool
-  judged v = instance_of v.1 term >>= λ i. some (equivalent (normalize i) v.0)
+  judged v = instance_of v.1 term >>= λ i. Some (equivalent (normalize i) v.0)
 
   -- where the instance is within the limit
   abbrev judged_if : Bool → Variant → Option Bool
-  judged_if b v = (guard b >>= λ _. some (instantiate v.1 term)) >>= λ i. some (equivalent (normalize i) v.0)
+  judged_if b v = (guard b >>= λ _. Some (instantiate v.1 term)) >>= λ i. Some (equivalent (normalize i) v.0)
 
   -- the test decides Ac equality of what is compared
-  decides : (v : Variant) → read_member m ≡ some v → Ac (normalize (instantiate v.1 term)) v.0 ↔ (equivalent (normalize (instantiate v.1 term)) v.0 ≡ true)
+  decides : (v : Variant) → read_member m ≡ Some v → Ac (normalize (instantiate v.1 term)) v.0 ↔ (equivalent (normalize (instantiate v.1 term)) v.0 ≡ true)
   decides v e =
       let (b, c) = member_built m v e in
       (equivalent_complete, equivalent_sound (built_normal (instantiate v.1 term) (c term built)) b)
 
-  judged_means : (v : Variant) → read_member m ≡ some v → SoundMeans term m (judged v)
+  judged_means : (v : Variant) → read_member m ≡ Some v → SoundMeans term m (judged v)
   unfolding instance_of
   judged_means v e = go (leb (size (instantiate v.1 term)) 4096) refl
     where
-      test : (b : Bool) → equivalent (normalize (instantiate v.1 term)) v.0 ≡ b → size (instantiate v.1 term) ≤ 4096 → SoundMeans term m (some b)
+      test : (b : Bool) → equivalent (normalize (instantiate v.1 term)) v.0 ≡ b → size (instantiate v.1 term) ≤ 4096 → SoundMeans term m (Some b)
       test true f l = is_variant e l ((decides v e).1 f)
       test false f l = is_other e l (λ a. true≢false (sym ((decides v e).0 a) ∙ f))
 
@@ -52,14 +52,14 @@ module _ (term : Tree) (built : Built term) (m : Member) where
   sound_view = go (read_member m) refl
     where
       go : (o : Option Variant) → read_member m ≡ o → SoundMeans term m (o >>= judged)
-      go nothing e = text_unreadable (member_unread m e)
-      go (some v) e = judged_means v e
+      go None e = text_unreadable (member_unread m e)
+      go (Some v) e = judged_means v e
 
-  judged_is : (v : Variant) → read_member m ≡ some v → sound term m ≡ judged v
+  judged_is : (v : Variant) → read_member m ≡ Some v → sound term m ≡ judged v
   unfolding sound
   judged_is v e = ap (λ (o : Option Variant). o >>= judged) e
 
-  judged_within : (v : Variant) → size (instantiate v.1 term) ≤ 4096 → judged v ≡ some (equivalent (normalize (instantiate v.1 term)) v.0)
+  judged_within : (v : Variant) → size (instantiate v.1 term) ≤ 4096 → judged v ≡ Some (equivalent (normalize (instantiate v.1 term)) v.0)
   unfolding instance_of
   judged_within v l = ap (λ (b : Bool). judged_if b v) (true_leb _ 4096 l)
 
@@ -68,8 +68,8 @@ module _ (term : Tree) (built : Built term) (m : Member) where
   only_sound r (text_unreadable u) = ap (λ (o : Option Variant). o >>= judged) (unread_member m u)
   only_sound r (instance_over {v} e l) =
       judged_is v e ∙ ap (λ (b : Bool). judged_if b v) (false_leb _ 4096 l)
-  only_sound r (is_variant {v} e l a) = judged_is v e ∙ judged_within v l ∙ ap some ((decides v e).0 a)
-  only_sound r (is_other {v} e l a) = judged_is v e ∙ judged_within v l ∙ ap some (no (equivalent (normalize (instantiate v.1 term)) v.0) refl)
+  only_sound r (is_variant {v} e l a) = judged_is v e ∙ judged_within v l ∙ ap Some ((decides v e).0 a)
+  only_sound r (is_other {v} e l a) = judged_is v e ∙ judged_within v l ∙ ap Some (no (equivalent (normalize (instantiate v.1 term)) v.0) refl)
     where
       no : (b : Bool) → equivalent (normalize (instantiate v.1 term)) v.0 ≡ b → b ≡ false
       no true f = absurd (a ((decides v e).1 f))

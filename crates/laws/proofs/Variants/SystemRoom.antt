@@ -6,13 +6,16 @@ use native.Mathlib.Omega.{arith}
 use mathlib.Core.Path.{◌≡◌, refl, sym, ap, subst}
 use mathlib.Core.Bool.{true}
 use mathlib.Core.List.{List, [], ◌∷◌, ◌++◌, map, Memᴰ}
-use mathlib.Core.Option.{Option, some, none as nothing, none-ne-some, some-injective}
-use lib.ListN.{length, length-append, get_elem?}
+use Rattle.std.specs.Prelude.{slice_get, Option, Some, None}
+use Rattle.laws.proofs.Basics.Somes.{none_ne_some, some_injective}
+use lib.ListN.{length, length-append}
 use Rattle.rules.specs.Bytes.{Text}
 use Rattle.rules.specs.Names.{variable_token}
 use Rattle.rules.specs.Tree.{Tree, variable, atom, apply, Trees, none, more, count, size, sizes}
 use Rattle.rules.specs.Substitution.{Pair, size_pairs}
-use Rattle.rules.specs.Reduction.{Rule, fst, snd, flip, sdec, kdec, rule_named, pair, senc, kem, role_a, role_b, arguments1, arguments2}
+use Rattle.rules.specs.declared.Rule.{Rule}
+use Rattle.rules.specs.declared.Rule.TheVariants.{Fst, Snd, Flip, Sdec, Kdec}
+use Rattle.rules.specs.Reduction.{rule_named, pair, senc, kem, role_a, role_b, arguments1, arguments2}
 use Rattle.rules.specs.Variants.{Scheme, Joined, only, fresh, firings, before, root_schemes, join_first, schemes_from, joined, with_one, with_two, firing_count, scheme_count, system}
 use Rattle.laws.specs.Schemes.{root_count, scheme_at}
 use Rattle.rules.specs.Tidy.{Built}
@@ -105,14 +108,14 @@ module _ (N : ℕ) where
           at : (a c : Tree) → us ≡ more a (more c none) → All (Fits 1 (site (1 + with_two 1 us)) n) (f (a, c))
           at a c e = subst (λ (m : ℕ). All (Fits 1 m n) (f (a, c))) (sym (two_fires e)) (h a c (children_under a c us e small))
 
-      firings_fit : (r : Rule) → All (Fits 1 (site (1 + firing_count (some r) us)) n) (firings name r us n)
+      firings_fit : (r : Rule) → All (Fits 1 (site (1 + firing_count (Some r) us)) n) (firings name r us n)
       unfolding firings size
-      firings_fit fst = one 0 _ (λ a h. ((omega arith, omega arith, one_room a (pair (fresh name n) (fresh name (n + 1))) h (omega arith)), tt))
-      firings_fit snd = one 0 _ (λ a h. ((omega arith, omega arith, one_room a (pair (fresh name n) (fresh name (n + 1))) h (omega arith)), tt))
-      firings_fit flip =
+      firings_fit Fst = one 0 _ (λ a h. ((omega arith, omega arith, one_room a (pair (fresh name n) (fresh name (n + 1))) h (omega arith)), tt))
+      firings_fit Snd = one 0 _ (λ a h. ((omega arith, omega arith, one_room a (pair (fresh name n) (fresh name (n + 1))) h (omega arith)), tt))
+      firings_fit Flip =
           one 1 _ (λ a h. ((omega arith, omega arith, one_room a role_a h (omega arith)), ((omega arith, omega arith, one_room a role_b h (omega arith)), tt)))
-      firings_fit sdec = two _ (λ a c h. ((omega arith, omega arith, two_room a (senc (fresh name n) (fresh name (n + 1))) c (fresh name (n + 1)) h (omega arith)), tt))
-      firings_fit kdec = two _ (λ a c h. ((omega arith, omega arith, two_room a (kem (fresh name n) (fresh name (n + 1))) c (fresh name (n + 1)) h (omega arith)), tt))
+      firings_fit Sdec = two _ (λ a c h. ((omega arith, omega arith, two_room a (senc (fresh name n) (fresh name (n + 1))) c (fresh name (n + 1)) h (omega arith)), tt))
+      firings_fit Kdec = two _ (λ a c h. ((omega arith, omega arith, two_room a (kem (fresh name n) (fresh name (n + 1))) c (fresh name (n + 1)) h (omega arith)), tt))
 
     root_fits : (f : Text) (ts : Trees) (n : ℕ) (j : Joined) → sizes ts < N → FitsJoined ts n j
         → All (Fits (1 + sizes ts) (sites_in ts + site (root_count f ts)) n) (root_schemes name f j)
@@ -132,11 +135,11 @@ module _ (N : ℕ) where
         fired k s g = (omega (arith, g.0), omega (arith, g.1, h.2), exchange k (s.equations ++ j.equations) (more_room k s.equations g.2))
 
         go : (o : Option Rule) → All (Fits (1 + sizes ts) (sites_in ts + site (1 + firing_count o ts)) n) (only o (λ r. map (before j.equations) (firings name r j.values j.next)))
-        go nothing = tt
-        go (some r) =
-            let k = site (1 + firing_count (some r) j.values) in
+        go None = tt
+        go (Some r) =
+            let k = site (1 + firing_count (Some r) j.values) in
             subst (λ (m : ℕ). All (Fits (1 + sizes ts) (sites_in ts + m) n) (map (before j.equations) (firings name r j.values j.next)))
-            (site_alike (some r) j.values ts h.0)
+            (site_alike (Some r) j.values ts h.0)
             (all_map (Fits 1 k j.next) (Fits (1 + sizes ts) (sites_in ts + k) n) (before j.equations) (fired k) (firings name r j.values j.next)
             (firings_fit j.values (omega (arith, h.1)) j.next r))
 
@@ -215,9 +218,9 @@ system_room name tokens term built small n s listed =
     }
 
 -- a scheme made by its number is one of the schemes
-found_listed : {A : Type 0} (l : List A) (i : ℕ) (a : A) → get_elem? l i ≡ some a → Memᴰ a l
-found_listed [] i a h = absurd (none-ne-some a h)
-found_listed (b ∷ l) zero a h = Memᴰ.head (sym (some-injective b a h))
+found_listed : {A : Type 0} (l : List A) (i : ℕ) (a : A) → slice_get l i ≡ Some a → Memᴰ a l
+found_listed [] i a h = absurd (none_ne_some a h)
+found_listed (b ∷ l) zero a h = Memᴰ.head (sym (some_injective b a h))
 found_listed (b ∷ l) (suc i) a h = Memᴰ.tail (found_listed l i a h)
 
 pub scheme_listed : (name : ℕ → Text) (term : Tree) (n i : ℕ) → i < scheme_count term → Memᴰ (scheme_at name term n i) (schemes_from name term n)

@@ -5,7 +5,7 @@ use native.Mathlib.Omega.{arith}
 use mathlib.Core.Path.{◌≡◌, refl, sym, subst}
 use mathlib.Core.Bool.{true, false≢true}
 use mathlib.Core.List.{List, [], ◌∷◌, ◌++◌, map, flat_map, Memᴰ}
-use mathlib.Core.Option.{Option, some, none as nothing}
+use Rattle.std.specs.Prelude.{Option, Some, None}
 use Rattle.rules.specs.Bytes.{Text, same}
 use Rattle.rules.specs.Text.{bytes}
 use Rattle.rules.specs.Names.{digit, all, number, word, indexed, variable_token, letter_name}
@@ -13,7 +13,9 @@ use Rattle.rules.specs.Decimal.{decimal}
 use Rattle.rules.specs.Tree.{Tree, variable, atom, apply, Trees, none, more, size, sizes}
 use Rattle.rules.specs.Substitution.{Binding, Pair, instantiate}
 use Rattle.rules.specs.Solving.{solved, unify}
-use Rattle.rules.specs.Reduction.{Rule, fst, snd, flip, sdec, kdec, rule_named, pair, senc, kem, role_a, role_b, arguments1, arguments2}
+use Rattle.rules.specs.declared.Rule.{Rule}
+use Rattle.rules.specs.declared.Rule.TheVariants.{Fst, Snd, Flip, Sdec, Kdec}
+use Rattle.rules.specs.Reduction.{rule_named, pair, senc, kem, role_a, role_b, arguments1, arguments2}
 use Rattle.rules.specs.Variants.{fresh_name, fresh_from, Scheme, Joined, only, fresh, firings, before, root_schemes, join_first, schemes_from, joined, system}
 use Rattle.rules.specs.Tidy.{Built, a_variable, a_leaf, a_list, Builts, nil, both}
 use Rattle.laws.proofs.Basics.Tests.{and_left, and_right, and_both}
@@ -145,13 +147,13 @@ module _ (name : ℕ → Text) (tokens : (n : ℕ) → variable_token (name n) �
 
   firings_small : (r : Rule) (us : Trees) (n : ℕ) → Builts us → All Small (firings name r us n)
   unfolding firings
-  firings_small fst us n b = one_small _ (λ a p. ((variable_size _, fresh_built n, (p, pair_built (fresh_built n) (fresh_built (n + 1)), tt)), tt)) us b
-  firings_small snd us n b = one_small _ (λ a p. ((variable_size _, fresh_built (n + 1), (p, pair_built (fresh_built n) (fresh_built (n + 1)), tt)), tt)) us b
-  firings_small flip us n b =
+  firings_small Fst us n b = one_small _ (λ a p. ((variable_size _, fresh_built n, (p, pair_built (fresh_built n) (fresh_built (n + 1)), tt)), tt)) us b
+  firings_small Snd us n b = one_small _ (λ a p. ((variable_size _, fresh_built (n + 1), (p, pair_built (fresh_built n) (fresh_built (n + 1)), tt)), tt)) us b
+  firings_small Flip us n b =
       one_small _ (λ a p. ((role_size (bytes "tamXCroleB"), role_b_built, (p, role_a_built, tt)), ((role_size (bytes "tamXCroleA"), role_a_built, (p, role_b_built, tt)), tt))) us b
-  firings_small sdec us n b =
+  firings_small Sdec us n b =
       two_small _ (λ a c p q. ((variable_size _, fresh_built n, (p, senc_built (fresh_built n) (fresh_built (n + 1)), (q, fresh_built (n + 1), tt))), tt)) us b
-  firings_small kdec us n b =
+  firings_small Kdec us n b =
       two_small _ (λ a c p q. ((variable_size _, fresh_built n, (p, kem_built (fresh_built n) (fresh_built (n + 1)), (q, fresh_built (n + 1), tt))), tt)) us b
 
   root_good : (f : Text) (ts : Trees) (j : Joined) → Built (apply f ts) → GoodJoined ts j → All (Good (apply f ts)) (root_schemes name f j)
@@ -159,8 +161,8 @@ module _ (name : ℕ → Text) (tokens : (n : ℕ) → variable_token (name n) �
   root_good f ts j b h = ((let l = h.0 in omega arith, rebuilt b h.1, h.2), go (rule_named f))
     where
       go : (o : Option Rule) → All (Good (apply f ts)) (only o (λ r. map (before j.equations) (firings name r j.values j.next)))
-      go nothing = tt
-      go (some r) =
+      go None = tt
+      go (Some r) =
           all_map Small (Good (apply f ts)) (before j.equations) (before_good (apply f ts) j.equations h.2) (firings name r j.values j.next)
           (firings_small r j.values j.next (builts h.1))
 

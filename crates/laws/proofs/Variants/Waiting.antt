@@ -5,7 +5,8 @@ use native.Mathlib.Omega.{arith}
 use mathlib.Core.Path.{◌≡◌, refl, sym, ◌∙◌, ap, subst, fun_ext}
 use mathlib.Core.Bool.{Bool, true, false}
 use mathlib.Core.List.{List, [], ◌∷◌, ◌++◌}
-use mathlib.Core.Option.{Option, some, none as nothing, some-injective, none-ne-some}
+use Rattle.std.specs.Prelude.{Option, Some, None}
+use Rattle.laws.proofs.Basics.Somes.{some_injective, none_ne_some}
 use lib.Dec.{leb}
 use Rattle.rules.specs.Bytes.{Text, same}
 use Rattle.rules.specs.Tree.{Tree, variable, Trees, none, more, size}
@@ -107,38 +108,38 @@ nothing_put : (w : Tree) → instantiate [] w ≡ w
 unfolding lookup
 nothing_put w = substitute_nothing (lookup []) (λ x. refl) w
 
-compose_turn : (es cs : List Binding) (w : Tree) → compose es ≡ some cs → instantiate cs w ≡ in_turn es w
+compose_turn : (es cs : List Binding) (w : Tree) → compose es ≡ Some cs → instantiate cs w ≡ in_turn es w
 unfolding compose in_turn
-compose_turn [] cs w h = subst (λ (bs : List Binding). instantiate bs w ≡ w) (some-injective [] cs h) (nothing_put w)
+compose_turn [] cs w h = subst (λ (bs : List Binding). instantiate bs w ≡ w) (some_injective [] cs h) (nothing_put w)
 compose_turn (e ∷ es) cs w h = go (compose es) refl h (λ ds k. compose_turn es ds (instantiate (e ∷ []) w) k)
   where
-    fit : (ds : List Binding) (c : Bool) → extended c e.0 (instantiate ds e.1) ds ≡ some cs → instantiate ds (instantiate (e ∷ []) w) ≡ in_turn es (instantiate (e ∷ []) w)
+    fit : (ds : List Binding) (c : Bool) → extended c e.0 (instantiate ds e.1) ds ≡ Some cs → instantiate ds (instantiate (e ∷ []) w) ≡ in_turn es (instantiate (e ∷ []) w)
         → instantiate cs w ≡ in_turn es (instantiate (e ∷ []) w)
     fit ds true k i =
-        subst (λ (bs : List Binding). instantiate bs w ≡ in_turn es (instantiate (e ∷ []) w)) (some-injective ((e.0, instantiate ds e.1) ∷ ds) cs k)
+        subst (λ (bs : List Binding). instantiate bs w ≡ in_turn es (instantiate (e ∷ []) w)) (some_injective ((e.0, instantiate ds e.1) ∷ ds) cs k)
         (composed_over e.0 e.1 ds w ∙ i)
-    fit ds false k i = absurd (none-ne-some cs k)
+    fit ds false k i = absurd (none_ne_some cs k)
 
-    go : (o : Option (List Binding)) → compose es ≡ o → compose_over e.0 e.1 o ≡ some cs
-        → ((ds : List Binding) → compose es ≡ some ds → instantiate ds (instantiate (e ∷ []) w) ≡ in_turn es (instantiate (e ∷ []) w))
+    go : (o : Option (List Binding)) → compose es ≡ o → compose_over e.0 e.1 o ≡ Some cs
+        → ((ds : List Binding) → compose es ≡ Some ds → instantiate ds (instantiate (e ∷ []) w) ≡ in_turn es (instantiate (e ∷ []) w))
         → instantiate cs w ≡ in_turn es (instantiate (e ∷ []) w)
-    go nothing f k ih = absurd (none-ne-some cs k)
-    go (some ds) f k ih = fit ds (leb (size (instantiate ds e.1)) 4096) k (ih ds f)
+    go None f k ih = absurd (none_ne_some cs k)
+    go (Some ds) f k ih = fit ds (leb (size (instantiate ds e.1)) 4096) k (ih ds f)
 
 -- what solved says of the run
 abbrev solution : Verdict → Option (List Binding)
-solution (solved bs) = some bs
-solution failed = nothing
-solution unsupported = nothing
+solution (solved bs) = Some bs
+solution failed = None
+solution unsupported = None
 
-composed_solved : (o : Option (List Binding)) (bs : List Binding) → composed o ≡ solved bs → o ≡ some bs
-composed_solved nothing bs h = ap solution h
-composed_solved (some cs) bs h = ap solution h
+composed_solved : (o : Option (List Binding)) (bs : List Binding) → composed o ≡ solved bs → o ≡ Some bs
+composed_solved None bs h = ap solution h
+composed_solved (Some cs) bs h = ap solution h
 
-finish_solved : (v : Verdict) (bs : List Binding) → finish v ≡ solved bs → (es : List Binding) × (v ≡ solved es) × (compose es ≡ some bs)
+finish_solved : (v : Verdict) (bs : List Binding) → finish v ≡ solved bs → (es : List Binding) × (v ≡ solved es) × (compose es ≡ Some bs)
 finish_solved (solved es) bs h = (es, refl, composed_solved (compose es) bs h)
-finish_solved failed bs h = absurd (none-ne-some bs (ap solution h))
-finish_solved unsupported bs h = absurd (none-ne-some bs (ap solution h))
+finish_solved failed bs h = absurd (none_ne_some bs (ap solution h))
+finish_solved unsupported bs h = absurd (none_ne_some bs (ap solution h))
 
 pub unify_limit : (k : ℕ) (ps : List Pair) (w : Tree) → Waits w ps → size w ≤ 4096 → (bs : List Binding) → (unify k ps).0 ≡ solved bs → size (instantiate bs w) ≤ 4096
 unfolding unify

@@ -1,6 +1,7 @@
 use mathlib.Core.Path.{◌≡◌}
 use mathlib.Core.Bool.{false, not, ◌&&◌}
-use Rattle.rules.specs.Sorts.{TamNat, natural, refinable}
+use Rattle.rules.specs.declared.Sort.TheVariants.{TamNat}
+use Rattle.rules.specs.Sorts.{natural, refinable}
 use Rattle.tree.specs.Cells.{tree_at}
 use Rattle.stepping.proofs.Steps.{clear_left, clear_right, refuted_left, refuted_right, not_refuted}
 use Rattle.stepping.proofs.refuted.Goals as goal

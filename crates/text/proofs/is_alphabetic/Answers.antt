@@ -1,10 +1,6 @@
 use Rattle.rules.specs.Names.{alphabetic}
 use Rattle.text.proofs.is_alphabetic.Goals as goal
 
-pub returns-then-between : goal.returns-then-between
+pub returns : goal.returns
 unfolding alphabetic
-returns-then-between c = cc
-
-pub returns-else-between : goal.returns-else-between
-unfolding alphabetic
-returns-else-between c = cc
+returns c = c.is_ascii_alphabetic.ensures.value

@@ -3,4 +3,4 @@ use Rattle.text.proofs.is_digit.Goals as goal
 
 pub returns : goal.returns
 unfolding digit
-returns c = c.between.ensures
+returns c = c.is_ascii_digit.ensures.value

@@ -1,37 +1,6 @@
-use mathlib.Core.Path.{refl, sym, ◌∙◌}
-use native.Mathlib.Omega.{arith}
-use Rattle.text.proofs.Sameness.{same_lengths, same_step, same_stop, same_end}
+use Rattle.std.proofs.Common.{◌∙◌}
+use Rattle.text.proofs.Library.{same_is}
 use Rattle.text.proofs.same.Goals as goal
 
-pub returns-then-a-b : goal.returns-then-a-b
-returns-then-a-b c = sym (same_lengths _ _ c.if-a-b.true)
-
-pub loop-i-init : goal.loop-i-init
-loop-i-init c = (omega arith, c.if-a-b.false, refl)
-
-pub bounds-a-i : goal.bounds-a-i
-bounds-a-i c = omega arith
-
-pub bounds-b-i : goal.bounds-b-i
-bounds-b-i c = omega arith
-
-pub returns-then-a-i : goal.returns-then-a-i
-returns-then-a-i c =
-    let a = c.args in
-    sym (c.loop-i.invariant.2 ∙ same_stop a.a.now a.b.now c.loop-i.i (omega arith) (omega arith) c.if-a-i.true)
-
-pub overflow_add-i : goal.overflow_add-i
-overflow_add-i c = omega arith
-
-pub loop-i-smaller : goal.loop-i-smaller
-loop-i-smaller c = omega arith
-
-pub loop-i-preserved : goal.loop-i-preserved
-loop-i-preserved c =
-    let a = c.args in
-    (omega arith, c.loop-i.invariant.1, c.loop-i.invariant.2 ∙ same_step a.a.now a.b.now c.loop-i.i (omega arith) (omega arith) c.if-a-i.false)
-
 pub returns : goal.returns
-returns c =
-    let a = c.args in
-    sym (c.loop-i.invariant.2 ∙ same_end a.a.now a.b.now c.loop-i.i (omega arith) c.loop-i.invariant.1 (omega arith))
+returns c = c.eq.ensures ∙ same_is c.args.a.now c.args.b.now

@@ -1,8 +1,9 @@
+use Rattle.std.proofs.Common.{rules, sym, ◌∙◌}
 use borrow.Author.Tests.{lt-leb, le-leb}
-use Rattle.text.proofs.Loops.{all_pass, all_fail, all_end}
-use native.Mathlib.Omega.{arith}
-use mathlib.Core.Path.{refl, sym, ◌∙◌}
+use Rattle.std.proofs.lemmas.Iterator.{YieldsList-from_slice}
+use Rattle.std.proofs.lemmas.Iterator.Search.{all_from_yields_List}
 use Rattle.rules.specs.Call.{plain}
+use Rattle.text.proofs.Library.{all_is}
 use Rattle.text.specs.Screen.{screened}
 use Rattle.text.proofs.screen.Goals as goal
 
@@ -10,31 +11,16 @@ pub returns-then-sheet-gt65536 : goal.returns-then-sheet-gt65536
 unfolding screened
 returns-then-sheet-gt65536 c = simp (lt-leb _ _ c.if-sheet-gt65536.true)
 
-pub loop-i-init : goal.loop-i-init
-loop-i-init c = (omega arith, refl)
-
-pub bounds-sheet-i : goal.bounds-sheet-i
-bounds-sheet-i c = omega arith
-
-pub returns-then-not-is_plain : goal.returns-then-not-is_plain
+pub returns-then-not-all : goal.returns-then-not-all
 unfolding screened
-returns-then-not-is_plain c =
+returns-then-not-all c =
     let s = c.args.sheet.now in
-    simp (le-leb _ _ c.if-sheet-gt65536.false, all_fail plain s c.loop-i.i (omega arith) c.is_plain.ensures c.if-not-is_plain.true c.loop-i.invariant.1)
-
-pub overflow_add-i : goal.overflow_add-i
-overflow_add-i c = omega arith
-
-pub loop-i-smaller : goal.loop-i-smaller
-loop-i-smaller c = omega arith
-
-pub loop-i-preserved : goal.loop-i-preserved
-loop-i-preserved c =
-    let s = c.args.sheet.now in
-    (omega arith, all_pass plain s c.loop-i.i (omega arith) c.is_plain.ensures c.if-not-is_plain.false c.loop-i.invariant.1)
+    let e = all_from_yields_List plain _ _ c.all.result c.all.ensures.ran (YieldsList-from_slice s cc) (λ x b q h. search rules) in
+    simp (le-leb _ _ c.if-sheet-gt65536.false, sym (all_is plain s) ∙ sym e ∙ c.if-not-all.true)
 
 pub returns : goal.returns
 unfolding screened
 returns c =
     let s = c.args.sheet.now in
-    simp (le-leb _ _ c.if-sheet-gt65536.false, sym c.loop-i.invariant.1 ∙ all_end plain s c.loop-i.i (omega arith))
+    let e = all_from_yields_List plain _ _ c.all.result c.all.ensures.ran (YieldsList-from_slice s cc) (λ x b q h. search rules) in
+    simp (le-leb _ _ c.if-sheet-gt65536.false, sym (all_is plain s) ∙ sym e ∙ c.if-not-all.false)

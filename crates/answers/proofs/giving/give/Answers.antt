@@ -1,13 +1,24 @@
-use mathlib.Core.Path.{subst}
-use Rattle.answers.specs.Deciding.{Standing}
-use Rattle.answers.proofs.Gives.{refused_settles}
+use Rattle.std.proofs.Common.{◌≡◌}
+use Rattle.std.proofs.lemmas.Result.{err_from_is_err_and}
+use Rattle.rules.specs.declared.Refusal.TheVariants.{ShortOutput}
+use Rattle.answers.specs.Deciding.{lines_text}
+use Rattle.answers.proofs.Gives.{refused_settles, short_settles, written_settles}
 use Rattle.answers.proofs.giving.give.Goals as goal
 
-pub give_lines-requires : goal.give_lines-requires
-give_lines-requires c = subst (Standing c.args.sheet.now c.args.work.now) c.in-Given.is c.requires
+pub returns-in_err-lines : goal.returns-in_err-lines
+returns-in_err-lines c =
+    let p = err_from_is_err_and c.from_residual.result c.from_residual.ensures.1 in
+    rw (p.1, p.2, c.in_err-lines.was) (refused_settles _ c.args.output.now)
 
-pub returns-in-Refused : goal.returns-in-Refused
-returns-in-Refused c = rw c.in-Refused.is (refused_settles c.in-Refused.refusal c.args.output.now)
+pub returns-in_err-ok_or : goal.returns-in_err-ok_or
+returns-in_err-ok_or c =
+    let p = err_from_is_err_and c.from_residual-in_err-ok_or.result c.from_residual-in_err-ok_or.ensures.1 in
+    let l = c.in_err-ok_or.ensures in
+    let m = rw l.ok_part at l.value in
+    let e : c.in_err-ok_or.field-0.0 ≡ ShortOutput = cc in
+    rw (p.1, p.2, e, c.in_ok-lines.was) (short_settles (rw l.ok_part at c.put_lines.ensures))
 
-pub returns-in-Given : goal.returns-in-Given
-returns-in-Given c = rw c.in-Given.is c.give_lines.ensures
+pub returns : goal.returns
+returns c =
+    let t = lines_text c.args.sheet.now c.args.work.now c.in_ok-lines.lines in
+    rw c.in_ok-lines.was (written_settles (rw c.in_ok-ok_or.ensures.ok_part at c.put_lines.ensures) (rw c.unwrap.ensures at c.put_lines-written.ensures))

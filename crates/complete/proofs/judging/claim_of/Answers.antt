@@ -1,3 +1,4 @@
+use mathlib.Core.Logic.{inl, inr}
 use Rattle.complete.proofs.Deciding.{ends_pending, ends_missing, ends_over, ends_unsupported}
 use Rattle.complete.proofs.judging.claim_of.Goals as goal
 
@@ -8,7 +9,4 @@ pub returns-in-Missing : goal.returns-in-Missing
 returns-in-Missing c = rw c.in-Missing.is ends_missing
 
 pub returns-in-Over : goal.returns-in-Over
-returns-in-Over c = rw c.in-Over.is ends_over
-
-pub returns-in-Unsupported : goal.returns-in-Unsupported
-returns-in-Unsupported c = rw c.in-Unsupported.is ends_unsupported
+returns-in-Over c = elim c.in-Over.is [ inl e ↦ rw e ends_over | inr e ↦ rw e ends_unsupported ]

@@ -1,5 +1,5 @@
 use mathlib.Core.Path.{sym, ap, ◌∙◌}
-use mathlib.Core.Option.{some}
+use Rattle.std.specs.Prelude.{Some}
 use mathlib.Core.Bool.{true, false}
 use native.Mathlib.Omega.{arith}
 use Rattle.tree.specs.Cells.{tree_at}
@@ -15,7 +15,7 @@ pub returns-in_default : goal.returns-in_default
 returns-in_default c =
     let a = c.args in
     let x = rw c.in_default.is at c.substitute-built.ensures in
-    (ap some (sym (judge_over (names_at a.sheet.now a.work.now a.names) (variants_at a.sheet.now a.work.now a.members) (bindings_at a.sheet.now a.work.now a.bindings) (tree_at a.sheet.now a.work.now a.value) x.0)), below_grown x.1)
+    (ap Some (sym (judge_over (names_at a.sheet.now a.work.now a.names) (variants_at a.sheet.now a.work.now a.members) (bindings_at a.sheet.now a.work.now a.bindings) (tree_at a.sheet.now a.work.now a.value) x.0)), below_grown x.1)
 
 pub normalize-normal-requires : goal.normalize-normal-requires
 normalize-normal-requires c =

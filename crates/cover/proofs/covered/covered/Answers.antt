@@ -1,5 +1,4 @@
-use mathlib.Core.Path.{refl, sym, ap, ◌∙◌}
-use mathlib.Core.Option.{some}
+use mathlib.Core.Path.{refl, sym}
 use native.Mathlib.Omega.{arith}
 use lib.Seq.{length-take-le}
 use Rattle.cover.proofs.Rooms.{asked_nodes, asked_spelled, asked_few, asked_colons}
@@ -81,14 +80,7 @@ any_covers-requires c =
     let y = rw c.in-Solved.is at c.unify-outcome.ensures in
     record { arena = all_arena a p k h _ _ _ n d refl u _ _ _ y; names_lt_free = names_inside a p k h _ _ _ n d refl u _ _ _ y; at_in_bounds = (k.inside, k.short); names_in_bounds = all_room a p k h _ _ _ n d refl u _ _ _ y; all_matchable = all_matchable a p k h _ _ _ n d refl u _ _ _ y }
 
-pub returns-then-any_covers : goal.returns-then-any_covers
-returns-then-any_covers c =
-    let y = rw c.in-Solved.is at c.unify-outcome.ensures in
-    let x = claimed c.requires.arena c.requires.stack_lt_free.0 c.requires.stack_lt_free.1 c.names_of-listed.ensures _ _ _ c.nodes_in-nodes.ensures c.count_of.ensures refl c.unify-outcome.new.work _ _ _ y c.any_covers.result c.any_covers.ensures in
-    ((λ ms f. ap some (sym c.if-any_covers.true) ∙ x.0 ms f), x.1)
-
 pub returns : goal.returns
 returns c =
     let y = rw c.in-Solved.is at c.unify-outcome.ensures in
-    let x = claimed c.requires.arena c.requires.stack_lt_free.0 c.requires.stack_lt_free.1 c.names_of-listed.ensures _ _ _ c.nodes_in-nodes.ensures c.count_of.ensures refl c.unify-outcome.new.work _ _ _ y c.any_covers.result c.any_covers.ensures in
-    ((λ ms f. ap some (sym c.if-any_covers.false) ∙ x.0 ms f), x.1)
+    claimed c.requires.arena c.requires.stack_lt_free.0 c.requires.stack_lt_free.1 c.names_of-listed.ensures _ _ _ c.nodes_in-nodes.ensures c.count_of.ensures refl c.unify-outcome.new.work _ _ _ y c.any_covers.result c.any_covers.ensures

@@ -80,8 +80,8 @@ put_term-name_is-sum-requires t c = record { arena = c.requires.arena; k_nonzero
 pub put_term-word_of-word-requires : goal.put_term-word_of-word-requires
 put_term-word_of-word-requires t c = record { arena = c.requires.arena; k_nonzero = c.requires.i_nonzero }
 
-pub put_term-put_opening-start-requires : goal.put_term-put_opening-start-requires
-put_term-put_opening-start-requires t c =
+pub put_term-open-start-requires : goal.put_term-open-start-requires
+put_term-open-start-requires t c =
     let a = c.args in
     omega (arith, c.requires.free_bound.1, size_pos (tree_at a.sheet.now a.work.now a.i))
 
@@ -92,16 +92,16 @@ put_term-put_list-end-requires t c =
     let w = a.work.now in
     let j = c.child_of-first.result in
     let k = c.child_of-first.ensures.2 (omega (arith, c.if-first-eq0.false)) in (
-      omega (arith, c.decreases, ap sizes (children_kept a.sheet.now a.work.now c.put_opening-start.new.work a.free a.i c.child_of-first.result c.word_of-word.result a.out c.put_opening-start.result c.name_is-sum.result a.inside c.requires.arena c.requires.i_nonzero.0 c.requires.i_nonzero.1 c.requires.free_bound.0 c.requires.free_bound.1 (c.child_of-first.ensures.2 (omega (arith, c.if-first-eq0.false))).0 (c.child_of-first.ensures.2 (omega (arith, c.if-first-eq0.false))).1 c.name_is-sum.ensures c.word_of-word.ensures.0 c.word_of-word.ensures.1 c.put_opening-start.ensures.0 c.put_opening-start.ensures.1), children_fall s w a.i j k.0 k.1),
-      (wrote_arena c.put_opening-start.ensures.0 s a.free c.requires.free_bound.0 c.requires.arena, ((omega (arith, c.if-first-eq0.false), omega (arith, c.child_of-first.ensures.0, c.requires.i_nonzero.1)), (omega (arith, c.requires.free_bound.0, c.put_opening-start.ensures.1), list_room a.sheet.now a.work.now c.put_opening-start.new.work a.free a.i c.child_of-first.result c.word_of-word.result a.out c.put_opening-start.result c.name_is-sum.result a.inside c.requires.arena c.requires.i_nonzero.0 c.requires.i_nonzero.1 c.requires.free_bound.0 c.requires.free_bound.1 (c.child_of-first.ensures.2 (omega (arith, c.if-first-eq0.false))).0 (c.child_of-first.ensures.2 (omega (arith, c.if-first-eq0.false))).1 c.name_is-sum.ensures c.word_of-word.ensures.0 c.word_of-word.ensures.1 c.put_opening-start.ensures.0 c.put_opening-start.ensures.1))),
+      omega (arith, c.decreases, ap sizes (children_kept a.sheet.now a.work.now c.open-start.new.work a.free a.i c.child_of-first.result c.word_of-word.result a.out c.open-start.result c.name_is-sum.result a.inside c.requires.arena c.requires.i_nonzero.0 c.requires.i_nonzero.1 c.requires.free_bound.0 c.requires.free_bound.1 (c.child_of-first.ensures.2 (omega (arith, c.if-first-eq0.false))).0 (c.child_of-first.ensures.2 (omega (arith, c.if-first-eq0.false))).1 c.name_is-sum.ensures c.word_of-word.ensures.0 c.word_of-word.ensures.1 c.of-bracket.result c.of-bracket.ensures c.open-start.ensures.0 c.open-start.ensures.1), children_fall s w a.i j k.0 k.1),
+      (wrote_arena c.open-start.ensures.0 s a.free c.requires.free_bound.0 c.requires.arena, ((omega (arith, c.if-first-eq0.false), omega (arith, c.child_of-first.ensures.0, c.requires.i_nonzero.1)), (omega (arith, c.requires.free_bound.0, c.open-start.ensures.1), list_room a.sheet.now a.work.now c.open-start.new.work a.free a.i c.child_of-first.result c.word_of-word.result a.out c.open-start.result c.name_is-sum.result a.inside c.requires.arena c.requires.i_nonzero.0 c.requires.i_nonzero.1 c.requires.free_bound.0 c.requires.free_bound.1 (c.child_of-first.ensures.2 (omega (arith, c.if-first-eq0.false))).0 (c.child_of-first.ensures.2 (omega (arith, c.if-first-eq0.false))).1 c.name_is-sum.ensures c.word_of-word.ensures.0 c.word_of-word.ensures.1 c.of-bracket.result c.of-bracket.ensures c.open-start.ensures.0 c.open-start.ensures.1))),
     )
 
-pub put_term-put_closing-requires : goal.put_term-put_closing-requires
-put_term-put_closing-requires t c =
+pub put_term-close-requires : goal.put_term-close-requires
+put_term-close-requires t c =
     let a = c.args in
-    close_room a.sheet.now a.work.now c.put_opening-start.new.work a.free a.i c.child_of-first.result c.word_of-word.result a.out c.put_opening-start.result c.name_is-sum.result a.inside c.requires.arena c.requires.i_nonzero.0 c.requires.i_nonzero.1 c.requires.free_bound.0 c.requires.free_bound.1 (c.child_of-first.ensures.2 (omega (arith, c.if-first-eq0.false))).0 (c.child_of-first.ensures.2 (omega (arith, c.if-first-eq0.false))).1 c.name_is-sum.ensures c.word_of-word.ensures.0 c.word_of-word.ensures.1 c.put_opening-start.ensures.0 c.put_opening-start.ensures.1 c.put_list-end.new.work c.put_list-end.result c.put_list-end.ensures
+    close_room a.sheet.now a.work.now c.open-start.new.work a.free a.i c.child_of-first.result c.word_of-word.result a.out c.open-start.result c.name_is-sum.result a.inside c.requires.arena c.requires.i_nonzero.0 c.requires.i_nonzero.1 c.requires.free_bound.0 c.requires.free_bound.1 (c.child_of-first.ensures.2 (omega (arith, c.if-first-eq0.false))).0 (c.child_of-first.ensures.2 (omega (arith, c.if-first-eq0.false))).1 c.name_is-sum.ensures c.word_of-word.ensures.0 c.word_of-word.ensures.1 c.of-bracket.result c.of-bracket.ensures c.open-start.ensures.0 c.open-start.ensures.1 c.put_list-end.new.work c.put_list-end.result c.put_list-end.ensures
 
 pub put_term-returns : goal.put_term-returns
 put_term-returns t c =
     let a = c.args in
-    node_spelled a.sheet.now a.work.now c.put_opening-start.new.work a.free a.i c.child_of-first.result c.word_of-word.result a.out c.put_opening-start.result c.name_is-sum.result a.inside c.requires.arena c.requires.i_nonzero.0 c.requires.i_nonzero.1 c.requires.free_bound.0 c.requires.free_bound.1 (c.child_of-first.ensures.2 (omega (arith, c.if-first-eq0.false))).0 (c.child_of-first.ensures.2 (omega (arith, c.if-first-eq0.false))).1 c.name_is-sum.ensures c.word_of-word.ensures.0 c.word_of-word.ensures.1 c.put_opening-start.ensures.0 c.put_opening-start.ensures.1 c.put_list-end.new.work c.put_list-end.result c.put_list-end.ensures c.put_closing.new.work c.bracket_of.result c.put_closing.result c.bracket_of.ensures c.put_closing.ensures.0 c.put_closing.ensures.1
+    node_spelled a.sheet.now a.work.now c.open-start.new.work a.free a.i c.child_of-first.result c.word_of-word.result a.out c.open-start.result c.name_is-sum.result a.inside c.requires.arena c.requires.i_nonzero.0 c.requires.i_nonzero.1 c.requires.free_bound.0 c.requires.free_bound.1 (c.child_of-first.ensures.2 (omega (arith, c.if-first-eq0.false))).0 (c.child_of-first.ensures.2 (omega (arith, c.if-first-eq0.false))).1 c.name_is-sum.ensures c.word_of-word.ensures.0 c.word_of-word.ensures.1 c.of-bracket.result c.of-bracket.ensures c.open-start.ensures.0 c.open-start.ensures.1 c.put_list-end.new.work c.put_list-end.result c.put_list-end.ensures c.close.new.work c.close.result c.close.ensures.0 c.close.ensures.1

@@ -1,11 +1,20 @@
-use lib.Seq.{slice}
-use Rattle.runs.specs.Texts.{texts}
-use Rattle.equivalence.proofs.Comparing.{order_equal, order_other}
-use borrow.Enum.Refused.{opened}
+use Rattle.std.proofs.Common.{sym, ap, ◌∙◌}
+use Rattle.std.specs.Ordering.{is_eq}
+use mathlib.Core.Path.{ap₂}
+use Rattle.text.proofs.Slices.{drop_take}
+use Rattle.runs.specs.Texts.{texts, lex}
+use Rattle.runs.proofs.RunLaws.{same_lex}
+use Rattle.runs.proofs.WordTexts.{tokens_part}
 use Rattle.equivalence.proofs.words.same_text.Goals as goal
 
-pub returns-in-Equal : goal.returns-in-Equal
-returns-in-Equal c = order_equal (texts c.args.sheet.now (slice c.args.from c.args.to c.args.work.now)) (texts c.args.sheet.now (slice c.args.start c.args.end c.args.work.now)) c.compare-order.ensures c.in-Equal.is
+pub compare-requires-clause-left_tokens : goal.compare-requires-clause-left_tokens
+compare-requires-clause-left_tokens c = tokens_part _ _ c.args.from c.args.to c.requires.tokens
 
-pub returns-in_default : goal.returns-in_default
-returns-in_default c = order_other (texts c.args.sheet.now (slice c.args.from c.args.to c.args.work.now)) (texts c.args.sheet.now (slice c.args.start c.args.end c.args.work.now)) c.compare-order.ensures (opened c.in_default.in_default-own.keys2)
+pub compare-requires-clause-right_tokens : goal.compare-requires-clause-right_tokens
+compare-requires-clause-right_tokens c = tokens_part _ _ c.args.start c.args.end c.requires.tokens_2
+
+pub returns : goal.returns
+returns c =
+    let a = c.args in
+    let e = ap₂ (λ l r. lex (texts a.sheet.now l) (texts a.sheet.now r)) (sym (drop_take a.from a.to a.work.now)) (sym (drop_take a.start a.end a.work.now)) in
+    c.is_eq.ensures ∙ ap is_eq (c.compare.ensures ∙ e) ∙ same_lex _ _

@@ -1,4 +1,3 @@
-use mathlib.Core.Path.{sym, ◌∙◌}
 use native.Mathlib.Omega.{arith}
 use Rattle.families.proofs.Gathering.{gathering_starts, gathering_ends, gathering_next, gathering_unread, gathering_turn}
 use Rattle.families.proofs.members.read_members.Goals as goal
@@ -6,19 +5,19 @@ use Rattle.families.proofs.members.read_members.Goals as goal
 pub loop-work-init : goal.loop-work-init
 loop-work-init c = gathering_starts c.args.sheet.now c.args.work.now c.args.free c.args.start.at c.requires.arena
 
-pub shape_of-work-in_default : goal.shape_of-work-in_default
-shape_of-work-in_default c = c.loop-work.invariant.kept.len
+pub shape_of-work : goal.shape_of-work
+shape_of-work c = c.loop-work.invariant.kept.len
 
-pub returns-in_default : goal.returns-in_default
-returns-in_default c = gathering_ends c.loop-work.invariant (sym c.in_default.is ∙ c.next_member-line.ensures)
+pub returns : goal.returns
+returns c = gathering_ends c.loop-work.invariant c.in_default.ensures
 
 pub read_member-member-requires : goal.read_member-member-requires
 read_member-member-requires c =
     let h = c.loop-work.invariant in
-    record { arena = h.arena; texts_room = (c.requires.texts_room.0, omega (arith, c.requires.texts_room, h.kept.len, h.used), omega (arith, c.requires.texts_room, h.used)); member_there = gathering_next h c.in-Whole.from c.in-Whole.to c.in-Whole.next (sym c.in-Whole.is ∙ c.next_member-line.ensures) c.requires.members_there }
+    record { arena = h.arena; texts_room = (c.requires.texts_room.0, omega (arith, c.requires.texts_room, h.kept.len, h.used), omega (arith, c.requires.texts_room, h.used)); member_there = gathering_next h c.in-Some.field-0 c.in-Some.ensures c.requires.members_there }
 
 pub returns-in_default-member : goal.returns-in_default-member
-returns-in_default-member c = gathering_unread c.loop-work.invariant c.in-Whole.from c.in-Whole.to c.in-Whole.next (sym c.in-Whole.is ∙ c.next_member-line.ensures) (rw c.in_default-member.is at c.read_member-member.ensures)
+returns-in_default-member c = gathering_unread c.loop-work.invariant c.in-Some.field-0 c.in-Some.ensures (rw c.in_default-member.is at c.read_member-member.ensures)
 
 pub push_member-pushed-requires : goal.push_member-pushed-requires
 push_member-pushed-requires c =
@@ -34,4 +33,4 @@ loop-work-smaller c =
 pub loop-work-preserved : goal.loop-work-preserved
 loop-work-preserved c =
     let x = rw c.in-Read.is at c.read_member-member.ensures in
-    gathering_turn c.loop-work.invariant c.in-Whole.from c.in-Whole.to c.in-Whole.next (sym c.in-Whole.is ∙ c.next_member-line.ensures) x c.push_member-pushed.ensures.0 c.push_member-pushed.ensures.1
+    gathering_turn c.loop-work.invariant c.in-Some.field-0 c.in-Some.ensures x c.push_member-pushed.ensures.0 c.push_member-pushed.ensures.1

@@ -8,4 +8,6 @@ use Rattle.forms.proofs.KeyLaws.{apart_places}
 use Rattle.forms.proofs.members.all_distinct.Goals as goal
 
 pub returns : goal.returns
-returns c = c.all_apart.ensures ∙ ap (λ (l : List ℕ). apart (map (text_at c.args.sheet.now) l)) c.sort_places.ensures.words ∙ apart_places c.args.sheet.now (take c.args.count c.args.words.now)
+returns c =
+    let s = c.args.sheet.now in
+    c.all_apart.ensures ∙ ap (λ (l : List ℕ). apart (map (text_at s) l)) c.sort_places.ensures.words ∙ apart_places s (take c.args.count c.args.words.now)

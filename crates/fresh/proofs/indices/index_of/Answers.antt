@@ -1,17 +1,13 @@
-use native.Mathlib.Omega.{arith}
-use mathlib.Core.Path.{ap, ◌∙◌}
-use Rattle.text.specs.Numbers.{number_of}
-use Rattle.fresh.proofs.Indexing.{unindexed, no_name, index_read, digits_inside}
+use Rattle.std.proofs.Common.{rules}
+use mathlib.Core.Path.{sym, ◌∙◌}
+use Rattle.fresh.proofs.Indexing.{unindexed, led_by_x, index_read, digits_inside}
 use Rattle.fresh.proofs.indices.index_of.Goals as goal
 
-pub returns-then-name-eq0 : goal.returns-then-name-eq0
-returns-then-name-eq0 c = no_name c.args.name.now c.if-name-eq0.true
-
-pub returns-then-name-ne120 : goal.returns-then-name-ne120
-returns-then-name-ne120 c = unindexed c.args.name.now c.if-name-ne120.true
+pub returns-then-not-starts_with : goal.returns-then-not-starts_with
+returns-then-not-starts_with c = unindexed c.args.name.now (sym c.if-not-starts_with.ensures.value)
 
 pub part-requires : goal.part-requires
-part-requires c = digits_inside c.args.name.now c.run_end-end.result (omega (arith, c.if-name-eq0.false)) c.run_end-end.ensures
+part-requires c = let h = c.if-not-starts_with.ensures in digits_inside c.args.name.now c.run_end-end.result (search rules) c.run_end-end.ensures
 
 pub returns : goal.returns
-returns c = c.number_up_to.ensures ∙ ap number_of (index_read c.args.name.now c.part.result.now c.run_end-end.result c.run_end-end.ensures c.part.ensures c.if-name-ne120.false)
+returns c = c.number_up_to.ensures ∙ index_read c.args.name.now c.part.result.now c.run_end-end.result c.run_end-end.ensures c.part.ensures (led_by_x c.args.name.now (sym c.if-not-starts_with.ensures.value))

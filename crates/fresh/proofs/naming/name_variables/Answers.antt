@@ -1,4 +1,3 @@
-use mathlib.Core.Path.{sym, ◌∙◌}
 use native.Mathlib.Omega.{arith}
 use Rattle.variables.proofs.Naming.{arena_kept}
 use Rattle.fresh.proofs.TermNaming.{shared_arena, one_spelled, one_size, no_base, term_names}
@@ -19,8 +18,8 @@ variables_of-last-requires c =
     let h = c.share-end.ensures.1 in
     record { arena = shared_arena c.args.term c.share-end.result q h; list_lt_free = (omega arith, one_spelled c.args.term c.share-end.result q h c.requires.term_nonzero.2); free_bound = (omega arith, omega (arith, one_size c.args.term c.share-end.result q h, c.requires.term_nonzero.3, c.requires.sheet_in_bounds.0, h.grown.len)) }
 
-pub base_of-found-requires : goal.base_of-found-requires
-base_of-found-requires c =
+pub base_of-requires : goal.base_of-requires
+base_of-requires c =
     let q = c.share-end.ensures.0 in
     let h = c.share-end.ensures.1 in
     let o = c.variables_of-last.ensures in
@@ -31,7 +30,7 @@ returns-in_default c =
     let q = c.share-end.ensures.0 in
     let h = c.share-end.ensures.1 in
     let o = c.variables_of-last.ensures in
-    no_base c.args.term c.share-end.result q h (omega arith) o (sym c.in_default.is ∙ c.base_of-found.ensures)
+    no_base c.args.term c.share-end.result q h (omega arith) o c.in_default.ensures
 
 pub list_variables-listed-requires : goal.list_variables-listed-requires
 list_variables-listed-requires c =
@@ -48,4 +47,4 @@ returns c =
     let h = c.share-end.ensures.1 in
     let o = c.variables_of-last.ensures in
     let z = one_size c.args.term c.share-end.result q h in
-    term_names c.args.term c.share-end.result q h (omega arith) o c.in-From.base (sym c.in-From.is ∙ c.base_of-found.ensures) (omega (arith, z, c.requires.term_nonzero.3, c.requires.sheet_in_bounds.0, h.grown.len)) c.list_variables-listed.ensures
+    term_names c.args.term c.share-end.result q h (omega arith) o c.in-Some.base c.in-Some.ensures (omega (arith, z, c.requires.term_nonzero.3, c.requires.sheet_in_bounds.0, h.grown.len)) c.list_variables-listed.ensures

@@ -3,7 +3,7 @@ use mathlib.Core.Path.{◌≡◌, refl, sym, ◌∙◌, ap, subst}
 use mathlib.Core.Bool.{Bool, true, false, false≢true}
 use mathlib.Core.List.{[], ◌∷◌, ◌++◌, append_assoc}
 use mathlib.Core.Logic.{◌↔◌, ◌⊎◌, inl, inr}
-use mathlib.Core.Option.{Option, some, none as nothing}
+use Rattle.std.specs.Prelude.{Option, Some, None}
 use native.Mathlib.Omega.{arith}
 use lib.ListN.{length, length-append}
 use Rattle.rules.specs.Bytes.{Text}
@@ -16,15 +16,15 @@ ended r = claim r ++ (10 ∷ [])
 
 -- the three lines differ in length
 one_claim : (r q : Option Bool) → length (ended r) ≡ length (ended q) → r ≡ q
-one_claim nothing nothing e = refl
-one_claim nothing (some true) e = absurd (omega arith)
-one_claim nothing (some false) e = absurd (omega arith)
-one_claim (some true) nothing e = absurd (omega arith)
-one_claim (some true) (some true) e = refl
-one_claim (some true) (some false) e = absurd (omega arith)
-one_claim (some false) nothing e = absurd (omega arith)
-one_claim (some false) (some true) e = absurd (omega arith)
-one_claim (some false) (some false) e = refl
+one_claim None None e = refl
+one_claim None (Some true) e = absurd (omega arith)
+one_claim None (Some false) e = absurd (omega arith)
+one_claim (Some true) None e = absurd (omega arith)
+one_claim (Some true) (Some true) e = refl
+one_claim (Some true) (Some false) e = absurd (omega arith)
+one_claim (Some false) None e = absurd (omega arith)
+one_claim (Some false) (Some true) e = absurd (omega arith)
+one_claim (Some false) (Some false) e = refl
 
 module _ (key : Text) (Means : Option Bool → Type 0) (answer : Text) (r : Option Bool) (e : line key (claim r) ≡ answer) (means : (q : Option Bool) → (r ≡ q) ↔ Means q) where
   told : answer ≡ key ++ ended r
@@ -39,26 +39,26 @@ module _ (key : Text) (Means : Option Bool → Type 0) (answer : Text) (r : Opti
   exactly q = (λ h. (means q).0 (said q h), λ h. told ∙ ap (λ (z : Option Bool). key ++ ended z) ((means q).1 h))
 
   says_one_of : (q : Option Bool) → answer ≡ key ++ ended q → (answer ≡ key ++ bytes "yes\n") ⊎ (answer ≡ key ++ bytes "no\n") ⊎ (answer ≡ key ++ bytes "none\n")
-  says_one_of nothing h = inr (inr h)
-  says_one_of (some true) h = inl h
-  says_one_of (some false) h = inr (inl h)
+  says_one_of None h = inr (inr h)
+  says_one_of (Some true) h = inl h
+  says_one_of (Some false) h = inr (inl h)
 
   pub claim_says : Says key Means answer
-  claim_says = record { says_yes = exactly (some true); says_no = exactly (some false); says_none = exactly nothing; says_one = says_one_of r told }
+  claim_says = record { says_yes = exactly (Some true); says_no = exactly (Some false); says_none = exactly None; says_one = says_one_of r told }
 
 -- a test decides
-pub test_decides : (b : Bool) {P : Type 0} → (P ↔ (b ≡ true)) → (q : Option Bool) → (some b ≡ q) ↔ Decides P q
+pub test_decides : (b : Bool) {P : Type 0} → (P ↔ (b ≡ true)) → (q : Option Bool) → (Some b ≡ q) ↔ Decides P q
 test_decides b {P} h q = (λ e. subst (Decides P) e (go b h), back b h q)
   where
-    go : (c : Bool) → (P ↔ (c ≡ true)) → Decides P (some c)
+    go : (c : Bool) → (P ↔ (c ≡ true)) → Decides P (Some c)
     go true k = holds (k.1 refl)
     go false k = fails (λ p. false≢true (k.0 p))
 
-    back : (c : Bool) → (P ↔ (c ≡ true)) → (q : Option Bool) → Decides P q → some c ≡ q
-    back c k nothing x' = elim x' [ ]
-    back c k (some true) (holds p) = ap some (k.0 p)
-    back true k (some false) (fails n) = absurd (n (k.1 refl))
-    back false k (some false) (fails n) = refl
+    back : (c : Bool) → (P ↔ (c ≡ true)) → (q : Option Bool) → Decides P q → Some c ≡ q
+    back c k None x' = elim x' [ ]
+    back c k (Some true) (holds p) = ap Some (k.0 p)
+    back true k (Some false) (fails n) = absurd (n (k.1 refl))
+    back false k (Some false) (fails n) = refl
 
 -- what holds exactly where another thing holds is decided alike
 module _ {P Q : Type 0} (h : P ↔ Q) where

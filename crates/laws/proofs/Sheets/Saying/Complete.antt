@@ -1,7 +1,8 @@
 -- Answered sheets of kind `complete`: yes, no and none each exactly where that is meant.
 use mathlib.Core.Path.{◌≡◌}
 use mathlib.Core.List.{List}
-use mathlib.Core.Option.{some, some-injective}
+use Rattle.std.specs.Prelude.{Some}
+use Rattle.laws.proofs.Basics.Somes.{some_injective}
 use Prim.Native.Nat.{ℕ}
 use Rattle.rules.specs.Bytes.{Text}
 use Rattle.rules.specs.Text.{bytes}
@@ -20,9 +21,9 @@ use Rattle.laws.proofs.Sheets.Calls.{call_answer}
 use Rattle.laws.proofs.Sheets.Saying.Claims.{claim_says}
 
 module _ (s : Text) (words room : ℕ) (a : Text) (c : call s words room ≡ passed a) where
-  pub complete_said : (text : Text) (ms : List Member) → read_sheet s ≡ some (asks_complete text ms)
-      → (t : Tree) × (parse text ≡ some t) × Says (bytes "complete=") (CompleteMeans t ms) a
+  pub complete_said : (text : Text) (ms : List Member) → read_sheet s ≡ Some (asks_complete text ms)
+      → (t : Tree) × (parse text ≡ Some t) × Says (bytes "complete=") (CompleteMeans t ms) a
   unfolding answer_of
   complete_said text ms h =
       let (t, f, e) = bound (parse text) _ a (call_answer s words room (asks_complete text ms) a h c) in
-      (t, f, claim_says (bytes "complete=") (CompleteMeans t ms) a (complete t ms) (some-injective _ a e) (complete_is t (builds text t f) (reads_within text t f) ms))
+      (t, f, claim_says (bytes "complete=") (CompleteMeans t ms) a (complete t ms) (some_injective _ a e) (complete_is t (builds text t f) (reads_within text t f) ms))

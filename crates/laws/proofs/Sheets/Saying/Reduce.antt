@@ -1,6 +1,7 @@
 -- Answered sheets of kind `reduce`: the text after `normal=` reads as the reduced form of the term.
 use mathlib.Core.Path.{◌≡◌, sym}
-use mathlib.Core.Option.{some, some-injective}
+use Rattle.std.specs.Prelude.{Some}
+use Rattle.laws.proofs.Basics.Somes.{some_injective}
 use Prim.Native.Nat.{ℕ}
 use native.Mathlib.Omega.{arith}
 use Rattle.rules.specs.Bytes.{Text}
@@ -18,7 +19,7 @@ use Rattle.laws.proofs.Reduction.Sizes.{normalize_size, normal_reads}
 use Rattle.laws.proofs.Sheets.Calls.{call_answer}
 
 module _ (s : Text) (words room : ℕ) (a : Text) (c : call s words room ≡ passed a) where
-  pub reduce_said : (text : Text) → read_sheet s ≡ some (asks_reduce text) → (t : Tree) × (parse text ≡ some t) × SaysNormal t a
+  pub reduce_said : (text : Text) → read_sheet s ≡ Some (asks_reduce text) → (t : Tree) × (parse text ≡ Some t) × SaysNormal t a
   unfolding answer_of
   reduce_said text h =
       let (t, f, e) = bound (parse text) _ a (call_answer s words room (asks_reduce text) a h c) in
@@ -28,7 +29,7 @@ module _ (s : Text) (words room : ℕ) (a : Text) (c : call s words room ≡ pas
         f,
         record {
           normal = normalize t;
-          says = sym (some-injective _ a e);
+          says = sym (some_injective _ a e);
           reads = normal_reads t b within;
           limit = omega (arith, within, normalize_size t);
           reduced = reduced t b;

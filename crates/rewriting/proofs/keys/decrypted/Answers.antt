@@ -1,6 +1,6 @@
 use native.Mathlib.Omega.{arith}
 use mathlib.Core.Path.{sym, ap, ◌∙◌}
-use mathlib.Core.Option.{some}
+use Rattle.std.specs.Prelude.{Some}
 use Rattle.tree.specs.Cells.{first_of, tree_at, trees_at}
 use Rattle.rewriting.proofs.Holding.{held_some, two_none, two_some}
 use Rattle.rewriting.proofs.Fired.{open_no_arguments, open_no_cipher, open_if, opened, unopened, cells_less}
@@ -47,7 +47,7 @@ returns-then-opens c =
     let e = c.two_arguments-other.ensures.2 ∙ two_some s w a.i c.two_arguments-other.result (omega (arith, c.if-other-eq0.false)) in
     let f = c.key_of-key.ensures.2 ∙ two_some s w (first_of w a.i) c.key_of-key.result (omega (arith, c.if-key-eq0.false)) in
     let g = c.key_of-key.ensures.1 (omega (arith, c.if-key-eq0.false)) in
-    (omega (arith, c.first_of-payload.ensures.1, c.requires.i_lt_free.0), open_if a.boxed (trees_at s w a.i) e f (rw c.first_of-payload.ensures.0 at c.opens.ensures.0) ∙ opened c.if-opens.true ∙ ap (λ j. some (tree_at s w j)) (sym c.first_of-payload.ensures.0) ∙ sym (held_some s w c.first_of-payload.result (omega (arith, g, c.first_of-payload.ensures.0))), c.opens.ensures.1)
+    (omega (arith, c.first_of-payload.ensures.1, c.requires.i_lt_free.0), open_if a.boxed (trees_at s w a.i) e f (rw c.first_of-payload.ensures.0 at c.opens.ensures.0) ∙ opened c.if-opens.true ∙ ap (λ j. Some (tree_at s w j)) (sym c.first_of-payload.ensures.0) ∙ sym (held_some s w c.first_of-payload.result (omega (arith, g, c.first_of-payload.ensures.0))), c.opens.ensures.1)
 
 pub returns : goal.returns
 returns c =

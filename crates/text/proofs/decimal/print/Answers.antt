@@ -4,11 +4,8 @@ use Rattle.rules.specs.Decimal.{decimal}
 use lib.ListN.{length, length-set}
 use Prim.Native.Nat.{◌+◌, ◌-◌}
 use native.Mathlib.Omega.{arith}
-use mathlib.Core.Path.{◌≡◌, refl}
+use mathlib.Core.Path.{◌≡◌}
 use Rattle.text.proofs.decimal.print.Goals as goal
-
-pub overflow_add-end : goal.overflow_add-end
-overflow_add-end c = omega arith
 
 pub loop-i-init : goal.loop-i-init
 unfolding printed_over
@@ -16,32 +13,14 @@ loop-i-init c =
     let a = c.args in
     let e = c.width_of.ensures in
     let z : a.at + c.width_of.result - a.at ≡ length (decimal a.n) = omega arith in
-    (omega arith, omega arith, refl, rw (z, ← decimal_padded a.n, e))
-
-pub overflow_sub-i : goal.overflow_sub-i
-overflow_sub-i c = omega arith
-
-pub overflow_cast-out : goal.overflow_cast-out
-overflow_cast-out c = omega arith
-
-pub overflow_add-out : goal.overflow_add-out
-overflow_add-out c = omega arith
-
-pub bounds-out-i : goal.bounds-out-i
-bounds-out-i c = omega arith
-
-pub loop-i-smaller : goal.loop-i-smaller
-loop-i-smaller c = omega arith
+    (omega arith, omega arith, rw (z, ← decimal_padded a.n, e))
 
 pub loop-i-preserved : goal.loop-i-preserved
 loop-i-preserved c =
     let l = c.loop-i in
-    (omega arith, simp length-set (omega arith), simp length-set l.invariant.2, print_turn l.out (printed_over c.args.out.now c.args.at (decimal c.args.n)) c.args.at l.i l.m (omega arith) (omega arith) l.invariant.3)
-
-pub shape_of-out : goal.shape_of-out
-shape_of-out c = c.loop-i.invariant.2
+    (omega arith, simp length-set (omega arith), print_turn l.out (printed_over c.args.out.now c.args.at (decimal c.args.n)) c.args.at l.i l.m (omega arith) (omega arith) l.invariant.2)
 
 pub returns : goal.returns
 returns c =
     let l = c.loop-i in
-    record { bytes = print_end l.out (printed_over c.args.out.now c.args.at (decimal c.args.n)) c.args.at l.i l.m (omega arith) (omega arith) l.invariant.3; end = omega (arith, c.width_of.ensures) }
+    record { bytes = print_end l.out (printed_over c.args.out.now c.args.at (decimal c.args.n)) c.args.at l.i l.m (omega arith) (omega arith) l.invariant.2; end = omega (arith, c.width_of.ensures) }

@@ -8,7 +8,4 @@ use mathlib.Core.Path.{◌≡◌}
 use Rattle.text.proofs.decimal.print.Given as goal
 
 abbrev pub invariant-loop-i : goal.invariant-loop-i
-invariant-loop-i l = (l.at ≤ l.i) × (l.i ≤ length l.out) × (length l.out ≡ length l.initial.out) × (take l.at l.out ++ (padded (l.i - l.at) l.m ++ drop l.i l.out) ≡ printed_over l.initial.out l.at (decimal l.n))
-
-abbrev pub decreases-loop-i : goal.decreases-loop-i
-decreases-loop-i l = l.i
+invariant-loop-i l = (l.at ≤ l.i) × (l.i ≤ length l.out) × (take l.at l.out ++ (padded (l.i - l.at) l.m ++ drop l.i l.out) ≡ printed_over l.initial.out l.at (decimal l.n))

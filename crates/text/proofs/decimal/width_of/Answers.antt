@@ -1,21 +1,9 @@
 use Rattle.text.proofs.Decimals.{width_more, width_one}
 use native.Mathlib.Omega.{arith}
-use mathlib.Core.Path.{refl}
 use Rattle.text.proofs.decimal.width_of.Goals as goal
 
-pub loop-m-init : goal.loop-m-init
-loop-m-init c = (refl, omega arith)
-
-pub overflow_add-w : goal.overflow_add-w
-overflow_add-w c = omega arith
-
-pub loop-m-smaller : goal.loop-m-smaller
-loop-m-smaller c = omega arith
-
 pub loop-m-preserved : goal.loop-m-preserved
-loop-m-preserved c =
-    let h = width_more c.loop-m.m (omega arith) in
-    (omega arith, omega arith)
+loop-m-preserved c = let h = width_more c.loop-m.m (omega arith) in (omega arith, omega arith)
 
 pub returns : goal.returns
 returns c = omega (arith, width_one c.loop-m.m (omega arith))

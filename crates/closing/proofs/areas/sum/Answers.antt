@@ -1,0 +1,25 @@
+use native.Mathlib.Omega.{arith}
+use Rattle.closing.proofs.Shuts.{closes_none}
+use Rattle.closing.proofs.Sums.{sum_of_none, sum_of_one, tail_only, front_room, sum_over, sum_room, sum_shut}
+use Rattle.closing.proofs.areas.sum.Goals as goal
+
+pub returns-then-chain-eq0 : goal.returns-then-chain-eq0
+returns-then-chain-eq0 c = sum_of_none c.args.area.now c.args.chain c.args.next c.if-chain-eq0.true
+
+pub returns-then-second-eq0 : goal.returns-then-second-eq0
+returns-then-second-eq0 c = sum_of_one (omega arith) c.requires.links.0 c.next_of-second.ensures.next c.args.next c.if-second-eq0.true
+
+pub nest-requires-clause-tail : goal.nest-requires-clause-tail
+nest-requires-clause-tail c = tail_only (omega arith) c.requires.links.0 c.next_of-second.ensures.next c.share-tail.ensures c.next_of-second.ensures.below (omega arith)
+
+pub nest-requires-clause-room : goal.nest-requires-clause-room
+nest-requires-clause-room c = front_room (omega arith) c.requires.links.0 c.next_of-second.ensures.next c.share-tail.ensures c.next_of-second.ensures.below (omega arith) c.requires.room.0 c.requires.room.1
+
+pub returns-in_err-nested : goal.returns-in_err-nested
+returns-in_err-nested c = closes_none _ _ _ _ _ c.from_residual.ensures (sum_over (omega arith) c.requires.links.0 c.next_of-second.ensures.next c.share-tail.ensures c.next_of-second.ensures.below (omega arith) c.args.next c.in_err-nested.ensures)
+
+pub share-requires-clause-room : goal.share-requires-clause-room
+share-requires-clause-room c = sum_room (omega arith) c.requires.links.0 c.next_of-second.ensures.next c.share-tail.ensures c.next_of-second.ensures.below (omega arith) c.in_ok-nested.ensures c.requires.links.1 c.requires.room.0 c.requires.room.1
+
+pub returns : goal.returns
+returns c = sum_shut (omega arith) c.requires.links.0 c.next_of-second.ensures.next c.share-tail.ensures c.next_of-second.ensures.below (omega arith) c.in_ok-nested.ensures c.requires.links.1 c.share.ensures

@@ -1,0 +1,149 @@
+// Closing a list of an area: its trees in their order, and the application, the sum or the atom that they make.
+ghost use Rattle.std.specs.Prelude.{◌≡◌, [], ◌∷◌, ◌+◌, ◌*◌, ◌<◌, ◌≤◌, ◌^◌, length};
+ghost use Rattle.rules.specs.Tree.{apply, none, more, count, tamtplus};
+ghost use Rattle.rules.specs.Reading.{close, atom_of, sum_of};
+ghost use Rattle.tree.specs.Areas.{tree_in, trees_in};
+ghost use Rattle.tree.specs.Spelled.{text_in, Spelled};
+ghost use Rattle.closing.specs.Machine.{back};
+ghost use Rattle.closing.specs.Closing.{summed};
+ghost use Rattle.closing.specs.Areas.{room_for, PutsInOrder, ClosesIn, AloneIn};
+
+use leaves::{all_digits, is_letter_name};
+use sheet::{Place, part};
+use text::same;
+use tree::area::Area;
+use tree::kinds::Kind;
+
+// The first of the new cells, and the count of nodes.
+#[derive(Clone, Copy, Debug, PartialEq, Eq)]
+struct Ordered {
+    first: usize,
+    nodes: usize,
+}
+
+// The trees of a chain once more, in their order, unless they have more than 4,095 nodes.
+fn in_order(area: &mut Area, chain: usize) -> Option<Ordered>
+    requires chain { chain < area.old.free }
+    requires room { (4 * (area.old.free + count (trees_in area.old chain)) ≤ length area.old.work.now) × (area.old.free + count (trees_in area.old chain) < 2 ^ 32) }
+    ensures { PutsInOrder area.old area.new chain result }
+{
+    let mut k = chain;
+    let mut first = 0;
+    let mut nodes = 0;
+    while 0 < k {
+        nodes += area.count_of(k);
+        if 4095 < nodes {
+            return None;
+        }
+        let next = area.next_of(k);
+        first = area.share(k, first);
+        k = next;
+    }
+    Some(Ordered { first, nodes })
+}
+
+// An application.
+fn list(area: &mut Area, name: Place, chain: usize, next: usize) -> Option<usize>
+    requires links { (chain < area.old.free) × (next < area.old.free) }
+    requires room { (4 * (area.old.free + room_for area.old chain) ≤ length area.old.work.now) × (area.old.free + room_for area.old chain < 2 ^ 32) }
+    requires name { Spelled area.old.sheet.now name }
+    ensures { ClosesIn area.old area.new (room_for area.old chain) next (Some (apply (text_in area.old name) (back (trees_in area.old chain) none))) result }
+{
+    let children = in_order(area, chain)?;
+    Some(area.push_application(name, children.first, next, children.nodes + 1))
+}
+
+// Summands put in front of the tree of cell tail, which has no link, one after another.
+fn nest(area: &mut Area, plus: Place, tail: usize, chain: usize) -> Option<usize>
+    requires tail { (0 < tail) × (tail < area.old.free) × (trees_in area.old tail ≡ more (tree_in area.old tail) none) }
+    requires chain { (0 < chain) × (chain < area.old.free) }
+    requires room { (4 * (area.old.free + 2 * count (trees_in area.old chain)) ≤ length area.old.work.now) × (area.old.free + 2 * count (trees_in area.old chain) < 2 ^ 32) }
+    requires name { Spelled area.old.sheet.now plus × (text_in area.old plus ≡ tamtplus) }
+    ensures { ClosesIn area.old area.new (2 * count (trees_in area.old chain)) 0 (Some (summed (tree_in area.old tail) (trees_in area.old chain))) result }
+{
+    let mut last = tail;
+    let mut k = chain;
+    while 0 < k {
+        let nodes = 1 + area.count_of(k) + area.count_of(last);
+        if 4096 < nodes {
+            return None;
+        }
+        let before = area.next_of(k);
+        let pair = area.share(k, last);
+        last = area.push_application(plus, pair, 0, nodes);
+        k = before;
+    }
+    Some(last)
+}
+
+// A sum of two trees or more, nested to the right.
+fn sum(area: &mut Area, plus: Place, chain: usize, next: usize) -> Option<usize>
+    requires links { (chain < area.old.free) × (next < area.old.free) }
+    requires room { (4 * (area.old.free + room_for area.old chain) ≤ length area.old.work.now) × (area.old.free + room_for area.old chain < 2 ^ 32) }
+    requires name { Spelled area.old.sheet.now plus × (text_in area.old plus ≡ tamtplus) }
+    ensures { ClosesIn area.old area.new (room_for area.old chain) next (sum_of (back (trees_in area.old chain) none)) result }
+{
+    if chain == 0 {
+        return None;
+    }
+    let second = area.next_of(chain);
+    if second == 0 {
+        return None;
+    }
+    let tail = area.share(chain, 0);
+    let nested = nest(area, plus, tail, second)?;
+    Some(area.share(nested, next))
+}
+
+// Whether the list at cell k is one application of digits, without children.
+fn is_number(area: &Area, k: usize) -> bool
+    requires { k < area.now.free }
+    ensures { AloneIn area.now k result }
+{
+    if k == 0 {
+        return false;
+    }
+    if 0 < area.next_of(k) {
+        return false;
+    }
+    let Kind::Application = area.kind(k) else {
+        return false;
+    };
+    if 0 < area.first_of(k) {
+        return false;
+    }
+    let Some(name) = area.spelled(k) else {
+        return false;
+    };
+    all_digits(name)
+}
+
+// An atom: a letter around digits.
+fn atom(area: &mut Area, letter: u8, chain: usize, next: usize) -> Option<usize>
+    requires links { (chain < area.old.free) × (next < area.old.free) }
+    requires room { (4 * (area.old.free + room_for area.old chain) ≤ length area.old.work.now) × (area.old.free + room_for area.old chain < 2 ^ 32) }
+    requires letter { 7 ≤ letter }
+    ensures { ClosesIn area.old area.new (room_for area.old chain) next (atom_of (letter ∷ []) (back (trees_in area.old chain) none)) result }
+{
+    if !is_number(area, chain) {
+        return None;
+    }
+    Some(area.push_atom(letter, chain, next))
+}
+
+// What a name and its list are (unifier.rs, `close`), before the list at a link.
+pub fn shut(area: &mut Area, name: Place, chain: usize, next: usize) -> Option<usize>
+    requires links { (chain < area.old.free) × (next < area.old.free) }
+    requires room { (4 * (area.old.free + room_for area.old chain) ≤ length area.old.work.now) × (area.old.free + room_for area.old chain < 2 ^ 32) }
+    requires name { Spelled area.old.sheet.now name }
+    ensures { ClosesIn area.old area.new (room_for area.old chain) next (close (text_in area.old name) (back (trees_in area.old chain) none)) result }
+{
+    let text = part(area.sheet, name.from, name.to);
+    if is_letter_name(text) {
+        return atom(area, text[0], chain, next);
+    }
+    if same(text, b"tamtplus") {
+        return sum(area, name, chain, next);
+    }
+    list(area, name, chain, next)
+}

@@ -1,0 +1,48 @@
+// Equality of trees of an area up to order and grouping of sums.
+ghost use Rattle.std.specs.Prelude.{◌≡◌, ◌+◌, ◌*◌, ◌<◌, ◌≤◌, length};
+ghost use Rattle.rules.specs.Tree.{size};
+ghost use Rattle.rules.specs.Sums.{equivalent};
+ghost use Rattle.tree.specs.Areas.{tree_in, KeepsCells};
+ghost use Rattle.text.specs.Frames.{Outside};
+
+use crate::words::same_text;
+use crate::words_area::tree_words;
+use tree::area::Area;
+
+// Whether the canonical texts of the trees of cells i and j are one. The words, fifteen for each node of the two, are scratch.
+fn same_canonical(area: &Area, i: usize, j: usize, words: &mut [u32]) -> bool
+    requires cells { (0 < i) × (i < area.now.free) × (0 < j) × (j < area.now.free) }
+    requires small { (5 * size (tree_in area.now i) < 65536) × (5 * size (tree_in area.now j) < 65536) }
+    requires room { 15 * (size (tree_in area.now i) + size (tree_in area.now j)) ≤ length words.old }
+    ensures value { result ≡ equivalent (tree_in area.now i) (tree_in area.now j) }
+    ensures outside { Outside words.old words.new 0 (15 * (size (tree_in area.now i) + size (tree_in area.now j))) }
+{
+    let mid = tree_words(area, i, words, 0);
+    let end = tree_words(area, j, words, mid);
+    same_text(area.sheet, words, 0, mid, mid, end)
+}
+
+// Whether the trees of cells i and j are equal up to order and grouping of sums. The words above the cells, fifteen for each node of the
+// two, are scratch.
+pub fn equivalent(area: &mut Area, i: usize, j: usize) -> bool
+    requires cells { (0 < i) × (i < area.old.free) × (0 < j) × (j < area.old.free) }
+    requires small { (5 * size (tree_in area.old i) < 65536) × (5 * size (tree_in area.old j) < 65536) }
+    requires room { 4 * area.old.free + 15 * (size (tree_in area.old i) + size (tree_in area.old j)) ≤ length area.old.work.now }
+    ensures value { result ≡ equivalent (tree_in area.old i) (tree_in area.old j) }
+    ensures keeps { KeepsCells area.old area.new }
+    ensures outside { Outside area.old.work.now area.new.work.now (4 * area.old.free) (4 * area.old.free + 15 * (size (tree_in area.old i) + size (tree_in area.old j))) }
+{
+    if area.same_tree(i, j) {
+        return true;
+    }
+    let sheet = area.sheet;
+    let free = area.free;
+    let work = &mut *area.work;
+    let (cells, words) = work.split_at_mut(4 * free);
+    let trees = Area {
+        sheet,
+        work: cells,
+        free,
+    };
+    same_canonical(&trees, i, j, words)
+}

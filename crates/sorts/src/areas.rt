@@ -1,0 +1,207 @@
+// The tests of sorts in an area.
+ghost use Rattle.std.specs.Prelude.{◌≡◌, ◌<◌};
+ghost use Rattle.rules.specs.Sorts.{intersects, symbol, natural, naturals, message, messages, basic, sorted, refinable, refinables};
+ghost use Rattle.tree.specs.Areas.{name_in, tree_in, trees_in};
+ghost use Rattle.sorts.specs.Symbols.{meaning};
+
+use rules::Sort;
+use tree::area::Area;
+use tree::kinds::Kind;
+
+// Which sorts meet.
+const MEETS: [[bool; 5]; 5] = [
+    [true, false, true, false, false],
+    [false, true, true, false, false],
+    [true, true, true, true, false],
+    [false, false, true, true, false],
+    [false, false, false, false, true],
+];
+
+// Whether two sorts meet.
+fn meets(a: Sort, b: Sort) -> bool
+    ensures { result ≡ intersects a b }
+{
+    MEETS[a as usize][b as usize]
+}
+
+// What a name stands for.
+#[derive(Clone, Copy, Debug, PartialEq, Eq)]
+enum Symbol {
+    Addition,
+    Unit,
+    Frame,
+    Free,
+}
+
+// What the name of cell k stands for, by comparing it.
+#[tactic(auto, unfolding(rules::specs::Sorts::symbol, rules::specs::Sorts::is_frame))]
+fn symbol_named(area: &Area, k: usize) -> Symbol
+    requires { (0 < k) × (k < area.now.free) }
+    ensures { meaning result ≡ symbol (name_in area.now k) }
+{
+    if area.name_is(k, b"tamtplus") {
+        return Symbol::Addition;
+    }
+    if area.name_is(k, b"tamXCtone") {
+        return Symbol::Unit;
+    }
+    if area.name_is(k, b"list") || area.name_is(k, b"cons") || area.name_is(k, b"nil") {
+        return Symbol::Frame;
+    }
+    Symbol::Free
+}
+
+// What the name of cell k stands for. Most names are told apart by their length.
+#[tactic(auto, using(crate::proofs::Symbols::other_length))]
+fn symbol_of(area: &Area, k: usize) -> Symbol
+    requires { (0 < k) × (k < area.now.free) }
+    ensures { meaning result ≡ symbol (name_in area.now k) }
+{
+    match area.name_len(k) {
+        3 | 4 | 8 | 9 => symbol_named(area, k),
+        _ => Symbol::Free,
+    }
+}
+
+// Whether the tree of cell i is natural.
+#[tactic(auto, using(crate::proofs::Testing::by_kind))]
+#[cycle(natural_naturals)]
+pub fn natural(area: &Area, i: usize) -> bool
+    requires { (0 < i) × (i < area.now.free) }
+    ensures { result ≡ natural (tree_in area.now i) }
+{
+    match area.kind(i) {
+        Kind::Application => match symbol_of(area, i) {
+            Symbol::Addition => naturals(area, area.first_of(i)),
+            Symbol::Unit => true,
+            Symbol::Frame | Symbol::Free => false,
+        },
+        Kind::Variable(sort) => sort == Some(Sort::TamNat),
+        Kind::Atom(letter) => letter == b't',
+    }
+}
+
+// Whether every tree of the list from cell `list` on is natural.
+#[cycle(natural_naturals)]
+fn naturals(area: &Area, list: usize) -> bool
+    requires { list < area.now.free }
+    ensures { result ≡ naturals (trees_in area.now list) }
+{
+    let mut i = list;
+    while i != 0 {
+        if !natural(area, i) {
+            return false;
+        }
+        i = area.next_of(i);
+    }
+    true
+}
+
+// Whether the tree of cell i is a message.
+#[tactic(auto, using(crate::proofs::Testing::by_kind))]
+#[cycle(message_messages)]
+pub fn message(area: &Area, i: usize) -> bool
+    requires { (0 < i) × (i < area.now.free) }
+    ensures { result ≡ message (tree_in area.now i) }
+{
+    match area.kind(i) {
+        Kind::Application => match symbol_of(area, i) {
+            Symbol::Addition => naturals(area, area.first_of(i)),
+            Symbol::Frame => false,
+            Symbol::Unit | Symbol::Free => messages(area, area.first_of(i)),
+        },
+        Kind::Variable(Some(sort)) => sort != Sort::Node,
+        Kind::Variable(None) => false,
+        Kind::Atom(letter) => letter != b'n',
+    }
+}
+
+// Whether every tree of the list from cell `list` on is a message.
+#[cycle(message_messages)]
+fn messages(area: &Area, list: usize) -> bool
+    requires { list < area.now.free }
+    ensures { result ≡ messages (trees_in area.now list) }
+{
+    let mut i = list;
+    while i != 0 {
+        if !message(area, i) {
+            return false;
+        }
+        i = area.next_of(i);
+    }
+    true
+}
+
+// Whether the tree of cell i is a variable of the sort or an atom of the letter.
+#[tactic(auto, using(crate::proofs::Testing::by_kind))]
+fn basic(area: &Area, sort: Sort, letter: u8, i: usize) -> bool
+    requires { (0 < i) × (i < area.now.free) }
+    ensures { result ≡ basic sort letter (tree_in area.now i) }
+{
+    match area.kind(i) {
+        Kind::Application => false,
+        Kind::Variable(own) => own == Some(sort),
+        Kind::Atom(own) => own == letter,
+    }
+}
+
+// Whether the tree of cell i has the sort.
+#[tactic(auto, unfolding(rules::specs::Sorts::sorted))]
+pub fn sorted(area: &Area, sort: Sort, i: usize) -> bool
+    requires { (0 < i) × (i < area.now.free) }
+    ensures { result ≡ sorted sort (tree_in area.now i) }
+{
+    match sort {
+        Sort::Pub => basic(area, Sort::Pub, b'p', i),
+        Sort::Fresh => basic(area, Sort::Fresh, b'f', i),
+        Sort::Msg => message(area, i),
+        Sort::TamNat => natural(area, i),
+        Sort::Node => basic(area, Sort::Node, b'n', i),
+    }
+}
+
+// Whether the tree of cell i may have an instance of the sort.
+#[tactic(auto, using(crate::proofs::Testing::by_kind))]
+#[cycle(refinable_refinables)]
+pub fn refinable(area: &Area, sort: Sort, i: usize) -> bool
+    requires { (0 < i) × (i < area.now.free) }
+    ensures { result ≡ refinable sort (tree_in area.now i) }
+{
+    match area.kind(i) {
+        Kind::Application => {
+            let first = area.first_of(i);
+            match symbol_of(area, i) {
+                Symbol::Addition => {
+                    (sort == Sort::TamNat || sort == Sort::Msg)
+                        && refinables(area, Sort::TamNat, first)
+                }
+                Symbol::Frame => false,
+                Symbol::Unit | Symbol::Free => {
+                    if first == 0 {
+                        return sorted(area, sort, i);
+                    }
+                    sort == Sort::Msg && refinables(area, Sort::Msg, first)
+                }
+            }
+        }
+        Kind::Variable(Some(own)) => meets(own, sort),
+        Kind::Variable(None) => false,
+        Kind::Atom(_) => sorted(area, sort, i),
+    }
+}
+
+// Whether every tree of the list from cell `list` on may have an instance of the sort.
+#[cycle(refinable_refinables)]
+fn refinables(area: &Area, sort: Sort, list: usize) -> bool
+    requires { list < area.now.free }
+    ensures { result ≡ refinables sort (trees_in area.now list) }
+{
+    let mut i = list;
+    while i != 0 {
+        if !refinable(area, sort, i) {
+            return false;
+        }
+        i = area.next_of(i);
+    }
+    true
+}

@@ -1,6 +1,0 @@
-use lib.ListN.{get_or-eq_default}
-use mathlib.Core.Path.{sym}
-use Rattle.syntax.proofs.byte_at.Goals as goal
-
-pub returns-else-at-text : goal.returns-else-at-text
-returns-else-at-text c = sym (get_or-eq_default c.args.text.now 0 c.if-at-text.false)
