@@ -7,17 +7,17 @@
 
 mod call; // call.rt: one record through the call
 
-ghost use Rattle.std.specs.Prelude.{◌≡◌, ◌<◌, ◌≤◌, length, ◌==◌, IfOk};
+ghost use Rattle.std.specs.Prelude.{◌≡◌, ◌<◌, ◌≤◌, length, IfOk};
 ghost use Rattle.replay.specs.Inside.{RecordInside};
 ghost use Rattle.replay.specs.Replaying.{closed_at};
 
-use call::{Outcome, Record, replay};
-use std::io;
+use call::{Record, replay};
 use std::io::{Read, Write};
+use std::{fmt, io};
 use text::{begins, is_digit};
 
 // A number, and the place after the byte that ends it.
-#[derive(Clone, Copy)]
+#[derive(Clone, Copy, Debug, PartialEq, Eq)]
 struct Numeral {
     value: usize,
     next: usize,
@@ -28,14 +28,10 @@ fn after_line(list: &[u8], at: usize) -> usize
     requires { at ≤ length list.now }
     ensures { (at ≤ result) × (result ≤ length list.now) }
 {
-    let mut i = at;
-    while i < list.len() {
-        if list[i] == b'\n' {
-            return i + 1;
-        }
-        i += 1;
+    match list[at..].iter().position(|b| *b == b'\n') {
+        Some(length) => at + length + 1,
+        None => list.len(),
     }
-    i
 }
 
 // The place after the lines that start with `#`.
@@ -58,10 +54,7 @@ fn ahead(list: &[u8], at: usize, count: usize) -> usize
     requires { at ≤ length list.now }
     ensures { (at ≤ result) × (result ≤ length list.now) }
 {
-    if list.len() - at < count {
-        return list.len();
-    }
-    at + count
+    at + count.min(list.len() - at)
 }
 
 // The number with one more digit. A number above a thousand million stays as it is.
@@ -79,15 +72,16 @@ fn number(list: &[u8], at: usize) -> Numeral
     ensures { (at ≤ result.next) × (result.next ≤ length list.now) }
 {
     let mut value: usize = 0;
-    let mut i = at;
-    while i < list.len() {
+    for i in at..list.len() {
         if !is_digit(list[i]) {
             return Numeral { value, next: i + 1 };
         }
         value = with_digit(value, list[i]);
-        i += 1;
     }
-    Numeral { value, next: i }
+    Numeral {
+        value,
+        next: list.len(),
+    }
 }
 
 // The record that starts at a place.
@@ -100,25 +94,17 @@ fn record_at(list: &[u8], at: usize) -> Record
     let refusal = number(list, room.next);
     let sheet_bytes = number(list, refusal.next);
     let answer_bytes = number(list, sheet_bytes.next);
-    let label = answer_bytes.next;
-    let sheet = after_line(list, label);
+    let sheet = after_line(list, answer_bytes.next);
     let answer = ahead(list, sheet, sheet_bytes.value);
-    let end = ahead(list, answer, answer_bytes.value);
     Record {
         words: words.value,
         room: room.value,
         refusal: refusal.value,
-        label,
+        label: answer_bytes.next,
         sheet,
         answer,
-        end,
+        end: ahead(list, answer, answer_bytes.value),
     }
-}
-
-fn ends_line(b: u8) -> bool
-    ensures { result ≡ (b == 10) }
-{
-    b == b'\n'
 }
 
 // Whether a record starts with its word and ends with byte 10.
@@ -126,11 +112,11 @@ fn closed(list: &[u8], at: usize, end: usize) -> bool
     requires { (at ≤ length list.now) × (end < length list.now) }
     ensures { result ≡ closed_at list.now at end }
 {
-    begins(&list[at..], b"sheet ") && ends_line(list[end])
+    begins(&list[at..], b"sheet ") && list[end] == b'\n'
 }
 
 // How many records were replayed and agree, differ, or were not replayed.
-#[derive(Clone, Copy)]
+#[derive(Clone, Copy, Debug, Default, PartialEq, Eq)]
 struct Tally {
     agreeing: u64,
     different: u64,
@@ -138,27 +124,29 @@ struct Tally {
 }
 
 impl Tally {
-    fn with(self, outcome: Outcome) -> Tally {
-        let agreeing = self.agreeing;
-        let different = self.different;
-        let skipped = self.skipped;
-        match outcome {
-            Outcome::Agrees => Tally {
-                agreeing: std::num::wrapping_add_u64(agreeing, 1),
-                different,
-                skipped,
-            },
-            Outcome::Differs => Tally {
-                agreeing,
-                different: std::num::wrapping_add_u64(different, 1),
-                skipped,
-            },
-            Outcome::Skipped => Tally {
-                agreeing,
-                different,
-                skipped: std::num::wrapping_add_u64(skipped, 1),
-            },
-        }
+    // With one record more.
+    fn add(&mut self, agrees: Option<bool>) {
+        let count = match agrees {
+            Some(true) => &mut self.agreeing,
+            Some(false) => &mut self.different,
+            None => &mut self.skipped,
+        };
+        *count = count.wrapping_add(1);
+    }
+}
+
+impl fmt::Display for Tally {
+    fn fmt<W: fmt::Write>(&self, f: &mut fmt::Formatter<W>) -> fmt::Result {
+        let replayed = self.agreeing.wrapping_add(self.different);
+        let Tally {
+            skipped,
+            different,
+            ..
+        } = *self;
+        write!(
+            f,
+            "replayed {replayed}, skipped {skipped}, different {different}"
+        )
     }
 }
 
@@ -199,18 +187,11 @@ fn read_full<R: Read>(input: &mut R, room: &mut [u8]) -> io::Result<usize>
 }
 
 // Writes the label of a record that differs.
-fn report<W: Write>(out: &mut W, list: &[u8], stored: Record, outcome: Outcome) -> io::Result<()>
+fn report<W: Write>(out: &mut W, list: &[u8], stored: Record) -> io::Result<()>
     requires { RecordInside list.now stored }
 {
-    let from = stored.label;
-    let to = stored.sheet;
-    match outcome {
-        Outcome::Differs => {
-            out.write_all(b"different: ")?;
-            out.write_all(&list[from..to])
-        }
-        _ => Ok(()),
-    }
+    out.write_all(b"different: ")?;
+    out.write_all(&list[stored.label..stored.sheet])
 }
 
 // Says that a record of the list is not in form.
@@ -226,39 +207,21 @@ fn replay_all<W: Write>(
     work: &mut [u32],
     output: &mut [u8],
 ) -> io::Result<Tally> {
-    let mut tally = Tally {
-        agreeing: 0,
-        different: 0,
-        skipped: 0,
-    };
+    let mut tally = Tally::default();
     let mut at = after_head(list);
     while at < list.len() {
         let stored = record_at(list, at);
-        let end = stored.end;
-        if end >= list.len() {
+        if stored.end >= list.len() || !closed(list, at, stored.end) {
             return left_off(out, tally);
         }
-        if !closed(list, at, end) {
-            return left_off(out, tally);
+        let agrees = replay(list, work, output, stored);
+        if agrees == Some(false) {
+            report(out, list, stored)?;
         }
-        let outcome = replay(list, work, output, stored);
-        report(out, list, stored, outcome)?;
-        tally = tally.with(outcome);
-        at = end + 1;
+        tally.add(agrees);
+        at = stored.end + 1;
     }
     Ok(tally)
-}
-
-fn print_count(rt: &HostRuntime, text: &str, count: u64) -> io::Result<()> {
-    print!(rt; "{text}{count}")
-}
-
-fn print_tally(rt: &HostRuntime, tally: Tally) -> io::Result<()> {
-    let replayed = std::num::wrapping_add_u64(tally.agreeing, tally.different);
-    print_count(rt, "replayed ", replayed)?;
-    print_count(rt, ", skipped ", tally.skipped)?;
-    print_count(rt, ", different ", tally.different)?;
-    println!(rt; "")
 }
 
 fn main(rt: HostRuntime) -> io::Result<()> {
@@ -272,5 +235,5 @@ fn main(rt: HostRuntime) -> io::Result<()> {
     }
     let mut out = rt.stdout();
     let tally = replay_all(&mut out, &list[..n], &mut work, &mut output)?;
-    print_tally(&rt, tally)
+    println!(rt; "{tally}")
 }
