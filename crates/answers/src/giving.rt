@@ -9,33 +9,21 @@ use crate::lines::put_claim;
 use printing::putting::Pass;
 use printing::terms::put_line;
 use rules::Refusal;
+use tree::area::Area;
 use verdicts::{put_head, put_solved};
 
 // What the call gives: the count of bytes written, or a refusal.
 pub type Reply = Result<usize, Refusal>;
 
 // The lines of an answer.
-fn put_lines(
-    pass: Pass,
-    sheet: &[u8],
-    work: &[u32],
-    lines: Lines,
-    output: &mut [u8],
-    at: usize,
-) -> Option<usize>
-    requires { LinesHeld sheet.now work.now lines }
-    ensures { PutAt pass output.old output.new at (lines_text sheet.now work.now lines) result }
+fn put_lines(pass: Pass, area: &Area, lines: Lines, output: &mut [u8], at: usize) -> Option<usize>
+    requires { LinesHeld area.now lines }
+    ensures { PutAt pass output.old output.new at (lines_text area.now lines) result }
 {
     match lines {
         Lines::Claim { key, claim } => put_claim(pass, key, claim, output, at),
-        Lines::Term { key, free, index } => {
-            put_line(pass, sheet, work, free, index, key.text(), output, at)
-        }
-        Lines::Solved {
-            bindings,
-            free,
-            spent,
-        } => put_solved(pass, sheet, work, free, bindings, spent, output, at),
+        Lines::Term { key, index } => put_line(pass, area, index, key.text(), output, at),
+        Lines::Solved { bindings, spent } => put_solved(pass, area, bindings, spent, output, at),
         Lines::Failed { spent } => put_head(pass, b"verdict=failed\n", spent, output, at),
         Lines::Unsupported { spent } => put_head(pass, b"verdict=unsupported\n", spent, output, at),
     }
@@ -43,12 +31,12 @@ fn put_lines(
 
 // The refusal that was decided, 12 where the answer does not fit, or the answer, written from byte 0 on. It is measured before a byte is
 // written.
-pub fn give(sheet: &[u8], work: &[u32], decision: Decision, output: &mut [u8]) -> Reply
-    requires { Standing sheet.now work.now decision }
-    ensures { Settles (within_room (reply_of sheet.now work.now decision) (length output.old)) output.old output.new result }
+pub fn give(area: &Area, decision: Decision, output: &mut [u8]) -> Reply
+    requires { Standing area.now decision }
+    ensures { Settles (within_room (reply_of area.now decision) (length output.old)) output.old output.new result }
 {
     let lines = decision?;
-    put_lines(Pass::Measure, sheet, work, lines, output, 0).ok_or(Refusal::ShortOutput)?;
-    let written = put_lines(Pass::Write, sheet, work, lines, output, 0);
+    put_lines(Pass::Measure, area, lines, output, 0).ok_or(Refusal::ShortOutput)?;
+    let written = put_lines(Pass::Write, area, lines, output, 0);
     Ok(written.unwrap())
 }

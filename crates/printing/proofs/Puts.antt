@@ -13,7 +13,7 @@ use Rattle.tree.proofs.Printing.{written_none, length_written, written_then}
 use Rattle.printing.specs.Measure.{measured}
 use Rattle.printing.specs.Putting.{PutAt}
 use Rattle.printing.specs.declared.putting.Pass.{Pass}
-use Rattle.printing.specs.declared.putting.Pass.TheVariants.{Measure, Write}
+use Rattle.printing.specs.declared.putting.Pass.TheVariants.{Write}
 use Rattle.printing.proofs.Lengths.{fits_is, over_is, told, told_over}
 
 -- one text that fits: written, or not
@@ -26,9 +26,6 @@ put_written {out = out} {t = t} {at = at} h l p y =
       written = λ _ _. p.bytes;
       kept = λ z. absurd (cc);
     }
-
-pub put_kept : {w : Pass} {out t : Text} {at e n : ℕ} → Some e ≡ measured (at + n) (length out) → n ≡ length t → w ≡ Measure → PutAt w out out at t (Some e)
-put_kept {out = out} {at = at} h l y = record { end = h ∙ ap (λ m. measured (at + m) (length out)) l; len = refl; written = λ z _. absurd (cc); kept = λ _. refl }
 
 -- bytes copied to a part of the output
 pub copied : {out v t : Text} {at e : ℕ} → e ≡ at + length t → v ≡ t → Printed out (put_mid at (e - at) out v) at t e

@@ -2,13 +2,13 @@
 // end. What does not fit has no end.
 ghost use Rattle.std.specs.Prelude.{◌≡◌, ◌+◌, ◌<◌, length};
 ghost use Rattle.rules.specs.Decimal.{decimal};
-ghost use Rattle.tree.specs.Cells.{name_at};
-ghost use Rattle.tree.specs.Arena.{Arena};
+ghost use Rattle.tree.specs.Areas.{name_in};
 ghost use Rattle.printing.specs.Measure.{measured};
 ghost use Rattle.printing.specs.Putting.{PutAt};
 
 use text::decimal::{print, width_of};
-use tree::names::{name_len, print_name};
+use tree::area::Area;
+use tree::names::print_name;
 
 // Whether bytes are only counted or written.
 #[derive(Clone, Copy, Debug, PartialEq, Eq)]
@@ -53,20 +53,17 @@ pub fn put_decimal(pass: Pass, output: &mut [u8], at: usize, n: usize) -> Option
 // The name of cell i.
 pub(crate) fn put_name(
     pass: Pass,
-    sheet: &[u8],
-    work: &[u32],
-    free: usize,
+    area: &Area,
     i: usize,
     output: &mut [u8],
     at: usize,
 ) -> Option<usize>
-    requires arena { Arena sheet.now work.now free }
-    requires i_nonzero { (0 < i) × (i < free) }
-    ensures { PutAt pass output.old output.new at (name_at sheet.now work.now i) result }
+    requires { (0 < i) × (i < area.now.free) }
+    ensures { PutAt pass output.old output.new at (name_in area.now i) result }
 {
-    let end = end_of(output, at, name_len(sheet, work, free, i))?;
+    let end = end_of(output, at, area.name_len(i))?;
     if let Pass::Write = pass {
-        print_name(sheet, work, free, i, output, at);
+        print_name(area.sheet, area.work, area.free, i, output, at);
     }
     Some(end)
 }

@@ -20,5 +20,5 @@ returns-in_err-ok_or c =
 
 pub returns : goal.returns
 returns c =
-    let t = lines_text c.args.sheet.now c.args.work.now c.in_ok-lines.lines in
+    let t = lines_text c.args.area.now c.in_ok-lines.lines in
     rw c.in_ok-lines.was (written_settles (rw c.in_ok-ok_or.ensures.ok_part at c.put_lines.ensures) (rw c.unwrap.ensures at c.put_lines-written.ensures))
