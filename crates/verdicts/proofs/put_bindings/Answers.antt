@@ -8,7 +8,7 @@ use Rattle.verdicts.proofs.put_bindings.Goals as goal
 pub loop-key-init : goal.loop-key-init
 loop-key-init c =
     let a = c.args in
-    (c.requires.list.0, c.requires.list.1, begun_none a.pass a.output.now a.at (binding_lines (bindings_in a.area.now a.list)) c.requires.at_in_bounds)
+    (c.requires.0, c.requires.1, begun_none a.out.now (binding_lines (bindings_in a.area.now a.list)))
 
 pub returns-in_err-line : goal.returns-in_err-line
 returns-in_err-line c =
@@ -16,16 +16,16 @@ returns-in_err-line c =
     let e = lines_more c.args.area.now _ _ (omega arith) i.0 i.1 c.next_of-value.ensures.next _ refl in
     rw c.from_residual.ensures (begun_past i.2 _ _ e c.in_err-line.ensures)
 
-pub put_line-requires-in-loop-key : goal.put_line-requires-in-loop-key
-put_line-requires-in-loop-key c =
+pub line-requires-in-loop-key : goal.line-requires-in-loop-key
+line-requires-in-loop-key c =
     let i = c.loop-key.invariant in
     value_cell c.args.area.now _ _ (omega arith) i.0 i.1 c.next_of-value.ensures.next
 
-pub returns-in_err-end : goal.returns-in_err-end
-returns-in_err-end c =
+pub returns-in_err-line-2 : goal.returns-in_err-line-2
+returns-in_err-line-2 c =
     let i = c.loop-key.invariant in
     let e = lines_more c.args.area.now _ _ (omega arith) i.0 i.1 c.next_of-value.ensures.next _ refl in
-    rw c.from_residual-in_err-end.ensures (begun_past (begun_more i.2 _ _ e c.in_ok-line.ensures) _ _ refl c.in_err-end.ensures)
+    rw c.from_residual-in_err-line-2.ensures (begun_past (begun_more i.2 _ _ e c.in_ok-line.ensures) _ _ refl c.in_err-line-2.ensures)
 
 pub next_of-key-requires : goal.next_of-key-requires
 next_of-key-requires c =
@@ -39,7 +39,7 @@ loop-key-preserved c =
     let e = c.next_of-value.ensures.next in
     let f = c.next_of-key.ensures.next in
     let l = lines_more a _ _ (omega arith) i.0 i.1 e _ f in
-    (omega arith, rest_chain a _ _ (omega arith) i.0 i.1 e _ f, begun_more (begun_more i.2 _ _ l c.in_ok-line.ensures) _ _ refl c.in_ok-end.ensures)
+    (omega arith, rest_chain a _ _ (omega arith) i.0 i.1 e _ f, begun_more (begun_more i.2 _ _ l c.in_ok-line.ensures) _ _ refl c.in_ok-line-2.ensures)
 
 pub returns : goal.returns
 returns c = begun_all c.loop-key.invariant.2 (lines_none c.args.area.now c.loop-key.key c.loop-key-test.false)
