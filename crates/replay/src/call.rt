@@ -1,31 +1,28 @@
 // One record of the list through the call.
 ghost use Rattle.std.specs.Prelude.{◌≡◌, ◌&&◌, length, take, nat_le};
 ghost use Rattle.rules.specs.Bytes.{same};
-ghost use Rattle.replay.specs.Inside.{RecordInside};
 ghost use Rattle.replay.specs.Replaying.{lends, Compares, Replays};
 
 use text::places::wide;
 use text::same;
 use yukhtsami::yukhtsami_answer;
 
-// A record: the words and bytes of output lent, the refusal, where its label, its sheet and its
-// answer start, and where its answer ends.
-#[derive(Clone, Copy, Debug, PartialEq, Eq)]
-pub(crate) struct Record {
+// A record: the words and bytes of output lent, the refusal, and its label with the byte 10 after it.
+#[derive(Clone, Copy)]
+pub(crate) struct Record<'a> {
     pub words: usize,
     pub room: usize,
     pub refusal: usize,
-    pub label: usize,
-    pub sheet: usize,
-    pub answer: usize,
-    pub end: usize,
+    pub label: &'a [u8],
+    pub sheet: &'a [u8],
+    pub answer: &'a [u8],
 }
 
-impl Record {
+impl Record<'_> {
     // Whether so many words and bytes of output are as many as the record lends.
     #[tactic(auto, unfolding(crate::specs::Replaying::lends))]
-    fn lends(self, words: usize, room: usize) -> bool
-        ensures { result ≡ lends words room self }
+    fn lends(&self, words: usize, room: usize) -> bool
+        ensures { result ≡ lends words room self.now }
     {
         self.words <= words && self.room <= room
     }
@@ -47,24 +44,18 @@ fn agrees(sheet: &[u8], work: &mut [u32], output: &mut [u8], refusal: usize, ans
 }
 
 // Replays a record, if there are the words and bytes that it lends: whether its reply is the one stored.
-pub(crate) fn replay(
-    list: &[u8],
-    work: &mut [u32],
-    output: &mut [u8],
-    stored: Record,
-) -> Option<bool>
-    requires { RecordInside list.now stored }
-    ensures { Replays list.now stored work.old work.new output.old output.new result }
+pub(crate) fn replay(work: &mut [u32], output: &mut [u8], stored: &Record<'_>) -> Option<bool>
+    ensures { Replays stored.now work.old work.new output.old output.new result }
 {
     if !stored.lends(work.len(), output.len()) {
         return None;
     }
     let same = agrees(
-        &list[stored.sheet..stored.answer],
+        stored.sheet,
         &mut work[..stored.words],
         &mut output[..stored.room],
         stored.refusal,
-        &list[stored.answer..stored.end],
+        stored.answer,
     );
     Some(same)
 }
