@@ -8,7 +8,7 @@
 mod call; // call.rt: one record through the call
 mod reader; // reader.rt: what is left of the list, read from its front
 
-ghost use Rattle.std.specs.Prelude.{◌≡◌, ◌≤◌, length, IfOk};
+ghost use Rattle.std.specs.Prelude.{◌≤◌, length, IfOk};
 
 use call::{Record, replay};
 use reader::Reader;
@@ -48,21 +48,6 @@ impl fmt::Display for Tally {
             "replayed {replayed}, skipped {skipped}, different {different}"
         )
     }
-}
-
-// The words to lend, small enough for a stack of 8 MB. A record that lends more is skipped.
-// A function of its own: with an array so long in place the proof of `main` goes deeper than the prover can follow.
-fn words() -> [u32; 1441792]
-    ensures { 1441792 ≡ length result }
-{
-    [0u32; 1441792]
-}
-
-// Room for the list, and at least one byte more; a function of its own as `words` is.
-fn room() -> [u8; 600000]
-    ensures { 600000 ≡ length result }
-{
-    [0u8; 600000]
 }
 
 // Reads until the room is full or the input ends, and gives how many bytes it put at the start.
@@ -116,8 +101,10 @@ fn replay_all<W: Write>(
 }
 
 fn main(rt: HostRuntime) -> io::Result<()> {
-    let mut list = room();
-    let mut work = words();
+    // Room for the list, and at least one byte more.
+    let mut list = [0u8; 600000];
+    // The words to lend, small enough for a stack of 8 MB. A record that lends more is skipped.
+    let mut work = [0u32; 1441792];
     let mut output = [0u8; 65536];
     let mut input = rt.stdin();
     let n = read_full(&mut input, &mut list)?;
