@@ -6,7 +6,7 @@ use Rattle.rules.specs.Bytes.{Text, same}
 use Rattle.rules.specs.Text.{bytes}
 use Rattle.laws.proofs.Basics.Tests.{and_left, and_right, same_eq}
 use Rattle.text.specs.Prefix.{begins_with}
-use Rattle.replay.specs.Records.{LeftOf, Reads, in_form}
+use Rattle.replay.specs.Records.{LeftOf, ReadsRecord, in_form}
 use Rattle.replay.specs.declared.call.Record.{Record}
 
 pub left_all : (a : Text) → LeftOf a a
@@ -25,7 +25,7 @@ left_less k (n ∷ a) b c x y e p h q =
     omega (arith, z, w, h, length-append x b, length-append y c)
 
 pub reads : {list rest a b c after : Text} (r : Record) (end : Text) → LeftOf list rest → rest ≡ r.label.now ++ a → a ≡ r.sheet.now ++ b → b ≡ r.answer.now ++ c
-    → c ≡ end ++ after → in_form list end ≡ true → Reads list r after
+    → c ≡ end ++ after → in_form list end ≡ true → ReadsRecord list r after
 reads {list} {after = after} r end l p q s t f =
     let e : end ≡ 10 ∷ [] = same_eq end (10 ∷ []) (and_right (begins_with (bytes "sheet ") list) (same end (10 ∷ [])) f) in
     record {
@@ -36,7 +36,7 @@ reads {list} {after = after} r end l p q s t f =
     }
 
 -- after a record less is left
-pub reads_less : {list rest : Text} {r : Record} → Reads list r rest → length rest < length list
+pub reads_less : {list rest : Text} {r : Record} → ReadsRecord list r rest → length rest < length list
 reads_less {list} {rest} {r} h =
     let z : length list ≡ length (h.head ++ (r.label.now ++ (r.sheet.now ++ (r.answer.now ++ (10 ∷ rest))))) = ap length h.parts in
     omega (arith, simp length-append at z)

@@ -14,7 +14,7 @@ abbrev pub LeftOf : Text → Text → Type 0
 LeftOf list rest = (front : Text) × (list ≡ front ++ rest)
 
 -- the list starts with the record r, whose parts stand in it one after another, and the rest is left
-pub record Reads (list : Text) (r : Record) (rest : Text) : Type 0 where
+pub record ReadsRecord (list : Text) (r : Record) (rest : Text) : Type 0 where
   pub head : Text
   pub parts : list ≡ head ++ (r.label.now ++ (r.sheet.now ++ (r.answer.now ++ (10 ∷ rest))))
   pub word : begins_with (bytes "sheet ") list ≡ true

@@ -1,6 +1,6 @@
 // The list read from its front: bytes, lines, numbers, records.
 ghost use Rattle.std.specs.Prelude.{◌≡◌, ◌++◌, length, min, IfSome};
-ghost use Rattle.replay.specs.Records.{LeftOf, Reads, in_form};
+ghost use Rattle.replay.specs.Records.{LeftOf, ReadsRecord, in_form};
 
 use crate::call::Record;
 use text::{begins, is_digit, same};
@@ -76,7 +76,7 @@ impl<'a> Reader<'a> {
 
     // The next record, if it is in form.
     pub(crate) fn record(&mut self) -> Option<Record<'a>>
-        ensures { IfSome result (λ r. Reads self.old.rest.now r self.new.rest.now) }
+        ensures { IfSome result (λ r. ReadsRecord self.old.rest.now r self.new.rest.now) }
     {
         let start = self.rest;
         self.take(6);
