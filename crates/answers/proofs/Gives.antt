@@ -1,6 +1,6 @@
 -- What a refusal, an answer that fits and one that does not give with an output.
 use mathlib.Core.Path.{◌≡◌, refl, sym, ap, ◌∙◌}
-use Prim.Native.Nat.{ℕ, ◌<◌, ◌≤◌}
+use Prim.Native.Nat.{ℕ, ◌+◌, ◌<◌, ◌≤◌}
 use Rattle.std.specs.Prelude.{Some, None, Ok, Err}
 use lib.ListN.{length}
 use native.Mathlib.Nat.{zero-add}
@@ -11,9 +11,10 @@ use Rattle.rules.specs.declared.Refusal.{Refusal}
 use Rattle.rules.specs.declared.Refusal.TheVariants.{ShortOutput}
 use Rattle.rules.specs.RefusalNumbers.{number_for}
 use Rattle.rules.specs.Call.{Reply, refused, passed, refusal_number, written, overwritten}
-use Rattle.text.specs.Printing as Output
-use Rattle.printing.specs.Putting.{PutAt}
-use Rattle.printing.specs.declared.putting.Pass.TheVariants.{Measure, Write}
+use Rattle.text.specs.Printing as Print
+use Rattle.printing.specs.Putting.{PutInto}
+use Rattle.printing.specs.declared.output.Output.{Output}
+use Rattle.printing.specs.declared.output.Pass.TheVariants.{Measure, Write}
 use Rattle.printing.proofs.Lengths.{told, told_over}
 use Rattle.answers.specs.Settling.{within_room, Settles}
 
@@ -29,22 +30,23 @@ pub refused_settles : (x : Refusal) (out : Text) → Settles (within_room (refus
 unfolding within_room
 refused_settles x out = record { number = refl; count = refl; output = refl }
 
--- measured, and too long
-pub short_settles : {a out v : Text} → PutAt Measure out v 0 a None → Settles (within_room (passed a) (length out)) out v (Err ShortOutput)
-short_settles {a} {out} p =
-    let k = told_over p.end in
-    let e = fits_over a (length out) (omega (arith, k)) in
-    record { number = sym (ap refusal_number e); count = sym (ap written e); output = p.kept refl ∙ sym (ap (λ (z : Reply Text). overwritten z out) e) }
+module _ {a b : Output} {t v : Text} (z : a.at ≡ 0) (m : a.pass ≡ Measure) where
+  -- measured, and too long
+  pub short_settles : PutInto a b t None → v ≡ b.bytes.now → Settles (within_room (passed t) (length a.bytes.now)) a.bytes.now v (Err ShortOutput)
+  short_settles p f =
+      let k = told_over p.end in
+      let e = fits_over t (length a.bytes.now) (omega (arith, k, z)) in
+      record { number = sym (ap refusal_number e); count = sym (ap written e); output = f ∙ p.kept m ∙ sym (ap (λ (r : Reply Text). overwritten r a.bytes.now) e) }
 
--- measured, and written
-pub written_settles : {a out u v : Text} {m n : ℕ} → PutAt Measure out u 0 a (Some m) → PutAt Write u v 0 a (Some n) → Settles (within_room (passed a) (length out)) out v (Ok n)
-unfolding Output.printed_over
-written_settles {a} {out} {u} {v} {m} {n} p q =
-    let k = told p.end in
-    let l = told q.end in
-    let e = fits_within a (length out) (omega (arith, k)) in
-    record {
-      number = sym (ap refusal_number e);
-      count = l.0 ∙ zero-add (length a) ∙ sym (ap written e);
-      output = q.written refl (omega (arith, l)) ∙ rw (p.kept refl, zero-add (length a)) (sym (ap (λ (z : Reply Text). overwritten z out) e));
-    }
+  -- measured, and written
+  pub written_settles : {c d : Output} → PutInto a b t (Some (tt {0})) → c.bytes ≡ b.bytes → c.at ≡ 0 → c.pass ≡ Write → PutInto c d t (Some (tt {0})) → v ≡ d.bytes.now → Settles (within_room (passed t) (length a.bytes.now)) a.bytes.now v (Ok d.at)
+  unfolding Print.printed_over
+  written_settles {c} {d} p f y w q g =
+      let k = told p.end in
+      let l = told q.end in
+      let e = fits_within t (length a.bytes.now) (omega (arith, k, z)) in
+      record {
+        number = sym (ap refusal_number e);
+        count = l.0 ∙ ap (λ n. n + length t) y ∙ zero-add (length t) ∙ sym (ap written e);
+        output = g ∙ q.written w l.1 ∙ rw (y, f, p.kept m, zero-add (length t)) (sym (ap (λ (r : Reply Text). overwritten r a.bytes.now) e));
+      }

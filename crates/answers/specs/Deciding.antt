@@ -1,5 +1,5 @@
 -- What a decision stands for: a refusal with its number, or the text of an answer. Definitions only.
-use Rattle.std.specs.Prelude.{ℕ, ◌<◌, ◌≡◌, List}
+use Rattle.std.specs.Prelude.{◌<◌, ◌≡◌}
 use Rattle.std.specs.Prelude.{Result, Ok, Err}
 use Rattle.rules.specs.Bytes.{Text}
 use Rattle.rules.specs.Text.{bytes}
@@ -9,9 +9,10 @@ use Rattle.rules.specs.Answer.{line, claim, verdict_lines}
 use Rattle.rules.specs.declared.Refusal.{Refusal}
 use Rattle.rules.specs.RefusalNumbers.{number_for}
 use Rattle.rules.specs.Call.{Reply, refused, passed}
-use Rattle.tree.specs.Cells.{tree_at, trees_at}
-use Rattle.tree.specs.Arena.{Arena}
-use Rattle.substitution.specs.Bindings.{Chain, bindings_at}
+use Rattle.tree.specs.declared.area.Area.{Area}
+use Rattle.tree.specs.Areas.{tree_in, trees_in}
+use Rattle.substitution.specs.Bindings.{Chain}
+use Rattle.substitution.specs.Areas.{bindings_in}
 use Rattle.answers.specs.declared.deciding.Key.{Key}
 use Rattle.answers.specs.declared.deciding.Key.TheVariants as keys
 use Rattle.answers.specs.declared.deciding.Lines.{Lines}
@@ -24,31 +25,31 @@ key_text keys.Sound = bytes "sound="
 key_text keys.Covered = bytes "covered="
 key_text keys.Complete = bytes "complete="
 
-abbrev pub lines_text : Text → List ℕ → Lines → Text
-lines_text s w (Claim k c) = line (key_text k) (claim c)
-lines_text s w (Term k free i) = line (key_text k) (render (tree_at s w i))
-lines_text s w (Solved b free spent) = verdict_lines (solved (bindings_at s w b), spent)
-lines_text s w (Failed spent) = verdict_lines (failed, spent)
-lines_text s w (Unsupported spent) = verdict_lines (unsupported, spent)
+abbrev pub lines_text : Area → Lines → Text
+lines_text a (Claim k c) = line (key_text k) (claim c)
+lines_text a (Term k i) = line (key_text k) (render (tree_in a i))
+lines_text a (Solved b spent) = verdict_lines (solved (bindings_in a b), spent)
+lines_text a (Failed spent) = verdict_lines (failed, spent)
+lines_text a (Unsupported spent) = verdict_lines (unsupported, spent)
 
--- the term or the bindings of an answer stand in the work area
-abbrev pub LinesHeld : Text → List ℕ → Lines → Type 0
-LinesHeld s w (Claim k c) = Unit {0}
-LinesHeld s w (Term k free i) = Arena s w free × (0 < i) × (i < free)
-LinesHeld s w (Solved b free spent) = Arena s w free × (b < free) × Chain (trees_at s w b)
-LinesHeld s w (Failed spent) = Unit {0}
-LinesHeld s w (Unsupported spent) = Unit {0}
+-- the term or the bindings of an answer are cells of the area
+abbrev pub LinesHeld : Area → Lines → Type 0
+LinesHeld a (Claim k c) = Unit {0}
+LinesHeld a (Term k i) = (0 < i) × (i < a.free)
+LinesHeld a (Solved b spent) = (b < a.free) × Chain (trees_in a b)
+LinesHeld a (Failed spent) = Unit {0}
+LinesHeld a (Unsupported spent) = Unit {0}
 
 -- what is decided, whatever the room
-abbrev pub reply_of : Text → List ℕ → Result Lines Refusal → Reply Text
-reply_of s w (Err x) = refused (number_for x)
-reply_of s w (Ok l) = passed (lines_text s w l)
+abbrev pub reply_of : Area → Result Lines Refusal → Reply Text
+reply_of a (Err x) = refused (number_for x)
+reply_of a (Ok l) = passed (lines_text a l)
 
-abbrev pub Standing : Text → List ℕ → Result Lines Refusal → Type 0
-Standing s w (Err x) = Unit {0}
-Standing s w (Ok l) = LinesHeld s w l
+abbrev pub Standing : Area → Result Lines Refusal → Type 0
+Standing a (Err x) = Unit {0}
+Standing a (Ok l) = LinesHeld a l
 
--- d is this reply, and what it tells stands in the work area
-pub record DecisionIs (o : Reply Text) (s : Text) (w : List ℕ) (d : Result Lines Refusal) : Type 0 where
-  pub reply : reply_of s w d ≡ o
-  pub held : Standing s w d
+-- d is this reply, and what it tells are cells of the area
+pub record DecisionIs (o : Reply Text) (a : Area) (d : Result Lines Refusal) : Type 0 where
+  pub reply : reply_of a d ≡ o
+  pub held : Standing a d

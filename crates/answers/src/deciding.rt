@@ -1,4 +1,4 @@
-// What is decided of a sheet that is admitted: a refusal, or the lines of its answer. Trees and bindings stand in the work area.
+// What is decided of a sheet that is admitted: a refusal, or the lines of its answer. Terms and bindings are cells of the area.
 ghost use Rattle.std.specs.Prelude.{◌≡◌};
 ghost use Rattle.answers.specs.Deciding.{key_text};
 
@@ -32,26 +32,11 @@ impl Key {
 // The lines of an answer: a key and what is claimed, a key and the term of a cell, or a verdict, `solved` with the bindings from a cell on.
 #[derive(Clone, Copy, Debug, PartialEq, Eq)]
 pub enum Lines {
-    Claim {
-        key: Key,
-        claim: Option<bool>,
-    },
-    Term {
-        key: Key,
-        free: usize,
-        index: usize,
-    },
-    Solved {
-        bindings: usize,
-        free: usize,
-        spent: usize,
-    },
-    Failed {
-        spent: usize,
-    },
-    Unsupported {
-        spent: usize,
-    },
+    Claim { key: Key, claim: Option<bool> },
+    Term { key: Key, index: usize },
+    Solved { bindings: usize, spent: usize },
+    Failed { spent: usize },
+    Unsupported { spent: usize },
 }
 
 // An answer, or a refusal.

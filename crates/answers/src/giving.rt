@@ -1,54 +1,48 @@
 // A decision in the output: measured, then written where it fits.
 ghost use Rattle.std.specs.Prelude.{◌≡◌, length};
-ghost use Rattle.printing.specs.Putting.{PutAt};
+ghost use Rattle.printing.specs.Putting.{PutInto};
 ghost use Rattle.answers.specs.Deciding.{lines_text, LinesHeld, reply_of, Standing};
 ghost use Rattle.answers.specs.Settling.{within_room, Settles};
 
 use crate::deciding::{Decision, Lines};
 use crate::lines::put_claim;
-use printing::putting::Pass;
-use printing::terms::put_line;
+use printing::output::{Output, Pass};
 use rules::Refusal;
+use tree::area::Area;
 use verdicts::{put_head, put_solved};
 
 // What the call gives: the count of bytes written, or a refusal.
 pub type Reply = Result<usize, Refusal>;
 
 // The lines of an answer.
-fn put_lines(
-    pass: Pass,
-    sheet: &[u8],
-    work: &[u32],
-    lines: Lines,
-    output: &mut [u8],
-    at: usize,
-) -> Option<usize>
-    requires { LinesHeld sheet.now work.now lines }
-    ensures { PutAt pass output.old output.new at (lines_text sheet.now work.now lines) result }
+fn put_lines(out: &mut Output, area: &Area, lines: Lines) -> Option<()>
+    requires { LinesHeld area.now lines }
+    ensures { PutInto out.old out.new (lines_text area.now lines) result }
 {
     match lines {
-        Lines::Claim { key, claim } => put_claim(pass, key, claim, output, at),
-        Lines::Term { key, free, index } => {
-            put_line(pass, sheet, work, free, index, key.text(), output, at)
-        }
-        Lines::Solved {
-            bindings,
-            free,
-            spent,
-        } => put_solved(pass, sheet, work, free, bindings, spent, output, at),
-        Lines::Failed { spent } => put_head(pass, b"verdict=failed\n", spent, output, at),
-        Lines::Unsupported { spent } => put_head(pass, b"verdict=unsupported\n", spent, output, at),
+        Lines::Claim { key, claim } => put_claim(out, key, claim),
+        Lines::Term { key, index } => out.line(key.text(), area, index),
+        Lines::Solved { bindings, spent } => put_solved(out, area, bindings, spent),
+        Lines::Failed { spent } => put_head(out, b"verdict=failed\n", spent),
+        Lines::Unsupported { spent } => put_head(out, b"verdict=unsupported\n", spent),
     }
 }
 
 // The refusal that was decided, 12 where the answer does not fit, or the answer, written from byte 0 on. It is measured before a byte is
 // written.
-pub fn give(sheet: &[u8], work: &[u32], decision: Decision, output: &mut [u8]) -> Reply
-    requires { Standing sheet.now work.now decision }
-    ensures { Settles (within_room (reply_of sheet.now work.now decision) (length output.old)) output.old output.new result }
+pub fn give(area: &Area, decision: Decision, output: &mut [u8]) -> Reply
+    requires { Standing area.now decision }
+    ensures { Settles (within_room (reply_of area.now decision) (length output.old)) output.old output.new result }
 {
     let lines = decision?;
-    put_lines(Pass::Measure, sheet, work, lines, output, 0).ok_or(Refusal::ShortOutput)?;
-    let written = put_lines(Pass::Write, sheet, work, lines, output, 0);
-    Ok(written.unwrap())
+    let mut out = Output {
+        bytes: output,
+        at: 0,
+        pass: Pass::Measure,
+    };
+    put_lines(&mut out, area, lines).ok_or(Refusal::ShortOutput)?;
+    out.at = 0;
+    out.pass = Pass::Write;
+    put_lines(&mut out, area, lines).unwrap();
+    Ok(out.at)
 }

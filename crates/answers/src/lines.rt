@@ -1,11 +1,11 @@
-// The line of a key and of what is claimed, at a place of the output.
+// The line of a key and of what is claimed.
 ghost use Rattle.std.specs.Prelude.{◌≡◌};
 ghost use Rattle.rules.specs.Answer.{line, claim as word_of};
-ghost use Rattle.printing.specs.Putting.{PutAt};
+ghost use Rattle.printing.specs.Putting.{PutInto};
 ghost use Rattle.answers.specs.Deciding.{key_text};
 
 use crate::deciding::Key;
-use printing::putting::{Pass, put_text};
+use printing::output::Output;
 
 // What is claimed, in a word.
 fn word_of(claim: Option<bool>) -> &'static [u8]
@@ -19,16 +19,10 @@ fn word_of(claim: Option<bool>) -> &'static [u8]
 }
 
 // The line of a key and of what is claimed.
-pub(crate) fn put_claim(
-    pass: Pass,
-    key: Key,
-    claim: Option<bool>,
-    output: &mut [u8],
-    at: usize,
-) -> Option<usize>
-    ensures { PutAt pass output.old output.new at (line (key_text key) (word_of claim)) result }
+pub(crate) fn put_claim(out: &mut Output, key: Key, claim: Option<bool>) -> Option<()>
+    ensures { PutInto out.old out.new (line (key_text key) (word_of claim)) result }
 {
-    let start = put_text(pass, output, at, key.text())?;
-    let end = put_text(pass, output, start, word_of(claim))?;
-    put_text(pass, output, end, b"\n")
+    out.text(key.text())?;
+    out.text(word_of(claim))?;
+    out.text(b"\n")
 }

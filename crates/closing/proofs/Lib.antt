@@ -1,9 +1,4 @@
 pub mod Turns
-pub mod Ordering
-pub mod Making
-pub mod Atoms
-pub mod Summing
-pub mod Shutting
 pub mod Orders
 pub mod SumTrees
 pub mod Shuts

@@ -16,18 +16,13 @@ use Rattle.sheet.specs.declared.Place.{Place}
 use Rattle.tree.specs.declared.area.Area.{Area}
 use Rattle.tree.specs.Areas.{trees_in, Pushes}
 use Rattle.tree.specs.Spelled.{text_in}
-use Rattle.tree.proofs.Keeping.{adds_same, adds_grows, adds_then, adds_push, grows_trees, pushed_some, pushed_inside, pushed_trees}
+use Rattle.tree.proofs.Keeping.{adds_grows, adds_then, adds_push, grows_trees, pushed_some, pushed_inside, pushed_trees}
 use Rattle.tree.proofs.Spelling.{text_lent}
-use Rattle.closing.specs.declared.areas.Ordered.{Ordered}
+use Rattle.closing.specs.declared.Ordered.{Ordered}
 use Rattle.closing.specs.Machine.{back}
-use Rattle.closing.specs.Closing.{NoTree}
 use Rattle.closing.specs.Areas.{room_for, OrdersIn, PutsInOrder, Shuts, ClosesIn}
 use Rattle.closing.proofs.AtomTrees.{letter_only}
 use Rattle.closing.proofs.Turns.{back_sizes}
-
--- nothing was written
-pub closes_not : (a : Area) (room next : ℕ) {o : Option Tree} → NoTree o → ClosesIn a a room next o None
-closes_not a room next h = (h, adds_same a, omega arith)
 
 -- what is known of the answer
 pub closes_none : (a b : Area) (room next : ℕ) (o : Option Tree) {r : Option ℕ} → r ≡ None → ClosesIn a b room next o None → ClosesIn a b room next o r

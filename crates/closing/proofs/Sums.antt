@@ -37,19 +37,6 @@ pub record Summing (a₀ : Area) (tail chain : ℕ) (a : Area) (last k : ℕ) : 
   pub small : (0 < k) ⊎ (size tree ≤ 4096)
   pub room : a.free + 2 * count (trees_in a₀ k) ≤ a₀.free + 2 * count (trees_in a₀ chain)
 
-pub summing_starts : (a : Area) (tail chain : ℕ) → 0 < tail → tail < a.free → trees_in a tail ≡ more (tree_in a tail) none → 0 < chain → chain < a.free → Summing a tail chain a tail chain
-summing_starts a tail chain p q e c l = record {
-  adds = adds_same a;
-  at = l;
-  some_cell = p;
-  inside = q;
-  tree = tree_in a tail;
-  trees = e;
-  sum = refl;
-  small = inl c;
-  room = omega arith;
-}
-
 module _ {a₀ a : Area} {tail chain last k : ℕ} (h : Summing a₀ tail chain a last k) where
   pub summing_inside : k < a.free
   summing_inside = omega (arith, h.at, h.adds.grew)
@@ -148,9 +135,6 @@ module _ {a : Area} {chain k : ℕ} (c : 0 < chain) (at : chain < a.free) (e : k
 
     front : trees_in b k ≡ trees_in a k
     front = grows_trees (adds_grows (adds_push x)) k (omega arith)
-
-    pub front_inside : k < b.free
-    front_inside = omega (arith, x.end)
 
     front_count : 1 + count (trees_in b k) ≡ count (trees_in a chain)
     front_count = omega (arith, ap count front, list_count a chain c at e)

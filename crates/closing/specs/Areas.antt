@@ -6,7 +6,7 @@ use Rattle.rules.specs.Tree.{Tree, apply, none, more, size, sizes, count}
 use Rattle.rules.specs.Reading.{atom_of}
 use Rattle.tree.specs.declared.area.Area.{Area}
 use Rattle.tree.specs.Areas.{name_in, trees_in, Adds}
-use Rattle.closing.specs.declared.areas.Ordered.{Ordered}
+use Rattle.closing.specs.declared.Ordered.{Ordered}
 use Rattle.closing.specs.Machine.{back}
 use Rattle.closing.specs.Closing.{NoTree}
 

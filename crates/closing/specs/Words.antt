@@ -3,10 +3,10 @@
 -- cell of the last tree read, 0 for none; the link of a tree's cell leads to the tree before it. Definitions only.
 use Rattle.std.specs.Prelude.{ℕ, zero, suc, ◌+◌, ◌*◌, ◌≤◌, ◌<◌, ◌≡◌, List, length, get_or}
 use Rattle.rules.specs.Bytes.{Text}
-use Rattle.rules.specs.Tree.{Tree, none, more}
+use Rattle.rules.specs.Tree.{Tree, none}
 use Rattle.text.specs.Frames.{Outside}
 use Rattle.tree.specs.Cells.{part, trees_at}
-use Rattle.tree.specs.Arena.{Arena, Grown}
+use Rattle.tree.specs.Arena.{Arena}
 use Rattle.closing.specs.Machine.{Stack, bottom, level, add}
 
 unfoldable pub stack_at : Text → List ℕ → ℕ → ℕ → Stack
@@ -28,13 +28,6 @@ pub record Held (s : Text) (w : List ℕ) (n limit d : ℕ) : Type 0 where
   pub room : 4 * limit + 3 * d < length w
   pub trees : (i : ℕ) → i ≤ d → get_or w (4 * limit + 3 * i) 0 < n
   pub names : (i : ℕ) → i < d → NamePlaced s (get_or w (4 * limit + 3 * i + 1) 0) (get_or w (4 * limit + 3 * i + 2) 0)
-
--- the cells n to m - 1 are new, and the last of them is a tree, before the list at a link
-pub record LastCell (s : Text) (w v : List ℕ) (n m next : ℕ) (t : Tree) : Type 0 where
-  pub some : n < m
-  pub arena : Arena s v m
-  pub grown : Grown w v n m
-  pub trees : (k : ℕ) → k + 1 ≡ m → trees_at s v k ≡ more t (trees_at s w next)
 
 -- a tree is put on the level d of the stack
 pub record Added (s : Text) (w v : List ℕ) (n m limit d : ℕ) (t : Tree) : Type 0 where

@@ -1,221 +1,151 @@
-// Closing a list: its trees in their order, and the application, the sum or the atom that they make.
+// Closing a list of an area: its trees in their order, and the application, the sum or the atom that they make.
 #![tactic(auto)]
 
-pub mod areas; // areas.rt: closing a list of an area
-
 ghost use Rattle.std.specs.Prelude.{◌≡◌, [], ◌∷◌, ◌+◌, ◌*◌, ◌<◌, ◌≤◌, ◌^◌, length};
-ghost use Rattle.rules.specs.Names.{digit, all, letter_name};
 ghost use Rattle.rules.specs.Tree.{apply, none, more, count, tamtplus};
 ghost use Rattle.rules.specs.Reading.{close, atom_of, sum_of};
-ghost use Rattle.tree.specs.Cells.{part, name_at, next_of, tree_at, trees_at};
-ghost use Rattle.tree.specs.Arena.{Arena};
+ghost use Rattle.tree.specs.Areas.{tree_in, trees_in};
+ghost use Rattle.tree.specs.Spelled.{text_in, Spelled};
 ghost use Rattle.closing.specs.Machine.{back};
-ghost use Rattle.closing.specs.Words.{NamePlaced};
-ghost use Rattle.closing.specs.Closing.{most, Orders, Closes, Alone, summed};
+ghost use Rattle.closing.specs.Closing.{summed};
+ghost use Rattle.closing.specs.Areas.{room_for, PutsInOrder, ClosesIn, AloneIn};
 
 use leaves::{all_digits, is_letter_name};
+use sheet::{Place, part};
 use text::same;
-use tree::cells::{
-    APPLICATION, count_of, first_of, kind_of, length_of, next_of, push_cell, share, start_of,
-};
+use tree::area::Area;
+use tree::kinds::Kind;
 
-// The first of the new cells, the free end after them and their count of nodes.
-#[derive(Clone, Copy)]
-enum Ordered {
-    Upto(usize, usize, usize),
-    Over,
-}
-
-// The free end after the closed list's cell, which is the last.
-#[derive(Clone, Copy)]
-pub enum Closed {
-    At(usize),
-    Refused,
+// The first of the new cells, and the count of nodes.
+#[derive(Clone, Copy, Debug, PartialEq, Eq)]
+struct Ordered {
+    first: usize,
+    nodes: usize,
 }
 
 // The trees of a chain once more, in their order, unless they have more than 4,095 nodes.
-fn in_order(sheet: &[u8], work: &mut [u32], start: usize, chain: usize) -> Ordered
-    requires arena { Arena sheet.now work.old start }
-    requires chain_lt_start { chain < start }
-    requires chain_in_bounds { (4 * most sheet.now work.old start chain ≤ length work.old) × (most sheet.now work.old start chain < 2 ^ 32) }
-    ensures { Orders sheet.now work.old work.new start (most sheet.now work.old start chain) chain result }
+fn in_order(area: &mut Area, chain: usize) -> Option<Ordered>
+    requires chain { chain < area.old.free }
+    requires room { (4 * (area.old.free + count (trees_in area.old chain)) ≤ length area.old.work.now) × (area.old.free + count (trees_in area.old chain) < 2 ^ 32) }
+    ensures { PutsInOrder area.old area.new chain result }
 {
-    let mut free = start;
     let mut k = chain;
     let mut first = 0;
     let mut nodes = 0;
     while 0 < k {
-        nodes += count_of(work, k);
+        nodes += area.count_of(k);
         if 4095 < nodes {
-            return Ordered::Over;
+            return None;
         }
-        let next = next_of(work, free, k);
-        let end = share(sheet, work, free, k, first);
-        first = free;
-        free = end;
+        let next = area.next_of(k);
+        first = area.share(k, first);
         k = next;
     }
-    Ordered::Upto(first, free, nodes)
+    Some(Ordered { first, nodes })
 }
 
 // An application.
-fn list(
-    sheet: &[u8],
-    work: &mut [u32],
-    free: usize,
-    start: usize,
-    len: usize,
-    chain: usize,
-    next: usize,
-) -> Closed
-    requires arena { Arena sheet.now work.old free }
-    requires chain_lt_free { (chain < free) × (next < free) }
-    requires chain_in_bounds { (4 * most sheet.now work.old free chain ≤ length work.old) × (most sheet.now work.old free chain < 2 ^ 32) }
-    requires name_placed { NamePlaced sheet.now start len × (length sheet.now ≤ 65536) }
-    ensures { Closes sheet.now work.old work.new free (most sheet.now work.old free chain) next (Some (apply (part sheet.now start len) (back (trees_at sheet.now work.old chain) none))) result }
+fn list(area: &mut Area, name: Place, chain: usize, next: usize) -> Option<usize>
+    requires links { (chain < area.old.free) × (next < area.old.free) }
+    requires room { (4 * (area.old.free + room_for area.old chain) ≤ length area.old.work.now) × (area.old.free + room_for area.old chain < 2 ^ 32) }
+    requires name { Spelled area.old.sheet.now name }
+    ensures { ClosesIn area.old area.new (room_for area.old chain) next (Some (apply (text_in area.old name) (back (trees_in area.old chain) none))) result }
 {
-    let children = in_order(sheet, work, free, chain);
-    let Ordered::Upto(first, end, nodes) = children else {
-        return Closed::Refused;
-    };
-    Closed::At(push_cell(work, end, start, len, APPLICATION, first, next, nodes + 1))
+    let children = in_order(area, chain)?;
+    Some(area.push_application(name, children.first, next, children.nodes + 1))
 }
 
-// Summands put in front of the tree of the last cell, which has no link, one after another.
-fn nest(sheet: &[u8], work: &mut [u32], tail: usize, at: usize, len: usize, chain: usize) -> Closed
-    requires arena { Arena sheet.now work.old (tail + 1) }
-    requires tail_nonzero { (0 < tail) × (next_of work.old tail ≡ 0) × (0 < chain) × (chain < tail + 1) }
-    requires chain_in_bounds { (4 * (tail + 1 + 2 * count (trees_at sheet.now work.old chain)) ≤ length work.old) × (tail + 1 + 2 * count (trees_at sheet.now work.old chain) < 2 ^ 32) }
-    requires name_placed { NamePlaced sheet.now at len × (length sheet.now ≤ 65536) × (part sheet.now at len ≡ tamtplus) }
-    ensures { Closes sheet.now work.old work.new (tail + 1) (tail + 1 + 2 * count (trees_at sheet.now work.old chain)) 0 (Some (summed (tree_at sheet.now work.old tail) (trees_at sheet.now work.old chain))) result }
+// Summands put in front of the tree of cell tail, which has no link, one after another.
+fn nest(area: &mut Area, plus: Place, tail: usize, chain: usize) -> Option<usize>
+    requires tail { (0 < tail) × (tail < area.old.free) × (trees_in area.old tail ≡ more (tree_in area.old tail) none) }
+    requires chain { (0 < chain) × (chain < area.old.free) }
+    requires room { (4 * (area.old.free + 2 * count (trees_in area.old chain)) ≤ length area.old.work.now) × (area.old.free + 2 * count (trees_in area.old chain) < 2 ^ 32) }
+    requires name { Spelled area.old.sheet.now plus × (text_in area.old plus ≡ tamtplus) }
+    ensures { ClosesIn area.old area.new (2 * count (trees_in area.old chain)) 0 (Some (summed (tree_in area.old tail) (trees_in area.old chain))) result }
 {
     let mut last = tail;
     let mut k = chain;
     while 0 < k {
-        let nodes = 1 + count_of(work, k) + count_of(work, last);
+        let nodes = 1 + area.count_of(k) + area.count_of(last);
         if 4096 < nodes {
-            return Closed::Refused;
+            return None;
         }
-        let before = next_of(work, last + 1, k);
-        let pair = share(sheet, work, last + 1, k, last);
-        let _ = push_cell(work, pair, at, len, APPLICATION, last + 1, 0, nodes);
-        last = pair;
+        let before = area.next_of(k);
+        let pair = area.share(k, last);
+        last = area.push_application(plus, pair, 0, nodes);
         k = before;
     }
-    Closed::At(last + 1)
+    Some(last)
 }
 
 // A sum of two trees or more, nested to the right.
-fn sum(
-    sheet: &[u8],
-    work: &mut [u32],
-    start: usize,
-    at: usize,
-    len: usize,
-    chain: usize,
-    next: usize,
-) -> Closed
-    requires arena { Arena sheet.now work.old start }
-    requires chain_lt_start { (chain < start) × (next < start) }
-    requires chain_in_bounds { (4 * most sheet.now work.old start chain ≤ length work.old) × (most sheet.now work.old start chain < 2 ^ 32) }
-    requires name_placed { NamePlaced sheet.now at len × (length sheet.now ≤ 65536) × (part sheet.now at len ≡ tamtplus) }
-    ensures { Closes sheet.now work.old work.new start (most sheet.now work.old start chain) next (sum_of (back (trees_at sheet.now work.old chain) none)) result }
+fn sum(area: &mut Area, plus: Place, chain: usize, next: usize) -> Option<usize>
+    requires links { (chain < area.old.free) × (next < area.old.free) }
+    requires room { (4 * (area.old.free + room_for area.old chain) ≤ length area.old.work.now) × (area.old.free + room_for area.old chain < 2 ^ 32) }
+    requires name { Spelled area.old.sheet.now plus × (text_in area.old plus ≡ tamtplus) }
+    ensures { ClosesIn area.old area.new (room_for area.old chain) next (sum_of (back (trees_in area.old chain) none)) result }
 {
     if chain == 0 {
-        return Closed::Refused;
+        return None;
     }
-    let second = next_of(work, start, chain);
+    let second = area.next_of(chain);
     if second == 0 {
-        return Closed::Refused;
+        return None;
     }
-    let _ = share(sheet, work, start, chain, 0);
-    let nested = nest(sheet, work, start, at, len, second);
-    let Closed::At(end) = nested else {
-        return Closed::Refused;
-    };
-    let last = end - 1;
-    Closed::At(share(sheet, work, end, last, next))
+    let tail = area.share(chain, 0);
+    let nested = nest(area, plus, tail, second)?;
+    Some(area.share(nested, next))
 }
 
 // Whether the list at cell k is one application of digits, without children.
-fn is_number(sheet: &[u8], work: &[u32], free: usize, k: usize) -> bool
-    requires arena { Arena sheet.now work.now free }
-    requires k_lt_free { k < free }
-    ensures { Alone sheet.now work.now k result }
+fn is_number(area: &Area, k: usize) -> bool
+    requires { k < area.now.free }
+    ensures { AloneIn area.now k result }
 {
     if k == 0 {
         return false;
     }
-    if 0 < next_of(work, free, k) {
+    if 0 < area.next_of(k) {
         return false;
     }
-    if APPLICATION < kind_of(work, k) {
+    let Kind::Application = area.kind(k) else {
+        return false;
+    };
+    if 0 < area.first_of(k) {
         return false;
     }
-    if 0 < first_of(work, free, k) {
+    let Some(name) = area.spelled(k) else {
         return false;
-    }
-    let a = start_of(work, k);
-    let n = length_of(work, k);
-    if n == 0 {
-        return false;
-    }
-    let e = a + n;
-    all_digits(&sheet[a..e])
+    };
+    all_digits(name)
 }
 
 // An atom: a letter around digits.
-fn atom(
-    sheet: &[u8],
-    work: &mut [u32],
-    free: usize,
-    letter: usize,
-    chain: usize,
-    next: usize,
-) -> Closed
-    requires arena { Arena sheet.now work.old free }
-    requires chain_lt_free { (chain < free) × (next < free) }
-    requires chain_in_bounds { (4 * most sheet.now work.old free chain ≤ length work.old) × (most sheet.now work.old free chain < 2 ^ 32) }
-    requires le_letter { (7 ≤ letter) × (letter < 256) }
-    ensures { Closes sheet.now work.old work.new free (most sheet.now work.old free chain) next (atom_of (letter ∷ []) (back (trees_at sheet.now work.old chain) none)) result }
+fn atom(area: &mut Area, letter: u8, chain: usize, next: usize) -> Option<usize>
+    requires links { (chain < area.old.free) × (next < area.old.free) }
+    requires room { (4 * (area.old.free + room_for area.old chain) ≤ length area.old.work.now) × (area.old.free + room_for area.old chain < 2 ^ 32) }
+    requires letter { 7 ≤ letter }
+    ensures { ClosesIn area.old area.new (room_for area.old chain) next (atom_of (letter ∷ []) (back (trees_in area.old chain) none)) result }
 {
-    if !is_number(sheet, work, free, chain) {
-        return Closed::Refused;
+    if !is_number(area, chain) {
+        return None;
     }
-    let a = start_of(work, chain);
-    let n = length_of(work, chain);
-    Closed::At(push_cell(work, free, a, n, letter, 0, next, 1))
-}
-
-// The kind of an atom: its letter.
-fn letter_kind(b: u8) -> usize
-    ensures { (result ≡ b) × (result < 256) }
-{
-    b as usize
+    Some(area.push_atom(letter, chain, next))
 }
 
 // What a name and its list are (unifier.rs, `close`), before the list at a link.
-pub fn shut(
-    sheet: &[u8],
-    work: &mut [u32],
-    free: usize,
-    at: usize,
-    len: usize,
-    chain: usize,
-    next: usize,
-) -> Closed
-    requires arena { Arena sheet.now work.old free }
-    requires chain_lt_free { (chain < free) × (next < free) }
-    requires chain_in_bounds { (4 * most sheet.now work.old free chain ≤ length work.old) × (most sheet.now work.old free chain < 2 ^ 32) }
-    requires name_placed { NamePlaced sheet.now at len × (length sheet.now ≤ 65536) }
-    ensures { Closes sheet.now work.old work.new free (most sheet.now work.old free chain) next (close (part sheet.now at len) (back (trees_at sheet.now work.old chain) none)) result }
+pub fn shut(area: &mut Area, name: Place, chain: usize, next: usize) -> Option<usize>
+    requires links { (chain < area.old.free) × (next < area.old.free) }
+    requires room { (4 * (area.old.free + room_for area.old chain) ≤ length area.old.work.now) × (area.old.free + room_for area.old chain < 2 ^ 32) }
+    requires name { Spelled area.old.sheet.now name }
+    ensures { ClosesIn area.old area.new (room_for area.old chain) next (close (text_in area.old name) (back (trees_in area.old chain) none)) result }
 {
-    let end = at + len;
-    if is_letter_name(&sheet[at..end]) {
-        return atom(sheet, work, free, letter_kind(sheet[at]), chain, next);
+    let text = part(area.sheet, name.from, name.to);
+    if is_letter_name(text) {
+        return atom(area, text[0], chain, next);
     }
-    if same(&sheet[at..end], b"tamtplus") {
-        return sum(sheet, work, free, at, len, chain, next);
+    if same(text, b"tamtplus") {
+        return sum(area, name, chain, next);
     }
-    list(sheet, work, free, at, len, chain, next)
+    list(area, name, chain, next)
 }

@@ -1,11 +1,11 @@
 -- The words that a sheet of kind `complete` needs are enough for the run of each scheme, and after it for the match of each member.
-use Prim.Native.Nat.{ℕ, ◌+◌, ◌*◌, ◌<◌, ◌≤◌, ◌^◌}
+use Prim.Native.Nat.{ℕ, min, ◌+◌, ◌*◌, ◌<◌, ◌≤◌, ◌^◌}
 use mathlib.Core.Path.{◌≡◌, refl, sym, ap}
 use mathlib.Core.Bool.{Bool, true, false, cond}
 use lib.Dec.{leb}
 use native.Mathlib.Omega.{arith}
 use native.Mathlib.Decide.{dec_lt}
-use Rattle.laws.proofs.Basics.Tests.{leb_true, leb_false, true_leb, false_leb}
+use Rattle.laws.proofs.Basics.Tests.{leb_true, leb_false}
 use Rattle.complete.specs.Judging.{fuel_for}
 
 pub fuel_few : (nodes named : ℕ) → (fuel_for nodes named ≤ 65536) × (fuel_for nodes named ≤ nodes + 4096 * named + 1)
@@ -17,13 +17,13 @@ fuel_few nodes named = go (leb (nodes + 4096 * named + 1) 65535) refl
     go true e = (omega (arith, leb_true (nodes + 4096 * named + 1) 65535 e), omega arith)
     go false e = (omega arith, omega (arith, leb_false (nodes + 4096 * named + 1) 65535 e))
 
-pub fuel_below : (nodes named : ℕ) → nodes + 4096 * named + 1 ≤ 65535 → nodes + 4096 * named + 1 ≡ fuel_for nodes named
+pub fuel_min : (nodes named : ℕ) → min (nodes + 4096 * named + 1) 65536 ≡ fuel_for nodes named
 unfolding fuel_for
-fuel_below nodes named h = sym (ap (λ (b : Bool). cond b (nodes + 4096 * named + 1) 65536) (true_leb (nodes + 4096 * named + 1) 65535 h))
-
-pub fuel_above : (nodes named : ℕ) → 65535 < nodes + 4096 * named + 1 → 65536 ≡ fuel_for nodes named
-unfolding fuel_for
-fuel_above nodes named h = sym (ap (λ (b : Bool). cond b (nodes + 4096 * named + 1) 65536) (false_leb (nodes + 4096 * named + 1) 65535 h))
+fuel_min nodes named = go (leb (nodes + 4096 * named + 1) 65535) refl
+  where
+    go : (b : Bool) → leb (nodes + 4096 * named + 1) 65535 ≡ b → min (nodes + 4096 * named + 1) 65536 ≡ cond b (nodes + 4096 * named + 1) 65536
+    go true e = omega (arith, leb_true (nodes + 4096 * named + 1) 65535 e)
+    go false e = omega (arith, leb_false (nodes + 4096 * named + 1) 65535 e)
 
 -- b bytes and c colons of the sheet; t bytes of a member's texts, k colons of its keys; the term has `size` nodes, x variables, d colons, p
 -- brackets and q sites; its system has n nodes, its run takes fuel f

@@ -5,9 +5,7 @@ use Rattle.rules.specs.Bytes.{Text}
 use Rattle.rules.specs.Text.{count_of}
 use Rattle.rules.specs.Sheet.{Member, asks_complete, read_sheet}
 use Rattle.rules.specs.Reading.{parse}
-use Rattle.rules.specs.Variants.{complete}
 use Rattle.tree.specs.Cells.{tree_at}
-use Rattle.tree.specs.Arena.{Below}
 use Rattle.forms.specs.Members.{members_at}
 
 -- the sheet is one of kind `complete`: its term is that of cell term, read before `at`; its members stand from `at` on. At most `named`
@@ -23,7 +21,3 @@ pub record CompleteInput (s : Text) (w : List ℕ) (free term named at : ℕ) : 
   pub used : free ≤ 1 + 2 * at
   pub named_is : named ≡ count_of 58 text + 2 * count_of 40 text
   pub words : 65536 * (count_of 58 s + 2 * count_of 40 text + 16) + 16 * length s ≤ length w
-
--- whether the members from `at` on are complete for the term
-abbrev pub ClaimsComplete : Text → List ℕ → List ℕ → ℕ → ℕ → ℕ → Option Bool → Type 0
-ClaimsComplete s w v n term at r = ((ms : List Member) → members_at s at ≡ Some ms → r ≡ complete (tree_at s w term) ms) × Below w v n

@@ -5,24 +5,12 @@ use Rattle.rules.specs.Bytes.{Text}
 use Rattle.rules.specs.Tree.{Tree, Trees, size}
 use Rattle.rules.specs.Substitution.{Binding, Pair, instantiate, size_pairs}
 use Rattle.rules.specs.Solving.{solved, unify}
-use Rattle.rules.specs.Variants.{Variant, system}
-use Rattle.laws.specs.Schemes.{scheme_at, Judgement, pending, settled, answered, judge_verdict, judged_from}
+use Rattle.rules.specs.Variants.{system}
+use Rattle.laws.specs.Schemes.{scheme_at}
 use Rattle.laws.specs.Memory.{OverPairs}
-use Rattle.tree.specs.Cells.{tree_at, trees_at}
-use Rattle.tree.specs.Arena.{Below}
 use Rattle.elimination.specs.Stack.{FitPairs}
 use Rattle.elimination.specs.Area.{Room}
-use Rattle.schemes.specs.Building.{Fresh}
-use Rattle.variables.specs.Pairing.{names_at}
-use Rattle.families.specs.Generalizing.{variants_at, AllMatched}
-use Rattle.complete.specs.declared.judging.Judged.{Judged}
-use Rattle.complete.specs.declared.judging.Judged.TheVariants.{Pending, Missing, Over, Unsupported}
-
-abbrev pub judgement : Judged → Option Judgement
-judgement Pending = Some pending
-judgement Missing = Some (settled (Some false))
-judgement Over = Some (settled None)
-judgement Unsupported = None
+use Rattle.families.specs.Generalizing.{AllMatched}
 
 -- fuel that no run over so many nodes and names uses up, at most 65,536
 unfoldable pub fuel_for : ℕ → ℕ → ℕ
@@ -52,34 +40,3 @@ module _ (name : ℕ → Text) where
     pub room : Room w (solved_end n term named i)
     pub matched : (bs : List Binding) → (unify 65536 (system_of term i)).0 ≡ solved bs
         → AllMatched s w (solved_end n term named i + 4098 + 2 * length xs) xs bs (instantiate bs (scheme_at name term 0 i).value) ts
-
--- the fresh variables from cell `fresh` on have names by which the i-th scheme can be judged
-pub record CanJudge (s : Text) (w : List ℕ) (n fresh named names members term i : ℕ) : Type 0 where
-  pub name : ℕ → Text
-  pub cells : Fresh s w n fresh name
-  pub scheme : Judgeable name s w n named (names_at s w names) (trees_at s w members) (tree_at s w term) i
-
--- each of the schemes can
-pub record CanJudgeAll (s : Text) (w : List ℕ) (n fresh named names members term count : ℕ) : Type 0 where
-  pub name : ℕ → Text
-  pub cells : Fresh s w n fresh name
-  pub schemes : (i : ℕ) → i < count → Judgeable name s w n named (names_at s w names) (trees_at s w members) (tree_at s w term) i
-
--- what the i-th scheme makes of what was decided before it
-abbrev pub DecidesScheme : (ℕ → Text) → List Text → List Variant → Tree → ℕ → Judged → Judged → Type 0
-DecidesScheme name xs ms term i before r =
-    (j : Judgement) → judgement before ≡ Some j → judgement r ≡ judge_verdict xs ms (scheme_at name term 0 i).value (unify 65536 (system_of name term i)).0 j
-
--- by any names that the fresh variables from cell `fresh` on have
-abbrev pub Judges : Text → List ℕ → List ℕ → ℕ → ℕ → ℕ → ℕ → ℕ → ℕ → Judged → Judged → Type 0
-Judges s w v n fresh names members term i before r =
-    ((name : ℕ → Text) → Fresh s w n fresh name → DecidesScheme name (names_at s w names) (variants_at s w members) (tree_at s w term) i before r) × Below w v n
-
--- the answer after the last scheme
-abbrev pub Ends : Judged → Option Bool → Type 0
-Ends state r = (j : Judgement) → judgement state ≡ Some j → r ≡ answered j
-
--- the answer of all schemes, by any such names
-abbrev pub JudgesAll : Text → List ℕ → List ℕ → ℕ → ℕ → ℕ → ℕ → ℕ → Option Bool → Type 0
-JudgesAll s w v n fresh names members term r =
-    ((name : ℕ → Text) → Fresh s w n fresh name → r ≡ judged_from name (tree_at s w term) (names_at s w names) (variants_at s w members) 0 pending) × Below w v n

@@ -1,2 +1,3 @@
 pub mod Judging
 pub mod Completing
+pub mod Areas

@@ -1,66 +1,75 @@
-// What the schemes decide: the system of each is unified, and a member is looked for that generalizes its solution and value.
+// What the schemes of a term decide, over an area: the system of each is unified, and a member is looked for that generalizes its solution
+// and value.
 ghost use Rattle.std.specs.Prelude.{◌≡◌, ◌+◌, ◌*◌, ◌<◌, ◌≤◌, length};
-ghost use Rattle.rules.specs.Tree.{size};
-ghost use Rattle.rules.specs.Substitution.{instantiate};
-ghost use Rattle.rules.specs.Variants.{scheme_count};
-ghost use Rattle.laws.specs.Schemes.{pending, judge};
-ghost use Rattle.tree.specs.Cells.{tree_at, trees_at};
-ghost use Rattle.tree.specs.Arena.{Arena, Below};
-ghost use Rattle.substitution.specs.Bindings.{bindings_at};
-ghost use Rattle.variables.specs.Pairing.{OfVariables, names_at};
-ghost use Rattle.families.specs.Generalizing.{variants_at, AllMatched};
-ghost use Rattle.complete.specs.Judging.{judgement, fuel_for, CanJudge, CanJudgeAll, Judges, Ends, JudgesAll};
+ghost use Rattle.laws.specs.Schemes.{pending, answered, judge};
+ghost use Rattle.tree.specs.Areas.{tree_in, Grows};
+ghost use Rattle.substitution.specs.Areas.{bindings_in};
+ghost use Rattle.variables.specs.Areas.{names_in};
+ghost use Rattle.families.specs.Areas.{variants_in};
+ghost use Rattle.complete.specs.Judging.{fuel_for};
+ghost use Rattle.complete.specs.Areas.{judged_as, Asks, InstanceMatched, CanJudgeIn, CanJudgeAllIn, JudgesIn, JudgesAllIn};
 
 use equivalence::equivalent;
 use families::generalizing::generalized;
-use reduction::building::nodes_in;
-use reduction::normalizing::normalize;
+use reduction::normalizing::{nodes_in, normalize};
 use schemes::systems::system_at;
-use substitution::instances::{Built, substitute};
-use unifier::room::{NAME_CELLS, STEP_WORDS};
-use unifier::unifying::{Outcome, unify};
+use substitution::instances::substitute;
+use tree::area::Area;
+use unifier::unifying::{Verdict, unify_sparing};
 
-// What the schemes so far decide: nothing yet, that one has no member, that the instance of one is over 4,096 nodes, or that one is not
-// supported, which ends the judging.
-#[derive(Clone, Copy)]
+// The schemes of the tree of cell `term`, `count` of them, with at most `named` names each: their fresh variables are the cells from
+// `fresh` on. The term's variables and the members are the lists from cells `names` and `members` on.
+#[derive(Clone, Copy, Debug, PartialEq, Eq)]
+pub(crate) struct Question {
+    pub term: usize,
+    pub fresh: usize,
+    pub count: usize,
+    pub named: usize,
+    pub names: usize,
+    pub members: usize,
+}
+
+// What the schemes so far decide: nothing yet, that one has no member, or that the instance of one is over 4,096 nodes. An Option<bool>
+// would stand in the Option of a scheme's answer, and its None would not end the judging as the other does.
+#[derive(Clone, Copy, Debug, PartialEq, Eq)]
 pub(crate) enum Judged {
     Pending,
     Missing,
     Over,
-    Unsupported,
+}
+
+impl Judged {
+    // The answer after the last scheme.
+    fn claim(self) -> Option<bool>
+        ensures { result ≡ answered (judged_as self) }
+    {
+        match self {
+            Judged::Pending => Some(true),
+            Judged::Missing => Some(false),
+            Judged::Over => None,
+        }
+    }
 }
 
 // A scheme with the value of cell value that is solved by the bindings, while nothing is decided.
-fn judge_solved(
-    sheet: &[u8],
-    work: &mut [u32],
-    free: usize,
-    value: usize,
-    bindings: usize,
-    names: usize,
-    members: usize,
-) -> Judged
-    requires arena { Arena sheet.now work.old free × (length sheet.now ≤ 65536) }
-    requires value_nonzero { (0 < value) × (value < free) × (bindings < free) × (names < free) × (members < free) × OfVariables (trees_at sheet.now work.old names) }
-    requires free_in_bounds { (4 * free + 155648 ≤ length work.old) × (free < 4294959104) }
-    requires all_matched { AllMatched sheet.now work.old (free + 4098 + 2 * length (names_at sheet.now work.old names)) (names_at sheet.now work.old names) (bindings_at sheet.now work.old bindings) (instantiate (bindings_at sheet.now work.old bindings) (tree_at sheet.now work.old value)) (trees_at sheet.now work.old members) }
-    ensures { (judgement result ≡ Some (judge (names_at sheet.now work.old names) (variants_at sheet.now work.old members) (bindings_at sheet.now work.old bindings) (tree_at sheet.now work.old value) pending)) × Below work.old work.new free }
+fn judge_solved(area: &mut Area, asked: Question, value: usize, bindings: usize) -> Judged
+    requires asks { Asks area.old asked }
+    requires cells { (0 < value) × (value < area.old.free) × (bindings < area.old.free) }
+    requires room { (4 * area.old.free + 155648 ≤ length area.old.work.now) × (area.old.free < 4294959104) }
+    requires matched { InstanceMatched area.old asked value bindings }
+    ensures value { judged_as result ≡ judge (names_in area.old asked.names) (variants_in area.old asked.members) (bindings_in area.old bindings) (tree_in area.old value) pending }
+    ensures grows { Grows area.old area.new }
 {
-    let built = substitute(sheet, work, free, value, bindings, 0, 4096);
-    let Built::Done {
-        index,
-        free: end,
-        budget: _,
-    } = built
-    else {
+    let Some(built) = substitute(area, value, bindings, 0, 4096) else {
         return Judged::Over;
     };
-    let normal = normalize(sheet, work, end, index, 0);
-    let stop = normal.free;
-    if !equivalent(sheet, work, stop, index, normal.index, 4 * stop) {
+    let end = area.free;
+    let normal = normalize(area, built.index, 0);
+    if !equivalent(area, built.index, normal) {
         return Judged::Pending;
     }
-    if generalized(sheet, work, end, members, names, bindings, index) {
+    area.truncate(end);
+    if generalized(area, asked.members, asked.names, bindings, built.index) {
         return Judged::Pending;
     }
     Judged::Missing
@@ -71,95 +80,42 @@ fn enough(nodes: usize, named: usize) -> usize
     requires { nodes + 4096 * named < 4294967296 }
     ensures { result ≡ fuel_for nodes named }
 {
-    let fuel = nodes + 4096 * named + 1;
-    if fuel <= 65535 {
-        return fuel;
-    }
-    65536
+    (nodes + 4096 * named + 1).min(65536)
 }
 
-// The scheme of an index, after those before it; its fresh variables are the cells from `fresh` on. The words above those that the
-// unification needs are left for the matches; `named` is how many names there are at most.
-fn judge_scheme(
-    sheet: &[u8],
-    work: &mut [u32],
-    free: usize,
-    term: usize,
-    fresh: usize,
-    count: usize,
-    index: usize,
-    named: usize,
-    names: usize,
-    members: usize,
-    before: Judged,
-) -> Judged
-    requires arena { Arena sheet.now work.old free × (length sheet.now ≤ 65536) }
-    requires term_nonzero { (0 < term) × (term < free) × (names < free) × (members < free) × OfVariables (trees_at sheet.now work.old names) }
-    requires term_bound { (size (tree_at sheet.now work.old term) ≤ 4096) × (count ≡ scheme_count (tree_at sheet.now work.old term)) × (count ≤ 4096) × (index < count) }
-    requires can_judge { CanJudge sheet.now work.old free fresh named names members term index }
-    ensures { Judges sheet.now work.old work.new free fresh names members term index before result }
+// The scheme of an index, after those before it, or None where it is not supported. The words above those that the unification needs are
+// left for the matches.
+fn judge_scheme(area: &mut Area, asked: Question, index: usize, before: Judged) -> Option<Judged>
+    requires asks { Asks area.old asked }
+    requires index { index < asked.count }
+    requires can_judge { CanJudgeIn area.old asked index }
+    ensures { JudgesIn area.old area.new asked index before result }
 {
-    let system = system_at(sheet, work, free, term, fresh, count, index);
-    let value = system.value;
-    let stack = system.stack;
-    let end = system.free;
-    let nodes = nodes_in(sheet, work, end, stack);
-    let fuel = enough(nodes, named);
-    let limit = 4 * (end + nodes + 2 * fuel + NAME_CELLS * named) + STEP_WORDS;
-    let outcome = unify(sheet, &mut work[..limit], end, stack, fuel);
-    match outcome {
-        Outcome::Unsupported { spent: _ } => Judged::Unsupported,
-        Outcome::Failed { spent: _ } => before,
-        Outcome::Solved {
-            bindings,
-            free: top,
-            spent: _,
-        } => match before {
-            Judged::Pending => judge_solved(sheet, work, top, value, bindings, names, members),
-            _ => before,
+    let system = system_at(area, asked.term, asked.fresh, asked.count, index);
+    let nodes = nodes_in(area, system.stack);
+    let fuel = enough(nodes, asked.named);
+    let answer = unify_sparing(area, system.stack, fuel, nodes, asked.named);
+    match answer.verdict {
+        Verdict::Unsupported => None,
+        Verdict::Failed => Some(before),
+        Verdict::Solved(bindings) => match before {
+            Judged::Pending => Some(judge_solved(area, asked, system.value, bindings)),
+            Judged::Missing | Judged::Over => Some(before),
         },
     }
 }
 
-// The answer after the last scheme.
-fn claim_of(state: Judged) -> Option<bool>
-    ensures { Ends state result }
+// All schemes, the first to the last; no claim where one of them is not supported.
+pub(crate) fn judge(area: &mut Area, asked: Question) -> Option<bool>
+    requires asks { Asks area.old asked }
+    requires can_judge { CanJudgeAllIn area.old asked }
+    ensures { JudgesAllIn area.old area.new asked result }
 {
-    match state {
-        Judged::Pending => Some(true),
-        Judged::Missing => Some(false),
-        Judged::Over | Judged::Unsupported => None,
-    }
-}
-
-// All schemes of the tree of cell term, the first to the last; their fresh variables are the cells from `fresh` on.
-pub(crate) fn judge(
-    sheet: &[u8],
-    work: &mut [u32],
-    free: usize,
-    term: usize,
-    fresh: usize,
-    count: usize,
-    named: usize,
-    names: usize,
-    members: usize,
-) -> Option<bool>
-    requires arena { Arena sheet.now work.old free × (length sheet.now ≤ 65536) }
-    requires term_nonzero { (0 < term) × (term < free) × (names < free) × (members < free) × OfVariables (trees_at sheet.now work.old names) }
-    requires term_bound { (size (tree_at sheet.now work.old term) ≤ 4096) × (count ≡ scheme_count (tree_at sheet.now work.old term)) × (count ≤ 4096) }
-    requires can_judge_all { CanJudgeAll sheet.now work.old free fresh named names members term count }
-    ensures { JudgesAll sheet.now work.old work.new free fresh names members term result }
-{
+    let free = area.free;
     let mut state = Judged::Pending;
-    let mut i: usize = 0;
-    while i < count {
-        state = judge_scheme(
-            sheet, work, free, term, fresh, count, i, named, names, members, state,
-        );
-        if let Judged::Unsupported = state {
-            return None;
-        }
-        i += 1;
+    for i in 0..asked.count {
+        state = judge_scheme(area, asked, i, state)?;
+        area.truncate(free);
     }
-    claim_of(state)
+    state.claim()
 }

@@ -1,5 +1,5 @@
 // Kind `complete` (variants.rs).
 #![tactic(auto)]
 
-pub mod judging; // judging.rt: what the schemes decide
-pub mod completing; // completing.rt: kind `complete`
+pub mod completing; // completing.rt: kind `complete` over an area
+pub mod judging; // judging.rt: what the schemes decide, over an area

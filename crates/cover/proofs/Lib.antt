@@ -1,4 +1,5 @@
-pub mod Deciding
-pub mod CoveredLaws
 pub mod Rooms
 pub mod Solutions
+pub mod DecidingIn
+pub mod NamingIn
+pub mod SolvingIn

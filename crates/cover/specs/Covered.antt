@@ -3,24 +3,11 @@ use Rattle.std.specs.Prelude.{ℕ, ◌+◌, ◌*◌, ◌<◌, ◌≤◌, ◌≡�
 use Rattle.std.specs.Prelude.{Bool, Option, Some}
 use Rattle.rules.specs.Bytes.{Text}
 use Rattle.rules.specs.Text.{count_of}
-use Rattle.rules.specs.Tree.{count}
 use Rattle.rules.specs.Sheet.{Entry, Member, asks_cover, read_sheet}
 use Rattle.rules.specs.Answer.{read_pairs}
-use Rattle.rules.specs.Cover.{variables_of, covered}
 use Rattle.tree.specs.Cells.{trees_at}
-use Rattle.tree.specs.Arena.{Arena, Below}
 use Rattle.forms.specs.Members.{members_at}
 use Rattle.elimination.specs.Stack.{Whole, pairs_at}
-use Rattle.variables.specs.Pairing.{names_at, OfVariables}
-
--- from w, with the free end n, to v, with the free end m: the list from cell i on is that of the variables of the pairs, the last first
-pub record Names (s : Text) (w v : List ℕ) (n stack i m : ℕ) : Type 0 where
-  pub arena : Arena s v m
-  pub below : Below w v n
-  pub inside : i < m
-  pub variables : OfVariables (trees_at s v i)
-  pub are : names_at s v i ≡ variables_of (pairs_at s w stack)
-  pub used : m ≡ n + count (trees_at s v i)
 
 -- the sheet is one of kind `cover`: its pairs are those from cell stack on, read from the lines before `at`; its members stand from `at` on
 pub record CoverInput (s : Text) (w : List ℕ) (free stack at : ℕ) : Type 0 where
@@ -34,7 +21,3 @@ pub record CoverInput (s : Text) (w : List ℕ) (free stack at : ℕ) : Type 0 w
   pub inside : at ≤ length s
   pub used : free ≤ 1 + 2 * at
   pub words : 65536 * (count_of 58 s + 16) + 16 * length s ≤ length w
-
--- whether one of the members from `at` on covers the solution of the pairs
-abbrev pub ClaimsCovered : Text → List ℕ → List ℕ → ℕ → ℕ → ℕ → Option Bool → Type 0
-ClaimsCovered s w v n stack at r = ((ms : List Member) → members_at s at ≡ Some ms → r ≡ covered (pairs_at s w stack) ms) × Below w v n

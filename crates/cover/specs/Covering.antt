@@ -6,16 +6,13 @@ use Rattle.rules.specs.Bytes.{Text}
 use Rattle.rules.specs.Maybe.{every}
 use Rattle.rules.specs.Substitution.{Pair}
 use Rattle.rules.specs.Sheet.{Entry, Member}
-use Rattle.rules.specs.Cover.{pair_at, covers, any_covers}
+use Rattle.rules.specs.Cover.{pair_at, covers}
 use Rattle.substitution.specs.Bindings.{bindings_at}
 use Rattle.sheet.specs.Lines.{lines_at}
 use Rattle.forms.specs.Members.{members_at}
-use Rattle.tree.specs.Arena.{Below}
 use Rattle.unifier.specs.Matched.{Matched}
 use Rattle.variables.specs.Pairing.{names_at}
 use Rattle.values.specs.Values.{EntriesThen, EntriesFrom}
-use Rattle.cover.specs.declared.covering.Covering.{Covering}
-use Rattle.cover.specs.declared.covering.Covering.TheVariants.{Yes, No}
 
 abbrev pub PairsOf : Text → List ℕ → ℕ → ℕ → Member → List Pair → Type 0
 PairsOf s w names bindings m qs = every (map (pair_at (bindings_at s w bindings) m) (names_at s w names)) ≡ Some qs
@@ -39,12 +36,3 @@ pub record Uncovered (s : Text) (w : List ℕ) (names bindings at c : ℕ) : Typ
   pub high : c ≤ length s
   pub ends : (es : List Entry) (rest : List Text) → EntriesThen s at es rest → lines_at s c ≡ Some rest
   pub is : (x : Text) (es : List Entry) → EntriesFrom s at es → covers (names_at s w names) (bindings_at s w bindings) (x, es) ≡ false
-
-abbrev pub CoversMember : Text → List ℕ → List ℕ → ℕ → ℕ → ℕ → ℕ → Covering → Type 0
-CoversMember s w v n names bindings at Yes =
-    ((x : Text) (es : List Entry) → EntriesFrom s at es → covers (names_at s w names) (bindings_at s w bindings) (x, es) ≡ true) × Below w v n
-CoversMember s w v n names bindings at (No c) = Uncovered s w names bindings at c.at × Below w v n
-
--- whether one of the members from `at` on covers
-abbrev pub CoversAny : Text → List ℕ → List ℕ → ℕ → ℕ → ℕ → ℕ → Bool → Type 0
-CoversAny s w v n names bindings at r = ((ms : List Member) → members_at s at ≡ Some ms → r ≡ any_covers (names_at s w names) (bindings_at s w bindings) ms) × Below w v n

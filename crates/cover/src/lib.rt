@@ -1,5 +1,5 @@
 // Kind `cover`: whether a member covers the solved pairs of a sheet (unifier.rs, `Principal::covered`).
 #![tactic(auto)]
 
-pub mod covering; // covering.rt: whether one of the members covers
-pub mod covered; // covered.rt: the pairs unified, and the members
+pub mod covered; // covered.rt: the pairs unified, and the members, over an area
+pub mod covering; // covering.rt: whether one of the members covers, over an area

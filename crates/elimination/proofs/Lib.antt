@@ -1,3 +1,1 @@
-pub mod Waiting
-pub mod Keys
 pub mod Eliminating

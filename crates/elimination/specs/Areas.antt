@@ -9,8 +9,8 @@ use Rattle.tree.specs.declared.area.Area.{Area}
 use Rattle.tree.specs.Areas.{tree_in, trees_in, Grows}
 use Rattle.elimination.specs.Stack.{pairs_of}
 use Rattle.elimination.specs.Differing.{all_same}
-use Rattle.elimination.specs.declared.areas.Taken.{Taken}
-use Rattle.elimination.specs.declared.areas.Taken.TheVariants as taken
+use Rattle.elimination.specs.declared.Taken.{Taken}
+use Rattle.elimination.specs.declared.Taken.TheVariants as taken
 
 -- the pairs from cell k on
 abbrev pub pairs_in : Area → ℕ → List Pair

@@ -1,5 +1,4 @@
 pub mod Stack
 pub mod Differing
 pub mod Area
-pub mod Stepping
 pub mod Areas

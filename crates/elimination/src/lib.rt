@@ -1,115 +1,86 @@
-// A variable against a tree: bound, turned round, or refused.
+// A variable against a tree of an area: bound, turned round, or refused.
 #![tactic(auto)]
 
-pub mod areas; // areas.rt: the same in an area
-
-ghost use Rattle.std.specs.Prelude.{◌+◌, ◌*◌, ◌<◌, ◌≤◌};
+ghost use Rattle.std.specs.Prelude.{◌≡◌, ◌<◌};
+ghost use Rattle.rules.specs.Tree.{variable};
 ghost use Rattle.rules.specs.Solving.{bind_into, swap_key, eliminate};
-ghost use Rattle.sorts.specs.Numbers.{numbered};
-ghost use Rattle.tree.specs.Cells.{kind_of, name_at, tree_at, trees_at};
-ghost use Rattle.tree.specs.Arena.{Arena};
-ghost use Rattle.elimination.specs.Stack.{Whole, pairs_at};
+ghost use Rattle.tree.specs.Areas.{name_in, tree_in, trees_in};
+ghost use Rattle.elimination.specs.Stack.{Whole};
 ghost use Rattle.elimination.specs.Area.{Room};
-ghost use Rattle.elimination.specs.Stepping.{TakenIs};
+ghost use Rattle.elimination.specs.Areas.{pairs_in, TakenIn};
 
+use rules::Sort;
 use sorts::{refinable, sorted};
 use substitution::occurrence::occurs;
-use substitution::solving::{Waiting, bind_into};
-use tree::cells::{APPLICATION, VARIABLE_OTHER, kind_of};
+use substitution::solving::bind_into;
+use tree::area::Area;
 
-// What a step makes of a pair: the next stack, a binding and the next stack, or the end of the run. If `apart` is not 0, one of the first
-// `apart` pairs of the stack has two different trees.
-#[derive(Clone, Copy)]
+// What a step makes of a pair: the next stack, a binding and the next stack, or the end of the run.
+#[derive(Clone, Copy, Debug, PartialEq, Eq)]
 pub enum Taken {
     Next {
         stack: usize,
-        free: usize,
-        apart: usize,
+        // One of the first so many pairs of the stack has two different trees, if that is known.
+        apart: Option<usize>,
     },
     Bind {
         key: usize,
         value: usize,
         stack: usize,
-        free: usize,
     },
     Fails,
     Unknown,
 }
 
 // Binds the variable of cell key to the tree of cell value.
-fn bind(sheet: &[u8], work: &mut [u32], free: usize, key: usize, value: usize, rest: usize) -> Taken
-    requires arena { Arena sheet.now work.old free }
-    requires key_nonzero { (0 < key) × (key < free) × (0 < value) × (value < free) × (rest < free) }
-    requires key_nonzero_2 { (0 < kind_of work.old key) × (kind_of work.old key < 7) × Whole (trees_at sheet.now work.old rest) }
-    requires room { Room work.old free }
-    ensures { TakenIs sheet.now work.old work.new free 0 (bind_into (name_at sheet.now work.old key) (tree_at sheet.now work.old value) (pairs_at sheet.now work.old rest)) result }
+fn bind(area: &mut Area, key: usize, value: usize, rest: usize) -> Taken
+    requires cells { (0 < key) × (key < area.old.free) × (0 < value) × (value < area.old.free) × (rest < area.old.free) }
+    requires key_variable { tree_in area.old key ≡ variable (name_in area.old key) }
+    requires whole { Whole (trees_in area.old rest) }
+    requires room { Room area.old.work.now area.old.free }
+    ensures { TakenIn area.old area.new 0 (bind_into (name_in area.old key) (tree_in area.old value) (pairs_in area.old rest)) result }
 {
-    let waiting = bind_into(sheet, work, free, key, value, rest);
-    let Waiting::Stack { index, free: end } = waiting else {
-        return Taken::Unknown;
-    };
-    Taken::Bind {
-        key: key,
-        value: value,
-        stack: index,
-        free: end,
+    match bind_into(area, key, value, rest) {
+        Some(stack) => Taken::Bind { key, value, stack },
+        None => Taken::Unknown,
     }
 }
 
 // Where the value does not have the key's sort: a variable value is bound to the key, if that has its sort.
-fn swap(
-    sheet: &[u8],
-    work: &mut [u32],
-    free: usize,
-    key: usize,
-    value: usize,
-    rest: usize,
-    sort: usize,
-) -> Taken
-    requires arena { Arena sheet.now work.old free }
-    requires key_nonzero { (0 < key) × (key < free) × (0 < value) × (value < free) × (rest < free) }
-    requires key_nonzero_2 { (0 < kind_of work.old key) × (kind_of work.old key < 7) × Whole (trees_at sheet.now work.old rest) × (sort < 5) }
-    requires room { Room work.old free }
-    ensures { TakenIs sheet.now work.old work.new free 0 (swap_key (numbered sort) (name_at sheet.now work.old key) (tree_at sheet.now work.old value) (pairs_at sheet.now work.old rest)) result }
+fn swap(area: &mut Area, key: usize, value: usize, rest: usize, sort: Sort) -> Taken
+    requires cells { (0 < key) × (key < area.old.free) × (0 < value) × (value < area.old.free) × (rest < area.old.free) }
+    requires key_variable { tree_in area.old key ≡ variable (name_in area.old key) }
+    requires whole { Whole (trees_in area.old rest) }
+    requires room { Room area.old.work.now area.old.free }
+    ensures { TakenIn area.old area.new 0 (swap_key sort (name_in area.old key) (tree_in area.old value) (pairs_in area.old rest)) result }
 {
-    let kind = kind_of(work, value);
-    if APPLICATION < kind {
-        if kind < VARIABLE_OTHER {
-            if sorted(sheet, work, free, kind - 1, key) {
-                return bind(sheet, work, free, value, key, rest);
-            }
+    if let Some(own) = area.sort_of(value) {
+        if sorted(area, own, key) {
+            return bind(area, value, key, rest);
         }
     }
-    if refinable(sheet, work, free, sort, value) {
+    if refinable(area, sort, value) {
         return Taken::Unknown;
     }
     Taken::Fails
 }
 
 // Eliminates the variable of cell key by the tree of cell value.
-pub fn eliminate(
-    sheet: &[u8],
-    work: &mut [u32],
-    free: usize,
-    key: usize,
-    value: usize,
-    rest: usize,
-) -> Taken
-    requires arena { Arena sheet.now work.old free }
-    requires key_nonzero { (0 < key) × (key < free) × (0 < value) × (value < free) × (rest < free) }
-    requires key_nonzero_2 { (0 < kind_of work.old key) × (kind_of work.old key < 7) × Whole (trees_at sheet.now work.old rest) }
-    requires room { Room work.old free }
-    ensures { TakenIs sheet.now work.old work.new free 0 (eliminate (name_at sheet.now work.old key) (tree_at sheet.now work.old value) (pairs_at sheet.now work.old rest)) result }
+pub fn eliminate(area: &mut Area, key: usize, value: usize, rest: usize) -> Taken
+    requires cells { (0 < key) × (key < area.old.free) × (0 < value) × (value < area.old.free) × (rest < area.old.free) }
+    requires key_variable { tree_in area.old key ≡ variable (name_in area.old key) }
+    requires whole { Whole (trees_in area.old rest) }
+    requires room { Room area.old.work.now area.old.free }
+    ensures { TakenIn area.old area.new 0 (eliminate (name_in area.old key) (tree_in area.old value) (pairs_in area.old rest)) result }
 {
-    let kind = kind_of(work, key);
-    if kind == VARIABLE_OTHER {
+    let Some(sort) = area.sort_of(key) else {
         return Taken::Unknown;
-    }
-    if occurs(sheet, work, free, key, value) {
+    };
+    if occurs(area, key, value) {
         return Taken::Fails;
     }
-    if sorted(sheet, work, free, kind - 1, value) {
-        return bind(sheet, work, free, key, value, rest);
+    if sorted(area, sort, value) {
+        return bind(area, key, value, rest);
     }
-    swap(sheet, work, free, key, value, rest, kind - 1)
+    swap(area, key, value, rest, sort)
 }

@@ -19,9 +19,6 @@ module _ (s w v : List ℕ) (t : Tree) (base end : ℕ) (g : TermWritten s w v f
   written : slice base end v ≡ words (flatten s g.term)
   written = ap (λ (e : ℕ). slice base e v) g.end ∙ g.wrote.words
 
-  pub settle_room : (base ≤ end) × (end ≤ end) × (end < base + 65536) × (end + 2 * (end - base) < length v)
-  settle_room = let e = g.end in let f = g.short in let l = g.wrote.len in (omega arith, omega arith, omega arith, omega arith)
-
   pub settle_tokens : Tokens s v base end
   settle_tokens p a b =
       let e = g.end in

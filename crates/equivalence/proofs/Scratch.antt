@@ -6,24 +6,13 @@ use mathlib.Core.List.{List, ◌++◌}
 use lib.ListN.{length, length-append}
 use lib.Seq.{slice}
 use native.Mathlib.Omega.{arith}
-use Rattle.rules.specs.Bytes.{Text}
 use Rattle.text.specs.Sorting.{Wrote}
 use Rattle.text.proofs.Slices.{slice_same, slice_join}
-use Rattle.tree.specs.Arena.{Arena, Below}
 use Rattle.tree.proofs.Decoding.{Agree}
-use Rattle.tree.proofs.Areas.{arena_frame}
-use Rattle.text.specs.Frames.{Outside}
-
--- scratch from the free end on leaves the cells
-pub below_kept : {w v : List ℕ} {n at lim : ℕ} → Outside w v at lim → 4 * n ≤ at → Below w v n
-below_kept k h = record { len = k.len; words = λ p q. sym (k.below p (omega arith)) }
 
 module _ {w v : List ℕ} {to : ℕ} {l : List ℕ} (g : Wrote w v to l) where
   pub wrote_agree : (n : ℕ) → 4 * n ≤ to → Agree w v n
   wrote_agree n h p q = sym (g.below p (omega arith))
-
-  pub wrote_arena : (s : Text) (n : ℕ) → 4 * n ≤ to → Arena s w n → Arena s v n
-  wrote_arena s n h a = arena_frame s a g.len (wrote_agree n h)
 
   pub wrote_append : {u : List ℕ} {at : ℕ} {m : List ℕ} → Wrote v u at m → at ≡ to + length l → at + length m ≤ length w → Wrote w u to (l ++ m)
   wrote_append {u} {at} {m} h e room =

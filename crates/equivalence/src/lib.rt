@@ -1,44 +1,51 @@
-// Equality of trees up to order and grouping of sums (unifier.rs, `equivalent`).
+// Equality of trees of an area up to order and grouping of sums (unifier.rs, `equivalent`).
 #![tactic(auto)]
 
-pub mod areas; // areas.rt: the same in an area
 pub mod words; // words.rt: the words of a tree
-pub mod words_area; // words_area.rt: the words of a tree of an area
 
 ghost use Rattle.std.specs.Prelude.{◌≡◌, ◌+◌, ◌*◌, ◌<◌, ◌≤◌, length};
 ghost use Rattle.rules.specs.Tree.{size};
 ghost use Rattle.rules.specs.Sums.{equivalent};
-ghost use Rattle.tree.specs.Cells.{tree_at};
-ghost use Rattle.tree.specs.Arena.{Arena};
+ghost use Rattle.tree.specs.Areas.{tree_in, KeepsCells};
 ghost use Rattle.text.specs.Frames.{Outside};
 
-use tree::equality::same_tree;
-use words::{same_text, tree_words};
+use crate::words::{same_text, tree_words};
+use tree::area::Area;
 
-// Whether the trees of cells i and j are equal up to order and grouping of sums. The words from `at` on, fifteen for each node of the
-// two, are scratch.
-pub fn equivalent(
-    sheet: &[u8],
-    work: &mut [u32],
-    free: usize,
-    i: usize,
-    j: usize,
-    at: usize,
-) -> bool
-    requires arena { Arena sheet.now work.old free }
-    requires i_nonzero { (0 < i) × (i < free) × (0 < j) × (j < free) × (4 * free ≤ at) }
-    requires i_bound { (5 * size (tree_at sheet.now work.old i) < 65536) × (5 * size (tree_at sheet.now work.old j) < 65536) }
-    requires j_in_bounds { at + 15 * (size (tree_at sheet.now work.old i) + size (tree_at sheet.now work.old j)) ≤ length work.old }
-    ensures value { result ≡ equivalent (tree_at sheet.now work.old i) (tree_at sheet.now work.old j) }
-    ensures outside { Outside work.old work.new at (at + 15 * (size (tree_at sheet.now work.old i) + size (tree_at sheet.now work.old j))) }
+// Whether the canonical texts of the trees of cells i and j are one. The words, fifteen for each node of the two, are scratch.
+fn same_canonical(area: &Area, i: usize, j: usize, words: &mut [u32]) -> bool
+    requires cells { (0 < i) × (i < area.now.free) × (0 < j) × (j < area.now.free) }
+    requires small { (5 * size (tree_in area.now i) < 65536) × (5 * size (tree_in area.now j) < 65536) }
+    requires room { 15 * (size (tree_in area.now i) + size (tree_in area.now j)) ≤ length words.old }
+    ensures value { result ≡ equivalent (tree_in area.now i) (tree_in area.now j) }
+    ensures outside { Outside words.old words.new 0 (15 * (size (tree_in area.now i) + size (tree_in area.now j))) }
 {
-    if i == j {
+    let mid = tree_words(area, i, words, 0);
+    let end = tree_words(area, j, words, mid);
+    same_text(area.sheet, words, 0, mid, mid, end)
+}
+
+// Whether the trees of cells i and j are equal up to order and grouping of sums. The words above the cells, fifteen for each node of the
+// two, are scratch.
+pub fn equivalent(area: &mut Area, i: usize, j: usize) -> bool
+    requires cells { (0 < i) × (i < area.old.free) × (0 < j) × (j < area.old.free) }
+    requires small { (5 * size (tree_in area.old i) < 65536) × (5 * size (tree_in area.old j) < 65536) }
+    requires room { 4 * area.old.free + 15 * (size (tree_in area.old i) + size (tree_in area.old j)) ≤ length area.old.work.now }
+    ensures value { result ≡ equivalent (tree_in area.old i) (tree_in area.old j) }
+    ensures keeps { KeepsCells area.old area.new }
+    ensures outside { Outside area.old.work.now area.new.work.now (4 * area.old.free) (4 * area.old.free + 15 * (size (tree_in area.old i) + size (tree_in area.old j))) }
+{
+    if area.same_tree(i, j) {
         return true;
     }
-    if same_tree(sheet, work, free, i, j) {
-        return true;
-    }
-    let mid = tree_words(sheet, work, free, i, at);
-    let end = tree_words(sheet, work, free, j, mid);
-    same_text(sheet, work, at, mid, mid, end)
+    let sheet = area.sheet;
+    let free = area.free;
+    let work = &mut *area.work;
+    let (cells, words) = work.split_at_mut(4 * free);
+    let trees = Area {
+        sheet,
+        work: cells,
+        free,
+    };
+    same_canonical(&trees, i, j, words)
 }

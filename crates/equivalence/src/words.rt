@@ -1,10 +1,11 @@
-// The words of a tree: the tokens of its text, in which a sum inside a sum loses its name and brackets, and its canonical words.
-ghost use Rattle.std.specs.Prelude.{◌≡◌, Bool, ◌+◌, ◌*◌, ◌<◌, ◌≤◌, length};
+// The words of a tree of an area, in words of their own: the tokens of its text, in which a sum inside a sum loses its name and brackets,
+// and its canonical words.
+ghost use Rattle.std.specs.Prelude.{◌≡◌, Bool, ◌+◌, ◌*◌, ◌<◌, ◌≤◌, [], ◌∷◌, length};
 ghost use Rattle.std.proofs.Math.Seq.{slice};
 ghost use Rattle.rules.specs.Bytes.{same};
-ghost use Rattle.rules.specs.Tree.{size, sizes};
-ghost use Rattle.tree.specs.Cells.{kind_of, first_of, name_at, tree_at, trees_at};
-ghost use Rattle.tree.specs.Arena.{Arena};
+ghost use Rattle.rules.specs.Tree.{size, sizes, atom};
+ghost use Rattle.tree.specs.Areas.{name_in, tree_in, trees_in};
+ghost use Rattle.text.specs.Sorting.{Wrote};
 ghost use Rattle.runs.specs.Texts.{word_text, texts, Tokens};
 ghost use Rattle.flattening.specs.Spelling.{Word};
 ghost use Rattle.equivalence.specs.Words.{TermWritten, TermsWritten, Canon};
@@ -13,104 +14,82 @@ use flattening::Bracket;
 use runs::order::{BYTES, compare};
 use runs::{COMMA, OPEN, PLUS, SHUT};
 use settling::settle;
-use tree::cells::{ATOMS, kind_of, next_of};
-use tree::children::child_of;
-use tree::names::name_is;
+use tree::area::Area;
+use tree::kinds::Kind;
 
 // The word of the name of cell k: its place, or the code of a fixed name.
-fn word_of(sheet: &[u8], work: &[u32], free: usize, k: usize) -> u32
-    requires arena { Arena sheet.now work.now free }
-    requires k_nonzero { (0 < k) × (k < free) }
-    ensures { Word sheet.now result × (word_text sheet.now result ≡ name_at sheet.now work.now k) }
+fn word_of(area: &Area, k: usize) -> u32
+    requires { (0 < k) × (k < area.now.free) }
+    ensures { Word area.now.sheet.now result × (word_text area.now.sheet.now result ≡ name_in area.now k) }
 {
-    let place = work[4 * k];
+    let place = area.work[4 * k];
     if place % 65536 == 0 {
         return place + PLUS;
     }
     place
 }
 
-// Writes the words of the tree of cell i, which is a leaf.
-fn put_leaf(sheet: &[u8], work: &mut [u32], free: usize, i: usize, out: usize) -> usize
-    requires arena { Arena sheet.now work.old free }
-    requires i_nonzero { (0 < i) × (i < free) × (out + 4 ≤ length work.old) }
-    requires i_value { kind_of work.old i ≡ 0 → first_of work.old i ≡ 0 }
-    ensures { (b : Bool) → TermWritten sheet.now work.old work.new b (tree_at sheet.now work.old i) out result }
+// Writes the words of an atom: its letter, and the word of its digits in brackets.
+fn put_atom(letter: u8, digits: u32, words: &mut [u32], out: usize) -> usize
+    requires { out + 4 ≤ length words.old }
+    ensures { Wrote words.old words.new out ((512 + letter) * 65536 ∷ 2621440 ∷ digits ∷ 2686976 ∷ []) × (result ≡ out + 4) }
 {
-    let kind = kind_of(work, i);
-    let word = word_of(sheet, work, free, i);
-    if ATOMS <= kind {
-        work[out] = ((BYTES + kind) * 65536) as u32;
-        work[out + 1] = OPEN;
-        work[out + 2] = word;
-        work[out + 3] = SHUT;
-        return out + 4;
-    }
-    work[out] = word;
-    out + 1
+    words[out] = (BYTES as u32 + u32::from(letter)) * 65536;
+    words[out + 1] = OPEN;
+    words[out + 2] = digits;
+    words[out + 3] = SHUT;
+    out + 4
 }
 
 // Writes the words of the tree of cell i, in a sum or not, and answers where they end.
 #[cycle(put_list_put_term)]
-fn put_term(
-    sheet: &[u8],
-    work: &mut [u32],
-    free: usize,
-    i: usize,
-    inside: bool,
-    out: usize,
-) -> usize
-    requires arena { Arena sheet.now work.old free }
-    requires i_nonzero { (0 < i) × (i < free) }
-    requires free_bound { (4 * free ≤ out) × (out + 5 * size (tree_at sheet.now work.old i) ≤ length work.old) }
-    ensures { TermWritten sheet.now work.old work.new inside (tree_at sheet.now work.old i) out result }
+fn put_term(area: &Area, i: usize, inside: bool, words: &mut [u32], out: usize) -> usize
+    requires cell { (0 < i) × (i < area.now.free) }
+    requires room { out + 5 * size (tree_in area.now i) ≤ length words.old }
+    ensures { TermWritten area.now.sheet.now words.old words.new inside (tree_in area.now i) out result }
 {
-    let first = child_of(work, free, i);
-    if first == 0 {
-        return put_leaf(sheet, work, free, i, out);
+    let word = word_of(area, i);
+    if let Kind::Atom(letter) = area.kind(i) {
+        return put_atom(letter, word, words, out);
     }
-    let sum = name_is(sheet, work, free, i, b"tamtplus");
-    let word = word_of(sheet, work, free, i);
+    let first = area.child_of(i);
+    if first == 0 {
+        words[out] = word;
+        return out + 1;
+    }
+    let sum = area.name_is(i, b"tamtplus");
     let bracket = Bracket::of(sum, inside);
-    let start = bracket.open(work, out, word);
-    let end = put_list(sheet, work, free, first, sum, start);
-    bracket.close(work, end)
+    let start = bracket.open(words, out, word);
+    let end = put_list(area, first, sum, words, start);
+    bracket.close(words, end)
 }
 
 // Writes the words of the trees of the list from cell i on, with commas between them.
 #[cycle(put_list_put_term)]
-fn put_list(
-    sheet: &[u8],
-    work: &mut [u32],
-    free: usize,
-    i: usize,
-    inside: bool,
-    out: usize,
-) -> usize
-    requires arena { Arena sheet.now work.old free }
-    requires i_nonzero { (0 < i) × (i < free) }
-    requires free_bound { (4 * free ≤ out) × (out + 5 * sizes (trees_at sheet.now work.old i) ≤ length work.old) }
-    ensures { TermsWritten sheet.now work.old work.new inside (trees_at sheet.now work.old i) out result }
+fn put_list(area: &Area, i: usize, inside: bool, words: &mut [u32], out: usize) -> usize
+    requires cell { (0 < i) × (i < area.now.free) }
+    requires room { out + 5 * sizes (trees_in area.now i) ≤ length words.old }
+    ensures { TermsWritten area.now.sheet.now words.old words.new inside (trees_in area.now i) out result }
 {
-    let end = put_term(sheet, work, free, i, inside, out);
-    let next = next_of(work, free, i);
+    let end = put_term(area, i, inside, words, out);
+    let next = area.next_of(i);
     if next == 0 {
         return end;
     }
-    work[end] = COMMA;
-    put_list(sheet, work, free, next, inside, end + 1)
+    words[end] = COMMA;
+    put_list(area, next, inside, words, end + 1)
 }
 
 // Writes the canonical words of the tree of cell i from `base` on, and answers where they end. Fifteen words for each node, from `base`
 // on, may change.
-pub fn tree_words(sheet: &[u8], work: &mut [u32], free: usize, i: usize, base: usize) -> usize
-    requires arena { Arena sheet.now work.old free }
-    requires i_nonzero { (0 < i) × (i < free) × (4 * free ≤ base) }
-    requires i_bound { (5 * size (tree_at sheet.now work.old i) < 65536) × (base + 15 * size (tree_at sheet.now work.old i) ≤ length work.old) }
-    ensures { Canon sheet.now work.old work.new (tree_at sheet.now work.old i) base result }
+pub fn tree_words(area: &Area, i: usize, words: &mut [u32], base: usize) -> usize
+    requires cell { (0 < i) × (i < area.now.free) }
+    requires small { 5 * size (tree_in area.now i) < 65536 }
+    requires room { base + 15 * size (tree_in area.now i) ≤ length words.old }
+    ensures { Canon area.now.sheet.now words.old words.new (tree_in area.now i) base result }
 {
-    let end = put_term(sheet, work, free, i, false, base);
-    settle(sheet, work, PLUS, base, end, end);
+    let end = put_term(area, i, false, words, base);
+    settle(area.sheet, words, PLUS, base, end, end);
     end
 }
 

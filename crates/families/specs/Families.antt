@@ -3,16 +3,13 @@ use Rattle.std.specs.Prelude.{ℕ, ◌-◌, ◌<◌, ◌≤◌, ◌≡◌, List,
 use Rattle.std.specs.Prelude.{Some, None}
 use Rattle.rules.specs.Bytes.{Text}
 use Rattle.rules.specs.Maybe.{every}
-use Rattle.rules.specs.Tree.{Tree, apply, Trees, none, more, sizes}
+use Rattle.rules.specs.Tree.{Tree, apply, Trees, none, more}
 use Rattle.rules.specs.Sheet.{Member}
 use Rattle.rules.specs.Variants.{Variant, read_member}
 use Rattle.tree.specs.Cells.{fixed_name, trees_at}
-use Rattle.tree.specs.Arena.{Arena, Below}
 use Rattle.substitution.specs.Bindings.{bindings_of, Chain}
 use Rattle.forms.specs.Members.{members_at}
-use Rattle.variants.specs.Members.{Alike, texts_end}
-use Rattle.families.specs.declared.members.Members.{Members}
-use Rattle.families.specs.declared.members.Members.TheVariants as members
+use Rattle.variants.specs.Members.{Alike}
 
 -- a member as one tree: a fixed name over the member's own tree and then its keys and values in turn
 abbrev pub member_tree : Tree → Trees → Tree
@@ -40,17 +37,3 @@ pub record ReadAll (s : Text) (v : List ℕ) (i : ℕ) (ms : List Member) : Type
 pub record MembersThere (s : Text) (at : ℕ) : Type 0 where
   pub ms : List Member
   pub are : members_at s at ≡ Some ms
-
--- the members at a position
-pub record ReadMembers (s : Text) (w v : List ℕ) (n at i m : ℕ) : Type 0 where
-  pub reads : (ms : List Member) → members_at s at ≡ Some ms → ReadAll s v i ms
-  pub arena : Arena s v m
-  pub kept : Below w v n
-  pub grew : n ≤ m
-  pub used : m ≤ texts_end s n at
-  pub light : sizes (trees_at s v i) ≤ length s - at
-  pub inside : i < m
-
-abbrev pub ReadsMembers : Text → List ℕ → List ℕ → ℕ → ℕ → Members → Type 0
-ReadsMembers s w v n at (members.List i m) = ReadMembers s w v n at i m
-ReadsMembers s w v n at members.Unreadable = ((ms : List Member) → members_at s at ≡ Some ms → every (map read_member ms) ≡ None) × Below w v n

@@ -4,7 +4,6 @@ use Rattle.rules.specs.Bytes.{Text}
 use Rattle.rules.specs.Tree.{Tree, variable, atom, apply, Trees, none, more}
 use Rattle.rules.specs.Substitution.{Binding, Pair, lookup}
 use Rattle.rules.specs.Variants.{Variant}
-use Rattle.tree.specs.Cells.{trees_at}
 use Rattle.substitution.specs.Bindings.{bindings_of}
 use Rattle.unifier.specs.Matched.{Matched}
 use Rattle.families.specs.Families.{member_tree}
@@ -21,10 +20,6 @@ unfoldable pub variants_of : Trees → List Variant
 unfolding member_of
 variants_of none = []
 variants_of (more t ts) = member_of t ∷ variants_of ts
-
--- the members from cell k on
-abbrev pub variants_at : Text → List ℕ → ℕ → List Variant
-variants_at s w k = variants_of (trees_at s w k)
 
 -- a member's tree at each variable against that of the bindings, and its own against a value
 unfoldable pub member_pairs : List Text → Variant → List Binding → Tree → List Pair

@@ -1,77 +1,61 @@
-// The members of a sheet as one list of trees in cells, the last first.
+// The members of a sheet as one list of trees of an area, the last first.
 ghost use Rattle.std.specs.Prelude.{◌≡◌, ◌+◌, ◌*◌, ◌<◌, ◌≤◌, ◌^◌, length};
-ghost use Rattle.rules.specs.Tree.{more, size, sizes};
-ghost use Rattle.tree.specs.Cells.{tree_at, trees_at};
-ghost use Rattle.tree.specs.Arena.{Arena};
-ghost use Rattle.substitution.specs.Building.{Made};
+ghost use Rattle.rules.specs.Tree.{apply, more, size, sizes};
+ghost use Rattle.tree.specs.Cells.{fixed_name};
+ghost use Rattle.tree.specs.Areas.{tree_in, trees_in, Pushes};
+ghost use Rattle.substitution.specs.Areas.{Lists};
 ghost use Rattle.variants.specs.Members.{TextsRoom};
-ghost use Rattle.families.specs.Families.{member_tree, MembersThere, ReadsMembers};
+ghost use Rattle.families.specs.Families.{member_tree, MembersThere};
+ghost use Rattle.families.specs.Areas.{ReadsMembersIn};
 
-use reduction::building::nodes_in;
+use reduction::normalizing::nodes_in;
 use sheet::{Cursor, next_member};
-use substitution::bindings::Pushed;
-use tree::cells::{APPLICATION, push_cell, share};
-use variants::members::{Variant, read_member};
+use tree::area::Area;
+use tree::cells::{APPLICATION, push_cell};
+use variants::members::read_member;
 
-// A list of trees and the free end after it, or a member's text that cannot be read.
-#[derive(Clone, Copy)]
-pub enum Members {
-    List { index: usize, free: usize },
-    Unreadable,
+// Writes the application of the fixed name of a code to the list at `first`, of `count` nodes with its root, before the list at `next`, and
+// answers its cell.
+fn push_fixed(area: &mut Area, code: usize, first: usize, next: usize, count: usize) -> usize
+    requires code { (0 < code) × (code < 7) }
+    requires links { (first < area.old.free) × (next < area.old.free) }
+    requires count { (count ≡ 1 + sizes (trees_in area.old first)) × (count < 65536) }
+    requires room { (4 * area.old.free + 4 ≤ length area.old.work.now) × (area.old.free < 2 ^ 32) }
+    ensures { Pushes area.old area.new result next (apply (fixed_name code) (trees_in area.old first)) }
+{
+    let at = area.free;
+    let work = &mut *area.work;
+    area.free = push_cell(work, at, code, 0, APPLICATION, first, next, count);
+    at
 }
 
 // Puts a member before the list from cell `list` on: the tree of cell value and the bindings from cell bindings on, as one tree.
-fn push_member(
-    sheet: &[u8],
-    work: &mut [u32],
-    free: usize,
-    value: usize,
-    bindings: usize,
-    list: usize,
-) -> Pushed
-    requires arena { Arena sheet.now work.old free }
-    requires value_nonzero { (0 < value) × (value < free) × (bindings < free) × (list < free) }
-    requires bindings_bound { size (tree_at sheet.now work.old value) + sizes (trees_at sheet.now work.old bindings) < 65535 }
-    requires free_in_bounds { (4 * (free + 2) ≤ length work.old) × (free + 2 < 2 ^ 32) }
-    ensures { Made sheet.now work.old work.new free result.free result.index (more (member_tree (tree_at sheet.now work.old value) (trees_at sheet.now work.old bindings)) (trees_at sheet.now work.old list)) × (result.free ≡ free + 2) }
+fn push_member(area: &mut Area, value: usize, bindings: usize, list: usize) -> usize
+    requires cells { (0 < value) × (value < area.old.free) × (bindings < area.old.free) × (list < area.old.free) }
+    requires small { size (tree_in area.old value) + sizes (trees_in area.old bindings) < 65535 }
+    requires room { (4 * (area.old.free + 2) ≤ length area.old.work.now) × (area.old.free + 2 < 2 ^ 32) }
+    ensures lists { Lists area.old area.new result (more (member_tree (tree_in area.old value) (trees_in area.old bindings)) (trees_in area.old list)) }
+    ensures end { area.new.free ≡ area.old.free + 2 }
 {
-    let middle = share(sheet, work, free, value, bindings);
-    let count = nodes_in(sheet, work, middle, free);
-    let end = push_cell(work, middle, 3, 0, APPLICATION, free, list, 1 + count);
-    Pushed {
-        index: middle,
-        free: end,
-    }
+    let first = area.share(value, bindings);
+    let nodes = nodes_in(area, first);
+    push_fixed(area, 3, first, list, 1 + nodes)
 }
 
-// Every member from a cursor on.
-pub fn read_members(sheet: &[u8], work: &mut [u32], free: usize, start: Cursor) -> Members
-    requires arena { Arena sheet.now work.old free }
-    requires texts_room { TextsRoom sheet.now work.old free start.at }
-    requires members_there { MembersThere sheet.now start.at }
-    ensures { ReadsMembers sheet.now work.old work.new free start.at result }
+// Every member from a cursor on, if all can be read.
+pub fn read_members(area: &mut Area, start: Cursor) -> Option<usize>
+    requires room { TextsRoom area.old.sheet.now area.old.work.now area.old.free start.at }
+    requires members { MembersThere area.old.sheet.now start.at }
+    ensures { ReadsMembersIn area.old area.new start.at result }
 {
     let mut cursor = start;
-    let mut list: usize = 0;
-    let mut end = free;
-    while let Some(_) = next_member(sheet, cursor) {
-        let member = read_member(sheet, work, end, cursor);
-        let Variant::Read {
-            value,
-            bindings,
-            free: middle,
-            next,
-        } = member
-        else {
-            return Members::Unreadable;
+    let mut list = 0;
+    while next_member(area.sheet, cursor).is_some() {
+        let Some(member) = read_member(area, cursor) else {
+            return None;
         };
-        let pushed = push_member(sheet, work, middle, value, bindings, list);
-        cursor = next;
-        list = pushed.index;
-        end = pushed.free;
+        list = push_member(area, member.value, member.bindings, list);
+        cursor = member.next;
     }
-    Members::List {
-        index: list,
-        free: end,
-    }
+    Some(list)
 }

@@ -8,11 +8,9 @@ use native.Mathlib.Omega.{arith}
 use borrow.Author.Tests.{eq-eqb, ne_eqb}
 use Rattle.std.proofs.lemmas.List.{take_more}
 use Rattle.rules.specs.Text.{bytes}
-use Rattle.rules.specs.Tree.{Tree}
 use Rattle.laws.specs.Unspelled.{zeros, zeros_name}
 use Rattle.runs.specs.Texts.{word_text, texts}
-use Rattle.equivalence.specs.Words.{Canon}
-use Rattle.fingerprints.specs.Fingerprints.{mixed_byte, mixed, fingerprint, Marked}
+use Rattle.fingerprints.specs.Fingerprints.{mixed_byte, mixed}
 
 -- through one text after another, and through one byte more
 pub mixed_append : (h : ℕ) (a b : List ℕ) → mixed h (a ++ b) ≡ mixed (mixed h a) b
@@ -79,6 +77,3 @@ texts_more h s w i l =
     ∙ ap (mixed (mixed h (texts s (take i w)))) (texts_one s x)
 
 -- ---- words with their fingerprint
-
-pub marks : {s w v : List ℕ} {t : Tree} {base r : ℕ} (k m : ℕ) → Canon s w v t base r → m ≡ fingerprint (texts s (slice base r v)) → Marked s w (set v k m) t base r k
-marks {s} {w} {v} k m c e = record { area = v; canon = c; is = ap (set v k) (e ∙ ap fingerprint c.text) }

@@ -1,18 +1,16 @@
 // Fingerprints of texts: texts that are one have one fingerprint.
 #![tactic(auto)]
 
-pub mod areas; // areas.rt: the canonical words of a tree of an area, with their fingerprint
-
 ghost use Rattle.std.specs.Prelude.{◌≡◌, ◌+◌, ◌*◌, ◌<◌, ◌≤◌, length};
 ghost use Rattle.rules.specs.Tree.{size};
 ghost use Rattle.laws.specs.Unspelled.{zeros_name};
-ghost use Rattle.tree.specs.Cells.{tree_at};
-ghost use Rattle.tree.specs.Arena.{Arena};
+ghost use Rattle.tree.specs.Areas.{tree_in};
 ghost use Rattle.runs.specs.Texts.{word_text, texts, Token, Tokens};
 ghost use Rattle.fingerprints.specs.Fingerprints.{mixed_byte, mixed, fingerprint, Marked};
 
 use equivalence::words::tree_words;
 use runs::order::{byte_of, width_of, zeros_of};
+use tree::area::Area;
 
 // The fingerprint of no bytes, what it is multiplied by at each byte, and what a zero adds to it.
 const BASIS: u32 = 2166136261;
@@ -78,21 +76,14 @@ fn fingerprint(sheet: &[u8], words: &[u32]) -> u32
     mixed
 }
 
-// Writes the canonical words of the tree of cell i from `base` on and their fingerprint into the word k, and answers where they end.
-pub fn marked_words(
-    sheet: &[u8],
-    work: &mut [u32],
-    free: usize,
-    i: usize,
-    base: usize,
-    k: usize,
-) -> usize
-    requires arena { Arena sheet.now work.old free }
-    requires i_nonzero { (0 < i) × (i < free) × (4 * free ≤ base) × (k < base) }
-    requires i_bound { (5 * size (tree_at sheet.now work.old i) < 65536) × (base + 15 * size (tree_at sheet.now work.old i) ≤ length work.old) }
-    ensures { Marked sheet.now work.old work.new (tree_at sheet.now work.old i) base result k }
+// Writes the canonical words of the tree of cell i from `base` on and their fingerprint into the word at k, and answers where they end.
+pub fn marked_words(area: &Area, i: usize, words: &mut [u32], base: usize, k: usize) -> usize
+    requires cell { (0 < i) × (i < area.now.free) }
+    requires small { 5 * size (tree_in area.now i) < 65536 }
+    requires room { (k < base) × (base + 15 * size (tree_in area.now i) ≤ length words.old) }
+    ensures { Marked area.now.sheet.now words.old words.new (tree_in area.now i) base result k }
 {
-    let end = tree_words(sheet, work, free, i, base);
-    work[k] = fingerprint(sheet, &work[base..end]);
+    let end = tree_words(area, i, words, base);
+    words[k] = fingerprint(area.sheet, &words[base..end]);
     end
 }

@@ -44,9 +44,6 @@ spells_next s x i p = rw (drop_next s i p)
 abbrev pub NotBefore : Text → Text → ℕ → Type 0
 NotBefore s x i = (p : ℕ) → p < i → begins_with x (drop p s) ≡ false
 
-pub none_before : (s x : Text) → NotBefore s x 0
-none_before s x p h = absurd (omega arith)
-
 pub one_more_not : (s x : Text) (i : ℕ) → NotBefore s x i → begins_with x (drop i s) ≡ false → NotBefore s x (i + 1)
 one_more_not s x i h e p q = go (dec_lt p i)
   where

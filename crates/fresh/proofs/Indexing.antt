@@ -6,10 +6,9 @@ use mathlib.Core.List.{List, [], ◌∷◌, ◌++◌, map}
 use Rattle.std.specs.Prelude.{Option, Some, None}
 use Rattle.std.specs.List.{starts_with}
 use lib.Dec.{eqb, leb}
-use lib.ListN.{length, get_or, take, drop}
-use lib.Seq.{slice, slice-cons}
+use lib.ListN.{length, get_or, take, drop, drop_of_length-le}
+use lib.Seq.{slice}
 use native.Mathlib.Omega.{arith}
-use native.Mathlib.Numerals.{add-one}
 use borrow.Author.Tests.{eq-eqb, ne_eqb, eqb-true, eqb-false}
 use Rattle.rules.specs.Bytes.{Text, same, upto}
 use Rattle.rules.specs.Maybe.{◌>>=◌}
@@ -22,7 +21,8 @@ use Rattle.rules.specs.Variants.{index_of, fresh_base, fresh_base_in}
 use Rattle.rules.specs.Tree.{variable_names, variable_names_in}
 use Rattle.laws.proofs.Basics.Tests.{same_eq, leb_true, and_left}
 use Rattle.text.specs.Places.{text_at}
-use Rattle.text.proofs.Slices.{slice_none}
+use Rattle.text.proofs.Slices.{drop_take}
+use Rattle.text.proofs.Loops.{drop_next}
 use Rattle.syntax.proofs.Runs.{run_le}
 use Rattle.sheet.specs.Lines.{part_of}
 use Rattle.variables.specs.Ordered.{inserted, ordered_once}
@@ -101,27 +101,29 @@ base_bounded base (x ∷ xs) b e h = go (index_of x) refl (λ base. base_bounded
 
 -- ---- the names at places
 
-module _ (s : Text) (w : List ℕ) (i end : ℕ) where
-  abbrev rest : ℕ → List Text
-  rest i = map (text_at s) (slice i end w)
+pub listed_first : (s : Text) (w : List ℕ) (from to : ℕ) → names_base_from 0 (map (text_at s) (drop 0 (take (to - from) (drop from w)))) ≡ names_base (map (text_at s) (slice from to w))
+listed_first s w from to = ap (λ (l : List ℕ). names_base_from 0 (map (text_at s) l)) (sym (drop_take from to w))
 
-  rest_next : i < end → end ≤ length w → rest i ≡ text_at s (get_or w i 0) ∷ rest (i + 1)
-  rest_next p q = ap (map (text_at s)) (slice-cons i end w 0 p q) ∙ rw add-one
+module _ (s : Text) (l : List ℕ) (i : ℕ) where
+  listed_next : i < length l → map (text_at s) (drop i l) ≡ text_at s (get_or l i 0) ∷ map (text_at s) (drop (i + 1) l)
+  listed_next p = ap (map (text_at s)) (drop_next l i p)
 
-  pub rest_ends : (base : ℕ) {o : Option ℕ} → end ≤ i → names_base_from base (rest i) ≡ o → Some base ≡ o
+  pub listed_ends : (base : ℕ) {o : Option ℕ} → length l ≤ i → names_base_from base (map (text_at s) (drop i l)) ≡ o → Some base ≡ o
   unfolding names_base_from
-  rest_ends base p e = sym (ap (λ (l : List ℕ). names_base_from base (map (text_at s) l)) (slice_none i end w p)) ∙ e
+  listed_ends base p e = sym (ap (λ (m : List ℕ). names_base_from base (map (text_at s) m)) (drop_of_length-le l p)) ∙ e
 
   -- a turn of the loop: what the name's index is
-  module _ {x : Text} (base : ℕ) {o : Option ℕ} (p : i < end) (q : end ≤ length w) (t : x ≡ text_at s (get_or w i 0)) (h : names_base_from base (rest i) ≡ o) where
-    rest_first : names_base_from base (x ∷ rest (i + 1)) ≡ o
-    rest_first = ap (λ (y : Text). names_base_from base (y ∷ rest (i + 1))) t ∙ ap (names_base_from base) (sym (rest_next p q)) ∙ h
+  module _ {x : Text} (base : ℕ) {o : Option ℕ} (p : i < length l) (t : x ≡ text_at s (get_or l i 0)) (h : names_base_from base (map (text_at s) (drop i l)) ≡ o) where
+    one_first : names_base_from base (x ∷ map (text_at s) (drop (i + 1) l)) ≡ o
+    one_first = ap (λ (y : Text). names_base_from base (y ∷ map (text_at s) (drop (i + 1) l))) t ∙ ap (names_base_from base) (sym (listed_next p)) ∙ h
 
-    pub rest_passes : {n : ℕ} → Some n ≡ index_of x → names_base_from (max base (n + 1)) (rest (i + 1)) ≡ o
-    rest_passes {n} e = let y : max base (n + 1) ≡ max base (suc n) = omega arith in rw y (sym (base_next base x (rest (i + 1)) n (sym e)) ∙ rest_first)
+    pub listed_passes : {n : ℕ} → Some n ≡ index_of x → names_base_from (max base (n + 1)) (map (text_at s) (drop (i + 1) l)) ≡ o
+    listed_passes {n} e =
+        let y : max base (n + 1) ≡ max base (suc n) = omega arith in
+        rw y (sym (base_next base x (map (text_at s) (drop (i + 1) l)) n (sym e)) ∙ one_first)
 
-    pub rest_fails : None ≡ index_of x → None ≡ o
-    rest_fails e = sym (base_stops base x (rest (i + 1)) (sym e)) ∙ rest_first
+    pub listed_fails : None ≡ index_of x → None ≡ o
+    listed_fails e = sym (base_stops base x (map (text_at s) (drop (i + 1) l)) (sym e)) ∙ one_first
 
 -- ---- names in byte order, each once
 

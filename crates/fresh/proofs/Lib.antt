@@ -1,4 +1,5 @@
 pub mod Indexing
-pub mod TermNaming
 pub mod Finding
 pub mod FreshCells
+pub mod TermLaws
+pub mod ChoosingLaws

@@ -1,4 +1,4 @@
 pub mod Indices
-pub mod TermNames
 pub mod Searching
 pub mod Fresh
+pub mod Areas

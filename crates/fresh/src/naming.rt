@@ -1,44 +1,48 @@
-// The variables of a term as a list of cells, with one above their indices.
-ghost use Rattle.std.specs.Prelude.{◌+◌, ◌*◌, ◌<◌, ◌≤◌, ◌^◌, length};
+// The variables of a term of an area as a list of cells, with one above their indices.
+ghost use Rattle.std.specs.Prelude.{◌≡◌, ◌+◌, ◌*◌, ◌<◌, ◌≤◌, ◌^◌, length};
 ghost use Rattle.rules.specs.Tree.{size};
-ghost use Rattle.tree.specs.Cells.{tree_at};
-ghost use Rattle.tree.specs.Arena.{Arena};
+ghost use Rattle.tree.specs.Areas.{tree_in};
 ghost use Rattle.variables.specs.Variables.{Readable};
-ghost use Rattle.fresh.specs.TermNames.{NamesTerm};
+ghost use Rattle.fresh.specs.Indices.{names_base};
+ghost use Rattle.fresh.specs.Areas.{texts_in, NamesTermIn};
 
-use crate::indices::base_of;
-use tree::cells::share;
-use variables::gathering::variables_of;
+use crate::indices::index_of;
+use text::places::text_at;
+use tree::area::Area;
+use variables::gathering::{Places, variables_of};
 use variables::listing::list_variables;
 
-// The variables of a term as a list of cells, one above their indices, and the free end; or one of them has no index.
-#[derive(Clone, Copy)]
-pub enum Named {
-    Names {
-        index: usize,
-        base: usize,
-        free: usize,
-    },
-    Unindexed,
+// One above every index of the variables at places; None where a variable has no index.
+fn base_of(area: &Area, places: Places) -> Option<usize>
+    requires { (places.from ≤ places.to) × (places.to ≤ length area.now.work.now) }
+    ensures { result ≡ names_base (texts_in area.now places) }
+{
+    let mut base: usize = 0;
+    for x in &area.work[places.from..places.to] {
+        let index = index_of(text_at(area.sheet, *x))?;
+        base = base.max(index + 1);
+    }
+    Some(base)
 }
 
-// The variables of the tree of cell term. Their places are written above as many cells as the sheet has bytes.
-pub fn name_variables(sheet: &[u8], work: &mut [u32], free: usize, term: usize) -> Named
-    requires arena { Arena sheet.now work.old free × (length sheet.now ≤ 65536) }
-    requires term_nonzero { (0 < term) × (term < free) × Readable (tree_at sheet.now work.old term) × (size (tree_at sheet.now work.old term) ≤ length sheet.now) }
-    requires sheet_in_bounds { (4 * (free + 1 + length sheet.now) + 2 * length sheet.now ≤ length work.old) × (free + 1 + length sheet.now < 2 ^ 32) }
-    ensures { NamesTerm sheet.now work.old work.new free term result }
+// The variables of a term as a list of cells, and one above their indices.
+#[derive(Clone, Copy, Debug, PartialEq, Eq)]
+pub struct Named {
+    pub names: usize,
+    pub base: usize,
+}
+
+// The variables of the tree of cell term, or None where one of them has no index. Their places are written above as many cells as the sheet
+// has bytes.
+pub fn name_variables(area: &mut Area, term: usize) -> Option<Named>
+    requires term { (0 < term) × (term < area.old.free) × Readable (tree_in area.old term) }
+    requires few { (size (tree_in area.old term) ≤ length area.old.sheet.now) × (length area.old.sheet.now ≤ 65536) }
+    requires room { (4 * (area.old.free + 1 + length area.old.sheet.now) + 2 * length area.old.sheet.now ≤ length area.old.work.now) × (area.old.free + 1 + length area.old.sheet.now < 2 ^ 32) }
+    ensures { NamesTermIn area.old area.new term result }
 {
-    let end = share(sheet, work, free, term, 0);
-    let at = 4 * (end + sheet.len());
-    let last = variables_of(sheet, work, end, free, at);
-    let Some(base) = base_of(sheet, work, at, last) else {
-        return Named::Unindexed;
-    };
-    let listed = list_variables(sheet, work, end, at, last);
-    Named::Names {
-        index: listed.index,
-        base,
-        free: listed.free,
-    }
+    let list = area.share(term, 0);
+    let places = variables_of(area, list);
+    let base = base_of(area, places)?;
+    let names = list_variables(area, places);
+    Some(Named { names, base })
 }

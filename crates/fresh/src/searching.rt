@@ -1,12 +1,16 @@
-// The search for a text in the sheet.
-ghost use Rattle.std.specs.Prelude.{◌<◌, length};
+// The search for a text in the sheet, and for the name of a fresh variable.
+ghost use Rattle.std.specs.Prelude.{◌≡◌, ◌<◌, ◌≤◌, length};
+ghost use Rattle.rules.specs.Variants.{fresh_name};
+ghost use Rattle.text.specs.Printing.{Printed};
 ghost use Rattle.fresh.specs.Searching.{FindsText};
 
 use sheet::part;
 use text::begins;
+use text::decimal::print;
+use tree::names::print_text;
 
 // The first place in the sheet where a text is spelled.
-pub(crate) fn find_text(sheet: &[u8], text: &[u8]) -> Option<usize>
+fn find_text(sheet: &[u8], text: &[u8]) -> Option<usize>
     requires { 0 < length text.now }
     ensures { FindsText sheet.now text.now result }
 {
@@ -16,4 +20,30 @@ pub(crate) fn find_text(sheet: &[u8], text: &[u8]) -> Option<usize>
         }
     }
     None
+}
+
+// Writes the name x<n>:Msg from the front of out on, and returns where it ends.
+fn print_fresh(n: usize, out: &mut [u8]) -> usize
+    requires { 25 ≤ length out.old }
+    ensures { Printed out.old out.new 0 (fresh_name n) result }
+{
+    let first = print_text(out, 0, b"x");
+    let end = print(n, out, first);
+    print_text(out, end, b":Msg")
+}
+
+// The bytes that a name takes.
+fn name_bytes() -> [u8; 32]
+    ensures { 32 ≡ length result }
+{
+    [0u8; 32]
+}
+
+// Where the sheet spells x<n>:Msg.
+pub(crate) fn find_fresh(sheet: &[u8], n: usize) -> Option<usize>
+    ensures { FindsText sheet.now (fresh_name n) result }
+{
+    let mut name = name_bytes();
+    let end = print_fresh(n, &mut name);
+    find_text(sheet, part(&name, 0, end))
 }

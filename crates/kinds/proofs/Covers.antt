@@ -10,7 +10,7 @@ use Rattle.rules.specs.Bytes.{Text}
 use Rattle.rules.specs.Text.{bytes, count_of}
 use Rattle.rules.specs.Maybe.{◌>>=◌}
 use Rattle.rules.specs.Substitution.{Pair}
-use Rattle.rules.specs.Sheet.{Member, asks_cover, read_sheet}
+use Rattle.rules.specs.Sheet.{Entry, Member, asks_cover, read_sheet}
 use Rattle.rules.specs.Cover.{covered}
 use Rattle.rules.specs.Answer.{read_pairs, line, claim, answer_of}
 use Rattle.forms.specs.Members.{members_at}
@@ -19,17 +19,20 @@ use Rattle.sheet.specs.declared.Cursor.{Cursor}
 use Rattle.forms.specs.declared.form.Form.{Form}
 use Rattle.forms.specs.declared.form.Form.TheVariants as form
 use Rattle.forms.proofs.WalkLaws.{members_later, cover_parts, walked_rest, lines_members}
-use Rattle.elimination.specs.Stack.{pairs_at}
-use Rattle.cover.specs.Covered.{CoverInput}
+use Rattle.tree.specs.declared.area.Area.{Area}
+use Rattle.tree.specs.Areas.{Lent}
+use Rattle.tree.proofs.Keeping.{grows_then}
+use Rattle.cover.specs.Areas.{CoverInputIn, ClaimsCoveredIn}
 use Rattle.admission.specs.Admission.{Decoded}
 use Rattle.kinds.specs.Outcomes.{DecidesForm}
-use Rattle.pairs.specs.Pairs.{ReadPairs}
+use Rattle.pairs.specs.Areas.{ReadPairsIn}
+use Rattle.pairs.specs.declared.Pairs.{Pairs}
 use Rattle.kinds.specs.Outcomes.{CoverAsked}
 use Rattle.answers.specs.declared.deciding.Key.TheVariants as key
 use Rattle.answers.specs.declared.deciding.Lines.TheVariants.{Claim}
 use Rattle.rules.specs.declared.Refusal.TheVariants.{UnreadableTerm}
-use Rattle.answers.proofs.Decides.{unreadable_decides, claim_decides}
-use Rattle.kinds.proofs.KindLaws.{read_decided}
+use Rattle.answers.proofs.Decides.{claim_decides}
+use Rattle.kinds.proofs.KindLaws.{sheet_decided, unread_decided}
 use Rattle.kinds.proofs.Solves.{read_whole, read_are}
 
 -- the members of the form are those after its pairs
@@ -48,38 +51,39 @@ cover_asked s c d f e h =
       inside = w.0;
     }
 
-module _ (s : Text) (at : ℕ) (a : CoverAsked s at) where
-  -- the answer, by what the pairs read as
-  cover_answer : (o : Option (List Pair)) → read_pairs a.entries ≡ o
-      → answer_of (asks_cover a.entries a.members) ≡ (o >>= λ ps. Some (line (bytes "covered=") (claim (covered ps a.members))))
-  unfolding answer_of
-  cover_answer o e = ap (λ (o : Option (List Pair)). o >>= λ ps. Some (line (bytes "covered=") (claim (covered ps a.members)))) e
+-- the answer, by what the pairs read as
+cover_answer : (es : List Entry) (ms : List Member) {o : Option (List Pair)} → read_pairs es ≡ o
+    → answer_of (asks_cover es ms) ≡ (o >>= λ ps. Some (line (bytes "covered=") (claim (covered ps ms))))
+unfolding answer_of
+cover_answer es ms e = ap (λ (o : Option (List Pair)). o >>= λ ps. Some (line (bytes "covered=") (claim (covered ps ms)))) e
 
-  pub cover_unread : {w : List ℕ} → read_pairs a.entries ≡ None → DecidesForm (read_sheet s) s w (Err UnreadableTerm)
-  cover_unread e = read_decided s (asks_cover a.entries a.members) None a.reads (cover_answer None e) unreadable_decides
+module _ {a b : Area} {at : ℕ} (k : CoverAsked a.sheet.now at) where
+  pub cover_unread : read_pairs k.entries ≡ None → Lent a b → DecidesForm (read_sheet a.sheet.now) a b (Err UnreadableTerm)
+  cover_unread e l = unread_decided k.reads (cover_answer k.entries k.members e) l
 
-  module _ {w v : List ℕ} {i m end : ℕ} (r : ReadPairs s w v a.entries a.rest i m end) where
-    members_there : members_at s end ≡ Some a.members
-    members_there = members_later s end a.rest a.members r.lines a.later
+  module _ {r : Pairs} (empty : a.free ≡ 1) (h : ReadPairsIn a b at k.entries k.rest r) where
+    members_there : members_at b.sheet.now r.next.at ≡ Some k.members
+    members_there = members_later b.sheet.now r.next.at k.rest k.members h.lines k.later
 
-    pub cover_asks : 65536 * (count_of 58 s + 16) + 16 * length s ≤ length w → CoverInput s v m i end
-    cover_asks enough = record {
-      entries = a.entries;
-      members = a.members;
-      reads = a.reads;
-      short = a.short;
-      pairs = r.read ∙ ap Some (sym (read_are r));
-      whole = read_whole r;
-      later = members_there;
-      inside = r.within;
-      used = r.used;
-      words = omega (arith, r.len);
-    }
+    pub cover_asks : 65536 * (count_of 58 a.sheet.now + 16) + 16 * length a.sheet.now ≤ length a.work.now → CoverInputIn b r.stack r.next.at
+    cover_asks enough =
+        let e = ap (λ x. x.now) h.grows.lent.sheet in
+        record {
+          entries = k.entries;
+          members = k.members;
+          reads = ap read_sheet e ∙ k.reads;
+          short = rw e k.short;
+          pairs = h.read ∙ ap Some (sym (read_are h));
+          whole = read_whole h;
+          later = members_there;
+          inside = h.within;
+          used = omega (arith, h.used, h.onward);
+          words = rw e (omega (arith, h.grows.below.len));
+        }
 
-    pub cover_decided : {u : List ℕ} (c : Option Bool) → ((ms : List Member) → members_at s end ≡ Some ms → c ≡ covered (pairs_at s v i) ms)
-        → DecidesForm (read_sheet s) s u (Ok (Claim key.Covered c))
-    cover_decided c h =
-        read_decided s (asks_cover a.entries a.members) (Some (line (bytes "covered=") (claim c))) a.reads
-        (cover_answer (Some r.ps) r.read ∙ ap (λ (ps : List Pair). Some (line (bytes "covered=") (claim (covered ps a.members)))) (sym (read_are r))
-        ∙ ap (λ (o : Option Bool). Some (line (bytes "covered=") (claim o))) (sym (h a.members members_there)))
+    pub cover_decided : {d : Area} {c : Option Bool} → ClaimsCoveredIn b d r.stack r.next.at c → DecidesForm (read_sheet a.sheet.now) a d (Ok (Claim key.Covered c))
+    cover_decided {d} {c} g =
+        sheet_decided k.reads
+        (cover_answer k.entries k.members (h.read ∙ ap Some (sym (read_are h))) ∙ ap (λ (o : Option Bool). Some (line (bytes "covered=") (claim o))) (sym (g.claim k.members members_there)))
+        (grows_then h.grows g.grows).lent
         (claim_decides key.Covered c)

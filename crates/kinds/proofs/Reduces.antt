@@ -1,21 +1,46 @@
 -- The answer to a sheet of kind `reduce`: the line of the normal form.
-use mathlib.Core.Path.{◌≡◌, sym, ap, ◌∙◌}
-use Rattle.std.specs.Prelude.{Option, Some, None}
+use mathlib.Core.Path.{◌≡◌, refl, sym, ap, ◌∙◌}
+use Rattle.std.specs.Prelude.{Option, Some, Ok, Err}
+use Prim.Native.Nat.{ℕ}
 use Rattle.rules.specs.Bytes.{Text}
 use Rattle.rules.specs.Text.{bytes}
 use Rattle.rules.specs.Maybe.{◌>>=◌}
-use Rattle.rules.specs.Tree.{Tree}
+use Rattle.rules.specs.Tree.{Tree, size}
 use Rattle.rules.specs.Writing.{render}
 use Rattle.rules.specs.Reading.{parse}
 use Rattle.rules.specs.Reduction.{normalize}
 use Rattle.rules.specs.Sheet.{asks_reduce}
 use Rattle.rules.specs.Answer.{line, answer_of}
+use Rattle.rules.specs.declared.Refusal.TheVariants.{UnreadableTerm}
+use Rattle.tree.specs.declared.area.Area.{Area}
+use Rattle.tree.specs.Areas.{tree_in}
+use Rattle.tree.specs.Spelled.{text_in}
+use Rattle.sheet.specs.declared.Place.{Place}
+use Rattle.forms.specs.Form.{sheet_of}
+use Rattle.forms.specs.declared.form.Form.TheVariants as form
+use Rattle.reading.specs.Areas.{Reads, UnreadIn}
+use Rattle.reduction.specs.Areas.{Becomes}
+use Rattle.answers.specs.declared.deciding.Key.TheVariants as key
+use Rattle.answers.specs.declared.deciding.Lines.TheVariants.{Term}
+use Rattle.answers.proofs.Decides.{term_decides}
+use Rattle.kinds.specs.Outcomes.{DecidesForm}
+use Rattle.kinds.proofs.KindLaws.{sheet_decided, unread_decided, lent_then}
 
-pub reduce_unreadable : (t : Text) → parse t ≡ None → answer_of (asks_reduce t) ≡ None
+-- the answer, by what the term reads as
+reduce_answer : (t : Text) {o : Option Tree} → parse t ≡ o → answer_of (asks_reduce t) ≡ (o >>= λ u. Some (line (bytes "normal=") (render (normalize u))))
 unfolding answer_of
-reduce_unreadable t e = ap (λ (o : Option Tree). o >>= λ u. Some (line (bytes "normal=") (render (normalize u)))) e
+reduce_answer t e = ap (λ (o : Option Tree). o >>= λ u. Some (line (bytes "normal=") (render (normalize u)))) e
 
-pub reduce_line : (t : Text) (u v : Tree) → parse t ≡ Some u → v ≡ normalize u → answer_of (asks_reduce t) ≡ Some (line (bytes "normal=") (render v))
-unfolding answer_of
-reduce_line t u v e f =
-    ap (λ (o : Option Tree). o >>= λ u. Some (line (bytes "normal=") (render (normalize u)))) e ∙ ap (λ (z : Tree). Some (line (bytes "normal=") (render z))) (sym f)
+module _ {a b : Area} {t : Place} where
+  pub reduce_unread : UnreadIn a b t → DecidesForm (sheet_of a.sheet.now (form.Reduce t)) a b (Err UnreadableTerm)
+  unfolding sheet_of
+  reduce_unread h = unread_decided refl (reduce_answer (text_in a t) h.unread) h.lent
+
+  pub reduce_decided : {i j : ℕ} {d : Area} → Reads a b t i → Becomes b d (size (tree_in b i)) 0 (normalize (tree_in b i)) j
+      → DecidesForm (sheet_of a.sheet.now (form.Reduce t)) a d (Ok (Term key.Normal j))
+  unfolding sheet_of
+  reduce_decided h g =
+      sheet_decided refl
+      (reduce_answer (text_in a t) h.reads ∙ ap (λ (z : Tree). Some (line (bytes "normal=") (render z))) (sym g.tree))
+      (lent_then h.lent g.grows.lent)
+      (term_decides key.Normal g.some_cell g.inside)

@@ -1,42 +1,40 @@
--- What a sheet of kind `unify`, `match`, `cover` or `complete` asks, the answer as the code makes it, and what is decided. Definitions only.
-use Rattle.std.specs.Prelude.{ℕ, ◌≤◌, ◌≡◌, Bool, true, false, List, [], length, Result, Ok}
-use Rattle.std.specs.Prelude.{Option, Some}
+-- What a sheet of kind `unify`, `match`, `cover` or `complete` asks, what is read of its pairs, and what is decided. Definitions only.
+use Rattle.std.specs.Prelude.{ℕ, ◌+◌, ◌*◌, ◌≤◌, ◌≡◌, List, [], length, Option, Some, None, Result}
 use Rattle.rules.specs.Bytes.{Text}
 use Rattle.rules.specs.Maybe.{◌>>=◌}
-use Rattle.rules.specs.Answer.{answer_of}
+use Rattle.rules.specs.Answer.{read_pairs, answer_of}
 use Rattle.rules.specs.Call.{given}
+use Rattle.rules.specs.declared.Refusal.{Refusal}
 use Rattle.rules.specs.declared.Refusal.TheVariants.{UnreadableTerm}
 use Rattle.rules.specs.RefusalNumbers.{number_for}
-use Rattle.rules.specs.Substitution.{Pair}
-use Rattle.rules.specs.Solving.{solved, failed, unsupported, Answer, unify}
-use Rattle.rules.specs.Matching.{matcher}
-use Rattle.rules.specs.Sheet.{Sheet, Entry, Member, asks_unify, asks_match, asks_cover, asks_complete, pairs, members_from, none_waiting, read_sheet}
-use Rattle.substitution.specs.Bindings.{bindings_at}
+use Rattle.rules.specs.Sheet.{Sheet, Entry, Member, asks_cover, asks_complete, pairs, members_from, none_waiting, read_sheet}
+use Rattle.tree.specs.declared.area.Area.{Area}
+use Rattle.tree.specs.Areas.{Lent, Grows}
 use Rattle.sheet.specs.Lines.{lines_at}
+use Rattle.sheet.specs.declared.Place.{Place}
 use Rattle.forms.specs.Members.{members_at}
 use Rattle.forms.specs.Form.{text_of, Inside}
-use Rattle.sheet.specs.declared.Place.{Place}
+use Rattle.pairs.specs.Pairs.{PairsFrom}
+use Rattle.pairs.specs.Areas.{ReadPairsIn}
+use Rattle.pairs.specs.declared.Pairs.{Pairs}
+use Rattle.unifier.specs.declared.unifying.Answer.{Answer}
+use Rattle.unifier.specs.declared.unifying.Verdict.{Verdict}
+use Rattle.unifier.specs.declared.unifying.Verdict.TheVariants as verdict
 use Rattle.answers.specs.Deciding.{DecisionIs}
-use Rattle.answers.specs.declared.deciding.Lines.TheVariants as verdict
 use Rattle.answers.specs.declared.deciding.Lines.{Lines}
-use Rattle.rules.specs.declared.Refusal.{Refusal}
-use Rattle.unifier.specs.declared.unifying.Outcome.{Outcome}
-use Rattle.unifier.specs.declared.unifying.Outcome.TheVariants as outcome
+use Rattle.answers.specs.declared.deciding.Lines.TheVariants.{Solved, Failed, Unsupported}
 
--- `match` or `unify`
-abbrev pub asks : Bool → ℕ → List Entry → Sheet
-asks true = asks_match
-asks false = asks_unify
+-- an area with no cell yet, and with the words of what is read of its sheet and of one step
+pub record Ready (a : Area) : Type 0 where
+  pub no_cells : a.free ≡ 1
+  pub short : length a.sheet.now ≤ 65536
+  pub words : 1048576 + 16 * length a.sheet.now ≤ length a.work.now
 
-abbrev pub solve_by : Bool → ℕ → List Pair → Answer
-solve_by true = matcher
-solve_by false = unify
-
--- the sheet asks for its pairs to be solved, which stand from a position on
-pub record Asked (s : Text) (matching : Bool) (fuel at : ℕ) : Type 0 where
+-- the sheet asks, in one way or the other, for its pairs to be solved, which stand from a position on
+pub record Asked (s : Text) (asks : ℕ → List Entry → Sheet) (fuel at : ℕ) : Type 0 where
   pub entries : List Entry
   pub lines : (lines_at s at >>= pairs) ≡ Some (entries, [])
-  pub reads : read_sheet s ≡ Some (asks matching fuel entries)
+  pub reads : read_sheet s ≡ Some (asks fuel entries)
   pub short : length s ≤ 65536
   pub fuelled : fuel ≤ 65536
   pub inside : at ≤ length s
@@ -62,22 +60,23 @@ pub record CompleteAsked (s : Text) (t : Place) (at : ℕ) : Type 0 where
   pub follows : t.to ≤ at
   pub inside : at ≤ length s
 
--- the answer that an outcome stands for
-abbrev pub told : Text → List ℕ → Outcome → Answer
-told s w (outcome.Solved b m spent) = (solved (bindings_at s w b), spent)
-told s w (outcome.Failed spent) = (failed, spent)
-told s w (outcome.Unsupported spent) = (unsupported, spent)
+-- the pairs from a position on are read, or one of them is unreadable
+abbrev pub ReadsStack : Area → Area → ℕ → Pairs → Type 0
+ReadsStack a b at r = (es : List Entry) (rest : List Text) → PairsFrom a.sheet.now at es rest → ReadPairsIn a b at es rest r
 
--- an outcome as a decision
-abbrev pub verdict_of : Outcome → Result Lines Refusal
-verdict_of (outcome.Solved b m spent) = Ok (verdict.Solved b m spent)
-verdict_of (outcome.Failed spent) = Ok (verdict.Failed spent)
-verdict_of (outcome.Unsupported spent) = Ok (verdict.Unsupported spent)
+abbrev pub NoStack : Area → Area → ℕ → Type 0
+NoStack a b at = (es : List Entry) (rest : List Text) → PairsFrom a.sheet.now at es rest → (read_pairs es ≡ None) × Grows a b
 
--- what is decided of a sheet: its answer, or 4 where there is none
-abbrev pub DecidesSheet : Sheet → Text → List ℕ → Result Lines Refusal → Type 0
-DecidesSheet sheet s w d = DecisionIs (given (answer_of sheet) (number_for UnreadableTerm)) s w d
+-- the lines of an answer
+abbrev pub verdict_lines_of : Verdict → ℕ → Lines
+verdict_lines_of (verdict.Solved b) spent = Solved b spent
+verdict_lines_of verdict.Failed spent = Failed spent
+verdict_lines_of verdict.Unsupported spent = Unsupported spent
 
--- the same of a sheet that was read
-abbrev pub DecidesForm : Option Sheet → Text → List ℕ → Result Lines Refusal → Type 0
-DecidesForm o s w d = (sheet : Sheet) → o ≡ Some sheet → DecidesSheet sheet s w d
+abbrev pub verdict_of : Answer → Lines
+verdict_of r = verdict_lines_of r.verdict r.spent
+
+-- b is a with cells written, and d is what is decided of a sheet that was read: its answer, or 4 where there is none
+pub record DecidesForm (o : Option Sheet) (a b : Area) (d : Result Lines Refusal) : Type 0 where
+  pub lent : Lent a b
+  pub decides : (sheet : Sheet) → o ≡ Some sheet → DecisionIs (given (answer_of sheet) (number_for UnreadableTerm)) b d

@@ -1,19 +1,19 @@
-// One function for each kind of sheet: it decides, and writes nothing. The work area that they are lent is the words that the sheet
-// needs; a decision tells where in it its term or its bindings stand.
+// One function for each kind of sheet: it decides, and writes no output. The area that it is lent has no cell yet and the words that the
+// sheet needs; a decision tells which of its cells are a term or bindings.
 #![tactic(auto)]
 
-ghost use Rattle.std.specs.Prelude.{◌≡◌, [], ◌∷◌, ◌+◌, ◌*◌, ◌<◌, ◌≤◌, length};
+ghost use Rattle.std.specs.Prelude.{◌≡◌, ◌+◌, ◌*◌, ◌<◌, ◌≤◌, length, MatchResult};
 ghost use Rattle.rules.specs.Text.{count_of};
-ghost use Rattle.rules.specs.Sheet.{Member, asks_equal, asks_reduce, asks_sound, read_sheet};
-ghost use Rattle.forms.specs.Members.{members_at};
-ghost use Rattle.tree.specs.Cells.{trees_at};
-ghost use Rattle.tree.specs.Arena.{Arena};
+ghost use Rattle.rules.specs.Sheet.{asks_unify, asks_match, read_sheet};
+ghost use Rattle.rules.specs.declared.Refusal.TheVariants.{UnreadableTerm};
+ghost use Rattle.sheet.specs.declared.Cursor.{Cursor};
+ghost use Rattle.forms.specs.declared.form.Form.TheVariants as form;
 ghost use Rattle.forms.specs.Form.{text_of, Inside, sheet_of, EnoughWords};
+ghost use Rattle.reading.specs.Areas.{Reads, UnreadIn};
+ghost use Rattle.pairs.specs.Pairs.{PairsThere};
 ghost use Rattle.admission.specs.Admission.{Decoded};
-ghost use Rattle.elimination.specs.Stack.{Whole, pairs_at, FitPairs};
-ghost use Rattle.unifier.specs.Running.{Roomy, Answers as Solves};
 ghost use Rattle.variants.specs.Soundness.{OneMember};
-ghost use Rattle.kinds.specs.Outcomes.{solve_by, Asked, CoverAsked, CompleteAsked, verdict_of, DecidesSheet, DecidesForm};
+ghost use Rattle.kinds.specs.Outcomes.{Ready, Asked, CoverAsked, CompleteAsked, ReadsStack, NoStack, verdict_of, DecidesForm};
 
 use answers::deciding::{Decision, Key, Lines};
 use certificate::equivalent_texts;
@@ -22,123 +22,114 @@ use cover::covered::covered;
 use forms::form::Form;
 use matching::matcher;
 use pairs::{Pairs, read_pairs};
-use reading::{Parsed, parse};
+use reading::parse;
 use reduction::normalizing::normalize;
 use rules::Refusal;
 use sheet::{Cursor, Place, part};
 use text::count_of;
-use unifier::unifying::{Outcome, unify};
+use tree::area::Area;
+use unifier::unifying::{Answer, Verdict, unify};
 use variants::soundness::sound;
 
-// Kind `equal`.
-fn equal(sheet: &[u8], work: &mut [u32], left: Place, right: Place) -> Decision
-    requires sheet_len_bound { (length sheet.now ≤ 65536) × (4 * length sheet.now < length work.old) }
-    requires inside { Inside sheet.now left × Inside sheet.now right }
-    ensures { DecidesSheet (asks_equal (text_of sheet.now left) (text_of sheet.now right)) sheet.now work.new result }
+// The cell of a term of the sheet.
+fn read_term(area: &mut Area, term: Place) -> Result<usize, Refusal>
+    requires ready { Ready area.old }
+    requires inside { Inside area.old.sheet.now term }
+    ensures { MatchResult result (λ i. Reads area.old area.new term i) (λ refusal. (refusal ≡ UnreadableTerm) × UnreadIn area.old area.new term) }
 {
-    let Some(same) = equivalent_texts(sheet, work, 0, left, right) else {
-        return Err(Refusal::UnreadableTerm);
-    };
+    parse(area, term).ok_or(Refusal::UnreadableTerm)
+}
+
+// The pairs of the sheet from a cursor on, as a list of cells.
+fn read_stack(area: &mut Area, pairs: Cursor) -> Result<Pairs, Refusal>
+    requires ready { Ready area.old }
+    requires inside { pairs.at ≤ length area.old.sheet.now }
+    requires pairs_there { PairsThere area.old.sheet.now pairs.at }
+    ensures { MatchResult result (λ r. ReadsStack area.old area.new pairs.at r) (λ refusal. (refusal ≡ UnreadableTerm) × NoStack area.old area.new pairs.at) }
+{
+    read_pairs(area, pairs).ok_or(Refusal::UnreadableTerm)
+}
+
+// Kind `equal`. The words of the cells are scratch.
+fn equal(area: &mut Area, left: Place, right: Place) -> Decision
+    requires ready { Ready area.old }
+    requires inside { Inside area.old.sheet.now left × Inside area.old.sheet.now right }
+    ensures { DecidesForm (sheet_of area.old.sheet.now (form.Equal left right)) area.old area.new result }
+{
+    let sheet = area.sheet;
+    let work = &mut *area.work;
+    let same = equivalent_texts(sheet, work, 0, left, right).ok_or(Refusal::UnreadableTerm)?;
     Ok(Lines::Claim {
         key: Key::Equal,
         claim: Some(same),
     })
 }
 
-// Kind `reduce`. Cells start at 1.
-fn reduce(sheet: &[u8], work: &mut [u32], term: Place) -> Decision
-    requires sheet_len_bound { (length sheet.now ≤ 65536) × (1048576 + 16 * length sheet.now ≤ length work.old) }
-    requires inside { Inside sheet.now term }
-    ensures { DecidesSheet (asks_reduce (text_of sheet.now term)) sheet.now work.new result }
+// Kind `reduce`.
+fn reduce(area: &mut Area, term: Place) -> Decision
+    requires ready { Ready area.old }
+    requires inside { Inside area.old.sheet.now term }
+    ensures { DecidesForm (sheet_of area.old.sheet.now (form.Reduce term)) area.old area.new result }
 {
-    let from = term.from;
-    let to = term.to;
-    let parsed = parse(sheet, work, 1, from, to);
-    let Parsed::Tree { index, free } = parsed else {
-        return Err(Refusal::UnreadableTerm);
-    };
-    let normal = normalize(sheet, work, free, index, 0);
-    let i = normal.index;
-    let end = normal.free;
+    let index = read_term(area, term)?;
+    let normal = normalize(area, index, 0);
     Ok(Lines::Term {
         key: Key::Normal,
-        free: end,
-        index: i,
+        index: normal,
     })
 }
 
-// The answer of `match`, or of `unify`, to the pairs from cell stack on.
-fn solve(
-    sheet: &[u8],
-    work: &mut [u32],
-    free: usize,
-    stack: usize,
-    fuel: usize,
-    matching: bool,
-) -> Outcome
-    requires arena { Arena sheet.now work.old free }
-    requires stack_lt_free { (stack < free) × (fuel ≤ 65536) × Whole (trees_at sheet.now work.old stack) × FitPairs (pairs_at sheet.now work.old stack) }
-    requires roomy { Roomy work.old free fuel (pairs_at sheet.now work.old stack) }
-    ensures { Solves sheet.now work.old work.new free (solve_by matching fuel (pairs_at sheet.now work.old stack)) result }
+// The lines of an answer of `unify` or `match`.
+fn verdict(answer: Answer) -> Lines
+    ensures { result ≡ verdict_of answer }
 {
-    if matching {
-        return matcher(sheet, work, free, stack, fuel);
-    }
-    unify(sheet, work, free, stack, fuel)
-}
-
-// An answer of `unify` or `match` as a decision.
-fn verdict(outcome: Outcome) -> Decision
-    ensures { result ≡ verdict_of outcome }
-{
-    match outcome {
-        Outcome::Solved {
+    match answer.verdict {
+        Verdict::Solved(bindings) => Lines::Solved {
             bindings,
-            free,
-            spent,
-        } => Ok(Lines::Solved {
-            bindings,
-            free,
-            spent,
-        }),
-        Outcome::Failed { spent } => Ok(Lines::Failed { spent }),
-        Outcome::Unsupported { spent } => Ok(Lines::Unsupported { spent }),
+            spent: answer.spent,
+        },
+        Verdict::Failed => Lines::Failed {
+            spent: answer.spent,
+        },
+        Verdict::Unsupported => Lines::Unsupported {
+            spent: answer.spent,
+        },
     }
 }
 
-// Kinds `unify` and `match`.
-fn solving(sheet: &[u8], work: &mut [u32], fuel: usize, pairs: Cursor, matching: bool) -> Decision
-    requires asked { Asked sheet.now matching fuel pairs.at }
-    requires sheet_in_bounds { 65536 * (count_of 58 sheet.now + 16) + 16 * length sheet.now ≤ length work.old }
-    ensures { DecidesForm (read_sheet sheet.now) sheet.now work.new result }
+// Kind `unify`.
+fn unify_pairs(area: &mut Area, fuel: usize, pairs: Cursor) -> Decision
+    requires ready { Ready area.old }
+    requires asked { Asked area.old.sheet.now asks_unify fuel pairs.at }
+    requires words { 65536 * (count_of 58 area.old.sheet.now + 16) + 16 * length area.old.sheet.now ≤ length area.old.work.now }
+    ensures { DecidesForm (read_sheet area.old.sheet.now) area.old area.new result }
 {
-    let read = read_pairs(sheet, work, pairs);
-    let Pairs::Stack {
-        index,
-        free,
-        next: _,
-    } = read
-    else {
-        return Err(Refusal::UnreadableTerm);
-    };
-    let outcome = solve(sheet, work, free, index, fuel, matching);
-    verdict(outcome)
+    let read = read_stack(area, pairs)?;
+    let answer = unify(area, read.stack, fuel);
+    Ok(verdict(answer))
 }
 
-// Kind `sound`. Cells start at 1.
-fn sound_of(sheet: &[u8], work: &mut [u32], term: Place, member: Cursor) -> Decision
-    requires sheet_len_bound { (length sheet.now ≤ 65536) × (1048576 + 16 * length sheet.now ≤ length work.old) }
-    requires inside { Inside sheet.now term }
-    requires one_member { OneMember sheet.now member.at }
-    ensures { (m : Member) → members_at sheet.now member.at ≡ Some (m ∷ []) → DecidesSheet (asks_sound (text_of sheet.now term) m) sheet.now work.new result }
+// Kind `match`.
+fn match_pairs(area: &mut Area, fuel: usize, pairs: Cursor) -> Decision
+    requires ready { Ready area.old }
+    requires asked { Asked area.old.sheet.now asks_match fuel pairs.at }
+    requires words { 65536 * (count_of 58 area.old.sheet.now + 16) + 16 * length area.old.sheet.now ≤ length area.old.work.now }
+    ensures { DecidesForm (read_sheet area.old.sheet.now) area.old area.new result }
 {
-    let from = term.from;
-    let to = term.to;
-    let parsed = parse(sheet, work, 1, from, to);
-    let Parsed::Tree { index, free } = parsed else {
-        return Err(Refusal::UnreadableTerm);
-    };
-    let claim = sound(sheet, work, free, index, member);
+    let read = read_stack(area, pairs)?;
+    let answer = matcher(area, read.stack, fuel);
+    Ok(verdict(answer))
+}
+
+// Kind `sound`.
+fn sound_of(area: &mut Area, term: Place, member: Cursor) -> Decision
+    requires ready { Ready area.old }
+    requires inside { Inside area.old.sheet.now term }
+    requires one_member { OneMember area.old.sheet.now member.at }
+    ensures { DecidesForm (sheet_of area.old.sheet.now (form.Sound term member)) area.old area.new result }
+{
+    let index = read_term(area, term)?;
+    let claim = sound(area, index, member);
     Ok(Lines::Claim {
         key: Key::Sound,
         claim,
@@ -146,56 +137,51 @@ fn sound_of(sheet: &[u8], work: &mut [u32], term: Place, member: Cursor) -> Deci
 }
 
 // Kind `cover`. The members stand where the pairs end.
-fn cover_of(sheet: &[u8], work: &mut [u32], pairs: Cursor) -> Decision
-    requires cover_asked { CoverAsked sheet.now pairs.at }
-    requires sheet_in_bounds { 65536 * (count_of 58 sheet.now + 16) + 16 * length sheet.now ≤ length work.old }
-    ensures { DecidesForm (read_sheet sheet.now) sheet.now work.new result }
+fn cover_of(area: &mut Area, pairs: Cursor) -> Decision
+    requires ready { Ready area.old }
+    requires asked { CoverAsked area.old.sheet.now pairs.at }
+    requires words { 65536 * (count_of 58 area.old.sheet.now + 16) + 16 * length area.old.sheet.now ≤ length area.old.work.now }
+    ensures { DecidesForm (read_sheet area.old.sheet.now) area.old area.new result }
 {
-    let read = read_pairs(sheet, work, pairs);
-    let Pairs::Stack { index, free, next } = read else {
-        return Err(Refusal::UnreadableTerm);
-    };
-    let claim = covered(sheet, work, free, index, next);
+    let read = read_stack(area, pairs)?;
+    let claim = covered(area, read.stack, read.next);
     Ok(Lines::Claim {
         key: Key::Covered,
         claim,
     })
 }
 
-// Kind `complete`. Cells start at 1. A scheme has at most the names of the term, and two for each of its brackets.
-fn complete_of(sheet: &[u8], work: &mut [u32], term: Place, members: Cursor) -> Decision
-    requires complete_asked { CompleteAsked sheet.now term members.at }
-    requires sheet_in_bounds { 65536 * (count_of 58 sheet.now + 2 * count_of 40 (text_of sheet.now term) + 16) + 16 * length sheet.now ≤ length work.old }
-    ensures { DecidesForm (read_sheet sheet.now) sheet.now work.new result }
+// Kind `complete`. A scheme has at most the names of the term, and two for each of its brackets.
+fn complete_of(area: &mut Area, term: Place, members: Cursor) -> Decision
+    requires ready { Ready area.old }
+    requires asked { CompleteAsked area.old.sheet.now term members.at }
+    requires words { 65536 * (count_of 58 area.old.sheet.now + 2 * count_of 40 (text_of area.old.sheet.now term) + 16) + 16 * length area.old.sheet.now ≤ length area.old.work.now }
+    ensures { DecidesForm (read_sheet area.old.sheet.now) area.old area.new result }
 {
-    let from = term.from;
-    let to = term.to;
-    let parsed = parse(sheet, work, 1, from, to);
-    let Parsed::Tree { index, free } = parsed else {
-        return Err(Refusal::UnreadableTerm);
-    };
-    let text = part(sheet, from, to);
-    let named = count_of(text, 58) + 2 * count_of(text, 40);
-    let claim = complete(sheet, work, free, index, named, members);
+    let index = read_term(area, term)?;
+    let text = part(area.sheet, term.from, term.to);
+    let named = count_of(text, b':') + 2 * count_of(text, b'(');
+    let claim = complete(area, index, named, members);
     Ok(Lines::Claim {
         key: Key::Complete,
         claim,
     })
 }
 
-// A sheet that is admitted, by its kind. What was decided may stand in the work area; its other words are free afterwards.
-pub fn decide(sheet: &[u8], work: &mut [u32], form: Form) -> Decision
-    requires decoded { Decoded sheet.now form }
-    requires enough_words { EnoughWords sheet.now form (length work.old) }
-    ensures { DecidesForm (sheet_of sheet.now form) sheet.now work.new result }
+// A sheet that is admitted, by its kind.
+pub fn decide(area: &mut Area, form: Form) -> Decision
+    requires ready { Ready area.old }
+    requires decoded { Decoded area.old.sheet.now form }
+    requires enough_words { EnoughWords area.old.sheet.now form (length area.old.work.now) }
+    ensures { DecidesForm (sheet_of area.old.sheet.now form) area.old area.new result }
 {
     match form {
-        Form::Equal { left, right } => equal(sheet, work, left, right),
-        Form::Reduce { term } => reduce(sheet, work, term),
-        Form::Unify { fuel, pairs } => solving(sheet, work, fuel, pairs, false),
-        Form::Match { fuel, pairs } => solving(sheet, work, fuel, pairs, true),
-        Form::Sound { term, member } => sound_of(sheet, work, term, member),
-        Form::Cover { pairs, members: _ } => cover_of(sheet, work, pairs),
-        Form::Complete { term, members } => complete_of(sheet, work, term, members),
+        Form::Equal { left, right } => equal(area, left, right),
+        Form::Reduce { term } => reduce(area, term),
+        Form::Unify { fuel, pairs } => unify_pairs(area, fuel, pairs),
+        Form::Match { fuel, pairs } => match_pairs(area, fuel, pairs),
+        Form::Sound { term, member } => sound_of(area, term, member),
+        Form::Cover { pairs, members: _ } => cover_of(area, pairs),
+        Form::Complete { term, members } => complete_of(area, term, members),
     }
 }

@@ -1,1 +1,2 @@
-pub mod Advancing
+pub mod Answering
+pub mod Moving

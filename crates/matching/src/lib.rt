@@ -1,61 +1,58 @@
-// Matching of trees in a lent work area (unifier.rs, `matcher`): pattern variables are bound, subject variables are constants.
+// Matching of trees of an area (unifier.rs, `matcher`): pattern variables are bound, subject variables are constants. The pairs and the
+// bindings are lists of its cells.
 #![tactic(auto)]
-
-pub mod areas; // areas.rt: matching in an area
 
 ghost use Rattle.std.specs.Prelude.{◌+◌, ◌*◌, ◌<◌, ◌≤◌};
 ghost use Rattle.rules.specs.Matching.{matcher};
 ghost use Rattle.laws.specs.Memory.{weight};
-ghost use Rattle.tree.specs.Cells.{trees_at};
-ghost use Rattle.tree.specs.Arena.{Arena};
-ghost use Rattle.elimination.specs.Stack.{Whole, pairs_at, FitPairs};
+ghost use Rattle.tree.specs.Areas.{trees_in};
 ghost use Rattle.elimination.specs.Area.{Room};
-ghost use Rattle.unifier.specs.Running.{Answers};
+ghost use Rattle.elimination.specs.Stack.{Whole, FitPairs};
+ghost use Rattle.unifier.specs.Areas.{stack_in, AnswersIn};
 
 use moving::{Moved, advance};
-use tree::cells::next_of;
-use unifier::unifying::Outcome;
+use tree::area::Area;
+use unifier::unifying::{Answer, Verdict};
 
 // Matches the pairs from cell stack on: the left sides are patterns, the right ones subjects.
-pub fn matcher(sheet: &[u8], work: &mut [u32], free: usize, stack: usize, fuel: usize) -> Outcome
-    requires arena { Arena sheet.now work.old free }
-    requires stack_lt_free { (stack < free) × (fuel ≤ 65536) × Whole (trees_at sheet.now work.old stack) × FitPairs (pairs_at sheet.now work.old stack) }
-    requires room { Room work.old (free + weight (pairs_at sheet.now work.old stack) + 2 * fuel) }
-    ensures { Answers sheet.now work.old work.new free (matcher fuel (pairs_at sheet.now work.old stack)) result }
+pub fn matcher(area: &mut Area, stack: usize, fuel: usize) -> Answer
+    requires stack { (stack < area.old.free) × Whole (trees_in area.old stack) × FitPairs (stack_in area.old stack) }
+    requires fuel { fuel ≤ 65536 }
+    requires room { Room area.old.work.now (area.old.free + weight (stack_in area.old stack) + 2 * fuel) }
+    ensures { AnswersIn area.old area.new (matcher fuel (stack_in area.old stack)) result }
 {
-    let mut left = fuel;
     let mut waiting = stack;
-    let mut made: usize = 0;
-    let mut end = free;
-    while left != 0 {
+    let mut made = 0;
+    for spent in 0..fuel {
         if waiting == 0 {
-            return Outcome::Solved {
-                bindings: made,
-                free: end,
-                spent: fuel - left,
+            return Answer {
+                verdict: Verdict::Solved(made),
+                spent,
             };
         }
-        let right = next_of(work, end, waiting);
-        let rest = next_of(work, end, right);
-        let moved = advance(sheet, work, end, waiting, right, rest, made);
-        left -= 1;
-        match moved {
-            Moved::Onward {
-                stack: s,
-                bindings: b,
-                free: f,
-            } => {
+        let right = area.next_of(waiting);
+        let rest = area.next_of(right);
+        match advance(area, waiting, right, rest, made) {
+            Moved::Onward { stack: s, bindings } => {
                 waiting = s;
-                made = b;
-                end = f;
+                made = bindings;
             }
             Moved::Clash => {
-                return Outcome::Failed { spent: fuel - left };
+                return Answer {
+                    verdict: Verdict::Failed,
+                    spent: spent + 1,
+                };
             }
             Moved::Beyond => {
-                return Outcome::Unsupported { spent: fuel - left };
+                return Answer {
+                    verdict: Verdict::Unsupported,
+                    spent: spent + 1,
+                };
             }
         }
     }
-    Outcome::Unsupported { spent: fuel }
+    Answer {
+        verdict: Verdict::Unsupported,
+        spent: fuel,
+    }
 }

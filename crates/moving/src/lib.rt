@@ -1,187 +1,94 @@
-// One pair of `match`, taken from the stack: pattern variables are bound, subject variables are constants.
+// One pair of `match`, taken from the stack of an area: pattern variables are bound, subject variables are constants.
 #![tactic(auto)]
 
-ghost use Rattle.std.specs.Prelude.{◌≡◌, false, ◌+◌, ◌*◌, ◌<◌};
-ghost use Rattle.rules.specs.Tree.{tamtplus};
-ghost use Rattle.rules.specs.Solving.{cancel_sums};
-ghost use Rattle.rules.specs.Matching.{bound, match_key, match_rest, ground_eq, match_roots, move};
+ghost use Rattle.std.specs.Prelude.{◌≡◌, ◌+◌, ◌<◌};
+ghost use Rattle.rules.specs.Tree.{variable};
+ghost use Rattle.rules.specs.Matching.{bound, match_key, match_roots, move};
 ghost use Rattle.laws.specs.Memory.{load, weight};
-ghost use Rattle.tree.specs.Cells.{kind_of, name_at, tree_at, trees_at};
-ghost use Rattle.tree.specs.Arena.{Arena};
-ghost use Rattle.substitution.specs.Bindings.{bindings_at, Chain};
-ghost use Rattle.elimination.specs.Stack.{Whole, pairs_at, Fit, FitBindings};
+ghost use Rattle.tree.specs.Areas.{name_in, tree_in, trees_in};
+ghost use Rattle.substitution.specs.Bindings.{Chain};
+ghost use Rattle.substitution.specs.Areas.{bindings_in};
+ghost use Rattle.elimination.specs.Stack.{Whole, Fit, FitBindings};
 ghost use Rattle.elimination.specs.Area.{Room};
-ghost use Rattle.moving.specs.Moves.{Moves};
+ghost use Rattle.elimination.specs.Areas.{pairs_in};
+ghost use Rattle.moving.specs.Areas.{MovesIn};
 
 use equivalence::equivalent;
 use sorts::sorted;
-use steps::pushing::push_children;
-use steps::rest::{Rest, match_rest};
-use substitution::bindings::{Found, lookup, push_pair};
-use sums::is_sum;
-use tree::cells::{APPLICATION, ATOMS, VARIABLE_OTHER, kind_of};
-use tree::children::child_of;
-use tree::names::same_head;
+use steps::roots::{Roots, take_roots};
+use substitution::bindings::lookup;
+use substitution::pairing::push_pair;
+use sums::striking::Cancelling;
+use tree::area::Area;
+use tree::kinds::Kind;
 
 // What a pair taken gives: the next stack and the bindings, the newest first, or the end of the run.
-#[derive(Clone, Copy)]
+#[derive(Clone, Copy, Debug, PartialEq, Eq)]
 pub enum Moved {
-    Onward {
-        stack: usize,
-        bindings: usize,
-        free: usize,
-    },
+    Onward { stack: usize, bindings: usize },
     Clash,
     Beyond,
 }
 
 // Takes the pair of the pattern variable of cell key and the subject of cell value.
-fn match_key(
-    sheet: &[u8],
-    work: &mut [u32],
-    free: usize,
-    key: usize,
-    value: usize,
-    rest: usize,
-    made: usize,
-) -> Moved
-    requires arena { Arena sheet.now work.old free }
-    requires key_nonzero { (0 < key) × (key < free) × (0 < value) × (value < free) × (rest < free) × (made < free) }
-    requires key_nonzero_2 { (0 < kind_of work.old key) × (kind_of work.old key < 7) × Whole (trees_at sheet.now work.old rest) × Chain (trees_at sheet.now work.old made) }
-    requires fit { Fit (tree_at sheet.now work.old value) × FitBindings (bindings_at sheet.now work.old made) }
-    requires room { Room work.old (free + 2) }
-    ensures { Moves sheet.now work.old work.new free (weight (pairs_at sheet.now work.old rest)) (match_key (bound (name_at sheet.now work.old key) (bindings_at sheet.now work.old made)) (name_at sheet.now work.old key) (tree_at sheet.now work.old value) (pairs_at sheet.now work.old rest) (bindings_at sheet.now work.old made)) result }
+fn match_key(area: &mut Area, key: usize, value: usize, rest: usize, made: usize) -> Moved
+    requires cells { (0 < key) × (key < area.old.free) × (0 < value) × (value < area.old.free) × (rest < area.old.free) × (made < area.old.free) }
+    requires key_variable { tree_in area.old key ≡ variable (name_in area.old key) }
+    requires lists { Whole (trees_in area.old rest) × Chain (trees_in area.old made) }
+    requires fit { Fit (tree_in area.old value) × FitBindings (bindings_in area.old made) }
+    requires room { Room area.old.work.now (area.old.free + 2) }
+    ensures { MovesIn area.old area.new (weight (pairs_in area.old rest)) (match_key (bound (name_in area.old key) (bindings_in area.old made)) (name_in area.old key) (tree_in area.old value) (pairs_in area.old rest) (bindings_in area.old made)) result }
 {
-    let found = lookup(sheet, work, free, made, key);
-    match found {
-        Found::At(old) => {
-            if equivalent(sheet, work, free, old, value, 4 * free) {
-                return Moved::Onward {
-                    stack: rest,
-                    bindings: made,
-                    free: free,
-                };
-            }
-            Moved::Clash
-        }
-        Found::Nothing => {
-            let kind = kind_of(work, key);
-            if kind == VARIABLE_OTHER {
-                return Moved::Clash;
-            }
-            if sorted(sheet, work, free, kind - 1, value) {
-                let pushed = push_pair(sheet, work, free, key, value, made);
-                let list = pushed.index;
-                let top = pushed.free;
-                return Moved::Onward {
-                    stack: rest,
-                    bindings: list,
-                    free: top,
-                };
-            }
-            Moved::Clash
-        }
-    }
-}
-
-// Takes the pair of the sums of cells left and right.
-fn match_sums(
-    sheet: &[u8],
-    work: &mut [u32],
-    free: usize,
-    left: usize,
-    right: usize,
-    rest: usize,
-    made: usize,
-) -> Moved
-    requires arena { Arena sheet.now work.old free }
-    requires left_nonzero { (0 < left) × (left < free) × (0 < right) × (right < free) × (rest < free) × (made < free) }
-    requires left_value { (kind_of work.old left ≡ 0) × (name_at sheet.now work.old left ≡ tamtplus) × (kind_of work.old right ≡ 0) × (name_at sheet.now work.old right ≡ tamtplus) }
-    requires whole { Whole (trees_at sheet.now work.old rest) × Chain (trees_at sheet.now work.old made) × Fit (tree_at sheet.now work.old left) × Fit (tree_at sheet.now work.old right) }
-    requires room { Room work.old (free + load (tree_at sheet.now work.old left) (tree_at sheet.now work.old right) + 2) }
-    ensures { Moves sheet.now work.old work.new free (load (tree_at sheet.now work.old left) (tree_at sheet.now work.old right) + weight (pairs_at sheet.now work.old rest)) (match_rest (cancel_sums false ground_eq (tree_at sheet.now work.old left) (tree_at sheet.now work.old right)) (pairs_at sheet.now work.old rest) (bindings_at sheet.now work.old made)) result }
-{
-    let found = match_rest(sheet, work, free, left, right);
-    match found {
-        Rest::Emptied => Moved::Onward {
-            stack: rest,
-            bindings: made,
-            free: free,
-        },
-        Rest::Mismatch => Moved::Clash,
-        Rest::Equation {
-            left: a,
-            right: b,
-            free: end,
-        } => {
-            let pushed = push_pair(sheet, work, end, a, b, rest);
-            let stack = pushed.index;
-            let top = pushed.free;
-            Moved::Onward {
-                stack: stack,
+    if let Some(old) = lookup(area, made, key) {
+        if equivalent(area, old, value) {
+            return Moved::Onward {
+                stack: rest,
                 bindings: made,
-                free: top,
-            }
+            };
         }
-        Rest::Stuck => Moved::Beyond,
+        return Moved::Clash;
+    }
+    let Some(sort) = area.sort_of(key) else {
+        return Moved::Clash;
+    };
+    if !sorted(area, sort, value) {
+        return Moved::Clash;
+    }
+    let bindings = push_pair(area, key, value, made);
+    Moved::Onward {
+        stack: rest,
+        bindings,
     }
 }
 
 // Takes the pair of the pattern of cell left, which is no variable, and the subject of cell right.
-fn match_roots(
-    sheet: &[u8],
-    work: &mut [u32],
-    free: usize,
-    left: usize,
-    right: usize,
-    rest: usize,
-    made: usize,
-) -> Moved
-    requires arena { Arena sheet.now work.old free }
-    requires left_nonzero { (0 < left) × (left < free) × (0 < right) × (right < free) × (rest < free) × (made < free) }
-    requires whole { Whole (trees_at sheet.now work.old rest) × Chain (trees_at sheet.now work.old made) × Fit (tree_at sheet.now work.old left) × Fit (tree_at sheet.now work.old right) }
-    requires room { Room work.old (free + load (tree_at sheet.now work.old left) (tree_at sheet.now work.old right) + 2) }
-    ensures { Moves sheet.now work.old work.new free (load (tree_at sheet.now work.old left) (tree_at sheet.now work.old right) + weight (pairs_at sheet.now work.old rest)) (match_roots (tree_at sheet.now work.old left) (tree_at sheet.now work.old right) (pairs_at sheet.now work.old rest) (bindings_at sheet.now work.old made)) result }
+fn match_roots(area: &mut Area, left: usize, right: usize, rest: usize, made: usize) -> Moved
+    requires cells { (0 < left) × (left < area.old.free) × (0 < right) × (right < area.old.free) × (rest < area.old.free) × (made < area.old.free) }
+    requires lists { Whole (trees_in area.old rest) × Chain (trees_in area.old made) }
+    requires fit { Fit (tree_in area.old left) × Fit (tree_in area.old right) }
+    requires room { Room area.old.work.now (area.old.free + load (tree_in area.old left) (tree_in area.old right) + 2) }
+    ensures { MovesIn area.old area.new (load (tree_in area.old left) (tree_in area.old right) + weight (pairs_in area.old rest)) (match_roots (tree_in area.old left) (tree_in area.old right) (pairs_in area.old rest) (bindings_in area.old made)) result }
 {
-    if !same_head(sheet, work, free, left, right) {
-        return Moved::Clash;
-    }
-    if is_sum(sheet, work, free, left) {
-        return match_sums(sheet, work, free, left, right, rest, made);
-    }
-    let a = child_of(work, free, left);
-    let b = child_of(work, free, right);
-    let pushed = push_children(sheet, work, free, a, b, rest);
-    let stack = pushed.index;
-    let top = pushed.free;
-    Moved::Onward {
-        stack: stack,
-        bindings: made,
-        free: top,
+    match take_roots(area, left, right, rest, Cancelling::Ground) {
+        Roots::Next { stack, .. } => Moved::Onward {
+            stack,
+            bindings: made,
+        },
+        Roots::Clash => Moved::Clash,
+        Roots::Stuck => Moved::Beyond,
     }
 }
 
 // Takes the pair of the pattern of cell left and the subject of cell right.
-pub fn advance(
-    sheet: &[u8],
-    work: &mut [u32],
-    free: usize,
-    left: usize,
-    right: usize,
-    rest: usize,
-    made: usize,
-) -> Moved
-    requires arena { Arena sheet.now work.old free }
-    requires left_nonzero { (0 < left) × (left < free) × (0 < right) × (right < free) × (rest < free) × (made < free) }
-    requires whole { Whole (trees_at sheet.now work.old rest) × Chain (trees_at sheet.now work.old made) × Fit (tree_at sheet.now work.old left) × Fit (tree_at sheet.now work.old right) × FitBindings (bindings_at sheet.now work.old made) }
-    requires room { Room work.old (free + load (tree_at sheet.now work.old left) (tree_at sheet.now work.old right) + 2) }
-    ensures { Moves sheet.now work.old work.new free (load (tree_at sheet.now work.old left) (tree_at sheet.now work.old right) + weight (pairs_at sheet.now work.old rest)) (move (tree_at sheet.now work.old left) (tree_at sheet.now work.old right) (pairs_at sheet.now work.old rest) (bindings_at sheet.now work.old made)) result }
+pub fn advance(area: &mut Area, left: usize, right: usize, rest: usize, made: usize) -> Moved
+    requires cells { (0 < left) × (left < area.old.free) × (0 < right) × (right < area.old.free) × (rest < area.old.free) × (made < area.old.free) }
+    requires lists { Whole (trees_in area.old rest) × Chain (trees_in area.old made) }
+    requires fit { Fit (tree_in area.old left) × Fit (tree_in area.old right) × FitBindings (bindings_in area.old made) }
+    requires room { Room area.old.work.now (area.old.free + load (tree_in area.old left) (tree_in area.old right) + 2) }
+    ensures { MovesIn area.old area.new (load (tree_in area.old left) (tree_in area.old right) + weight (pairs_in area.old rest)) (move (tree_in area.old left) (tree_in area.old right) (pairs_in area.old rest) (bindings_in area.old made)) result }
 {
-    let kind = kind_of(work, left);
-    if APPLICATION < kind {
-        if kind < ATOMS {
-            return match_key(sheet, work, free, left, right, rest, made);
-        }
+    match area.kind(left) {
+        Kind::Variable(_) => match_key(area, left, right, rest, made),
+        Kind::Application | Kind::Atom(_) => match_roots(area, left, right, rest, made),
     }
-    match_roots(sheet, work, free, left, right, rest, made)
 }

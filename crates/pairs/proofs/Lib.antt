@@ -1,2 +1,2 @@
-pub mod PairReading
-pub mod Reversing
+pub mod Ahead
+pub mod ReadingPairs

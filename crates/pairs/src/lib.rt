@@ -1,143 +1,81 @@
-// The pairs of lines `left`, `right` of a sheet as one list of trees in cells: left, right, left, right, .. Cells start at 1.
+// The pairs of lines `left`, `right` of a sheet as one list of trees of an area: left, right, left, right, ..
 #![tactic(auto)]
 
 ghost use Rattle.std.specs.Prelude.{◌≡◌, ◌+◌, ◌*◌, ◌<◌, ◌≤◌, ◌^◌, length};
 ghost use Rattle.rules.specs.Tree.{none, count};
 ghost use Rattle.forms.specs.Form.{Inside};
-ghost use Rattle.tree.specs.Cells.{trees_at};
-ghost use Rattle.tree.specs.Arena.{Arena};
+ghost use Rattle.tree.specs.Areas.{trees_in};
 ghost use Rattle.closing.specs.Machine.{back};
-ghost use Rattle.substitution.specs.Building.{Made};
-ghost use Rattle.pairs.specs.Pairs.{pair_end, PairsThere, ReadsPair, ReadsReversed, ReadsPairs};
+ghost use Rattle.reading.specs.Areas.{TextsRoomIn};
+ghost use Rattle.substitution.specs.Areas.{Lists};
+ghost use Rattle.pairs.specs.Pairs.{pair_end, PairsThere};
+ghost use Rattle.pairs.specs.Areas.{ReadsPairIn, ReadsReversedIn, ReadsPairsIn};
 
-use reading::{Parsed, parse};
-use sheet::{Cursor, Place, next_pair};
-use substitution::bindings::{Pushed, push_pair};
-use tree::cells::{next_of, share};
+use reading::parse;
+use sheet::{Cursor, Sides, next_pair};
+use substitution::pairing::push_pair;
+use tree::area::Area;
 
-// A pair before a list of sides and the free end after it, or a side that cannot be read.
-#[derive(Clone, Copy)]
-enum Added {
-    List { index: usize, free: usize },
-    Unreadable,
-}
-
-// The list of all sides, the free end after it, and where the pairs end; or a side that cannot be read.
-#[derive(Clone, Copy)]
-pub enum Pairs {
-    Stack {
-        index: usize,
-        free: usize,
-        next: Cursor,
-    },
-    Unreadable,
+// The list of all sides, and where the pairs end.
+#[derive(Clone, Copy, Debug, PartialEq, Eq)]
+pub struct Pairs {
+    pub stack: usize,
+    pub next: Cursor,
 }
 
 // Reads both sides of a pair, and puts the right one and then the left one before the list from cell `list` on.
-fn read_pair(
-    sheet: &[u8],
-    work: &mut [u32],
-    free: usize,
-    left: Place,
-    right: Place,
-    list: usize,
-) -> Added
-    requires arena { Arena sheet.now work.old free }
-    requires inside { Inside sheet.now left × Inside sheet.now right × (list < free) }
-    requires sheet_len_bound { (length sheet.now ≤ 65536) × (1048576 + 16 * length sheet.now ≤ length work.old) × (pair_end free left right ≤ 1 + 2 * length sheet.now) }
-    ensures { ReadsPair sheet.now work.old work.new free left right list result }
+fn read_pair(area: &mut Area, pair: Sides, list: usize) -> Option<usize>
+    requires inside { Inside area.old.sheet.now pair.left × Inside area.old.sheet.now pair.right × (list < area.old.free) }
+    requires room { (length area.old.sheet.now ≤ 65536) × (4 * pair_end area.old.free pair.left pair.right + 3 * length area.old.sheet.now < length area.old.work.now) × (pair_end area.old.free pair.left pair.right < 2 ^ 32) }
+    ensures { ReadsPairIn area.old area.new pair list result }
 {
-    let left_from = left.from;
-    let left_to = left.to;
-    let one = parse(sheet, work, free, left_from, left_to);
-    let Parsed::Tree {
-        index: first,
-        free: middle,
-    } = one
-    else {
-        return Added::Unreadable;
-    };
-    let right_from = right.from;
-    let right_to = right.to;
-    let other = parse(sheet, work, middle, right_from, right_to);
-    let Parsed::Tree {
-        index: second,
-        free: end,
-    } = other
-    else {
-        return Added::Unreadable;
-    };
-    let pushed = push_pair(sheet, work, end, second, first, list);
-    let index = pushed.index;
-    let top = pushed.free;
-    Added::List { index, free: top }
+    let left = parse(area, pair.left)?;
+    let right = parse(area, pair.right)?;
+    Some(push_pair(area, right, left, list))
 }
 
 // The pairs from a cursor on, the last first, each with its right side first.
-fn read_reversed(sheet: &[u8], work: &mut [u32], start: Cursor) -> Pairs
-    requires sheet_len_bound { (length sheet.now ≤ 65536) × (1048576 + 16 * length sheet.now ≤ length work.old) × (start.at ≤ length sheet.now) }
-    requires pairs_there { PairsThere sheet.now start.at }
-    ensures { ReadsReversed sheet.now work.old work.new start.at result }
+fn read_reversed(area: &mut Area, start: Cursor) -> Option<Pairs>
+    requires room { (start.at ≤ length area.old.sheet.now) × TextsRoomIn area.old start.at }
+    requires pairs_there { PairsThere area.old.sheet.now start.at }
+    ensures { ReadsReversedIn area.old area.new start.at result }
 {
-    let mut cursor = start;
-    let mut list: usize = 0;
-    let mut end: usize = 1;
-    while let Some(pair) = next_pair(sheet, cursor) {
-        let read = read_pair(sheet, work, end, pair.left, pair.right, list);
-        let Added::List { index, free } = read else {
-            return Pairs::Unreadable;
-        };
-        cursor = pair.next;
-        list = index;
-        end = free;
+    let mut next = start;
+    let mut stack = 0;
+    while let Some(pair) = next_pair(area.sheet, next) {
+        stack = read_pair(area, pair, stack)?;
+        next = pair.next;
     }
-    Pairs::Stack {
-        index: list,
-        free: end,
-        next: cursor,
-    }
+    Some(Pairs { stack, next })
 }
 
 // The trees of a list once more, the last first.
-fn reverse(sheet: &[u8], work: &mut [u32], free: usize, list: usize) -> Pushed
-    requires arena { Arena sheet.now work.old free }
-    requires list_lt_free { list < free }
-    requires list_in_bounds { (4 * (free + count (trees_at sheet.now work.old list)) ≤ length work.old) × (free + count (trees_at sheet.now work.old list) < 2 ^ 32) }
-    ensures { Made sheet.now work.old work.new free result.free result.index (back (trees_at sheet.now work.old list) none) × (result.free ≡ free + count (trees_at sheet.now work.old list)) }
+fn reverse(area: &mut Area, list: usize) -> usize
+    requires list { list < area.old.free }
+    requires room { (4 * (area.old.free + count (trees_in area.old list)) ≤ length area.old.work.now) × (area.old.free + count (trees_in area.old list) < 2 ^ 32) }
+    ensures lists { Lists area.old area.new result (back (trees_in area.old list) none) }
+    ensures end { area.new.free ≡ area.old.free + count (trees_in area.old list) }
 {
+    let mut first = 0;
     let mut left = list;
-    let mut first: usize = 0;
-    let mut end = free;
-    while left != 0 {
-        let next = next_of(work, end, left);
-        let after = share(sheet, work, end, left, first);
-        first = end;
-        end = after;
+    while 0 < left {
+        let next = area.next_of(left);
+        first = area.share(left, first);
         left = next;
     }
-    Pushed {
-        index: first,
-        free: end,
-    }
+    first
 }
 
-// The pairs from a cursor on, in their order, each with its left side first.
-pub fn read_pairs(sheet: &[u8], work: &mut [u32], start: Cursor) -> Pairs
-    requires sheet_len_bound { (length sheet.now ≤ 65536) × (1048576 + 16 * length sheet.now ≤ length work.old) }
-    requires at_in_bounds { start.at ≤ length sheet.now }
-    requires pairs_there { PairsThere sheet.now start.at }
-    ensures { ReadsPairs sheet.now work.old work.new start.at result }
+// The pairs from a cursor on, in their order, each with its left side first, if every side can be read.
+pub fn read_pairs(area: &mut Area, start: Cursor) -> Option<Pairs>
+    requires room { (start.at ≤ length area.old.sheet.now) × TextsRoomIn area.old start.at }
+    requires pairs_there { PairsThere area.old.sheet.now start.at }
+    ensures { ReadsPairsIn area.old area.new start.at result }
 {
-    let reversed = read_reversed(sheet, work, start);
-    let Pairs::Stack { index, free, next } = reversed else {
-        return Pairs::Unreadable;
-    };
-    let list = reverse(sheet, work, free, index);
-    let first = list.index;
-    let end = list.free;
-    Pairs::Stack {
-        index: first,
-        free: end,
-        next,
-    }
+    let reversed = read_reversed(area, start)?;
+    let stack = reverse(area, reversed.stack);
+    Some(Pairs {
+        stack,
+        next: reversed.next,
+    })
 }

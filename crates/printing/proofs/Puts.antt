@@ -1,80 +1,89 @@
 -- Texts put one after another.
-use Prim.Native.Nat.{ℕ, ◌+◌, ◌-◌, ◌≤◌}
+use Prim.Native.Nat.{ℕ, ◌+◌, ◌-◌, ◌<◌, ◌≤◌}
 use mathlib.Core.Path.{◌≡◌, refl, sym, ap, ap₂, ◌∙◌}
-use mathlib.Core.List.{[], ◌++◌}
+use mathlib.Core.List.{[], ◌++◌, append-nil}
 use Rattle.std.specs.Prelude.{Option, Some, None}
 use lib.ListN.{length, take, length-append}
 use lib.Seq.{drop-drop}
+use Rattle.std.proofs.lemmas.List.{drop_all}
 use borrow.Rule.Slice.PartMut.{put_mid}
 use native.Mathlib.Omega.{arith}
 use Rattle.rules.specs.Bytes.{Text}
-use Rattle.text.specs.Printing.{printed_over, Printed}
+use Rattle.text.specs.Printing.{printed_over}
 use Rattle.tree.proofs.Printing.{written_none, length_written, written_then}
 use Rattle.printing.specs.Measure.{measured}
-use Rattle.printing.specs.Putting.{PutAt}
-use Rattle.printing.specs.declared.putting.Pass.{Pass}
-use Rattle.printing.specs.declared.putting.Pass.TheVariants.{Measure, Write}
+use Rattle.printing.specs.Putting.{PutInto}
+use Rattle.printing.specs.declared.output.Output.{Output}
+use Rattle.printing.specs.declared.output.Pass.TheVariants.{Measure, Write}
 use Rattle.printing.proofs.Lengths.{fits_is, over_is, told, told_over}
 
--- one text that fits: written, or not
-pub put_written : {w : Pass} {out v t : Text} {at e r n : ℕ} → Some e ≡ measured (at + n) (length out) → n ≡ length t → Printed out v at t r → w ≡ Write → PutAt w out v at t (Some e)
-put_written {out = out} {t = t} {at = at} h l p y =
-    let k = told h in
-    record {
-      end = h ∙ ap (λ m. measured (at + m) (length out)) l;
-      len = ap length p.bytes ∙ length_written out at t (omega arith);
-      written = λ _ _. p.bytes;
-      kept = λ z. absurd (cc);
-    }
-
-pub put_kept : {w : Pass} {out t : Text} {at e n : ℕ} → Some e ≡ measured (at + n) (length out) → n ≡ length t → w ≡ Measure → PutAt w out out at t (Some e)
-put_kept {out = out} {at = at} h l y = record { end = h ∙ ap (λ m. measured (at + m) (length out)) l; len = refl; written = λ z _. absurd (cc); kept = λ _. refl }
-
--- bytes copied to a part of the output
-pub copied : {out v t : Text} {at e : ℕ} → e ≡ at + length t → v ≡ t → Printed out (put_mid at (e - at) out v) at t e
+-- a part of an output that is written as a whole
+pub filled : (p : Text) {q t : Text} → length p ≡ length t → q ≡ printed_over p 0 t → q ≡ t
 unfolding printed_over
-copied {out = out} {t = t} {at = at} {e = e} h f =
-    let k : e - at ≡ length t = omega arith in
-    record { bytes = rw (f, k) (ap (λ (l : Text). take at out ++ (t ++ l)) (drop-drop (length t) at out)); end = h }
+filled p {t = t} l e = e ∙ ap (λ (z : Text). t ++ z) (drop_all (0 + length t) p (omega arith)) ∙ append-nil t
 
--- one that does not
-pub put_over : {w : Pass} {out t : Text} {at n : ℕ} → None ≡ measured (at + n) (length out) → n ≡ length t → PutAt w out out at t None
-put_over {out = out} {at = at} h l =
-    let k = told_over h in
-    record { end = h ∙ ap (λ m. measured (at + m) (length out)) l; len = refl; written = λ _ q. absurd (omega arith); kept = λ _. refl }
+-- and put back
+pub put_back : (out : Text) {v t : Text} (at : ℕ) {n : ℕ} → n ≡ length t → v ≡ t → put_mid at (at + n - at) out v ≡ printed_over out at t
+unfolding printed_over
+put_back out {t = t} at {n} l f =
+    let k : at + n - at ≡ length t = omega arith in
+    rw (f, k) (ap (λ (z : Text). take at out ++ (t ++ z)) (drop-drop (length t) at out))
 
--- nothing, at a place of the output
-pub put_none : {w : Pass} {out : Text} {at : ℕ} → at ≤ length out → PutAt w out out at [] (Some at)
-put_none {out = out} {at = at} h = record { end = fits_is (omega arith) (omega arith); len = refl; written = λ _ _. sym (written_none out at); kept = λ _. refl }
+-- no text
+pub puts_none : (a : Output) → PutInto a a [] (Some (tt {0}))
+puts_none a = record { lent = refl; pass = refl; end = fits_is (omega arith) (omega (arith, a.inside)); len = refl; written = λ _ _. sym (written_none a.bytes.now a.at); kept = λ _. refl }
 
--- where a text that is put ends
-pub put_inside : {w : Pass} {out v t : Text} {at e : ℕ} → PutAt w out v at t (Some e) → e ≤ length v
-put_inside p =
-    let k = told p.end in
-    let l = p.len in
-    omega arith
+module _ {a b : Output} {t : Text} (l : b.bytes.ghost_name ≡ a.bytes.ghost_name) (s : b.pass ≡ a.pass) where
+  -- a text that fits, in the pass that writes
+  pub puts_written : a.pass ≡ Write → b.at ≡ a.at + length t → b.at ≤ length a.bytes.now → b.bytes.now ≡ printed_over a.bytes.now a.at t → PutInto a b t (Some (tt {0}))
+  puts_written w e h f = record {
+    lent = l;
+    pass = s;
+    end = fits_is e (omega arith);
+    len = ap length f ∙ length_written a.bytes.now a.at t (omega arith);
+    written = λ _ _. f;
+    kept = λ m. absurd (cc);
+  }
 
--- one text after another
-pub put_then : {w : Pass} {a b c t u : Text} {at m : ℕ} {r : Option ℕ} → PutAt w a b at t (Some m) → PutAt w b c m u r → PutAt w a c at (t ++ u) r
-put_then {a = a} {b = b} {t = t} {u = u} {at = at} {m = m} p q =
-    let k = told p.end in
-    let l = length-append t u in
-    record {
-      end = q.end ∙ ap₂ measured (omega arith) p.len;
-      len = q.len ∙ p.len;
-      written = λ y h.
-          let x = p.written y (omega arith) in
-          let z = p.len in
-          q.written y (omega arith) ∙ ap₂ (λ o n. printed_over o n u) x k.0 ∙ written_then a at t u (omega arith);
-      kept = λ y. q.kept y ∙ p.kept y;
-    }
+  -- and in the one that measures
+  pub puts_measured : a.pass ≡ Measure → b.at ≡ a.at + length t → b.at ≤ length a.bytes.now → b.bytes.now ≡ a.bytes.now → PutInto a b t (Some (tt {0}))
+  puts_measured m e h f = record {
+    lent = l;
+    pass = s;
+    end = fits_is e (omega arith);
+    len = ap length f;
+    written = λ w _. absurd (cc);
+    kept = λ _. f;
+  }
 
--- the first does not fit
-pub put_past : {w : Pass} {a b t : Text} {at : ℕ} (u : Text) → PutAt w a b at t None → PutAt w a b at (t ++ u) None
-put_past {a = a} {t = t} {at = at} u p =
-    let k = told_over p.end in
-    let l = length-append t u in
-    record { end = over_is (omega arith); len = p.len; written = λ _ h. absurd (omega arith); kept = p.kept }
+-- one that does not fit
+pub puts_over : {a : Output} {t : Text} → length a.bytes.now - a.at < length t → PutInto a a t None
+puts_over {a} {t} h = record { lent = refl; pass = refl; end = over_is (omega arith); len = refl; written = λ _ q. absurd (omega arith); kept = λ _. refl }
 
-pub put_as : {w : Pass} {out v t u : Text} {at : ℕ} {r : Option ℕ} → t ≡ u → PutAt w out v at t r → PutAt w out v at u r
-put_as e p = rw (← e) p
+module _ {a b : Output} {t : Text} where
+  -- one that does not fit, and another after it
+  pub puts_past : (u : Text) → PutInto a b t None → PutInto a b (t ++ u) None
+  puts_past u p =
+      let k = told_over p.end in
+      let l = length-append t u in
+      record { lent = p.lent; pass = p.pass; end = over_is (omega arith); len = p.len; written = λ _ h. absurd (omega arith); kept = p.kept }
+
+  pub puts_as : {u : Text} {r : Option (Unit {0})} → t ≡ u → PutInto a b t r → PutInto a b u r
+  puts_as e p = rw (← e) p
+
+  -- one text after another
+  pub puts_then : {c : Output} {u : Text} {r : Option (Unit {0})} → PutInto a b t (Some (tt {0})) → PutInto b c u r → PutInto a c (t ++ u) r
+  puts_then {c} {u} p q =
+      let k = told p.end in
+      let l = length-append t u in
+      record {
+        lent = q.lent ∙ p.lent;
+        pass = q.pass ∙ p.pass;
+        end = q.end ∙ ap₂ measured (omega arith) p.len;
+        len = q.len ∙ p.len;
+        written = λ y h.
+            let x = p.written y (omega arith) in
+            let z = p.len in
+            q.written (p.pass ∙ y) (omega arith) ∙ ap₂ (λ o n. printed_over o n u) x k.0 ∙ written_then a.bytes.now a.at t u (omega arith);
+        kept = λ y. q.kept (p.pass ∙ y) ∙ p.kept y;
+      }

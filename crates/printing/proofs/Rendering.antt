@@ -1,56 +1,51 @@
 -- How a cell is written, by its kind.
-use Prim.Native.Nat.{ℕ, ◌<◌, ◌≤◌}
+use Prim.Native.Nat.{ℕ, ◌<◌}
 use mathlib.Core.Path.{◌≡◌, refl, sym, ap, ◌∙◌}
 use mathlib.Core.List.{List, [], ◌∷◌, ◌++◌, append_assoc, append-nil}
-use native.Mathlib.Omega.{arith}
-use native.Mathlib.Decide.{dec_lt}
 use borrow.Author.Tests.{eq-eqb, ne_eqb}
+use Rattle.std.specs.Prelude.{Option}
 use Rattle.rules.specs.Bytes.{Text}
 use Rattle.rules.specs.Tree.{atom_text}
+use Rattle.rules.specs.declared.Sort.{Sort}
 use Rattle.rules.specs.Writing.{commas, listed, render, renders}
-use Rattle.tree.specs.Cells.{kind_of, first_of, next_of, name_at, trees_at, tree_at}
-use Rattle.tree.specs.Arena.{Links}
+use Rattle.tree.specs.declared.area.Area.{Area}
+use Rattle.tree.specs.declared.kinds.Kind.TheVariants.{Application, Variable, Atom}
+use Rattle.tree.specs.Areas.{cell_kind, first_in, next_in, name_in, tree_in, trees_in}
 use Rattle.printing.specs.Marked.{marked}
-use Rattle.tree.proofs.Decoding.{tree_variable, tree_atom, tree_apply, trees_none, trees_more}
+use Rattle.tree.proofs.Decoding.{trees_none, trees_more}
+use Rattle.tree.proofs.ByKind.{tree_application, tree_a_variable, tree_an_atom}
 
 marked_commas : (ts : List Text) → marked 44 ts ≡ commas ts ++ (41 ∷ [])
 unfolding marked commas
 marked_commas [] = refl
 marked_commas (t ∷ ts) = ap (λ (x : Text). 44 ∷ (t ++ x)) (marked_commas ts) ∙ ap (λ (x : Text). 44 ∷ x) (sym (append_assoc t (commas ts) (41 ∷ [])))
 
-pub listed_marked : (n : Text) (ts : List Text) → listed n ts ≡ n ++ marked 40 ts
+listed_marked : (n : Text) (ts : List Text) → listed n ts ≡ n ++ marked 40 ts
 unfolding listed marked
 listed_marked n [] = sym (append-nil n)
 listed_marked n (t ∷ ts) = rw (marked_commas ts) (simp append_assoc)
 
-module _ (s : Text) (w : List ℕ) where
-  pub render_variable : (k : ℕ) → 0 < kind_of w k → kind_of w k < 7 → render (tree_at s w k) ≡ name_at s w k
+module _ (a : Area) (k : ℕ) where
+  pub render_variable : (v : Option Sort) → cell_kind a k ≡ Variable v → render (tree_in a k) ≡ name_in a k
   unfolding render
-  render_variable k p q = ap render (tree_variable s w k p q)
+  render_variable v e = ap render (tree_a_variable a k v e)
 
-  pub render_atom : (k : ℕ) → 7 ≤ kind_of w k → render (tree_at s w k) ≡ atom_text (kind_of w k) (name_at s w k)
+  pub render_atom : (c : ℕ) → cell_kind a k ≡ Atom c → render (tree_in a k) ≡ atom_text c (name_in a k)
   unfolding render
-  render_atom k p = ap render (tree_atom s w k p)
+  render_atom c e = ap render (tree_an_atom a k c e)
 
-  pub render_apply : (k j : ℕ) → kind_of w k ≡ 0 → j ≡ first_of w k → render (tree_at s w k) ≡ name_at s w k ++ marked 40 (renders (trees_at s w j))
+  pub render_application : cell_kind a k ≡ Application → render (tree_in a k) ≡ name_in a k ++ marked 40 (renders (trees_in a (first_in a k)))
   unfolding render
-  render_apply k j e f = ap render (tree_apply s w k e) ∙ listed_marked (name_at s w k) (renders (trees_at s w (first_of w k))) ∙ rw f
+  render_application e = ap render (tree_application a k e) ∙ listed_marked (name_in a k) (renders (trees_in a (first_in a k)))
 
-  pub marked_open : (k m : ℕ) → k ≡ 0 → m ≡ 40 → marked m (renders (trees_at s w k)) ≡ []
+  pub marked_open : (m : ℕ) → k ≡ 0 → m ≡ 40 → marked m (renders (trees_in a k)) ≡ []
   unfolding render marked
-  marked_open k m e f = ap (λ x. marked m (renders x)) (trees_none s w k e) ∙ rw (eq-eqb m 40 f)
+  marked_open m e f = ap (λ x. marked m (renders x)) (trees_none a.sheet.now a.work.now k e) ∙ rw (eq-eqb m 40 f)
 
-  pub marked_close : (k m : ℕ) → k ≡ 0 → (m ≡ 40 → ⊥) → marked m (renders (trees_at s w k)) ≡ 41 ∷ []
+  pub marked_close : (m : ℕ) → k ≡ 0 → (m ≡ 40 → ⊥) → marked m (renders (trees_in a k)) ≡ 41 ∷ []
   unfolding render marked
-  marked_close k m e f = ap (λ x. marked m (renders x)) (trees_none s w k e) ∙ rw (ne_eqb m 40 f)
+  marked_close m e f = ap (λ x. marked m (renders x)) (trees_none a.sheet.now a.work.now k e) ∙ rw (ne_eqb m 40 f)
 
-  pub marked_more : (n k j m : ℕ) → Links w n → 0 < k → k < n → j ≡ next_of w k → marked m (renders (trees_at s w k)) ≡ m ∷ (render (tree_at s w k) ++ marked 44 (renders (trees_at s w j)))
+  pub marked_more : (m : ℕ) → 0 < k → k < a.free → marked m (renders (trees_in a k)) ≡ m ∷ (render (tree_in a k) ++ marked 44 (renders (trees_in a (next_in a k))))
   unfolding render marked
-  marked_more n k j m l p q e = ap (λ x. marked m (renders x)) (trees_more s l k p q) ∙ rw e
-
-  -- the name comes first
-  pub render_name : (k : ℕ) → kind_of w k < 7 → (rest : Text) × (render (tree_at s w k) ≡ name_at s w k ++ rest)
-  render_name k q = elim (dec_lt 0 (kind_of w k)) [
-    | yes p ↦ ([], render_variable k p q ∙ sym (append-nil (name_at s w k)))
-    | no p ↦ (marked 40 (renders (trees_at s w (first_of w k))), render_apply k (first_of w k) (omega arith) refl)
-  ]
+  marked_more m p q = ap (λ x. marked m (renders x)) (trees_more a.sheet.now a.arena.links k p q)

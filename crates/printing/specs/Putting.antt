@@ -1,16 +1,23 @@
--- A text put at a place of an output. Definitions only.
+-- A text put into an output. Definitions only.
 use Rattle.std.specs.Prelude.{ℕ, ◌+◌, ◌≤◌, ◌≡◌, length}
-use Rattle.std.specs.Prelude.{Option}
+use Rattle.std.specs.Prelude.{Option, Some, None}
 use Rattle.rules.specs.Bytes.{Text}
 use Rattle.text.specs.Printing.{printed_over}
 use Rattle.printing.specs.Measure.{measured}
-use Rattle.printing.specs.declared.putting.Pass.{Pass}
-use Rattle.printing.specs.declared.putting.Pass.TheVariants.{Measure, Write}
+use Rattle.printing.specs.declared.output.Output.{Output}
+use Rattle.printing.specs.declared.output.Pass.TheVariants.{Measure, Write}
 
--- r is where t from `at` on ends, none where that is beyond the output; v, the output afterwards, is `out` with t from `at` on where t is
--- written and fits, and `out` where it is measured
-pub record PutAt (pass : Pass) (out v : Text) (at : ℕ) (t : Text) (r : Option ℕ) : Type 0 where
-  pub end : r ≡ measured (at + length t) (length out)
-  pub len : length v ≡ length out
-  pub written : pass ≡ Write → at + length t ≤ length out → v ≡ printed_over out at t
-  pub kept : pass ≡ Measure → v ≡ out
+-- the place of an output where something was put, none where it did not fit
+abbrev pub place_after : Output → Option (Unit {0}) → Option ℕ
+place_after b (Some u) = Some b.at
+place_after b None = None
+
+-- b is a with t from its place on where t is written and fits, and the place after t; r is none where t ends beyond the output, and a
+-- pass that measures changes no byte
+pub record PutInto (a b : Output) (t : Text) (r : Option (Unit {0})) : Type 0 where
+  pub lent : b.bytes.ghost_name ≡ a.bytes.ghost_name
+  pub pass : b.pass ≡ a.pass
+  pub end : place_after b r ≡ measured (a.at + length t) (length a.bytes.now)
+  pub len : length b.bytes.now ≡ length a.bytes.now
+  pub written : a.pass ≡ Write → a.at + length t ≤ length a.bytes.now → b.bytes.now ≡ printed_over a.bytes.now a.at t
+  pub kept : a.pass ≡ Measure → b.bytes.now ≡ a.bytes.now

@@ -1,5 +1,6 @@
-// Texts put at a place of an output: written there, or only measured.
+// Texts put into an output: written there, or only measured.
 #![tactic(auto)]
 
-pub mod putting; // putting.rt: a text, a name or a number at a place
-pub mod terms; // terms.rt: a term at a place
+pub mod output; // output.rt: an output with its place and its pass
+mod putting; // putting.rt: a text, a name or a number
+mod terms; // terms.rt: a term, and a line of one

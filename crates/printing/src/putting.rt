@@ -1,72 +1,62 @@
-// A text, a name or a number at a place of an output, in one of two passes: its bytes are written, or only the place is told where they
-// end. What does not fit has no end.
-ghost use Rattle.std.specs.Prelude.{◌≡◌, ◌+◌, ◌<◌, length};
+// A text, a name or a number put into an output: its bytes are written, or only counted. What does not fit is not put.
+ghost use Rattle.std.specs.Prelude.{◌≡◌, ◌<◌, length};
+ghost use Rattle.rules.specs.Bytes.{Text};
 ghost use Rattle.rules.specs.Decimal.{decimal};
-ghost use Rattle.tree.specs.Cells.{name_at};
-ghost use Rattle.tree.specs.Arena.{Arena};
-ghost use Rattle.printing.specs.Measure.{measured};
-ghost use Rattle.printing.specs.Putting.{PutAt};
+ghost use Rattle.tree.specs.Areas.{name_in};
+ghost use Rattle.printing.specs.Putting.{PutInto};
 
+use crate::output::{Output, Pass};
 use text::decimal::{print, width_of};
-use tree::names::{name_len, print_name};
+use tree::area::Area;
+use tree::names::print_name;
 
-// Whether bytes are only counted or written.
-#[derive(Clone, Copy, Debug, PartialEq, Eq)]
-pub enum Pass {
-    Measure,
-    Write,
+// Leaves the name of cell i in a part of its length.
+fn fill_name(area: &Area, i: usize, part: &mut [u8])
+    requires cell { (0 < i) × (i < area.now.free) }
+    requires length { length part.old ≡ length (name_in area.now i) }
+    ensures { part.new ≡ name_in area.now i }
+{
+    print_name(area.sheet, area.work, area.free, i, part, 0);
 }
 
-// Where so many bytes from a place on end, if they fit.
-fn end_of(output: &[u8], at: usize, count: usize) -> Option<usize>
-    ensures { result ≡ measured (at + count) (length output.now) }
-{
-    let end = at.checked_add(count)?;
-    if output.len() < end {
-        return None;
+impl Output<'_> {
+    // So many bytes, as `fill` leaves them in the part of the output that is theirs.
+    fn put<F: Fn(&mut [u8])>(&mut self, count: usize, fill: F) -> Option<()>
+        requires { (part : _) → length part.now ≡ count → F.pre fill part }
+        ensures { (t : Text) → length t ≡ count → ((p : _) (q : _) → length p.now ≡ count → F.post fill p tt q → q.now ≡ t) → PutInto self.old self.new t result }
+    {
+        if self.bytes.len() - self.at < count {
+            return None;
+        }
+        let end = self.at + count;
+        if let Pass::Write = self.pass {
+            fill(&mut self.bytes[self.at..end]);
+        }
+        self.at = end;
+        Some(())
     }
-    Some(end)
-}
 
-// A text.
-pub fn put_text(pass: Pass, output: &mut [u8], at: usize, text: &[u8]) -> Option<usize>
-    ensures { PutAt pass output.old output.new at text.now result }
-{
-    let end = end_of(output, at, text.len())?;
-    if let Pass::Write = pass {
-        output[at..end].copy_from_slice(text);
+    // A text.
+    pub fn text(&mut self, text: &[u8]) -> Option<()>
+        ensures { PutInto self.old self.new text.now result }
+    {
+        self.put(text.len(), |part| part.copy_from_slice(text))
     }
-    Some(end)
-}
 
-// A number in decimal.
-pub fn put_decimal(pass: Pass, output: &mut [u8], at: usize, n: usize) -> Option<usize>
-    ensures { PutAt pass output.old output.new at (decimal n) result }
-{
-    let end = end_of(output, at, width_of(n))?;
-    if let Pass::Write = pass {
-        print(n, output, at);
+    // A number in decimal.
+    pub fn decimal(&mut self, n: usize) -> Option<()>
+        ensures { PutInto self.old self.new (decimal n) result }
+    {
+        self.put(width_of(n), |part| {
+            print(n, part, 0);
+        })
     }
-    Some(end)
-}
 
-// The name of cell i.
-pub(crate) fn put_name(
-    pass: Pass,
-    sheet: &[u8],
-    work: &[u32],
-    free: usize,
-    i: usize,
-    output: &mut [u8],
-    at: usize,
-) -> Option<usize>
-    requires arena { Arena sheet.now work.now free }
-    requires i_nonzero { (0 < i) × (i < free) }
-    ensures { PutAt pass output.old output.new at (name_at sheet.now work.now i) result }
-{
-    let end = end_of(output, at, name_len(sheet, work, free, i))?;
-    if let Pass::Write = pass {
-        print_name(sheet, work, free, i, output, at);
+    // The name of cell i.
+    pub(crate) fn name(&mut self, area: &Area, i: usize) -> Option<()>
+        requires { (0 < i) × (i < area.now.free) }
+        ensures { PutInto self.old self.new (name_in area.now i) result }
+    {
+        self.put(area.name_len(i), |part| fill_name(area, i, part))
     }
-    Some(end)
 }

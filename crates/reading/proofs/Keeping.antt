@@ -1,12 +1,14 @@
 -- The term reader keeps the cells of an area.
 use Prim.Native.Nat.{ℕ, ◌*◌}
-use mathlib.Core.Path.{sym}
+use mathlib.Core.Path.{◌≡◌, sym, ap}
 use mathlib.Core.List.{List}
+use lib.ListN.{length}
 use Rattle.sheet.specs.declared.Place.{Place}
 use Rattle.text.specs.Frames.{Outside}
 use Rattle.tree.specs.Arena.{Below}
 use Rattle.tree.specs.declared.area.Area.{Area}
-use Rattle.tree.specs.Areas.{KeepsCells, Grows}
+use Rattle.tree.specs.Areas.{Lent, KeepsCells, Grows}
+use Rattle.tree.proofs.Keeping.{grows_keeps}
 use Rattle.reading.specs.Areas.{Reads, UnreadIn}
 
 -- words written above the cells keep these
@@ -18,3 +20,10 @@ reads_grows h = record { lent = h.lent; grew = h.grew; below = outside_below h.o
 
 pub unread_keeps : {a b : Area} {p : Place} → UnreadIn a b p → KeepsCells a b
 unread_keeps h = record { lent = h.lent; end = h.end; below = outside_below h.outside }
+
+pub unread_grows : {a b : Area} {p : Place} → UnreadIn a b p → Grows a b
+unread_grows h = grows_keeps (unread_keeps h)
+
+-- the sheet is the same
+pub sheet_length : {a b : Area} → Lent a b → length b.sheet.now ≡ length a.sheet.now
+sheet_length h = ap (λ s. length s.now) h.sheet

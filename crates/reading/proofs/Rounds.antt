@@ -21,11 +21,8 @@ use Rattle.tree.proofs.Areas.{arena_frame}
 use Rattle.closing.specs.Machine.{Stack, bottom, level, add, wants, named, has, machine_reading, Bare, HasOne, closing_room}
 use Rattle.text.specs.Frames.{Outside}
 use Rattle.closing.specs.Words.{stack_at, Held, Added, Opened}
-use Rattle.closing.specs.declared.Closed.{Closed}
-use Rattle.closing.specs.Closing.{most, NoTree, closed_level, Popped, Pops}
-use Rattle.reading.specs.declared.Parsed.{Parsed}
-use Rattle.reading.specs.declared.Parsed.TheVariants.{Tree as parsed_tree, Unreadable}
-use Rattle.reading.specs.Parsing.{ended_at, limit_of, stack_end, Read, Parses}
+use Rattle.closing.specs.Closing.{most, NoTree, closed_level}
+use Rattle.reading.specs.Parsing.{limit_of, stack_end}
 use Rattle.reading.proofs.Grammar.{reads}
 use Rattle.closing.proofs.Turns.{limited, name_turn, open_turn, comma_turn, shut_turn, comma_bare, shut_bare, stop_turn, not_name, no_delimiter, leaf_turn, shut_out, small_enough, parse_limited}
 use Rattle.reading.proofs.Stacks.{stack_top}
@@ -50,6 +47,16 @@ outside_on x y g h = record {
   below = λ p q. h.below p (omega arith) ∙ g.below p q;
   above = λ p q. h.above p (omega arith) ∙ g.above p q;
 }
+
+-- the text from a position to another reads as the tree of a cell
+pub record Read (s : Text) (w v : List ℕ) (start from to index free : ℕ) : Type 0 where
+  pub reads : parse (part s from (to - from)) ≡ Some (tree_at s v index)
+  pub link : next_of v index ≡ 0
+  pub placed : (0 < index) × (index < free)
+  pub arena : Arena s v free
+  pub grew : start ≤ free
+  pub room : free ≤ limit_of start from to
+  pub outside : Outside w v (4 * start) (stack_end start from to)
 
 -- what the reader is given
 pub record Task (s : Text) (start limit from to : ℕ) : Type 0 where
@@ -271,15 +278,13 @@ module _ {s : Text} {start limit from to : ℕ} (k : Task s start limit from to)
         }
 
     -- a list is closed
-    pub has_shut : {u : List ℕ} {m : ℕ} (t : ℕ) → (depth ≡ 0 → ⊥) → r ≡ Shut t → Popped s w u free m limit (depth - 1) → Has s v start limit from to v_at u m (depth - 1) t
-    has_shut {u} {m} t e g x =
+    pub has_shut : {u : List ℕ} {m : ℕ} (t : ℕ) → (depth ≡ 0 → ⊥) → r ≡ Shut t → (x : Tree) → closed_level s w limit (depth - 1) ≡ Some x → size x ≤ 4096 → free ≤ m → m ≤ most s w free (get_or w (4 * limit + 3 * (depth - 1) + 3) 0)
+        → Added s w u free m limit (depth - 1) x → Has s v start limit from to v_at u m (depth - 1) t
+    has_shut {u} {m} t e g x xi xs gr xr y =
         let st = h.stands in
         let lv = top_level s w limit depth e in
         let p = mark_past s at to k.within f t (Shut t) g refl in
-        let y = x.added in
         let ro = h.room in
-        let xr = x.room in
-        let gr = x.grows in
         let af = st.after in
         let de = st.deep in
         let ss = st.starts in
@@ -296,11 +301,11 @@ module _ {s : Text} {start limit from to : ℕ} (k : Task s start limit from to)
             deep = omega arith;
           };
           past = omega (arith, h.past);
-          one = rw y.stack (add_has x.tree (stack_at s w limit (depth - 1)) (subst HasOne lv h.one) x.small);
-          room = omega (arith, add_weight x.tree (stack_at s w limit (depth - 1)));
+          one = rw y.stack (add_has x (stack_at s w limit (depth - 1)) (subst HasOne lv h.one) xs);
+          room = omega (arith, add_weight x (stack_at s w limit (depth - 1)));
           reads =
               ap (λ (y : Stack). limited (machine_reading (take to s) t (has y))) y.stack
-              ∙ sym (ap limited (shut_turn (take to s) at f t _ _ (stack_at s w limit (depth - 1)) x.tree g x.is))
+              ∙ sym (ap limited (shut_turn (take to s) at f t _ _ (stack_at s w limit (depth - 1)) x g xi))
               ∙ sym (ap (λ (y : Stack). limited (machine_reading (take to s) at (has y))) lv)
               ∙ h.reads;
         }
@@ -327,9 +332,6 @@ outside_inner k h y o =
     let st = h.stands in
     outside_on (omega arith) (omega arith) (outside_on (omega (arith, st.starts)) (omega (arith, k.limit_is, st.deep, st.within, st.after)) st.outside y.outside) o
 
-pub pops_is : (s : Text) (w v : List ℕ) (n limit d : ℕ) {r q : Closed} → Pops s w v n limit d r → r ≡ q → Pops s w v n limit d q
-pops_is s w v n limit d h e = subst (Pops s w v n limit d) e h
-
 -- The word of the bottom is set before the rounds
 
 module _ {s : Text} {w : List ℕ} {free : ℕ} (from to : ℕ) (a : Arena s w free) (room : stack_end free from to ≤ length w) where
@@ -346,29 +348,3 @@ module _ {s : Text} {w : List ℕ} {free : ℕ} (from to : ℕ) (a : Arena s w f
     below = λ p q. get_or-set_other w (4 * limit_of free from to) p 0 0 (omega arith);
     above = λ p q. get_or-set_other w (4 * limit_of free from to) p 0 0 (omega arith);
   }
-
-pub parses_on : (s : Text) {w v : List ℕ} (u : List ℕ) (free from to : ℕ) (r : Parsed) → Outside w v (4 * free) (stack_end free from to) → Parses s v u free from to r → Parses s w u free from to r
-parses_on s u free from to (parsed_tree index end) o h = record {
-  reads = h.reads;
-  link = h.link;
-  placed = h.placed;
-  arena = h.arena;
-  grew = h.grew;
-  room = h.room;
-  outside = outside_on (omega arith) (omega arith) o h.outside;
-}
-parses_on s u free from to Unreadable o h = (h.0, outside_on (omega arith) (omega arith) o h.1)
-
--- at the end of the text
-pub stop_ends : {s : Text} {start limit from to : ℕ} → Task s start limit from to → {v w x : List ℕ} {v_at free at : ℕ} (depth : ℕ) → Has s v start limit from to v_at w free depth at
-    → {r : Symbol} → r ≡ symbol_at (take to s) at → r ≡ Stop → Outside x w (4 * start) (stack_end start from to) → (q : Parsed) → q ≡ ended_at w limit free depth → Parses s x w start from to q
-stop_ends {s} {start} {limit} {from} {to} k {v} {w} {x} zero h f g o q e = subst (Parses s x w start from to) (sym e) (stop_in k h f refl g refl o)
-stop_ends {s} {start} {limit} {from} {to} k {v} {w} {x} (suc d) h f g o q e = subst (Parses s x w start from to) (sym e) (stop_out k h f (λ z. (omega arith)) g, o)
-
-pub ended_open : (w : List ℕ) (limit free depth : ℕ) → 0 < depth → Unreadable ≡ ended_at w limit free depth
-ended_open w limit free zero p = absurd (omega arith)
-ended_open w limit free (suc d) p = refl
-
-pub ended_bottom : (w : List ℕ) (limit free depth : ℕ) {index : ℕ} → depth ≤ 0 → index ≡ get_or w (4 * limit) 0 → parsed_tree index free ≡ ended_at w limit free depth
-ended_bottom w limit free zero p e = cc
-ended_bottom w limit free (suc d) p e = absurd (omega arith)

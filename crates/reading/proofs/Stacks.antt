@@ -8,20 +8,16 @@ use mathlib.Core.List.{List}
 use lib.ListN.{length, get_or, set, length-set}
 use lib.Seq.{get_or-set_same, get_or-set_other}
 use Rattle.rules.specs.Bytes.{Text}
-use Rattle.rules.specs.Tree.{Tree, Trees, none, more, size}
-use Rattle.rules.specs.Reading.{leaf, close}
-use Rattle.laws.proofs.Reading.Colons.{leaf_size}
-use Rattle.tree.specs.Cells.{named, part, variable_kind, made, trees_at}
-use Rattle.tree.specs.Arena.{Links, Arena, Grown, WroteCell, Linked}
+use Rattle.rules.specs.Tree.{Tree, Trees, none, more}
+use Rattle.rules.specs.Reading.{close}
+use Rattle.tree.specs.Cells.{part, trees_at}
+use Rattle.tree.specs.Arena.{Links, Arena, Grown}
 use Rattle.tree.proofs.Decoding.{Agree, frame_trees, trees_none}
-use Rattle.tree.proofs.Areas.{arena_frame, grown_same}
+use Rattle.tree.proofs.Areas.{arena_frame}
 use Rattle.closing.specs.Machine.{Stack, bottom, level, add, back}
-use Rattle.leaves.specs.Leaves.{leaf_kind}
 use Rattle.text.specs.Frames.{Outside}
-use Rattle.closing.specs.Words.{stack_at, NamePlaced, Held, LastCell, Added, Opened}
-use Rattle.closing.specs.Closing.{most, Done, NoTree, closed_level, Popped}
-use Rattle.leaves.proofs.LeafLaws.{leaf_made, leaf_sorted}
-use Rattle.closing.proofs.Making.{named_part, place_of, linked_at, made_on}
+use Rattle.closing.specs.Words.{stack_at, NamePlaced, Held, Added, Opened}
+use Rattle.closing.specs.Closing.{closed_level}
 
 level_path : {a b : Text} {ts us : Trees} {k l : Stack} → a ≡ b → ts ≡ us → k ≡ l → level a ts k ≡ level b us l
 level_path p q r = cc
@@ -49,7 +45,15 @@ module _ (s : Text) {w : List ℕ} (v : List ℕ) {n : ℕ} (l : Links w n) (g :
 abbrev top_set : List ℕ → ℕ → ℕ → ℕ → List ℕ
 top_set v limit d k = set v (4 * limit + 3 * d) k
 
-module _ {s : Text} {w v : List ℕ} {n m limit d : ℕ} {t : Tree} (k : ℕ) (h : Held s w n limit d) (b : m ≤ limit) (x : LastCell s w v n m (get_or w (4 * limit + 3 * d) 0) t) (e : k + 1 ≡ m) where
+-- the cells n to m - 1 are new, and cell k is a tree before the list at a link
+pub record Put (s : Text) (w v : List ℕ) (n m k next : ℕ) (t : Tree) : Type 0 where
+  pub grew : n ≤ m
+  pub inside : k < m
+  pub arena : Arena s v m
+  pub grown : Grown w v n m
+  pub trees : trees_at s v k ≡ more t (trees_at s w next)
+
+module _ {s : Text} {w v : List ℕ} {n m limit d : ℕ} {t : Tree} (k : ℕ) (h : Held s w n limit d) (b : m ≤ limit) (x : Put s w v n m k (get_or w (4 * limit + 3 * d) 0) t) where
   -- words of v other than the level's
   kept : (p : ℕ) → (p ≡ 4 * limit + 3 * d → ⊥) → get_or v p 0 ≡ get_or (top_set v limit d k) p 0
   kept p f = sym (get_or-set_other v (4 * limit + 3 * d) p k 0 f)
@@ -65,10 +69,10 @@ module _ {s : Text} {w v : List ℕ} {n m limit d : ℕ} {t : Tree} (k : ℕ) (h
   lower p q r = x.grown.above p (omega arith) ∙ kept p (omega arith)
 
   old_cells : Agree w (top_set v limit d k) n
-  old_cells p q = let f = x.some in x.grown.below p q ∙ cells p (omega arith)
+  old_cells p q = let f = x.grew in x.grown.below p q ∙ cells p (omega arith)
 
   top_trees : trees_at s (top_set v limit d k) (get_or (top_set v limit d k) (4 * limit + 3 * d) 0) ≡ more t (trees_at s w (get_or w (4 * limit + 3 * d) 0))
-  top_trees = ap (trees_at s (top_set v limit d k)) new ∙ sym (frame_trees s (top_set v limit d k) x.arena.links cells k (omega arith)) ∙ x.trees k e
+  top_trees = ap (trees_at s (top_set v limit d k)) new ∙ sym (frame_trees s (top_set v limit d k) x.arena.links cells k x.inside) ∙ x.trees
 
   added_stack : (f : ℕ) → f ≡ d → stack_at s (top_set v limit d k) limit f ≡ add t (stack_at s w limit f)
   unfolding stack_at
@@ -84,8 +88,8 @@ module _ {s : Text} {w v : List ℕ} {n m limit d : ℕ} {t : Tree} (k : ℕ) (h
 
   added_trees : (i : ℕ) → i ≤ d → get_or (top_set v limit d k) (4 * limit + 3 * i) 0 < m
   added_trees i q = elim (ℕ_discrete i d) [
-    | yes f ↦ rw (f, new) (omega arith)
-    | no f ↦ (let l = h.trees i q in let g = lower (4 * limit + 3 * i) (omega arith) (omega arith) in let j = x.some in omega arith)
+    | yes f ↦ rw (f, new) x.inside
+    | no f ↦ (let l = h.trees i q in let g = lower (4 * limit + 3 * i) (omega arith) (omega arith) in let j = x.grew in omega arith)
   ]
 
   pub added : Added s w (top_set v limit d k) n m limit d t
@@ -120,24 +124,6 @@ pub stack_top : (s : Text) (w : List ℕ) (limit d : ℕ)
     ≡ level (part s (get_or w (4 * limit + 3 * d + 1) 0) (get_or w (4 * limit + 3 * d + 2) 0)) (trees_at s w (get_or w (4 * limit + 3 * d + 3) 0)) (stack_at s w limit d)
 unfolding stack_at
 stack_top s w limit d = rw (add-one d)
-
--- a leaf's cell
-pub leaf_linked : {s : Text} {w v : List ℕ} {n a l kind next : ℕ} → WroteCell w v n a l kind 0 next 1 → Arena s w n → 4 * n + 4 ≤ length w → next < n → NamePlaced s a l → kind ≡ leaf_kind (part s a l) → kind < 7
-    → Linked s w v n next (leaf (part s a l))
-leaf_linked {s} {w} {v} {n} {a} {l} {kind} {next} x h room q p e small =
-    let m = named_part p in
-    let t : made kind (named s a l) (trees_at s w 0) ≡ leaf (part s a l) = rw (e, m, trees_none s w 0 refl) (leaf_made (part s a l)) in
-    subst (Linked s w v n next) t
-    (linked_at x s h room h.links.some q (place_of p) (omega arith) (λ f g. e ∙ leaf_sorted (part s a l) (omega arith) ∙ ap variable_kind (sym m))
-    (λ f g. p.plain (ap (λ (y : Text). get_or y 1 0) (sym m) ∙ g)) (sym (ap size t ∙ leaf_size (part s a l))))
-
-pub leaf_added : {s : Text} {w v : List ℕ} {n limit d r a l kind next : ℕ} → Held s w n limit d → n < limit → NamePlaced s a l → next ≡ get_or w (4 * limit + 3 * d) 0 → kind ≡ leaf_kind (part s a l) → kind < 7
-    → r ≡ n + 1 → WroteCell w v n a l kind 0 next 1 → Added s w (set v (4 * limit + 3 * d) n) n r limit d (leaf (part s a l))
-leaf_added {s} {w} {v} {n} {limit} {d} {r} {a} {l} {kind} {next} h b p e f small g x =
-    let q = h.trees d (omega arith) in
-    let o = h.room in
-    let y = subst (λ (k : ℕ). Linked s w v n k (leaf (part s a l))) e (leaf_linked x h.arena (omega arith) (omega arith) p f small) in
-    added n h (omega arith) (made_on s h.arena.links q (omega arith) (grown_same w n n) g y) (sym g)
 
 -- a level opened
 module _ {s : Text} {w : List ℕ} {n limit d a l : ℕ} (h : Held s w n limit d) (room : 4 * limit + 3 * d + 3 < length w) (p : NamePlaced s a l) where
@@ -208,38 +194,8 @@ module _ {s : Text} {w : List ℕ} {n limit d a l : ℕ} (h : Held s w n limit d
 
 -- a list closed, at the numbers that the code holds
 module _ (s : Text) (w : List ℕ) (limit d : ℕ) {a l chain : ℕ} (e₁ : a ≡ get_or w (4 * limit + 3 * d + 1) 0) (e₂ : l ≡ get_or w (4 * limit + 3 * d + 2) 0) (e₃ : chain ≡ get_or w (4 * limit + 3 * d + 3) 0) where
-  level_is : close (part s a l) (back (trees_at s w chain) none) ≡ closed_level s w limit d
+  pub level_is : close (part s a l) (back (trees_at s w chain) none) ≡ closed_level s w limit d
   level_is = rw (e₁, e₂, e₃)
-
-  pub not_popped : NoTree (close (part s a l) (back (trees_at s w chain) none)) → NoTree (closed_level s w limit d)
-  not_popped f t g = f t (level_is ∙ g)
-
-  pub popped : {v : List ℕ} {n m next : ℕ} (k : ℕ) → Held s w n limit (d + 1) → next ≡ get_or w (4 * limit + 3 * d) 0 → most s w n (get_or w (4 * limit + 3 * d + 3) 0) ≤ limit
-      → Done s w v n m (most s w n chain) next (close (part s a l) (back (trees_at s w chain) none)) → k + 1 ≡ m → Popped s w (set v (4 * limit + 3 * d) k) n m limit d
-  popped {v} {n} {m} {next} k h e₀ b x e =
-      let z : most s w n chain ≡ most s w n (get_or w (4 * limit + 3 * d + 3) 0) = ap (most s w n) e₃ in
-      let r = x.room in
-      record {
-        tree = x.tree;
-        is = sym level_is ∙ x.is;
-        small = x.small;
-        grows = x.made.some;
-        room = omega arith;
-        added = added k (held_below h) (omega arith) (subst (λ (q : ℕ). LastCell s w v n m q x.tree) e₀ x.made) e;
-      }
-
-  -- the name of the level
-  pub placed_at : {n : ℕ} → Held s w n limit (d + 1) → NamePlaced s a l
-  placed_at h = rw (e₁, e₂) (h.names d (omega arith))
-
-  pub most_is : (n : ℕ) → most s w n chain ≡ most s w n (get_or w (4 * limit + 3 * d + 3) 0)
-  most_is n = ap (most s w n) e₃
-
-  pub chain_below : {n : ℕ} → Held s w n limit (d + 1) → chain < n
-  chain_below h =
-      let z : 4 * limit + 3 * (d + 1) ≡ 4 * limit + 3 * d + 3 = omega arith in
-      let q = rw z at (h.trees (d + 1) (omega arith)) in
-      omega arith
 
 -- new cells alone leave the stack's words
 pub outside_grown : {w v : List ℕ} {n m limit : ℕ} → m ≤ limit → Grown w v n m → Outside w v (4 * n) (4 * limit)

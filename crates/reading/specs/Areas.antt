@@ -1,6 +1,6 @@
 -- What the term reader gives in a work area: the cell of a tree where the text reads, and where it does not the free end as it was.
 -- Definitions only.
-use Rattle.std.specs.Prelude.{ℕ, ◌*◌, ◌<◌, ◌≤◌, ◌≡◌, Option, Some, None}
+use Rattle.std.specs.Prelude.{ℕ, ◌+◌, ◌-◌, ◌*◌, ◌^◌, ◌<◌, ◌≤◌, ◌≡◌, length, Option, Some, None}
 use Rattle.rules.specs.Reading.{parse}
 use Rattle.sheet.specs.declared.Place.{Place}
 use Rattle.text.specs.Frames.{Outside}
@@ -29,3 +29,11 @@ pub record UnreadIn (a b : Area) (p : Place) : Type 0 where
 abbrev pub ParsesIn : Area → Area → Place → Option ℕ → Type 0
 ParsesIn a b p None = UnreadIn a b p
 ParsesIn a b p (Some i) = Reads a b p i
+
+-- the cells of all texts from a position on end at most here: two for each byte
+abbrev pub texts_end_in : Area → ℕ → ℕ
+texts_end_in a at = a.free + 2 * (length a.sheet.now - at)
+
+-- room for them, and for the reader's stack above them
+abbrev pub TextsRoomIn : Area → ℕ → Type 0
+TextsRoomIn a at = (length a.sheet.now ≤ 65536) × (4 * texts_end_in a at + 3 * length a.sheet.now < length a.work.now) × (texts_end_in a at < 2 ^ 32)

@@ -1,2 +1,3 @@
 pub mod Parsing
 pub mod Areas
+pub mod Stacks

@@ -1,27 +1,21 @@
-// The term reader (unifier.rs, `parse`): the term of a text as cells.
+// The term reader over a work area.
 #![tactic(auto)]
 
-pub mod areas; // areas.rt: the term reader over a work area
-pub mod stack;
+pub mod stack; // stack.rt: the stack of open lists over a work area
 
-ghost use Rattle.std.specs.Prelude.{◌≡◌, ◌+◌, ◌*◌, ◌-◌, ◌<◌, ◌≤◌, ◌^◌, length, get_or, take};
+ghost use Rattle.std.specs.Prelude.{◌≡◌, ◌+◌, ◌*◌, ◌<◌, ◌≤◌, ◌^◌, length, get_or, take};
 ghost use Rattle.syntax.specs.Symbols.{symbol_at};
-ghost use Rattle.tree.specs.Arena.{Arena};
-ghost use Rattle.reading.specs.Parsing.{ended_at, limit_of, stack_end, Parses};
+ghost use Rattle.reading.specs.Parsing.{limit_of, stack_end};
+ghost use Rattle.reading.specs.Areas.{ParsesIn};
+ghost use Rattle.reading.specs.Stacks.{bottom_of, ReadsUp};
 
-use crate::stack::{begin, close, leaf, top_of};
-use closing::Closed;
+use crate::stack::{Stack, begin, close, leaf};
+use sheet::Place;
 use syntax::{Symbol, next_symbol};
-
-// The cell of the tree and the free end after it.
-#[derive(Clone, Copy)]
-pub enum Parsed {
-    Tree { index: usize, free: usize },
-    Unreadable,
-}
+use tree::area::Area;
 
 // The next symbol of the text that ends at `to`.
-fn symbol(sheet: &[u8], to: usize, at: usize) -> Symbol
+pub(crate) fn symbol(sheet: &[u8], to: usize, at: usize) -> Symbol
     requires { to ≤ length sheet.now }
     ensures { result ≡ symbol_at (take to sheet.now) at }
 {
@@ -29,92 +23,74 @@ fn symbol(sheet: &[u8], to: usize, at: usize) -> Symbol
 }
 
 // At the end of the text: the tree of the bottom, unless a list is open.
-fn finished(work: &[u32], limit: usize, free: usize, depth: usize) -> Parsed
-    requires { 4 * limit < length work.now }
-    ensures { result ≡ ended_at work.now limit free depth }
+fn finished(area: &Area, stack: Stack) -> Option<usize>
+    requires { 4 * stack.limit < length area.now.work.now }
+    ensures { result ≡ bottom_of area.now.work.now stack.limit stack.depth }
 {
-    if 0 < depth {
-        return Parsed::Unreadable;
+    if 0 < stack.depth {
+        return None;
     }
-    Parsed::Tree {
-        index: top_of(work, limit),
-        free,
-    }
+    Some(area.word(4 * stack.limit))
 }
 
-// Reads the text from `from` to `to`, with an empty stack above the cells.
-fn read(
-    sheet: &[u8],
-    work: &mut [u32],
-    start: usize,
-    limit: usize,
-    from: usize,
-    to: usize,
-) -> Parsed
-    requires arena { Arena sheet.now work.old start }
-    requires limit_value { (limit ≡ limit_of start from to) × (get_or work.old (4 * limit) 0 ≡ 0) }
-    requires from_le_to { (from ≤ to) × (to ≤ length sheet.now) × (length sheet.now ≤ 65536) × (to < from + 65536) }
-    requires to_in_bounds { (stack_end start from to ≤ length work.old) × (limit_of start from to < 2 ^ 32) }
-    ensures { Parses sheet.now work.old work.new start from to result }
+// Reads a text with an empty stack above the cells.
+fn read(area: &mut Area, text: Place, limit: usize) -> Option<usize>
+    requires limit { (limit ≡ limit_of area.old.free text.from text.to) × (get_or area.old.work.now (4 * limit) 0 ≡ 0) }
+    requires text { (text.from ≤ text.to) × (text.to ≤ length area.old.sheet.now) × (length area.old.sheet.now ≤ 65536) × (text.to < text.from + 65536) }
+    requires room { (stack_end area.old.free text.from text.to ≤ length area.old.work.now) × (limit < 2 ^ 32) }
+    ensures { ReadsUp area.old area.new text result }
 {
-    let mut free = start;
-    let mut depth: usize = 0;
-    let mut at = from;
+    let mut stack = Stack { limit, depth: 0 };
+    let mut at = text.from;
     'term: loop {
-        let first = symbol(sheet, to, at);
-        let Symbol::Name(name, end) = first else {
-            break 'term Parsed::Unreadable;
+        let Symbol::Name(from, to) = symbol(area.sheet, text.to, at) else {
+            break 'term None;
         };
-        let second = symbol(sheet, to, end);
-        if let Symbol::Begin(inner) = second {
-            begin(sheet, work, free, limit, depth, name, end);
-            depth += 1;
+        let name = Place { from, to };
+        if let Symbol::Begin(inner) = symbol(area.sheet, text.to, to) {
+            begin(area, stack, name);
+            stack.depth += 1;
             at = inner;
             continue 'term;
         }
-        free = leaf(sheet, work, free, limit, depth, name, end);
-        at = end;
+        leaf(area, stack, name);
+        at = to;
         loop {
-            let next = symbol(sheet, to, at);
-            match next {
-                Symbol::Stop => {
-                    return finished(work, limit, free, depth);
-                }
+            match symbol(area.sheet, text.to, at) {
+                Symbol::Stop => return finished(area, stack),
                 Symbol::Comma(past) => {
-                    if depth == 0 {
-                        break 'term Parsed::Unreadable;
+                    if stack.depth == 0 {
+                        break 'term None;
                     }
                     at = past;
                     continue 'term;
                 }
                 Symbol::Shut(past) => {
-                    if depth == 0 {
-                        break 'term Parsed::Unreadable;
+                    if stack.depth == 0 {
+                        break 'term None;
                     }
-                    let closed = close(sheet, work, free, limit, depth - 1);
-                    let Closed::At(made) = closed else {
-                        break 'term Parsed::Unreadable;
-                    };
-                    free = made;
-                    depth -= 1;
+                    stack.depth -= 1;
+                    close(area, stack)?;
                     at = past;
                 }
-                _ => {
-                    break 'term Parsed::Unreadable;
-                }
+                _ => break 'term None,
             }
         }
     }
 }
 
-// Reads the text from `from` to `to`: its term as new cells, at most two for each byte. The stack takes three words for each byte above.
-pub fn parse(sheet: &[u8], work: &mut [u32], free: usize, from: usize, to: usize) -> Parsed
-    requires arena { Arena sheet.now work.old free }
-    requires from_le_to { (from ≤ to) × (to ≤ length sheet.now) × (length sheet.now ≤ 65536) × (to < from + 65536) }
-    requires to_in_bounds { (stack_end free from to ≤ length work.old) × (limit_of free from to < 2 ^ 32) }
-    ensures { Parses sheet.now work.old work.new free from to result }
+// Reads a text of the sheet: the cell of its term, at most two new cells for each byte. The stack takes three words for each byte above.
+pub fn parse(area: &mut Area, text: Place) -> Option<usize>
+    requires text { (text.from ≤ text.to) × (text.to ≤ length area.old.sheet.now) × (length area.old.sheet.now ≤ 65536) × (text.to < text.from + 65536) }
+    requires room { (stack_end area.old.free text.from text.to ≤ length area.old.work.now) × (limit_of area.old.free text.from text.to < 2 ^ 32) }
+    ensures { ParsesIn area.old area.new text result }
 {
-    let limit = free + 2 * (to - from);
-    work[4 * limit] = 0;
-    read(sheet, work, free, limit, from, to)
+    let start = area.free;
+    let limit = start + 2 * (text.to - text.from);
+    area.set_word(4 * limit, 0);
+    let Some(cell) = read(area, text, limit) else {
+        area.free = start;
+        return None;
+    };
+    Some(cell)
 }

@@ -1,90 +1,77 @@
-// The stack of open lists, in words above the cells (specs/Words.antt): a leaf on its top, a list opened, a list closed.
-ghost use Rattle.std.specs.Prelude.{◌≡◌, [], ◌∷◌, ◌+◌, ◌*◌, ◌-◌, ◌<◌, ◌≤◌, ◌^◌, length, get_or};
-ghost use Rattle.rules.specs.Tree.{none};
-ghost use Rattle.rules.specs.Reading.{leaf, close};
-ghost use Rattle.tree.specs.Cells.{part};
-ghost use Rattle.closing.specs.Words.{NamePlaced, Held, Added, Opened};
-ghost use Rattle.closing.specs.Closing.{most, Pops};
+// The stack of open lists, in words above the cells of an area: a leaf on its top, a list opened, a list closed.
+ghost use Rattle.std.specs.Prelude.{◌≡◌, ◌+◌, ◌*◌, ◌<◌, ◌≤◌, ◌^◌, length, get_or};
+ghost use Rattle.rules.specs.Reading.{leaf};
+ghost use Rattle.tree.specs.Areas.{Pushes};
+ghost use Rattle.tree.specs.Spelled.{text_in, Spelled};
+ghost use Rattle.closing.specs.Closing.{most};
+ghost use Rattle.reading.specs.Stacks.{HeldIn, AddsTo, OpensOn, ClosesOn};
 
-use closing::{Closed, shut};
-use leaves::leaf_kind;
-use text::places::wide;
-use tree::cells::push_cell;
+use closing::shut;
+use leaves::sorts::leaf_sort;
+use sheet::{Place, part};
+use tree::area::Area;
 
-// The cell of the last tree of the bottom.
-pub(crate) fn top_of(work: &[u32], limit: usize) -> usize
-    requires { 4 * limit < length work.now }
-    ensures { result ≡ get_or work.now (4 * limit) 0 }
-{
-    wide(work[4 * limit])
+// The stack has so many levels above the bottom, whose word stands above so many cells.
+#[derive(Clone, Copy, Debug, PartialEq, Eq)]
+pub(crate) struct Stack {
+    pub limit: usize,
+    pub depth: usize,
 }
 
-// A leaf, put on the level `depth`, which is the top.
-pub(crate) fn leaf(
-    sheet: &[u8],
-    work: &mut [u32],
-    free: usize,
-    limit: usize,
-    depth: usize,
-    from: usize,
-    to: usize,
-) -> usize
-    requires held { Held sheet.now work.old free limit depth }
-    requires free_lt_limit { (free < limit) × (limit < 2 ^ 32) }
-    requires from_le_to { (from ≤ to) × NamePlaced sheet.now from (to - from) × (length sheet.now ≤ 65536) }
-    ensures { (result ≡ free + 1) × Added sheet.now work.old work.new free result limit depth (leaf (part sheet.now from (to - from))) }
+// A leaf before the list at `next`.
+fn push_leaf(area: &mut Area, name: Place, next: usize) -> usize
+    requires name { Spelled area.old.sheet.now name }
+    requires link { next < area.old.free }
+    requires room { (4 * area.old.free + 4 ≤ length area.old.work.now) × (area.old.free < 2 ^ 32) }
+    ensures { Pushes area.old area.new result next (leaf (text_in area.old name)) }
 {
-    let top = 4 * limit + 3 * depth;
-    let kind = leaf_kind(&sheet[from..to]);
-    let next = wide(work[top]);
-    let end = push_cell(work, free, from, to - from, kind, 0, next, 1);
-    work[top] = free as u32;
-    end
+    match leaf_sort(part(area.sheet, name.from, name.to)) {
+        Some(sort) => area.push_variable(name, sort, next),
+        None => area.push_application(name, 0, next, 1),
+    }
 }
 
-// A list opened: the level `depth + 1`.
-pub(crate) fn begin(
-    sheet: &[u8],
-    work: &mut [u32],
-    free: usize,
-    limit: usize,
-    depth: usize,
-    from: usize,
-    to: usize,
-)
-    requires held { Held sheet.now work.old free limit depth }
-    requires depth_in_bounds { 4 * limit + 3 * depth + 3 < length work.old }
-    requires from_le_to { (from ≤ to) × NamePlaced sheet.now from (to - from) × (length sheet.now ≤ 65536) }
-    ensures { Opened sheet.now work.old work.new free limit depth (part sheet.now from (to - from)) }
+// A leaf, put on the top level.
+pub(crate) fn leaf(area: &mut Area, stack: Stack, name: Place)
+    requires held { HeldIn area.old stack.limit stack.depth }
+    requires room { (area.old.free < stack.limit) × (stack.limit < 2 ^ 32) }
+    requires name { Spelled area.old.sheet.now name }
+    ensures adds { AddsTo area.old area.new stack (leaf (text_in area.old name)) }
+    ensures end { area.new.free ≡ area.old.free + 1 }
 {
-    let top = 4 * limit + 3 * depth;
-    work[top + 1] = from as u32;
-    work[top + 2] = (to - from) as u32;
+    let top = 4 * stack.limit + 3 * stack.depth;
+    let next = area.word(top);
+    let cell = push_leaf(area, name, next);
+    area.set_word(top, cell);
+}
+
+// A list opened: the next level.
+pub(crate) fn begin(area: &mut Area, stack: Stack, name: Place)
+    requires held { HeldIn area.old stack.limit stack.depth }
+    requires room { 4 * stack.limit + 3 * stack.depth + 3 < length area.old.work.now }
+    requires name { Spelled area.old.sheet.now name }
+    ensures { OpensOn area.old area.new stack (text_in area.old name) }
+{
+    let top = 4 * stack.limit + 3 * stack.depth;
+    let work = &mut *area.work;
+    work[top + 1] = name.from as u32;
+    work[top + 2] = (name.to - name.from) as u32;
     work[top + 3] = 0;
 }
 
-// The list of the level `depth + 1` closed, and its tree put on the level `depth`.
-pub(crate) fn close(
-    sheet: &[u8],
-    work: &mut [u32],
-    free: usize,
-    limit: usize,
-    depth: usize,
-) -> Closed
-    requires held { Held sheet.now work.old free limit (depth + 1) }
-    requires depth_bound { (most sheet.now work.old free (get_or work.old (4 * limit + 3 * depth + 3) 0) ≤ limit) × (limit < 2 ^ 32) }
-    requires sheet_len_bound { length sheet.now ≤ 65536 }
-    ensures { Pops sheet.now work.old work.new free limit depth result }
+// The list of the level above the top closed, and its tree put on the top: the tree's cell, if there is a tree.
+pub(crate) fn close(area: &mut Area, stack: Stack) -> Option<usize>
+    requires held { HeldIn area.old stack.limit (stack.depth + 1) }
+    requires room { (most area.old.sheet.now area.old.work.now area.old.free (get_or area.old.work.now (4 * stack.limit + 3 * stack.depth + 3) 0) ≤ stack.limit) × (stack.limit < 2 ^ 32) }
+    requires small { length area.old.sheet.now ≤ 65536 }
+    ensures { ClosesOn area.old area.new stack result }
 {
-    let top = 4 * limit + 3 * depth;
-    let next = wide(work[top]);
-    let at = wide(work[top + 1]);
-    let len = wide(work[top + 2]);
-    let chain = wide(work[top + 3]);
-    let closed = shut(sheet, work, free, at, len, chain, next);
-    let Closed::At(end) = closed else {
-        return Closed::Refused;
-    };
-    work[top] = (end - 1) as u32;
-    Closed::At(end)
+    let top = 4 * stack.limit + 3 * stack.depth;
+    let next = area.word(top);
+    let from = area.word(top + 1);
+    let to = from + area.word(top + 2);
+    let chain = area.word(top + 3);
+    let cell = shut(area, Place { from, to }, chain, next)?;
+    area.set_word(top, cell);
+    Some(cell)
 }

@@ -1,96 +1,125 @@
-// Normalization: a list's later trees first, then a tree's children, then one step at its root.
+// Normal forms of trees of an area: a list's later trees first, then a tree's children, then one step at its root.
 ghost use Rattle.std.specs.Prelude.{◌≡◌, ◌+◌, ◌*◌, ◌<◌, ◌≤◌, ◌^◌, length};
-ghost use Rattle.rules.specs.Tree.{size, sizes};
-ghost use Rattle.rules.specs.Reduction.{root, normalize, normalizes};
-ghost use Rattle.tree.specs.Cells.{kind_of, name_at, tree_at, trees_at};
-ghost use Rattle.tree.specs.Arena.{Arena};
-ghost use Rattle.rewriting.specs.Building.{NewTree, NewTrees, key_room};
+ghost use Rattle.rules.specs.Tree.{apply, size, sizes};
+ghost use Rattle.rules.specs.Reduction.{constant, root, normalize, normalizes};
+ghost use Rattle.tree.specs.declared.kinds.Kind.TheVariants.{Application};
+ghost use Rattle.tree.specs.Cells.{fixed_name};
+ghost use Rattle.tree.specs.Arena.{Grown};
+ghost use Rattle.tree.specs.Areas.{cell_kind, name_in, tree_in, trees_in, Pushes};
+ghost use Rattle.rewriting.specs.Building.{key_room};
+ghost use Rattle.rewriting.specs.Values.{role_tree};
+ghost use Rattle.reduction.specs.Areas.{Becomes, BecomesList};
 
-use crate::building::{becomes, leaf};
-use rewriting::firing::{flipped, part_of};
-use rewriting::keys::decrypted;
+use rewriting::firing::{Role, Value, fire};
 use rewriting::naming::rule_named;
-use rules::Rule;
-use substitution::bindings::Pushed;
 use substitution::instances::keep;
-use tree::cells::{APPLICATION, first_of, kind_of, next_of};
+use tree::area::Area;
+use tree::cells::{APPLICATION, push_cell};
+use tree::kinds::Kind;
 
-// One step at the root: the name of cell i over the list from cell first on.
-fn root(sheet: &[u8], work: &mut [u32], free: usize, i: usize, first: usize, next: usize) -> Pushed
-    requires arena { Arena sheet.now work.old free }
-    requires i_nonzero { (0 < i) × (i < free) × (first < free) × (next < free) }
-    requires i_value { (kind_of work.old i ≡ 0) × (sizes (trees_at sheet.now work.old first) ≤ 4096) }
-    requires key_room_in_bounds { (4 * free + 4 + key_room ≤ length work.old) × (free < 2 ^ 32) }
-    ensures { NewTree sheet.now work.old work.new free 1 next (root (name_at sheet.now work.old i) (trees_at sheet.now work.old first)) result.index result.free }
+// The number of nodes of the list from cell `list` on, by the counts of its cells.
+pub fn nodes_in(area: &Area, list: usize) -> usize
+    requires { (list < area.now.free) × (sizes (trees_in area.now list) < 2 ^ 32) }
+    ensures { result ≡ sizes (trees_in area.now list) }
 {
-    let Some(rule) = rule_named(sheet, work, free, i) else {
-        return becomes(sheet, work, free, 0, i, first, next);
+    let mut nodes: usize = 0;
+    let mut k = list;
+    while k != 0 {
+        nodes += area.count_of(k);
+        k = area.next_of(k);
+    }
+    nodes
+}
+
+// The name of cell i over the list from cell first on, before the list from cell next on.
+pub fn stay(area: &mut Area, i: usize, first: usize, next: usize) -> usize
+    requires cells { (0 < i) × (i < area.old.free) × (first < area.old.free) × (next < area.old.free) }
+    requires application { cell_kind area.old i ≡ Application }
+    requires small { sizes (trees_in area.old first) < 65535 }
+    requires room { (4 * area.old.free + 4 ≤ length area.old.work.now) × (area.old.free < 2 ^ 32) }
+    ensures becomes { Becomes area.old area.new 1 next (apply (name_in area.old i) (trees_in area.old first)) result }
+    ensures grown { Grown area.old.work.now area.new.work.now area.old.free area.new.free }
+{
+    if area.first_of(i) == first {
+        return keep(area, i, next);
+    }
+    let count = nodes_in(area, first);
+    area.push_like(i, first, next, 1 + count)
+}
+
+// The code of the name of a role.
+fn code_of(role: Role) -> usize
+    ensures name { constant (fixed_name result) ≡ role_tree role }
+    ensures code { (0 < result) × (result < 7) }
+{
+    match role {
+        Role::A => 1,
+        Role::B => 2,
+    }
+}
+
+// Writes a role before the list from cell next on, and answers its cell.
+pub fn push_role(area: &mut Area, role: Role, next: usize) -> usize
+    requires link { next < area.old.free }
+    requires room { (4 * area.old.free + 4 ≤ length area.old.work.now) × (area.old.free < 2 ^ 32) }
+    ensures { Pushes area.old area.new result next (role_tree role) }
+{
+    let at = area.free;
+    let code = code_of(role);
+    let work = &mut *area.work;
+    let end = push_cell(work, at, code, 0, APPLICATION, 0, next, 1);
+    area.free = end;
+    at
+}
+
+// One step at the root: the name of cell i over the list from cell first on. The words above the cells are scratch.
+fn root(area: &mut Area, i: usize, first: usize, next: usize) -> usize
+    requires cells { (0 < i) × (i < area.old.free) × (first < area.old.free) × (next < area.old.free) }
+    requires application { cell_kind area.old i ≡ Application }
+    requires small { sizes (trees_in area.old first) ≤ 4096 }
+    requires room { (4 * area.old.free + 4 + key_room ≤ length area.old.work.now) × (area.old.free < 2 ^ 32) }
+    ensures { Becomes area.old area.new 1 next (root (name_in area.old i) (trees_in area.old first)) result }
+{
+    let Some(rule) = rule_named(area, i) else {
+        return stay(area, i, first, next);
     };
-    match rule {
-        Rule::Fst => {
-            let k = part_of(sheet, work, free, first, true);
-            becomes(sheet, work, free, k, i, first, next)
-        }
-        Rule::Snd => {
-            let k = part_of(sheet, work, free, first, false);
-            becomes(sheet, work, free, k, i, first, next)
-        }
-        Rule::Flip => {
-            let code = flipped(sheet, work, free, first);
-            if code == 0 {
-                return becomes(sheet, work, free, 0, i, first, next);
-            }
-            leaf(sheet, work, free, code, next)
-        }
-        Rule::Sdec => {
-            let k = decrypted(sheet, work, free, first, false);
-            becomes(sheet, work, free, k, i, first, next)
-        }
-        Rule::Kdec => {
-            let k = decrypted(sheet, work, free, first, true);
-            becomes(sheet, work, free, k, i, first, next)
-        }
+    match fire(area, rule, first) {
+        Some(Value::Cell(k)) => keep(area, k, next),
+        Some(Value::Role(role)) => push_role(area, role, next),
+        None => stay(area, i, first, next),
     }
 }
 
-// The normal forms of the trees of the list from cell i on. One frame for each node: a term may be 4,096 deep.
-fn normalize_list(sheet: &[u8], work: &mut [u32], free: usize, i: usize) -> Pushed
-    requires arena { Arena sheet.now work.old free }
-    requires i_lt_free { (i < free) × (sizes (trees_at sheet.now work.old i) ≤ 4096) }
-    requires key_room_in_bounds { (4 * (free + sizes (trees_at sheet.now work.old i)) + key_room ≤ length work.old) × (free + sizes (trees_at sheet.now work.old i) ≤ 2 ^ 32) }
-    ensures { NewTrees sheet.now work.old work.new free (sizes (trees_at sheet.now work.old i)) (normalizes (trees_at sheet.now work.old i)) result.index result.free }
+// The normal forms of the trees of the list from cell `list` on.
+#[cycle(normalize_normalize_list)]
+fn normalize_list(area: &mut Area, list: usize) -> usize
+    requires list { list < area.old.free }
+    requires small { sizes (trees_in area.old list) ≤ 4096 }
+    requires room { (4 * (area.old.free + sizes (trees_in area.old list)) + key_room ≤ length area.old.work.now) × (area.old.free + sizes (trees_in area.old list) ≤ 2 ^ 32) }
+    ensures { BecomesList area.old area.new (sizes (trees_in area.old list)) (normalizes (trees_in area.old list)) result }
 {
-    if i == 0 {
-        return Pushed {
-            index: 0,
-            free: free,
-        };
+    if list == 0 {
+        return 0;
     }
-    let rest = normalize_list(sheet, work, free, next_of(work, free, i));
-    let next = rest.index;
-    let end = rest.free;
-    if APPLICATION < kind_of(work, i) {
-        return keep(sheet, work, end, i, next);
-    }
-    let children = normalize_list(sheet, work, end, first_of(work, end, i));
-    let first = children.index;
-    let stop = children.free;
-    root(sheet, work, stop, i, first, next)
+    let rest = area.next_of(list);
+    let next = normalize_list(area, rest);
+    normalize(area, list, next)
 }
 
-// The normal form of the tree of cell i, before the list from cell next on.
-pub fn normalize(sheet: &[u8], work: &mut [u32], free: usize, i: usize, next: usize) -> Pushed
-    requires arena { Arena sheet.now work.old free }
-    requires i_nonzero { (0 < i) × (i < free) × (next < free) × (size (tree_at sheet.now work.old i) ≤ 4096) }
-    requires key_room_in_bounds { (4 * (free + size (tree_at sheet.now work.old i)) + key_room ≤ length work.old) × (free + size (tree_at sheet.now work.old i) ≤ 2 ^ 32) }
-    ensures { NewTree sheet.now work.old work.new free (size (tree_at sheet.now work.old i)) next (normalize (tree_at sheet.now work.old i)) result.index result.free }
+// The normal form of the tree of cell i, before the list from cell next on. The words above the cells are scratch.
+#[cycle(normalize_normalize_list)]
+pub fn normalize(area: &mut Area, i: usize, next: usize) -> usize
+    requires cells { (0 < i) × (i < area.old.free) × (next < area.old.free) }
+    requires small { size (tree_in area.old i) ≤ 4096 }
+    requires room { (4 * (area.old.free + size (tree_in area.old i)) + key_room ≤ length area.old.work.now) × (area.old.free + size (tree_in area.old i) ≤ 2 ^ 32) }
+    ensures { Becomes area.old area.new (size (tree_in area.old i)) next (normalize (tree_in area.old i)) result }
 {
-    let kind = kind_of(work, i);
-    if APPLICATION < kind {
-        return keep(sheet, work, free, i, next);
+    match area.kind(i) {
+        Kind::Application => {
+            let children = area.first_of(i);
+            let first = normalize_list(area, children);
+            root(area, i, first, next)
+        }
+        Kind::Variable(_) | Kind::Atom(_) => keep(area, i, next),
     }
-    let children = normalize_list(sheet, work, free, first_of(work, free, i));
-    let index = children.index;
-    let end = children.free;
-    root(sheet, work, end, i, index, next)
 }

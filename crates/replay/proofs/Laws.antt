@@ -1,24 +1,19 @@
 -- What the call wrote, compared with the answer stored, and a record's replay.
-use Rattle.std.proofs.Common.{◌≡◌, ℕ, ◌-◌, ◌≤◌, Bool, true, false, ◌&&◌, eqb, leb, List, [], ◌++◌, length, take, drop, sym, refl, ap, ◌∙◌, arith, length-append, length-drop, length-take-le, take_all, take_at, le-leb, leb-true}
+use Rattle.std.proofs.Common.{◌≡◌, ℕ, ◌≤◌, Bool, true, false, ◌&&◌, eqb, leb, List, [], ◌++◌, length, take, drop, sym, refl, ap, ◌∙◌, arith, length-append, length-take-le, take_at, le-leb, leb-true, None}
 use Rattle.rules.specs.Bytes.{Text, same}
-use Rattle.laws.proofs.Basics.Tests.{and_left, and_right}
+use Rattle.std.proofs.lemmas.Bool.{ne_eqb}
+use Rattle.laws.proofs.Basics.Tests.{and_left, and_right, eqb_self}
 use Rattle.rules.specs.Call.{Reply, refused, passed, call, refusal_number, written, overwritten}
 use Rattle.yukhtsami.specs.Answering.{Calls}
-use Rattle.replay.specs.Replaying.{agreeing, Compares, Replays, lends, outcome, sheet_in, answer_in}
+use Rattle.replay.specs.Replaying.{agreeing, Compares, Replays, lends, outcome}
 use Rattle.replay.specs.declared.call.Record.{Record}
-use Rattle.replay.specs.declared.call.Outcome.TheVariants.{Skipped}
 
--- a test of several parts, by the part that decides it
-pub and_no : (a b r : Bool) → r ≡ a → r ≡ false → r ≡ a && b
-and_no a b r e t =
-    let h : a ≡ false = sym e ∙ t in
-    rw h t
+-- a number that is, or is not, the one stored
+pub said_same : {m n : ℕ} (b r : Bool) → m ≡ n → r ≡ b → r ≡ eqb m n && b
+said_same {m} {n} b r e f = f ∙ ap (λ (x : Bool). x && b) (sym (eqb_self n)) ∙ ap (λ (k : ℕ). eqb k n && b) (sym e)
 
-pub and_next : (a b r : Bool) → a ≡ true → r ≡ b → r ≡ a && b
-and_next a b r e f = rw e f
-
-pub rest_of_list : (s : Text) (i : ℕ) → take (length s - i) (drop i s) ≡ drop i s
-rest_of_list s i = take_all (length s - i) (drop i s) (simp length-drop (omega arith))
+pub said_other : {k m n : ℕ} (b : Bool) → k ≡ m → (k ≡ n → ⊥) → eqb k n ≡ eqb m n && b
+said_other {k} {m} {n} b e f = rw (sym e, ne_eqb k n f) refl
 
 -- the bytes written are the reply's
 reply_agrees : (p : Reply Text) (out : Text) (refusal : ℕ) (answer : Text)
@@ -43,8 +38,8 @@ module _ (s : Text) (w v : List ℕ) (out after : Text) (number count : ℕ) (re
           → eqb n refusal && (leb m (length a) && same (take m a) answer) ≡ agreeing (call s (length w) (length out)) refusal answer
       go n m a p q o = rw (p, q, o) (reply_agrees (call s (length w) (length out)) out refusal answer)
 
-module _ (list : Text) (stored : Record) (w : List ℕ) (out : Text) where
-  pub skipped : lends (length w) (length out) stored ≡ false → Replays list stored w w out out Skipped
+module _ (stored : Record) (w : List ℕ) (out : Text) where
+  pub skipped : lends (length w) (length out) stored ≡ false → Replays stored w w out out None
   skipped e = record { says = rw e; work = rw e; output = rw e }
 
   pub lends_words : (b : Bool) → b ≡ lends (length w) (length out) stored → b ≡ true → stored.words ≤ length w
@@ -56,8 +51,8 @@ module _ (list : Text) (stored : Record) (w : List ℕ) (out : Text) where
   lends_room b e t = leb-true stored.room (length out) (and_right (leb stored.words (length w)) (leb stored.room (length out)) (sym e ∙ t))
 
   pub replayed : (v' : List ℕ) (after' : Text) (b q r : Bool) → b ≡ q → r ≡ lends (length w) (length out) stored → r ≡ true
-      → Compares (sheet_in list stored) (take stored.words w) v' (take stored.room out) after' stored.refusal (answer_in list stored) b
-      → Replays list stored w (v' ++ drop stored.words w) out (after' ++ drop stored.room out) (outcome true q)
+      → Compares stored.sheet.now (take stored.words w) v' (take stored.room out) after' stored.refusal stored.answer.now b
+      → Replays stored w (v' ++ drop stored.words w) out (after' ++ drop stored.room out) (outcome true q)
   replayed v' after' b q r h l t c =
       let e : lends (length w) (length out) stored ≡ true = sym l ∙ t in
       let m : length (take stored.words w) ≡ stored.words = length-take-le stored.words w (lends_words r l t) in

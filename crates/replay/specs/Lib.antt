@@ -1,2 +1,2 @@
-pub mod Inside
+pub mod Records
 pub mod Replaying

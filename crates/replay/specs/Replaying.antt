@@ -1,22 +1,8 @@
--- What a record in form is, when a record is replayed and what its replay gives. Definitions only.
-use Rattle.std.specs.Prelude.{◌≡◌, ℕ, ◌-◌, Bool, true, false, cond, ◌&&◌, List, [], ◌++◌, length, take, drop, ◌==◌, nat_le, slice_index}
+-- When a record is replayed, and what its replay gives. Definitions only.
+use Rattle.std.specs.Prelude.{◌≡◌, ℕ, Bool, cond, ◌&&◌, List, [], ◌++◌, length, take, drop, ◌==◌, nat_le, Option, Some, None}
 use Rattle.rules.specs.Bytes.{Text, same}
-use Rattle.rules.specs.Text.{bytes}
 use Rattle.rules.specs.Call.{Reply, refused, passed, call, overwritten, work_after}
-use Rattle.text.specs.Prefix.{begins_with}
 use Rattle.replay.specs.declared.call.Record.{Record}
-use Rattle.replay.specs.declared.call.Outcome.{Outcome}
-use Rattle.replay.specs.declared.call.Outcome.TheVariants.{Agrees, Differs, Skipped}
-
--- it starts with its word and ends with byte 10
-abbrev pub closed_at : Text → ℕ → ℕ → Bool
-closed_at list at end = begins_with (bytes "sheet ") (drop at list) && slice_index list end == 10
-
-abbrev pub sheet_in : Text → Record → Text
-sheet_in list stored = take (stored.answer - stored.sheet) (drop stored.sheet list)
-
-abbrev pub answer_in : Text → Record → Text
-answer_in list stored = take (stored.end - stored.answer) (drop stored.answer list)
 
 -- there are the words and the room that the record lends
 unfoldable pub lends : ℕ → ℕ → Record → Bool
@@ -34,14 +20,12 @@ pub record Compares (s : Text) (w v : List ℕ) (out after : Text) (refusal : �
   pub work : v ≡ work_after s w
   pub output : after ≡ overwritten (call s (length w) (length out)) out
 
--- what is said of a record, replayed or not, that agrees or not
-abbrev pub outcome : Bool → Bool → Outcome
-outcome false b = Skipped
-outcome true true = Agrees
-outcome true false = Differs
+-- what is said of a record: whether it agrees, if it is replayed
+abbrev pub outcome : Bool → Bool → Option Bool
+outcome replayed agrees = cond replayed (Some agrees) None
 
 -- r is what the record's replay gives, with the words and the bytes that the record lends; the others are kept
-pub record Replays (list : Text) (stored : Record) (w v : List ℕ) (out after : Text) (r : Outcome) : Type 0 where
-  pub says : r ≡ outcome (lends (length w) (length out) stored) (agreeing (call (sheet_in list stored) stored.words stored.room) stored.refusal (answer_in list stored))
-  pub work : v ≡ cond (lends (length w) (length out) stored) (work_after (sheet_in list stored) (take stored.words w) ++ drop stored.words w) w
-  pub output : after ≡ cond (lends (length w) (length out) stored) (overwritten (call (sheet_in list stored) stored.words stored.room) (take stored.room out) ++ drop stored.room out) out
+pub record Replays (stored : Record) (w v : List ℕ) (out after : Text) (r : Option Bool) : Type 0 where
+  pub says : r ≡ outcome (lends (length w) (length out) stored) (agreeing (call stored.sheet.now stored.words stored.room) stored.refusal stored.answer.now)
+  pub work : v ≡ cond (lends (length w) (length out) stored) (work_after stored.sheet.now (take stored.words w) ++ drop stored.words w) w
+  pub output : after ≡ cond (lends (length w) (length out) stored) (overwritten (call stored.sheet.now stored.words stored.room) (take stored.room out) ++ drop stored.room out) out

@@ -1,2 +1,3 @@
-pub mod Held
+pub mod Areas
 pub mod Building
+pub mod Values

@@ -1,73 +1,121 @@
-// What the rules without keys make of the children under their names, and the keys of ciphers.
-ghost use Rattle.std.specs.Prelude.{◌≡◌, ◌<◌};
-ghost use Rattle.rules.specs.declared.Rule.TheVariants.{Flip};
-ghost use Rattle.rules.specs.Reduction.{fire};
-ghost use Rattle.tree.specs.Cells.{first_of, tree_at, trees_at};
-ghost use Rattle.tree.specs.Arena.{Arena};
-ghost use Rattle.rewriting.specs.Held.{held, held_two, fixed, side, sealed};
+// What a rule makes of the children under its name in an area.
+ghost use Rattle.std.specs.Prelude.{◌≡◌, ◌+◌, ◌*◌, ◌<◌, ◌≤◌, length, IfSome, option_map};
+ghost use Rattle.rules.specs.declared.Rule.TheVariants.{Flip, Sdec, Kdec};
+ghost use Rattle.rules.specs.Tree.{size, sizes};
+ghost use Rattle.rules.specs.Reduction.{fire, opens};
+ghost use Rattle.tree.specs.Areas.{tree_in, trees_in, KeepsCells};
+ghost use Rattle.rewriting.specs.Building.{key_room};
+ghost use Rattle.rewriting.specs.Areas.{CellIn};
+ghost use Rattle.rewriting.specs.Values.{PartsIn, role_tree, value_tree, ValueIn};
 
-use crate::naming::{is_constant, is_one, is_two, one_argument};
+use crate::naming::{Two, is_constant, is_one, is_two, one_argument, two_arguments};
+use equivalence::equivalent;
+use rules::Rule;
 use sorts::message;
-use tree::cells::first_of;
+use tree::area::Area;
 
-// The first or the second of the pair, the one child from cell i on: its cell, 0 where the rule does not fire.
-pub fn part_of(sheet: &[u8], work: &[u32], free: usize, i: usize, first: bool) -> usize
-    requires arena { Arena sheet.now work.now free }
-    requires i_lt_free { i < free }
-    ensures { (result < free) × (fire (side first) (trees_at sheet.now work.now i) ≡ held sheet.now work.now result) }
-{
-    let pair = one_argument(sheet, work, free, i);
-    if pair == 0 {
-        return 0;
-    }
-    let b = is_two(sheet, work, free, pair, b"tamXCpair");
-    if b == 0 {
-        return 0;
-    }
-    let a = first_of(work, free, pair);
-    if !message(sheet, work, free, a) {
-        return 0;
-    }
-    if !message(sheet, work, free, b) {
-        return 0;
-    }
-    if first {
-        return a;
-    }
-    b
+// The two roles.
+#[derive(Clone, Copy, Debug, PartialEq, Eq)]
+pub enum Role {
+    A,
+    B,
 }
 
-// The other role than the one child from cell i on: the code of its name, 0 where the rule does not fire.
-pub fn flipped(sheet: &[u8], work: &[u32], free: usize, i: usize) -> usize
-    requires arena { Arena sheet.now work.now free }
-    requires i_lt_free { i < free }
-    ensures { (result < 3) × (fire Flip (trees_at sheet.now work.now i) ≡ fixed result) }
-{
-    let role = one_argument(sheet, work, free, i);
-    if role == 0 {
-        return 0;
-    }
-    if is_constant(sheet, work, free, role, b"tamXCroleA") {
-        return 2;
-    }
-    if is_constant(sheet, work, free, role, b"tamXCroleB") {
-        return 1;
-    }
-    0
+// What a rule makes: the tree of a cell, or a role.
+#[derive(Clone, Copy, Debug, PartialEq, Eq)]
+pub enum Value {
+    Cell(usize),
+    Role(Role),
 }
 
-// The cell of the key that the cipher of cell k is sealed by, boxed or not, 0 if it is no such cipher. The payload is its first child.
-pub(crate) fn key_of(sheet: &[u8], work: &[u32], free: usize, k: usize, boxed: bool) -> usize
-    requires arena { Arena sheet.now work.now free }
-    requires k_nonzero { (0 < k) × (k < free) }
-    ensures { (result < free) × (0 < result → 0 < first_of work.now k) × (sealed boxed (tree_at sheet.now work.now k) ≡ held_two sheet.now work.now (first_of work.now k) result) }
+// The parts, which are messages, of the pair that is the one child from cell `list` on.
+#[tactic(auto, unfolding(rules::specs::Reduction::fire))]
+fn parts_of(area: &Area, list: usize) -> Option<Two>
+    requires { list < area.now.free }
+    ensures parts { PartsIn area.now list result }
+    ensures cells { IfSome result (λ two. CellIn area.now two.first × CellIn area.now two.second) }
 {
-    if boxed {
-        let container = is_two(sheet, work, free, k, b"tamXCkem");
-        if container == 0 {
-            return 0;
-        }
-        return is_one(sheet, work, free, container, b"tamXCpk");
+    let pair = one_argument(area, list)?;
+    let parts = is_two(area, pair, b"tamXCpair")?;
+    if message(area, parts.first) && message(area, parts.second) {
+        return Some(parts);
     }
-    is_two(sheet, work, free, k, b"tamXCsenc")
+    None
+}
+
+// The other role than the one child from cell `list` on.
+#[tactic(auto, unfolding(rules::specs::Reduction::fire, rules::specs::Reduction::flipped))]
+fn flipped(area: &Area, list: usize) -> Option<Role>
+    requires { list < area.now.free }
+    ensures { fire Flip (trees_in area.now list) ≡ option_map role_tree result }
+{
+    let role = one_argument(area, list)?;
+    if is_constant(area, role, b"tamXCroleA") {
+        return Some(Role::B);
+    }
+    if is_constant(area, role, b"tamXCroleB") {
+        return Some(Role::A);
+    }
+    None
+}
+
+// Whether payload and key are messages and the keys equivalent. The words above the cells are scratch.
+#[tactic(auto, unfolding(rules::specs::Reduction::opens))]
+fn opens(area: &mut Area, payload: usize, key: usize, other: usize) -> bool
+    requires cells { CellIn area.old payload × CellIn area.old key × CellIn area.old other }
+    requires small { size (tree_in area.old key) + size (tree_in area.old other) ≤ 4096 }
+    requires room { 4 * area.old.free + key_room ≤ length area.old.work.now }
+    ensures opens { result ≡ opens (tree_in area.old payload) (tree_in area.old key) (tree_in area.old other) }
+    ensures keeps { KeepsCells area.old area.new }
+{
+    message(area, payload) && message(area, key) && equivalent(area, key, other)
+}
+
+// The payload of the cipher, the first of two children from cell `list` on, under the key, the second.
+#[tactic(auto, unfolding(rules::specs::Reduction::fire))]
+fn decrypted(area: &mut Area, list: usize) -> Option<usize>
+    requires list { list < area.old.free }
+    requires small { sizes (trees_in area.old list) ≤ 4096 }
+    requires room { 4 * area.old.free + key_room ≤ length area.old.work.now }
+    ensures tree { fire Sdec (trees_in area.old list) ≡ option_map (tree_in area.old) result }
+    ensures cell { IfSome result (CellIn area.old) }
+    ensures keeps { KeepsCells area.old area.new }
+{
+    let other = two_arguments(area, list)?;
+    let cipher = is_two(area, list, b"tamXCsenc")?;
+    opens(area, cipher.first, cipher.second, other).then_some(cipher.first)
+}
+
+// The same where the key of the cipher is boxed.
+#[tactic(auto, unfolding(rules::specs::Reduction::fire))]
+fn unboxed(area: &mut Area, list: usize) -> Option<usize>
+    requires list { list < area.old.free }
+    requires small { sizes (trees_in area.old list) ≤ 4096 }
+    requires room { 4 * area.old.free + key_room ≤ length area.old.work.now }
+    ensures tree { fire Kdec (trees_in area.old list) ≡ option_map (tree_in area.old) result }
+    ensures cell { IfSome result (CellIn area.old) }
+    ensures keeps { KeepsCells area.old area.new }
+{
+    let other = two_arguments(area, list)?;
+    let cipher = is_two(area, list, b"tamXCkem")?;
+    let key = is_one(area, cipher.second, b"tamXCpk")?;
+    opens(area, cipher.first, key, other).then_some(cipher.first)
+}
+
+// What the rule makes of the list from cell `list` on, if it fires. The words above the cells are scratch.
+pub fn fire(area: &mut Area, rule: Rule, list: usize) -> Option<Value>
+    requires list { list < area.old.free }
+    requires small { sizes (trees_in area.old list) ≤ 4096 }
+    requires room { 4 * area.old.free + key_room ≤ length area.old.work.now }
+    ensures fires { fire rule (trees_in area.old list) ≡ option_map (value_tree area.old) result }
+    ensures value { IfSome result (ValueIn area.old) }
+    ensures keeps { KeepsCells area.old area.new }
+{
+    match rule {
+        Rule::Fst => Some(Value::Cell(parts_of(area, list)?.first)),
+        Rule::Snd => Some(Value::Cell(parts_of(area, list)?.second)),
+        Rule::Flip => Some(Value::Role(flipped(area, list)?)),
+        Rule::Sdec => Some(Value::Cell(decrypted(area, list)?)),
+        Rule::Kdec => Some(Value::Cell(unboxed(area, list)?)),
+    }
 }

@@ -61,5 +61,5 @@ split a b {ways} {index} h =
 pub rest_positive : {c ways index : ℕ} → Shared c ways index → 0 < ways / c
 rest_positive {c} {ways} {index} h = right_positive index c (ways / c) (subst (λ (m : ℕ). index < m) h.whole h.below)
 
-pub factor_positive : {c ways index : ℕ} → Shared c ways index → 0 < c
-factor_positive {c} {ways} {index} h = left_positive index c (ways / c) (subst (λ (m : ℕ). index < m) h.whole h.below)
+pub shared_as : {c d ways ways₁ index index₁ : ℕ} → c ≡ d → ways ≡ ways₁ → index ≡ index₁ → Shared d ways₁ index₁ → Shared c ways index
+shared_as e f g h = record { whole = rw (e, f) h.whole; below = rw (f, g) h.below }

@@ -3,22 +3,19 @@ use Prim.Native.Nat.{ℕ, zero, suc, ◌+◌, ◌-◌, ◌<◌}
 use native.Mathlib.Omega.{arith}
 use mathlib.Core.Path.{◌≡◌, refl, sym, ap, ◌∙◌, subst}
 use mathlib.Core.List.{List, ◌∷◌}
-use mathlib.Core.Bool.{true, false}
 use Rattle.std.specs.Prelude.{Option, Some}
 use Rattle.rules.specs.Bytes.{Text}
 use Rattle.rules.specs.Tree.{Tree, variable, Trees, none, more}
 use Rattle.rules.specs.Substitution.{Pair}
 use Rattle.rules.specs.declared.Rule.{Rule}
 use Rattle.rules.specs.declared.Rule.TheVariants.{Fst, Snd, Flip, Sdec, Kdec}
-use Rattle.rules.specs.Reduction.{rule_named, pair, constant}
+use Rattle.rules.specs.Reduction.{rule_named, pair, senc, kem, constant}
 use Rattle.rules.specs.Variants.{scheme, firings, firing_count, with_one, with_two, root_schemes}
 use Rattle.laws.specs.Schemes.{root_count, root_at}
 use Rattle.tree.specs.Cells.{next_of, fixed_name, tree_at, trees_at}
 use Rattle.tree.specs.Arena.{Links}
 use Rattle.tree.proofs.Decoding.{trees_none, trees_more}
-use Rattle.schemes.specs.Choices.{cipher}
-use Rattle.schemes.specs.Building.{joined_as}
-use Rattle.schemes.proofs.Counts.{with_one_few, with_two_few}
+use Rattle.schemes.specs.Choices.{joined_as}
 
 -- the children of a firing
 one_only : (k : ℕ) (a : Tree) (ts : Trees) → 0 < with_one k (more a ts) → ts ≡ none
@@ -60,22 +57,6 @@ pub count_of : (f : Text) (ts : Trees) (o : Option Rule) → rule_named f ≡ o 
 unfolding root_count
 count_of f ts o e = ap (λ (r : Option Rule). 1 + firing_count r ts) e
 
--- the children that a choice other than the first needs
-module _ {w : List ℕ} {n : ℕ} (s : Text) (l : Links w n) (f : Text) (o : Option Rule) (e : rule_named f ≡ o) (i c : ℕ) (q : i < n) (p : 0 < c) (h : c < root_count f (trees_at s w i)) where
-  pub one_found : (k : ℕ) → ((ts : Trees) → firing_count o ts ≡ with_one k ts) → (0 < i) × (trees_at s w i ≡ more (tree_at s w i) none) × (c < k + 1)
-  one_found k g =
-      let z = count_of f (trees_at s w i) o e in
-      let y = g (trees_at s w i) in
-      let x = one_child s l k i q (omega (arith, z, y, p, h)) in
-      (x.0, x.1, omega (arith, z, y, h, with_one_few k (trees_at s w i)))
-
-  pub two_found : ((ts : Trees) → firing_count o ts ≡ with_two 1 ts) → (0 < i) × (0 < next_of w i) × (trees_at s w i ≡ more (tree_at s w i) (more (tree_at s w (next_of w i)) none)) × (c < 2)
-  two_found g =
-      let z = count_of f (trees_at s w i) o e in
-      let y = g (trees_at s w i) in
-      let x = two_children s l 1 i q (omega (arith, z, y, p, h)) in
-      (x.0, x.1, x.2, omega (arith, z, y, h, with_two_few 1 (trees_at s w i)))
-
 -- a firing, with the n-th and the next fresh variable as x and y
 module _ (name : ℕ → Text) (f : Text) (es : List Pair) (n c : ℕ) {x y : Tree} (p : x ≡ variable (name n)) (q : y ≡ variable (name (n + 1))) where
   pub fst_at : {ts : Trees} (a : Tree) → rule_named f ≡ Some Fst → ts ≡ more a none → c ≡ 1 → root_at name f (joined_as ts es n) c ≡ scheme x ((a, pair x y) ∷ es) (n + 2)
@@ -87,12 +68,12 @@ module _ (name : ℕ → Text) (f : Text) (es : List Pair) (n c : ℕ) {x y : Tr
   snd_at a e g h = rw (p, q, h, g, e)
 
   pub sdec_at : {ts : Trees} (a b : Tree) → rule_named f ≡ Some Sdec → ts ≡ more a (more b none) → c ≡ 1
-      → root_at name f (joined_as ts es n) c ≡ scheme x ((a, cipher false x y) ∷ (b, y) ∷ es) (n + 2)
+      → root_at name f (joined_as ts es n) c ≡ scheme x ((a, senc x y) ∷ (b, y) ∷ es) (n + 2)
   unfolding root_at root_schemes firings
   sdec_at a b e g h = rw (p, q, h, g, e)
 
   pub kdec_at : {ts : Trees} (a b : Tree) → rule_named f ≡ Some Kdec → ts ≡ more a (more b none) → c ≡ 1
-      → root_at name f (joined_as ts es n) c ≡ scheme x ((a, cipher true x y) ∷ (b, y) ∷ es) (n + 2)
+      → root_at name f (joined_as ts es n) c ≡ scheme x ((a, kem x y) ∷ (b, y) ∷ es) (n + 2)
   unfolding root_at root_schemes firings
   kdec_at a b e g h = rw (p, q, h, g, e)
 

@@ -7,7 +7,7 @@ use Rattle.rules.specs.Variants.{system}
 use Rattle.laws.specs.Schemes.{scheme_at}
 use Rattle.tree.specs.declared.area.Area.{Area}
 use Rattle.tree.specs.Areas.{tree_in, trees_in, Grows}
-use Rattle.schemes.specs.declared.systems_area.System.{System}
+use Rattle.schemes.specs.declared.systems.System.{System}
 
 -- a count, if it is at most 4,096
 unfoldable pub counted_in : ℕ → Option ℕ

@@ -1,9 +1,13 @@
 -- The choices of a scheme in the order in which they are made: the children's, left to right, then the root's. The first choice varies
 -- slowest. Definitions only.
-use Rattle.std.specs.Prelude.{ℕ, ◌*◌, ◌/◌, ◌<◌, ◌≡◌, Bool, true, false}
+use Rattle.std.specs.Prelude.{ℕ, ◌*◌, ◌/◌, ◌<◌, ◌≡◌, Bool, List, Option, Some, None}
+use Rattle.std.specs.Option.{is_some}
 use Rattle.rules.specs.Bytes.{Text}
 use Rattle.rules.specs.Tree.{Tree, variable, atom, apply, Trees, none, more}
-use Rattle.rules.specs.Reduction.{senc, kem}
+use Rattle.rules.specs.Substitution.{Pair}
+use Rattle.rules.specs.declared.Rule.{Rule}
+use Rattle.rules.specs.declared.Rule.TheVariants.{Fst, Snd, Flip, Sdec, Kdec}
+use Rattle.rules.specs.Reduction.{arguments1, arguments2}
 use Rattle.rules.specs.Variants.{Scheme, scheme, Joined}
 use Rattle.laws.specs.Schemes.{root_count, root_at}
 
@@ -18,17 +22,33 @@ unfoldable pub appended : Trees → Trees → Trees
 appended none us = us
 appended (more t ts) us = more t (appended ts us)
 
--- the pattern of a cipher, boxed or not
-abbrev pub cipher : Bool → Tree → Tree → Tree
-cipher true payload key = kem payload key
-cipher false payload key = senc payload key
-
 -- how many choices there are at the root of a tree
 unfoldable pub ways_of : Tree → ℕ
 unfolding root_count
 ways_of (variable x) = 1
 ways_of (atom c d) = 1
 ways_of (apply f ts) = root_count f ts
+
+-- whether a list has as many trees as a rule asks for
+abbrev pub suits : Rule → Trees → Bool
+suits Fst ts = is_some (arguments1 ts)
+suits Snd ts = is_some (arguments1 ts)
+suits Flip ts = is_some (arguments1 ts)
+suits Sdec ts = is_some (arguments2 ts)
+suits Kdec ts = is_some (arguments2 ts)
+
+-- how many choices there are at a root where a rule, if any, can fire
+abbrev pub choice_count : Option Rule → ℕ
+choice_count None = 1
+choice_count (Some Fst) = 2
+choice_count (Some Snd) = 2
+choice_count (Some Flip) = 3
+choice_count (Some Sdec) = 2
+choice_count (Some Kdec) = 2
+
+-- children with their equations and the next fresh variable
+abbrev pub joined_as : Trees → List Pair → ℕ → Joined
+joined_as ts es n = record { values = ts; equations = es; next = n }
 
 -- a choice at the root, after those of the children, by the names of the fresh variables
 unfoldable pub root_of : (ℕ → Text) → Tree → Joined → ℕ → Scheme

@@ -1,4 +1,3 @@
 pub mod Choices
-pub mod Counting
-pub mod Building
 pub mod Areas
+pub mod Making

@@ -1,166 +1,125 @@
-// The choices for a list of trees, by an index: the first choice varies slowest. Cells of what does not change are used again.
+// The choices for a list of trees of an area, by an index: the first choice varies slowest. Cells of what does not change are used again.
 ghost use Rattle.std.specs.Prelude.{◌≡◌, List, ℕ, ◌+◌, ◌*◌, ◌<◌, ◌≤◌, ◌^◌, length};
 ghost use Rattle.rules.specs.Bytes.{Text};
 ghost use Rattle.rules.specs.Tree.{sizes, count};
 ghost use Rattle.rules.specs.Substitution.{Pair, flatten};
-ghost use Rattle.tree.specs.Cells.{tree_at, trees_at};
-ghost use Rattle.tree.specs.Arena.{Arena};
+ghost use Rattle.tree.specs.Areas.{next_in, tree_in, trees_in};
+ghost use Rattle.reduction.specs.Areas.{Becomes};
 ghost use Rattle.schemes.specs.Choices.{over};
-ghost use Rattle.schemes.specs.Building.{Fresh, Appends, KeptAs, RootReady, Roots, Follows, ChoicesReady, Chooses};
+ghost use Rattle.schemes.specs.Areas.{FreshIn};
+ghost use Rattle.schemes.specs.Making.{AppendsIn, RootReadyIn, ChosenRootIn, FollowsIn, ReadyIn, ChoosesIn};
 
-use crate::counting::ways_of;
-use crate::firing::fire;
-use reduction::building::stay;
-use substitution::bindings::Pushed;
+use crate::counting::{choices, rule_at};
+use crate::firing::{Chosen, Draw, fire};
+use reduction::normalizing::stay;
 use substitution::instances::keep;
-use tree::cells::{APPLICATION, kind_of, next_of, share};
-use tree::children::child_of;
+use tree::area::Area;
+use tree::kinds::Kind;
 
-// Values, equations, the next fresh variable, what is left of the index and of the number of ways, and the free end.
-#[derive(Clone, Copy)]
-pub(crate) struct Chosen {
-    pub values: usize,
-    pub equations: usize,
-    pub next: usize,
-    pub index: usize,
-    pub ways: usize,
-    pub free: usize,
-}
-
-// The list from cell a on before the list from cell b on.
-pub(crate) fn append(sheet: &[u8], work: &mut [u32], free: usize, a: usize, b: usize) -> Pushed
-    requires arena { Arena sheet.now work.old free }
-    requires a_lt_free { (a < free) × (b < free) }
-    requires a_in_bounds { (4 * (free + count (trees_at sheet.now work.old a)) ≤ length work.old) × (free + count (trees_at sheet.now work.old a) < 2 ^ 32) }
-    ensures { Appends sheet.now work.old work.new free a b result.index result.free }
+// The list from cell x on before the list from cell y on.
+#[tactic(auto, using(crate::proofs::Lining::list_count, crate::proofs::Lining::appends_second, crate::proofs::Lining::appends_first))]
+pub(crate) fn append(area: &mut Area, x: usize, y: usize) -> usize
+    requires lists { (x < area.old.free) × (y < area.old.free) }
+    requires room { (4 * (area.old.free + count (trees_in area.old x)) ≤ length area.old.work.now) × (area.old.free + count (trees_in area.old x) < 2 ^ 32) }
+    ensures { AppendsIn area.old area.new x y result }
 {
-    if a == 0 {
-        return Pushed {
-            index: b,
-            free: free,
-        };
+    if x == 0 {
+        return y;
     }
-    if b == 0 {
-        return Pushed {
-            index: a,
-            free: free,
-        };
+    if y == 0 {
+        return x;
     }
-    let rest = append(sheet, work, free, next_of(work, free, a), b);
-    let end = share(sheet, work, rest.free, a, rest.index);
-    Pushed {
-        index: rest.free,
-        free: end,
-    }
+    let later = area.next_of(x);
+    let rest = append(area, later, y);
+    area.share(x, rest)
 }
 
 // The tree of cell i with the children from cell first on.
-fn unchanged(sheet: &[u8], work: &mut [u32], free: usize, i: usize, first: usize) -> Pushed
-    requires arena { Arena sheet.now work.old free }
-    requires i_nonzero { (0 < i) × (i < free) × (first < free) }
-    requires first_bound { sizes (trees_at sheet.now work.old first) < 65535 }
-    requires free_in_bounds { (4 * free + 4 ≤ length work.old) × (free < 2 ^ 32) }
-    ensures { KeptAs sheet.now work.old work.new free (over (tree_at sheet.now work.old i) (trees_at sheet.now work.old first)) result.index result.free }
+#[tactic(auto, using(crate::proofs::Lining::over_node, crate::proofs::Lining::becomes_as))]
+fn unchanged(area: &mut Area, i: usize, first: usize) -> usize
+    requires cells { (0 < i) × (i < area.old.free) × (first < area.old.free) }
+    requires small { sizes (trees_in area.old first) < 65535 }
+    requires room { (4 * area.old.free + 4 ≤ length area.old.work.now) × (area.old.free < 2 ^ 32) }
+    ensures { Becomes area.old area.new 1 (next_in area.old i) (over (tree_in area.old i) (trees_in area.old first)) result }
 {
-    if APPLICATION < kind_of(work, i) {
-        return Pushed {
-            index: i,
-            free: free,
-        };
+    match area.kind(i) {
+        Kind::Application => {
+            let next = area.next_of(i);
+            stay(area, i, first, next)
+        }
+        Kind::Variable(_) | Kind::Atom(_) => i,
     }
-    let next = next_of(work, free, i);
-    stay(sheet, work, free, i, first, next)
 }
 
 // The choice at the root of cell i, after those of its children.
-fn root(sheet: &[u8], work: &mut [u32], i: usize, fresh: usize, below: Chosen) -> Chosen
-    requires { RootReady sheet.now work.old fresh below i }
-    ensures { (name : ℕ → Text) → Fresh sheet.now work.old below.free fresh name → (es : List Pair) → trees_at sheet.now work.old below.equations ≡ flatten es → Roots sheet.now work.old work.new name below (over (tree_at sheet.now work.old i) (trees_at sheet.now work.old below.values)) es result }
+fn root(area: &mut Area, i: usize, fresh: usize, below: Chosen) -> Chosen
+    requires { RootReadyIn area.old fresh below i }
+    ensures { (name : ℕ → Text) → FreshIn area.old fresh name → (es : List Pair) → trees_in area.old below.equations ≡ flatten es → ChosenRootIn area.old area.new name below (over (tree_in area.old i) (trees_in area.old below.values)) es result }
 {
-    let ways = below.ways / ways_of(sheet, work, below.free, i, below.values);
-    let choice = below.index / ways;
-    let index = below.index % ways;
+    let Some(rule) = rule_at(area, i, below.values) else {
+        let values = unchanged(area, i, below.values);
+        return Chosen { values, ..below };
+    };
+    let ways = below.left.ways / choices(Some(rule));
+    let choice = below.left.index / ways;
+    let index = below.left.index % ways;
     if choice == 0 {
-        let kept = unchanged(sheet, work, below.free, i, below.values);
+        let values = unchanged(area, i, below.values);
+        let left = Draw {
+            index,
+            ways,
+            ..below.left
+        };
         return Chosen {
-            values: kept.index,
-            equations: below.equations,
-            next: below.next,
-            index: index,
-            ways: ways,
-            free: kept.free,
+            values,
+            left,
+            ..below
         };
     }
-    let fired = fire(
-        sheet,
-        work,
-        below.free,
-        i,
-        below.values,
-        below.next,
-        fresh,
-        below.equations,
-        choice,
-    );
+    let fired = fire(area, rule, choice, fresh, below);
+    let left = Draw {
+        next: fired.next,
+        index,
+        ways,
+    };
     Chosen {
         values: fired.value,
         equations: fired.equations,
-        next: fired.next,
-        index: index,
-        ways: ways,
-        free: fired.free,
+        left,
     }
 }
 
 // The value of cell value, with its equations, before the choices for the later trees.
-fn join(sheet: &[u8], work: &mut [u32], value: usize, equations: usize, rest: Chosen) -> Chosen
-    requires arena { Arena sheet.now work.old rest.free }
-    requires value_nonzero { (0 < value) × (value < rest.free) × (equations < rest.free) × (rest.values < rest.free) × (rest.equations < rest.free) }
-    requires equations_in_bounds { (4 * (rest.free + 1 + count (trees_at sheet.now work.old equations)) ≤ length work.old) × (rest.free + 1 + count (trees_at sheet.now work.old equations) < 2 ^ 32) }
-    ensures { Follows sheet.now work.old work.new value equations rest result }
+fn join(area: &mut Area, value: usize, equations: usize, rest: Chosen) -> Chosen
+    requires cells { (0 < value) × (value < area.old.free) × (equations < area.old.free) × (rest.values < area.old.free) × (rest.equations < area.old.free) }
+    requires room { (4 * (area.old.free + 1 + count (trees_in area.old equations)) ≤ length area.old.work.now) × (area.old.free + 1 + count (trees_in area.old equations) < 2 ^ 32) }
+    ensures { FollowsIn area.old area.new value equations rest result }
 {
-    let kept = keep(sheet, work, rest.free, value, rest.values);
-    let chain = append(sheet, work, kept.free, equations, rest.equations);
+    let values = keep(area, value, rest.values);
+    let equations = append(area, equations, rest.equations);
     Chosen {
-        values: kept.index,
-        equations: chain.index,
-        next: rest.next,
-        index: rest.index,
-        ways: rest.ways,
-        free: chain.free,
+        values,
+        equations,
+        left: rest.left,
     }
 }
 
 // The choices for the trees of the list from cell i on. One frame for each node: a term may be 4,096 deep.
-pub(crate) fn choose(
-    sheet: &[u8],
-    work: &mut [u32],
-    free: usize,
-    i: usize,
-    fresh: usize,
-    next: usize,
-    index: usize,
-    ways: usize,
-) -> Chosen
-    requires { ChoicesReady sheet.now work.old free fresh next index ways i }
-    ensures { (name : ℕ → Text) → Fresh sheet.now work.old free fresh name → Chooses sheet.now work.old work.new free name next index ways (trees_at sheet.now work.old i) result }
+pub(crate) fn choose(area: &mut Area, i: usize, fresh: usize, draw: Draw) -> Chosen
+    requires { ReadyIn area.old fresh draw i }
+    ensures { (name : ℕ → Text) → FreshIn area.old fresh name → ChoosesIn area.old area.new name draw (trees_in area.old i) result }
 {
     if i == 0 {
         return Chosen {
             values: 0,
             equations: 0,
-            next: next,
-            index: index,
-            ways: ways,
-            free: free,
+            left: draw,
         };
     }
-    let first = child_of(work, free, i);
-    let below = choose(sheet, work, free, first, fresh, next, index, ways);
-    let here = root(sheet, work, i, fresh, below);
-    let later = next_of(work, here.free, i);
-    let rest = choose(
-        sheet, work, here.free, later, fresh, here.next, here.index, here.ways,
-    );
-    join(sheet, work, here.values, here.equations, rest)
+    let first = area.child_of(i);
+    let below = choose(area, first, fresh, draw);
+    let here = root(area, i, fresh, below);
+    let later = area.next_of(i);
+    let rest = choose(area, later, fresh, here.left);
+    join(area, here.values, here.equations, rest)
 }

@@ -1,114 +1,91 @@
-// The choices at a root, and the count of schemes.
-ghost use Rattle.std.specs.Prelude.{◌≡◌, ◌+◌, ◌*◌, ◌<◌, ◌≤◌};
-ghost use Rattle.rules.specs.Variants.{with_one, with_two, scheme_count, scheme_counts};
-ghost use Rattle.laws.specs.Schemes.{root_count};
-ghost use Rattle.tree.specs.Cells.{name_at, tree_at, trees_at};
-ghost use Rattle.tree.specs.Arena.{Arena};
-ghost use Rattle.schemes.specs.Choices.{over, ways_of};
-ghost use Rattle.schemes.specs.Counting.{capped, counted_schemes};
+// The choices at a root in an area, and the count of schemes.
+ghost use Rattle.std.specs.Prelude.{◌≡◌, ◌*◌, ◌<◌, ◌≤◌, IfSome, Some};
+ghost use Rattle.rules.specs.Reduction.{rule_named};
+ghost use Rattle.rules.specs.Variants.{scheme_count, scheme_counts};
+ghost use Rattle.tree.specs.Areas.{cell_kind, name_in, tree_in, trees_in};
+ghost use Rattle.tree.specs.declared.kinds.Kind.TheVariants.{Application};
+ghost use Rattle.schemes.specs.Choices.{over, ways_of, suits, choice_count};
+ghost use Rattle.schemes.specs.Areas.{counted_in};
 
 use rewriting::naming::{one_argument, rule_named, two_arguments};
 use rules::Rule;
-use tree::cells::{APPLICATION, kind_of, next_of};
-use tree::children::child_of;
+use tree::area::Area;
+use tree::kinds::Kind;
 
-// One choice more than k where the list from cell first on has one tree, else one.
-fn one_ways(sheet: &[u8], work: &[u32], free: usize, first: usize, k: usize) -> usize
-    requires arena { Arena sheet.now work.now free }
-    requires first_lt_free { (first < free) × (k < 3) }
-    ensures { result ≡ 1 + with_one k (trees_at sheet.now work.now first) }
+// Whether the list from cell first on has as many trees as a rule asks for.
+fn suits(area: &Area, rule: Rule, first: usize) -> bool
+    requires { first < area.now.free }
+    ensures { result ≡ suits rule (trees_in area.now first) }
 {
-    if one_argument(sheet, work, free, first) == 0 {
-        return 1;
-    }
-    1 + k
-}
-
-// Two choices where the list from cell first on has two trees, else one.
-fn two_ways(sheet: &[u8], work: &[u32], free: usize, first: usize) -> usize
-    requires arena { Arena sheet.now work.now free }
-    requires first_lt_free { first < free }
-    ensures { result ≡ 1 + with_two 1 (trees_at sheet.now work.now first) }
-{
-    if two_arguments(sheet, work, free, first) == 0 {
-        return 1;
-    }
-    2
-}
-
-// How many choices there are under the name of cell i over the list from cell first on.
-fn name_ways(sheet: &[u8], work: &[u32], free: usize, i: usize, first: usize) -> usize
-    requires arena { Arena sheet.now work.now free }
-    requires i_nonzero { (0 < i) × (i < free) × (first < free) }
-    ensures { result ≡ root_count (name_at sheet.now work.now i) (trees_at sheet.now work.now first) }
-{
-    let Some(rule) = rule_named(sheet, work, free, i) else {
-        return 1;
-    };
     match rule {
-        Rule::Fst | Rule::Snd => one_ways(sheet, work, free, first, 1),
-        Rule::Flip => one_ways(sheet, work, free, first, 2),
-        Rule::Sdec | Rule::Kdec => two_ways(sheet, work, free, first),
+        Rule::Fst | Rule::Snd | Rule::Flip => one_argument(area, first).is_some(),
+        Rule::Sdec | Rule::Kdec => two_arguments(area, first).is_some(),
     }
 }
 
-// How many choices there are at the root of cell i with the children from cell first on.
-pub(crate) fn ways_of(sheet: &[u8], work: &[u32], free: usize, i: usize, first: usize) -> usize
-    requires arena { Arena sheet.now work.now free }
-    requires i_nonzero { (0 < i) × (i < free) × (first < free) }
-    ensures { result ≡ ways_of (over (tree_at sheet.now work.now i) (trees_at sheet.now work.now first)) }
+// The rule that can fire at the root of cell i with the children from cell first on.
+#[tactic(auto, using(crate::proofs::Lining::ways_leaf, crate::proofs::Lining::ways_node, crate::proofs::Lining::leaf_kind, crate::proofs::Firings::count_of, crate::proofs::Numbering::suits_choices, crate::proofs::Numbering::unsuited_choices))]
+pub(crate) fn rule_at(area: &Area, i: usize, first: usize) -> Option<Rule>
+    requires { (0 < i) × (i < area.now.free) × (first < area.now.free) }
+    ensures ways { choice_count result ≡ ways_of (over (tree_in area.now i) (trees_in area.now first)) }
+    ensures rule { IfSome result (λ rule. (cell_kind area.now i ≡ Application) × (rule_named (name_in area.now i) ≡ Some rule)) }
 {
-    if APPLICATION < kind_of(work, i) {
-        return 1;
+    match area.kind(i) {
+        Kind::Application => {
+            let rule = rule_named(area, i)?;
+            if suits(area, rule, first) {
+                return Some(rule);
+            }
+            None
+        }
+        Kind::Variable(_) | Kind::Atom(_) => None,
     }
-    name_ways(sheet, work, free, i, first)
 }
 
-// A product, 4,097 where it is over 4,096.
-fn times(count: usize, ways: usize) -> usize
-    requires { (count ≤ 4097) × (ways < 4) }
-    ensures { result ≡ capped (count * ways) }
+// How many choices there are at a root where a rule, if any, can fire.
+pub(crate) fn choices(rule: Option<Rule>) -> usize
+    ensures { result ≡ choice_count rule }
+{
+    match rule {
+        None => 1,
+        Some(Rule::Flip) => 3,
+        Some(Rule::Fst | Rule::Snd | Rule::Sdec | Rule::Kdec) => 2,
+    }
+}
+
+// A product, if it is at most 4,096.
+#[tactic(auto, using(crate::proofs::Numbering::counted_then))]
+fn times(count: usize, ways: usize) -> Option<usize>
+    requires { (count ≤ 4096) × (ways < 4) }
+    ensures { result ≡ counted_in (count * ways) }
 {
     let product = count * ways;
-    if product <= 4096 {
-        return product;
-    }
-    4097
+    (product <= 4096).then_some(product)
 }
 
 // The count of schemes of the trees of the list from cell i on, times another count. One frame for each node: a term may be 4,096 deep.
-fn count_list(sheet: &[u8], work: &[u32], free: usize, i: usize, count: usize) -> usize
-    requires arena { Arena sheet.now work.now free }
-    requires i_lt_free { (i < free) × (count ≤ 4097) }
-    ensures { result ≡ capped (count * scheme_counts (trees_at sheet.now work.now i)) }
+fn count_list(area: &Area, i: usize, count: usize) -> Option<usize>
+    requires { (i < area.now.free) × (count ≤ 4096) }
+    ensures { result ≡ counted_in (count * scheme_counts (trees_in area.now i)) }
 {
     if i == 0 {
-        return count;
+        return Some(count);
     }
-    let first = child_of(work, free, i);
-    let below = count_list(sheet, work, free, first, count);
-    let here = times(below, ways_of(sheet, work, free, i, first));
-    count_list(sheet, work, free, next_of(work, free, i), here)
+    let first = area.child_of(i);
+    let below = count_list(area, first, count)?;
+    let ways = choices(rule_at(area, i, first));
+    let here = times(below, ways)?;
+    let later = area.next_of(i);
+    count_list(area, later, here)
 }
 
-// The count of schemes, or more than 4,096.
-#[derive(Clone, Copy)]
-pub enum Counted {
-    Schemes(usize),
-    Over,
-}
-
-// The count of schemes of the tree of cell i.
-pub fn count_schemes(sheet: &[u8], work: &[u32], free: usize, i: usize) -> Counted
-    requires arena { Arena sheet.now work.now free }
-    requires i_nonzero { (0 < i) × (i < free) }
-    ensures { result ≡ counted_schemes (scheme_count (tree_at sheet.now work.now i)) }
+// The count of schemes of the tree of cell i, if it is at most 4,096.
+pub fn count_schemes(area: &Area, i: usize) -> Option<usize>
+    requires { (0 < i) × (i < area.now.free) }
+    ensures { result ≡ counted_in (scheme_count (tree_in area.now i)) }
 {
-    let first = child_of(work, free, i);
-    let below = count_list(sheet, work, free, first, 1);
-    let count = times(below, ways_of(sheet, work, free, i, first));
-    if 4096 < count {
-        return Counted::Over;
-    }
-    Counted::Schemes(count)
+    let first = area.child_of(i);
+    let below = count_list(area, first, 1)?;
+    let ways = choices(rule_at(area, i, first));
+    times(below, ways)
 }

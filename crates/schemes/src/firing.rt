@@ -1,239 +1,135 @@
-// A rule that fires: its pattern over fresh variables, its value and its equations.
-ghost use Rattle.std.specs.Prelude.{◌≡◌, List, ◌∷◌, ℕ, ◌+◌, ◌-◌, ◌*◌, ◌<◌, ◌≤◌, ◌^◌, length};
+// A rule that fires in an area: its value and its equations, over fresh variables.
+ghost use Rattle.std.specs.Prelude.{◌≡◌, List, ◌∷◌, ℕ, ◌+◌, ◌*◌, ◌<◌, ◌≤◌, ◌^◌, length, Some};
 ghost use Rattle.rules.specs.Bytes.{Text};
-ghost use Rattle.rules.specs.Tree.{apply, sizes};
-ghost use Rattle.rules.specs.Substitution.{Pair, pick, flatten};
-ghost use Rattle.rules.specs.Reduction.{two, kem, constant};
-ghost use Rattle.rules.specs.Variants.{scheme};
-ghost use Rattle.laws.specs.Schemes.{root_count, root_at};
-ghost use Rattle.tree.specs.Cells.{name_at, fixed_name, tree_at, trees_at};
-ghost use Rattle.tree.specs.Arena.{Arena, Linked};
-ghost use Rattle.substitution.specs.Composing.{SomePairs};
-ghost use Rattle.schemes.specs.Choices.{cipher};
-ghost use Rattle.schemes.specs.Building.{Fresh, SomeFresh, Single, Opens, FiredIs, joined_as};
+ghost use Rattle.rules.specs.Tree.{more};
+ghost use Rattle.rules.specs.Substitution.{Pair, flatten};
+ghost use Rattle.rules.specs.Reduction.{rule_named, two, constant};
+ghost use Rattle.rules.specs.Variants.{scheme, firing_count};
+ghost use Rattle.laws.specs.Schemes.{root_at};
+ghost use Rattle.tree.specs.Areas.{next_in, tree_in, trees_in};
+ghost use Rattle.substitution.specs.Areas.{Lists};
+ghost use Rattle.schemes.specs.Choices.{joined_as};
+ghost use Rattle.schemes.specs.Areas.{FreshIn, SomeFreshIn};
+ghost use Rattle.schemes.specs.Making.{fixed_text, LeafIn, FiredIn};
+ghost use Rattle.schemes.specs.declared.patterns.Fixed.TheVariants.{Pair as pair_name};
 
-use reduction::building::leaf;
-use rewriting::naming::rule_named;
+use crate::patterns::{Fixed, boxed, named, plain};
 use rules::Rule;
-use substitution::bindings::push_pair;
-use tree::cells::{APPLICATION, next_of, push_cell, share};
+use substitution::pairing::push_pair;
+use tree::area::Area;
 
-// A tree over two fresh variables, and their cells.
-#[derive(Clone, Copy)]
-struct Pattern {
-    pub tree: usize,
-    pub left: usize,
-    pub right: usize,
-    pub free: usize,
+// What choices are made by: the next fresh variable, and what is left of the index and of the number of ways.
+#[derive(Clone, Copy, Debug, PartialEq, Eq)]
+pub(crate) struct Draw {
+    pub next: usize,
+    pub index: usize,
+    pub ways: usize,
 }
 
-// The name of a code over the list from cell first on, before the list from cell next on: `count` nodes.
-fn named(
-    sheet: &[u8],
-    work: &mut [u32],
-    free: usize,
-    code: usize,
-    first: usize,
-    next: usize,
-    count: usize,
-) -> usize
-    requires arena { Arena sheet.now work.old free }
-    requires code_nonzero { (0 < code) × (code < 7) × (first < free) × (next < free) }
-    requires count_value { (count ≡ sizes (trees_at sheet.now work.old first)) × (count < 65535) }
-    requires free_in_bounds { (4 * free + 4 ≤ length work.old) × (free < 2 ^ 32) }
-    ensures { (result ≡ free + 1) × Linked sheet.now work.old work.new free next (apply (fixed_name code) (trees_at sheet.now work.old first)) }
-{
-    push_cell(work, free, code, 0, APPLICATION, first, next, 1 + count)
-}
-
-// The name of a code over the variables of cells x and y.
-fn plain(sheet: &[u8], work: &mut [u32], free: usize, code: usize, x: usize, y: usize) -> Pattern
-    requires arena { Arena sheet.now work.old free }
-    requires code_nonzero { (0 < code) × (code < 7) × Single sheet.now work.old free x × Single sheet.now work.old free y }
-    requires free_in_bounds { (4 * (free + 4) ≤ length work.old) × (free + 4 < 2 ^ 32) }
-    ensures { Opens sheet.now work.old work.new free (two (fixed_name code) (tree_at sheet.now work.old x) (tree_at sheet.now work.old y)) (tree_at sheet.now work.old x) (tree_at sheet.now work.old y) result }
-{
-    let left = share(sheet, work, free, y, 0);
-    let top = share(sheet, work, left, x, free);
-    let end = named(sheet, work, top, code, left, 0, 2);
-    Pattern {
-        tree: top,
-        left: left,
-        right: free,
-        free: end,
-    }
-}
-
-// `tamXCkem` over the variable of cell x and `tamXCpk` of that of cell y.
-fn boxed(sheet: &[u8], work: &mut [u32], free: usize, x: usize, y: usize) -> Pattern
-    requires arena { Arena sheet.now work.old free }
-    requires single { Single sheet.now work.old free x × Single sheet.now work.old free y }
-    requires free_in_bounds { (4 * (free + 4) ≤ length work.old) × (free + 4 < 2 ^ 32) }
-    ensures { Opens sheet.now work.old work.new free (kem (tree_at sheet.now work.old x) (tree_at sheet.now work.old y)) (tree_at sheet.now work.old x) (tree_at sheet.now work.old y) result }
-{
-    let key = share(sheet, work, free, y, 0);
-    let left = named(sheet, work, key, 6, free, 0, 1);
-    let top = share(sheet, work, left, x, key);
-    let end = named(sheet, work, top, 5, left, 0, 3);
-    Pattern {
-        tree: top,
-        left: left,
-        right: free,
-        free: end,
-    }
+// Values and equations, and what is left to choose by.
+#[derive(Clone, Copy, Debug, PartialEq, Eq)]
+pub(crate) struct Chosen {
+    pub values: usize,
+    pub equations: usize,
+    pub left: Draw,
 }
 
 // What a rule makes of a root: the value, the equations and the next fresh variable.
-#[derive(Clone, Copy)]
+#[derive(Clone, Copy, Debug, PartialEq, Eq)]
 pub(crate) struct Fired {
     pub value: usize,
     pub equations: usize,
     pub next: usize,
-    pub free: usize,
 }
 
-// The first or the second of a pair: cell i is the pair.
-fn take_part(
-    sheet: &[u8],
-    work: &mut [u32],
-    free: usize,
-    i: usize,
-    n: usize,
-    fresh: usize,
-    list: usize,
-    first: bool,
-) -> Fired
-    requires arena { Arena sheet.now work.old free × SomeFresh sheet.now work.old free fresh }
-    requires i_nonzero { (0 < i) × (i < free) × (list < free) × (n + 1 < 24) }
-    requires free_in_bounds { (4 * (free + 10) ≤ length work.old) × (free + 10 < 2 ^ 32) }
-    requires some_pairs { SomePairs sheet.now work.old list }
-    ensures { (es : List Pair) → trees_at sheet.now work.old list ≡ flatten es → FiredIs sheet.now work.old work.new free (scheme (pick first (tree_at sheet.now work.old (fresh + n)) (tree_at sheet.now work.old (fresh + (n + 1)))) ((tree_at sheet.now work.old i, two (fixed_name 3) (tree_at sheet.now work.old (fresh + n)) (tree_at sheet.now work.old (fresh + (n + 1)))) ∷ es) (n + 2)) result }
+// The list from cell `list` on after the equation of the tree of cell i and the pair of the leaves of cells x and y.
+fn split(area: &mut Area, i: usize, x: usize, y: usize, list: usize) -> usize
+    requires leaves { LeafIn area.old x × LeafIn area.old y }
+    requires cells { (0 < i) × (i < area.old.free) × (list < area.old.free) }
+    requires room { (4 * (area.old.free + 5) ≤ length area.old.work.now) × (area.old.free + 5 < 2 ^ 32) }
+    ensures lists { Lists area.old area.new result (more (tree_in area.old i) (more (two (fixed_text pair_name) (tree_in area.old x) (tree_in area.old y)) (trees_in area.old list))) }
+    ensures end { area.new.free ≡ area.old.free + 5 }
 {
-    let pair = plain(sheet, work, free, 3, fresh + n, fresh + (n + 1));
-    let pushed = push_pair(sheet, work, pair.free, i, pair.tree, list);
-    if first {
-        return Fired {
-            value: pair.left,
-            equations: pushed.index,
-            next: n + 2,
-            free: pushed.free,
-        };
-    }
+    let pair = plain(area, Fixed::Pair, x, y);
+    push_pair(area, i, pair, list)
+}
+
+// The list from cell `list` on after the equations of the cipher of cell i and its pattern, and of the next cell, its key, and cell y.
+fn unseal(area: &mut Area, i: usize, pattern: usize, y: usize, list: usize) -> usize
+    requires cells { (0 < i) × (i < area.old.free) × (0 < next_in area.old i) × (0 < pattern) × (pattern < area.old.free) }
+    requires others { (0 < y) × (y < area.old.free) × (list < area.old.free) }
+    requires room { (4 * (area.old.free + 4) ≤ length area.old.work.now) × (area.old.free + 4 < 2 ^ 32) }
+    ensures lists { Lists area.old area.new result (more (tree_in area.old i) (more (tree_in area.old pattern) (more (tree_in area.old (next_in area.old i)) (more (tree_in area.old y) (trees_in area.old list))))) }
+    ensures end { area.new.free ≡ area.old.free + 4 }
+{
+    let key = area.next_of(i);
+    let keys = push_pair(area, key, y, list);
+    push_pair(area, i, pattern, keys)
+}
+
+// Where the one child is the first of two roles, the value is the other one.
+#[tactic(auto, using(crate::proofs::Leaves::no_sizes))]
+fn flip(area: &mut Area, role: Fixed, other: Fixed, below: Chosen) -> Fired
+    requires cells { (0 < below.values) × (below.values < area.old.free) × (below.equations < area.old.free) }
+    requires room { (4 * (area.old.free + 4) ≤ length area.old.work.now) × (area.old.free + 4 < 2 ^ 32) }
+    ensures { (es : List Pair) → trees_in area.old below.equations ≡ flatten es → FiredIn area.old area.new (scheme (constant (fixed_text other)) ((tree_in area.old below.values, constant (fixed_text role)) ∷ es) below.left.next) result }
+{
+    let value = named(area, other, 0);
+    let pattern = named(area, role, 0);
+    let equations = push_pair(area, below.values, pattern, below.equations);
     Fired {
-        value: pair.right,
-        equations: pushed.index,
-        next: n + 2,
-        free: pushed.free,
+        value,
+        equations,
+        next: below.left.next,
     }
 }
 
-// The other role: cell i is the role of the code.
-fn take_role(
-    sheet: &[u8],
-    work: &mut [u32],
-    free: usize,
-    i: usize,
-    code: usize,
-    n: usize,
-    list: usize,
-) -> Fired
-    requires arena { Arena sheet.now work.old free }
-    requires i_nonzero { (0 < i) × (i < free) × (list < free) × (0 < code) × (code < 3) }
-    requires free_in_bounds { (4 * (free + 10) ≤ length work.old) × (free + 10 < 2 ^ 32) }
-    requires some_pairs { SomePairs sheet.now work.old list }
-    ensures { (es : List Pair) → trees_at sheet.now work.old list ≡ flatten es → FiredIs sheet.now work.old work.new free (scheme (constant (fixed_name (3 - code))) ((tree_at sheet.now work.old i, constant (fixed_name code)) ∷ es) n) result }
+// The choice of a rule at a root, the first or the second of two, after those of its children.
+#[tactic(auto, using(crate::proofs::Lasting::leaf_fresh, crate::proofs::Equating::one_in))]
+pub(crate) fn fire(area: &mut Area, rule: Rule, choice: usize, fresh: usize, below: Chosen) -> Fired
+    requires fresh { SomeFreshIn area.old fresh × (below.left.next + 1 < 24) }
+    requires cells { (below.values < area.old.free) × (below.equations < area.old.free) }
+    requires choice { (0 < choice) × (choice < 1 + firing_count (Some rule) (trees_in area.old below.values)) }
+    requires room { (4 * (area.old.free + 10) ≤ length area.old.work.now) × (area.old.free + 10 < 2 ^ 32) }
+    ensures { (f : Text) → rule_named f ≡ Some rule → (name : ℕ → Text) → FreshIn area.old fresh name → (es : List Pair) → trees_in area.old below.equations ≡ flatten es → FiredIn area.old area.new (root_at name f (joined_as (trees_in area.old below.values) es below.left.next) choice) result }
 {
-    let value = leaf(sheet, work, free, 3 - code, 0);
-    let role = leaf(sheet, work, value.free, code, 0);
-    let pushed = push_pair(sheet, work, role.free, i, role.index, list);
-    Fired {
-        value: value.index,
-        equations: pushed.index,
-        next: n,
-        free: pushed.free,
-    }
-}
-
-// The pattern of a cipher, boxed or not.
-fn sealing(sheet: &[u8], work: &mut [u32], free: usize, x: usize, y: usize, kem: bool) -> Pattern
-    requires arena { Arena sheet.now work.old free }
-    requires single { Single sheet.now work.old free x × Single sheet.now work.old free y }
-    requires free_in_bounds { (4 * (free + 4) ≤ length work.old) × (free + 4 < 2 ^ 32) }
-    ensures { Opens sheet.now work.old work.new free (cipher kem (tree_at sheet.now work.old x) (tree_at sheet.now work.old y)) (tree_at sheet.now work.old x) (tree_at sheet.now work.old y) result }
-{
-    if kem {
-        return boxed(sheet, work, free, x, y);
-    }
-    plain(sheet, work, free, 4, x, y)
-}
-
-// The payload of a cipher, boxed or not: cell i is the cipher and cell j its key.
-fn take_payload(
-    sheet: &[u8],
-    work: &mut [u32],
-    free: usize,
-    i: usize,
-    j: usize,
-    n: usize,
-    fresh: usize,
-    list: usize,
-    kem: bool,
-) -> Fired
-    requires arena { Arena sheet.now work.old free × SomeFresh sheet.now work.old free fresh }
-    requires i_nonzero { (0 < i) × (i < free) × (0 < j) × (j < free) × (list < free) × (n + 1 < 24) }
-    requires free_in_bounds { (4 * (free + 10) ≤ length work.old) × (free + 10 < 2 ^ 32) }
-    requires some_pairs { SomePairs sheet.now work.old list }
-    ensures { (es : List Pair) → trees_at sheet.now work.old list ≡ flatten es → FiredIs sheet.now work.old work.new free (scheme (tree_at sheet.now work.old (fresh + n)) ((tree_at sheet.now work.old i, cipher kem (tree_at sheet.now work.old (fresh + n)) (tree_at sheet.now work.old (fresh + (n + 1)))) ∷ (tree_at sheet.now work.old j, tree_at sheet.now work.old (fresh + (n + 1))) ∷ es) (n + 2)) result }
-{
-    let sealed = sealing(sheet, work, free, fresh + n, fresh + (n + 1), kem);
-    let key = push_pair(sheet, work, sealed.free, j, sealed.right, list);
-    let pushed = push_pair(sheet, work, key.free, i, sealed.tree, key.index);
-    Fired {
-        value: sealed.left,
-        equations: pushed.index,
-        next: n + 2,
-        free: pushed.free,
-    }
-}
-
-// The choice, other than the first, at the root: the name of cell i over the list from cell first on, whose equations are `list`.
-pub(crate) fn fire(
-    sheet: &[u8],
-    work: &mut [u32],
-    free: usize,
-    i: usize,
-    first: usize,
-    n: usize,
-    fresh: usize,
-    list: usize,
-    choice: usize,
-) -> Fired
-    requires arena { Arena sheet.now work.old free × SomeFresh sheet.now work.old free fresh }
-    requires i_nonzero { (0 < i) × (i < free) × (first < free) × (list < free) × (n + 1 < 24) }
-    requires choice_nonzero { (0 < choice) × (choice < root_count (name_at sheet.now work.old i) (trees_at sheet.now work.old first)) }
-    requires free_in_bounds { (4 * (free + 10) ≤ length work.old) × (free + 10 < 2 ^ 32) }
-    requires some_pairs { SomePairs sheet.now work.old list }
-    ensures { (name : ℕ → Text) → Fresh sheet.now work.old free fresh name → (es : List Pair) → trees_at sheet.now work.old list ≡ flatten es → FiredIs sheet.now work.old work.new free (root_at name (name_at sheet.now work.old i) (joined_as (trees_at sheet.now work.old first) es n) choice) result }
-{
-    let Some(rule) = rule_named(sheet, work, free, i) else {
-        return Fired {
-            value: 0,
-            equations: 0,
-            next: n,
-            free,
-        };
-    };
+    let x = fresh + below.left.next;
+    let y = fresh + (below.left.next + 1);
+    let next = below.left.next + 2;
     match rule {
-        Rule::Fst => take_part(sheet, work, free, first, n, fresh, list, true),
-        Rule::Snd => take_part(sheet, work, free, first, n, fresh, list, false),
-        Rule::Flip => take_role(sheet, work, free, first, choice, n, list),
+        Rule::Fst => Fired {
+            value: x,
+            equations: split(area, below.values, x, y, below.equations),
+            next,
+        },
+        Rule::Snd => Fired {
+            value: y,
+            equations: split(area, below.values, x, y, below.equations),
+            next,
+        },
+        Rule::Flip => {
+            if choice == 1 {
+                return flip(area, Fixed::RoleA, Fixed::RoleB, below);
+            }
+            flip(area, Fixed::RoleB, Fixed::RoleA, below)
+        }
         Rule::Sdec => {
-            let key = next_of(work, free, first);
-            take_payload(sheet, work, free, first, key, n, fresh, list, false)
+            let pattern = plain(area, Fixed::Senc, x, y);
+            let equations = unseal(area, below.values, pattern, y, below.equations);
+            Fired {
+                value: x,
+                equations,
+                next,
+            }
         }
         Rule::Kdec => {
-            let key = next_of(work, free, first);
-            take_payload(sheet, work, free, first, key, n, fresh, list, true)
+            let pattern = boxed(area, x, y);
+            let equations = unseal(area, below.values, pattern, y, below.equations);
+            Fired {
+                value: x,
+                equations,
+                next,
+            }
         }
     }
 }

@@ -1,11 +1,11 @@
--- How many pairs are known not to be all of one tree twice: after a pair is dropped, and after children are pushed.
-use Prim.Native.Nat.{ℕ, zero, suc, ◌+◌, ◌-◌, ◌<◌, ◌≤◌}
+-- How many pairs are known not to be all of one tree twice, after children are pushed.
+use Prim.Native.Nat.{ℕ, zero, suc, ◌+◌, ◌<◌, ◌≤◌}
 use mathlib.Core.Path.{◌≡◌, refl, sym, ap, subst, ◌∙◌}
 use mathlib.Core.Bool.{Bool, true, false, cond, ◌&&◌, true≢false}
 use mathlib.Core.Logic.{◌⊎◌, inl, inr}
 use lib.Dec.{eqb}
 use borrow.Author.Tests.{eq-eqb, ne_eqb, eqb-true}
-use mathlib.Core.List.{List, ◌∷◌}
+use mathlib.Core.List.{List}
 use native.Mathlib.Omega.{arith}
 use Rattle.rules.specs.Bytes.{Text, same}
 use Rattle.rules.specs.Tree.{Tree, variable, atom, apply, Trees, none, more, head, children, count, same_tree, same_trees}
@@ -15,30 +15,6 @@ use Rattle.tree.specs.Cells.{next_of, trees_at}
 use Rattle.tree.specs.Arena.{Links}
 use Rattle.tree.proofs.Decoding.{trees_none, trees_more}
 use Rattle.elimination.specs.Differing.{all_same, Differing, common_count}
-
-pub differing_none : (ps : List Pair) → Differing 0 ps
-differing_none ps p = absurd (omega arith)
-
--- The pair on top
-
-and_true : (b : Bool) → (b && true) ≡ false → b ≡ false
-and_true true e = e
-and_true false e = refl
-
-pub top_differs : (t u : Tree) (ps : List Pair) (k : ℕ) → Differing k ((t, u) ∷ ps) → k ≡ 1 → same_tree t u ≡ false
-unfolding all_same
-top_differs t u ps k d e =
-    let z : all_same 1 ((t, u) ∷ ps) ≡ false = subst (λ (j : ℕ). all_same j ((t, u) ∷ ps) ≡ false) e (d (omega arith)) in
-    and_true (same_tree t u) z
-
--- where it is one tree twice, the difference is below it
-pub differing_rest : (t u : Tree) (ps : List Pair) (k : ℕ) → Differing k ((t, u) ∷ ps) → same_tree t u ≡ true → Differing (k - 1) ps
-unfolding all_same
-differing_rest t u ps zero d e p = absurd (omega arith)
-differing_rest t u ps (suc k) d e p =
-    let z : k ≡ suc k - 1 = omega arith in
-    let f : all_same k ps ≡ false = sym (ap (λ (b : Bool). b && all_same k ps) e) ∙ d (omega arith) in
-    subst (λ (j : ℕ). all_same j ps ≡ false) z f
 
 -- Children
 
@@ -115,9 +91,6 @@ pub record Counting (w : List ℕ) (n x y a b k : ℕ) : Type 0 where
   pub within : k + a ≤ x
   pub left : Counted w x k a
   pub right : Counted w y k b
-
-pub counting_start : {w : List ℕ} {n x y : ℕ} → x < n → y < n → Counting w n x y x y 0
-counting_start p q = record { left_inside = p; right_inside = q; within = omega arith; left = λ s. omega arith; right = λ s. omega arith }
 
 module _ {w : List ℕ} {n x y a b k : ℕ} (h : Counting w n x y a b k) where
   pub counting_next : {i j : ℕ} → Links w n → 0 < a → 0 < b → (i ≡ next_of w a) × (i < a) → (j ≡ next_of w b) × (j < b) → Counting w n x y i j (k + 1)

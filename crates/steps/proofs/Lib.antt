@@ -1,5 +1,8 @@
 pub mod Differing
 pub mod Children
-pub mod Leaving
 pub mod Resting
 pub mod Fitting
+pub mod SeenCells
+pub mod Pairing
+pub mod Settling
+pub mod Rooting

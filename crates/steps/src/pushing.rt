@@ -1,74 +1,47 @@
-// The children of two trees, pairwise on the stack, and their number.
+// The children of two trees of an area, pairwise on the stack, and their number.
 ghost use Rattle.std.specs.Prelude.{◌≡◌, ◌+◌, ◌*◌, ◌<◌, ◌≤◌, ◌^◌, length};
-ghost use Rattle.rules.specs.Bytes.{Text};
 ghost use Rattle.laws.specs.Memory.{pushed};
-ghost use Rattle.tree.specs.Cells.{trees_at};
-ghost use Rattle.tree.specs.Arena.{Links, Arena};
-ghost use Rattle.substitution.specs.Building.{Made};
+ghost use Rattle.tree.specs.Areas.{trees_in};
+ghost use Rattle.substitution.specs.Areas.{Lists};
 ghost use Rattle.elimination.specs.Stack.{pushes};
 ghost use Rattle.elimination.specs.Differing.{common_count};
+ghost use Rattle.steps.specs.Areas.{some_pairs};
 
-use substitution::bindings::{Pushed, push_pair};
-use tree::cells::next_of;
+use substitution::pairing::push_pair;
+use tree::area::Area;
 
-// How many pairs the lists from cells left and right on make, if both are of one length; else 0.
-pub fn paired(work: &[u32], free: usize, left: usize, right: usize) -> usize
-    requires links { Links work.now free }
-    requires left_lt_free { (left < free) × (right < free) }
-    ensures { (s : Text) → result ≡ common_count (trees_at s work.now left) (trees_at s work.now right) }
+// How many pairs the lists from cells left and right on make, if both are of one length and not empty.
+pub(crate) fn paired(area: &Area, left: usize, right: usize) -> Option<usize>
+    requires { (left < area.now.free) × (right < area.now.free) }
+    ensures { result ≡ some_pairs (common_count (trees_in area.now left) (trees_in area.now right)) }
 {
     let mut a = left;
     let mut b = right;
-    let mut pairs: usize = 0;
-    while a != 0 {
-        if b == 0 {
-            return 0;
-        }
-        a = next_of(work, free, a);
-        b = next_of(work, free, b);
+    let mut pairs = 0;
+    while a != 0 && b != 0 {
+        a = area.next_of(a);
+        b = area.next_of(b);
         pairs += 1;
     }
-    if b != 0 {
-        return 0;
+    if a != b || pairs == 0 {
+        return None;
     }
-    pairs
+    Some(pairs)
 }
 
-// Puts the trees of the lists from cells left and right on, pairwise as far as both go, before the list from cell stack on.
-pub fn push_children(
-    sheet: &[u8],
-    work: &mut [u32],
-    free: usize,
-    left: usize,
-    right: usize,
-    stack: usize,
-) -> Pushed
-    requires arena { Arena sheet.now work.old free }
-    requires left_lt_free { (left < free) × (right < free) × (stack < free) }
-    requires right_in_bounds { (4 * (free + 2 * pushed (trees_at sheet.now work.old left) (trees_at sheet.now work.old right)) ≤ length work.old) × (free + 2 * pushed (trees_at sheet.now work.old left) (trees_at sheet.now work.old right) < 2 ^ 32) }
-    ensures { Made sheet.now work.old work.new free result.free result.index (pushes (trees_at sheet.now work.old left) (trees_at sheet.now work.old right) (trees_at sheet.now work.old stack)) × (result.free ≡ free + 2 * pushed (trees_at sheet.now work.old left) (trees_at sheet.now work.old right)) }
+// Puts the trees of the lists from cells left and right on, pairwise as far as both go, before the list from cell `stack` on, and answers
+// where that begins.
+pub(crate) fn push_children(area: &mut Area, left: usize, right: usize, stack: usize) -> usize
+    requires links { (left < area.old.free) × (right < area.old.free) × (stack < area.old.free) }
+    requires room { (4 * (area.old.free + 2 * pushed (trees_in area.old left) (trees_in area.old right)) ≤ length area.old.work.now) × (area.old.free + 2 * pushed (trees_in area.old left) (trees_in area.old right) < 2 ^ 32) }
+    ensures lists { Lists area.old area.new result (pushes (trees_in area.old left) (trees_in area.old right) (trees_in area.old stack)) }
+    ensures end { area.new.free ≡ area.old.free + 2 * pushed (trees_in area.old left) (trees_in area.old right) }
 {
-    if left == 0 {
-        return Pushed {
-            index: stack,
-            free: free,
-        };
+    if left == 0 || right == 0 {
+        return stack;
     }
-    if right == 0 {
-        return Pushed {
-            index: stack,
-            free: free,
-        };
-    }
-    let rest = push_children(
-        sheet,
-        work,
-        free,
-        next_of(work, free, left),
-        next_of(work, free, right),
-        stack,
-    );
-    let end = rest.free;
-    let below = rest.index;
-    push_pair(sheet, work, end, left, right, below)
+    let next_left = area.next_of(left);
+    let next_right = area.next_of(right);
+    let below = push_children(area, next_left, next_right, stack);
+    push_pair(area, left, right, below)
 }

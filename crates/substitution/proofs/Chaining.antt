@@ -14,7 +14,7 @@ use Rattle.tree.proofs.Decoding.{trees_none}
 use Rattle.tree.proofs.Keeping.{adds_same, adds_then, adds_grows, adds_push, pushed_inside, pushed_trees, grows_next, grows_tree}
 use Rattle.substitution.specs.Bindings.{bindings_of, Chain}
 use Rattle.substitution.specs.Areas.{bindings_in, instance_in, WithinArea, Places, ComposedIn}
-use Rattle.substitution.specs.declared.instances_area.Built.{Built}
+use Rattle.substitution.specs.declared.instances.Built.{Built}
 use Rattle.substitution.proofs.Keys.{bindings_none}
 use Rattle.substitution.proofs.Chains.{chain_none, chain_more, Entry, value_some, entry}
 use Rattle.substitution.proofs.Composing.{composing, composing_is, composing_fits, composing_over}

@@ -11,7 +11,6 @@ use Rattle.tree.specs.Cells.{kind_of, name_at, next_of, tree_at, trees_at}
 use Rattle.tree.specs.Arena.{Links}
 use Rattle.tree.proofs.Decoding.{kind, trees_none, trees_more}
 use Rattle.substitution.specs.Bindings.{key_of, bindings_of, bindings_at, flatten_bindings, Chain}
-use Rattle.substitution.specs.Building.{Made}
 use Rattle.substitution.proofs.Keys.{key_name, bindings_more}
 
 -- bindings read back
@@ -77,9 +76,3 @@ module _ {w : List ℕ} {n : ℕ} (s : Text) (l : Links w n) (k v : ℕ) (p : 0 
         key = chain_key (tree_at s w k) (tree_at s w v) (trees_at s w j) g ∙ ap variable (key_name s w k (kind (kind_of w k)));
         chain = chain_tail (tree_at s w k) (tree_at s w v) (trees_at s w j) g;
       }
-
--- a key and a value put before a list of bindings
-module _ {s : Text} {w v : List ℕ} {n m b : ℕ} (key value list : ℕ) (d : Made s w v n m b (more (tree_at s w key) (more (tree_at s w value) (trees_at s w list)))) where
-  pub bindings_pair : bindings_at s v b ≡ (name_at s w key, tree_at s w value) ∷ bindings_at s w list
-  unfolding bindings_of
-  bindings_pair = ap bindings_of d.trees ∙ ap (λ (x : Text). (x, tree_at s w value) ∷ bindings_at s w list) (key_name s w key (kind (kind_of w key)))

@@ -13,7 +13,7 @@ use Rattle.tree.proofs.Areas.{grown_same, grown_then}
 use Rattle.tree.proofs.Keeping.{adds_same, adds_grows, adds_then, adds_push, pushed_some, pushed_inside, pushed_tree, pushed_trees, grows_kind, grows_first, grows_name, grows_tree, grows_trees}
 use Rattle.tree.proofs.ByKind.{tree_application}
 use Rattle.substitution.specs.Areas.{Lists, Puts, WithinArea, Places, ListsWithin, BuildsTreeIn, BuildsListIn}
-use Rattle.substitution.specs.declared.instances_area.Built.{Built}
+use Rattle.substitution.specs.declared.instances.Built.{Built}
 
 -- a list of the area, before anything is written
 pub lists_same : (a : Area) (i : ℕ) → i < a.free → Lists a a i (trees_in a i)

@@ -18,7 +18,7 @@ use Rattle.tree.proofs.Keeping.{adds_then, adds_grows, grows_trees}
 use Rattle.substitution.specs.Bindings.{bindings_of}
 use Rattle.substitution.specs.Composing.{put_pairs}
 use Rattle.substitution.specs.Areas.{bindings_in, instances_in, Lists, WithinArea, ListsWithin, PutsInto}
-use Rattle.substitution.specs.declared.instances_area.Built.{Built}
+use Rattle.substitution.specs.declared.instances.Built.{Built}
 use Rattle.substitution.proofs.Keys.{key_name, bindings_none}
 use Rattle.substitution.proofs.Listing.{within_then}
 

@@ -10,7 +10,7 @@ use Rattle.tree.specs.Arena.{Grown}
 use Rattle.tree.specs.Areas.{tree_in, trees_in, Lent, Adds}
 use Rattle.substitution.specs.Bindings.{bindings_of, Chain}
 use Rattle.substitution.specs.Composing.{put_pairs}
-use Rattle.substitution.specs.declared.instances_area.Built.{Built}
+use Rattle.substitution.specs.declared.instances.Built.{Built}
 
 -- the bindings from cell b on
 abbrev pub bindings_in : Area → ℕ → List Binding

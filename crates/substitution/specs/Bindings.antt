@@ -6,8 +6,6 @@ use Rattle.rules.specs.Tree.{Tree, variable, atom, apply, Trees, none, more}
 use Rattle.rules.specs.Substitution.{Binding, lookup}
 use Rattle.rules.specs.Matching.{bound}
 use Rattle.tree.specs.Cells.{tree_at, trees_at}
-use Rattle.substitution.specs.declared.bindings.Found.{Found}
-use Rattle.substitution.specs.declared.bindings.Found.TheVariants.{At, Nothing}
 
 -- the name that a tree is a key by
 unfoldable pub key_of : Tree → Text
@@ -45,7 +43,3 @@ pub record FoundAt (s : Text) (w : List ℕ) (n : ℕ) (bs : List Binding) (x : 
   pub inside : k < n
   pub is_bound : bound x bs ≡ Some (tree_at s w k)
   pub is_value : lookup bs x ≡ tree_at s w k
-
-abbrev pub Finds : Text → List ℕ → ℕ → List Binding → Text → Found → Type 0
-Finds s w n bs x (At k) = FoundAt s w n bs x k
-Finds s w n bs x Nothing = (bound x bs ≡ None) × (lookup bs x ≡ variable x)

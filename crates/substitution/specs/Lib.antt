@@ -1,4 +1,3 @@
 pub mod Areas
 pub mod Bindings
-pub mod Building
 pub mod Composing

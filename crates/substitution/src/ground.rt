@@ -1,37 +1,37 @@
-// Whether any variable occurs in a tree.
+// Whether any variable occurs in a tree of an area.
 ghost use Rattle.std.specs.Prelude.{◌≡◌, ◌<◌};
 ghost use Rattle.rules.specs.Tree.{ground, grounds};
-ghost use Rattle.tree.specs.Cells.{tree_at, trees_at};
-ghost use Rattle.tree.specs.Arena.{Arena};
+ghost use Rattle.tree.specs.Areas.{tree_in, trees_in};
 
-use tree::cells::{APPLICATION, ATOMS, first_of, kind_of, next_of};
+use tree::area::Area;
+use tree::kinds::Kind;
 
 // Whether no variable occurs in the tree of cell i.
+#[tactic(auto, using(crate::proofs::Searching::ground_by_kind))]
 #[cycle(ground_grounds)]
-pub fn ground(sheet: &[u8], work: &[u32], free: usize, i: usize) -> bool
-    requires arena { Arena sheet.now work.now free }
-    requires i_nonzero { (0 < i) × (i < free) }
-    ensures { result ≡ ground (tree_at sheet.now work.now i) }
+pub fn ground(area: &Area, i: usize) -> bool
+    requires { (0 < i) × (i < area.now.free) }
+    ensures { result ≡ ground (tree_in area.now i) }
 {
-    let kind = kind_of(work, i);
-    if APPLICATION < kind {
-        return ATOMS <= kind;
+    match area.kind(i) {
+        Kind::Application => grounds(area, area.first_of(i)),
+        Kind::Variable(_) => false,
+        Kind::Atom(_) => true,
     }
-    grounds(sheet, work, free, first_of(work, free, i))
 }
 
-// Whether no variable occurs in the list from cell i on.
+// Whether no variable occurs in the list from cell `list` on.
 #[cycle(ground_grounds)]
-fn grounds(sheet: &[u8], work: &[u32], free: usize, i: usize) -> bool
-    requires arena { Arena sheet.now work.now free }
-    requires i_lt_free { i < free }
-    ensures { result ≡ grounds (trees_at sheet.now work.now i) }
+fn grounds(area: &Area, list: usize) -> bool
+    requires { list < area.now.free }
+    ensures { result ≡ grounds (trees_in area.now list) }
 {
-    if i == 0 {
-        return true;
+    let mut i = list;
+    while i != 0 {
+        if !ground(area, i) {
+            return false;
+        }
+        i = area.next_of(i);
     }
-    if ground(sheet, work, free, i) {
-        return grounds(sheet, work, free, next_of(work, free, i));
-    }
-    false
+    true
 }

@@ -1,14 +1,9 @@
-// Occurrence of variables, bindings, and substitution over trees in a lent work area.
+// Occurrence of variables, bindings, and substitution over the trees of an area.
 #![tactic(auto)]
 
-pub mod bindings;
-pub mod bindings_area; // bindings_area.rt: bindings in an area
-pub mod ground;
-pub mod ground_area; // ground_area.rt: ground trees of an area
-pub mod instances;
-pub mod instances_area; // instances_area.rt: substitution in an area
-pub mod occurrence;
-pub mod occurrence_area; // occurrence_area.rt: occurrence in an area
-pub mod pairing;
-pub mod solving;
-pub mod solving_area; // solving_area.rt: bindings put into pairs and composed in an area
+pub mod bindings; // bindings.rt: a binding looked up
+pub mod ground; // ground.rt: trees without variables
+pub mod instances; // instances.rt: substitution within a budget of nodes
+pub mod occurrence; // occurrence.rt: whether a variable occurs in a tree
+pub mod pairing; // pairing.rt: pairs put before a list
+pub mod solving; // solving.rt: bindings put into pairs, and composed

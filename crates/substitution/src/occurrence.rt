@@ -1,44 +1,39 @@
-// Whether a variable occurs in a tree.
+// Whether a variable occurs in a tree of an area.
 ghost use Rattle.std.specs.Prelude.{◌≡◌, ◌<◌};
 ghost use Rattle.rules.specs.Tree.{occurs, occurs_in};
-ghost use Rattle.tree.specs.Cells.{name_at, tree_at, trees_at};
-ghost use Rattle.tree.specs.Arena.{Arena};
+ghost use Rattle.tree.specs.Areas.{name_in, tree_in, trees_in};
 
-use tree::cells::{APPLICATION, ATOMS, first_of, kind_of, next_of};
-use tree::names::same_name;
+use tree::area::Area;
+use tree::kinds::Kind;
 
 // Whether the variable with the name of cell key occurs in the tree of cell i.
+#[tactic(auto, using(crate::proofs::Searching::occurs_by_kind))]
 #[cycle(occurs_occurs_in)]
-pub fn occurs(sheet: &[u8], work: &[u32], free: usize, key: usize, i: usize) -> bool
-    requires arena { Arena sheet.now work.now free }
-    requires key_nonzero { (0 < key) × (key < free) }
-    requires i_nonzero { (0 < i) × (i < free) }
-    ensures { result ≡ occurs (name_at sheet.now work.now key) (tree_at sheet.now work.now i) }
+pub fn occurs(area: &Area, key: usize, i: usize) -> bool
+    requires key_cell { (0 < key) × (key < area.now.free) }
+    requires i_cell { (0 < i) × (i < area.now.free) }
+    ensures { result ≡ occurs (name_in area.now key) (tree_in area.now i) }
 {
-    let kind = kind_of(work, i);
-    if ATOMS <= kind {
-        return false;
+    match area.kind(i) {
+        Kind::Application => occurs_in(area, key, area.first_of(i)),
+        Kind::Variable(_) => area.same_name(i, key),
+        Kind::Atom(_) => false,
     }
-    if APPLICATION < kind {
-        return same_name(sheet, work, free, i, key);
-    }
-    occurs_in(sheet, work, free, key, first_of(work, free, i))
 }
 
-// Whether it occurs in the list from cell i on.
+// Whether it occurs in the list from cell `list` on.
 #[cycle(occurs_occurs_in)]
-fn occurs_in(sheet: &[u8], work: &[u32], free: usize, key: usize, i: usize) -> bool
-    requires arena { Arena sheet.now work.now free }
-    requires key_nonzero { (0 < key) × (key < free) }
-    requires i_lt_free { i < free }
-    ensures { result ≡ occurs_in (name_at sheet.now work.now key) (trees_at sheet.now work.now i) }
+fn occurs_in(area: &Area, key: usize, list: usize) -> bool
+    requires key_cell { (0 < key) × (key < area.now.free) }
+    requires list_link { list < area.now.free }
+    ensures { result ≡ occurs_in (name_in area.now key) (trees_in area.now list) }
 {
-    if i == 0 {
-        return false;
+    let mut i = list;
+    while i != 0 {
+        if occurs(area, key, i) {
+            return true;
+        }
+        i = area.next_of(i);
     }
-    let next = next_of(work, free, i);
-    if occurs(sheet, work, free, key, i) {
-        return true;
-    }
-    occurs_in(sheet, work, free, key, next)
+    false
 }

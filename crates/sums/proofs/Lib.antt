@@ -1,6 +1,10 @@
-pub mod Gathering
+pub mod Summanding
 pub mod Describing
 pub mod Cancelling
-pub mod Preparing
 pub mod Rebuilding
 pub mod InAreas
+pub mod Collecting
+pub mod Labelling
+pub mod Removing
+pub mod Summing
+pub mod Readying

@@ -1,5 +1,5 @@
 -- Sums in an area: which trees are sums, their summands in the words above the cells, and the sum of what is left. Definitions only.
-use Rattle.std.specs.Prelude.{ℕ, ◌+◌, ◌*◌, ◌<◌, ◌≤◌, ◌≡◌, Bool, false, List, [], ◌∷◌, Option, Some, None, length, get_or}
+use Rattle.std.specs.Prelude.{ℕ, ◌+◌, ◌*◌, ◌<◌, ◌≤◌, ◌≡◌, Bool, false, List, [], ◌∷◌, Option, Some, None, length, get_or, take}
 use Rattle.std.proofs.Math.Seq.{slice}
 use Rattle.rules.specs.Bytes.{same}
 use Rattle.rules.specs.Tree.{Tree, variable, atom, apply, tamtplus}
@@ -9,7 +9,9 @@ use Rattle.tree.specs.declared.area.Area.{Area}
 use Rattle.tree.specs.Areas.{tree_in, next_in, KeepsCells, Adds}
 use Rattle.text.specs.Frames.{Outside}
 use Rattle.sums.specs.Sums.{remaining, test}
-use Rattle.sums.specs.declared.areas.Summands.{Summands}
+use Rattle.sums.specs.Summands.{test_of, trees_of}
+use Rattle.sums.specs.declared.striking.Cancelling.{Cancelling}
+use Rattle.sums.specs.declared.Summands.{Summands}
 
 abbrev pub sum_in : Tree → Bool
 sum_in (variable x) = false
@@ -19,6 +21,13 @@ sum_in (apply f ts) = same f tamtplus
 -- the trees of the cells in the words from one position to another, but 0
 abbrev pub remaining_in : Area → ℕ → ℕ → List Tree
 remaining_in a at end = remaining a.sheet.now a.work.now (slice at end a.work.now)
+
+-- the first words are the cells of the summands of l and r, cancelled: those of l up to mid, those of r up to end; k is the nodes of both
+pub record CancelsIn (a : Area) (v : List ℕ) (mid end k : ℕ) (l r : Tree) (c : Cancelling) : Type 0 where
+  pub high : mid ≤ end
+  pub bound : end ≤ k
+  pub cells : (q : ℕ) → q < end → get_or v q 0 < a.free
+  pub are : cancel (test_of c) (summands l) (summands r) ≡ (trees_of a (take mid v), trees_of a (slice mid end v))
 
 -- b has the cells of the summands of l and r, cancelled: p says where those of l start, where those of r start and where they end; k is
 -- the nodes of both
@@ -31,6 +40,15 @@ pub record Prepared (a b : Area) (p : Summands) (k : ℕ) (l r : Tree) (every : 
   pub bound : p.end ≤ p.at + k
   pub cells : (q : ℕ) → p.at ≤ q → q < p.end → get_or b.work.now q 0 < a.free
   pub are : cancel (test every) (summands l) (summands r) ≡ (remaining_in b p.at p.mid, remaining_in b p.mid p.end)
+
+-- b is a with two new cells: cell i is the tree t, and has no next sibling
+pub record AddsSum (a b : Area) (i : ℕ) (t : Tree) : Type 0 where
+  pub adds : Adds a b
+  pub end : b.free ≡ a.free + 2
+  pub some_cell : 0 < i
+  pub inside : i < b.free
+  pub tree : tree_in b i ≡ t
+  pub link : next_in b i ≡ 0
 
 -- cell i is the right-nested sum of trees, at least one
 pub record SumAt (b : Area) (ts : List Tree) (i : ℕ) : Type 0 where

@@ -1,2 +1,3 @@
 pub mod Sums
 pub mod Areas
+pub mod Summands

@@ -14,3 +14,4 @@ pub mod Spelling
 pub mod Walking
 pub mod Lists
 pub mod Parting
+pub mod Truncating

@@ -146,4 +146,14 @@ impl Area<'_, '_> {
         self.free = end;
         at
     }
+
+    // Gives back the cells from an end on.
+    pub fn truncate(&mut self, end: usize)
+        requires { (0 < end) × (end ≤ self.old.free) }
+        ensures lent { Lent self.old self.new }
+        ensures end { self.new.free ≡ end }
+        ensures words { self.new.work.now ≡ self.old.work.now }
+    {
+        self.free = end;
+    }
 }

@@ -1,6 +1,5 @@
 pub mod Tops
 pub mod Resuming
-pub mod Invariant
-pub mod Finishing
 pub mod Parts
+pub mod Taking
 pub mod Sparing

@@ -6,7 +6,7 @@ use native.Mathlib.Omega.{arith}
 use Rattle.rules.specs.Bytes.{Text}
 use Rattle.rules.specs.Tree.{Tree}
 use Rattle.rules.specs.Substitution.{Binding, Pair}
-use Rattle.rules.specs.Solving.{step, Verdict, solved, failed, unsupported, Answer, with_binding, after, run}
+use Rattle.rules.specs.Solving.{step, Verdict, solved, failed, unsupported, Answer, with_binding, after, finish, run, unify}
 
 abbrev pub with_bindings : List Binding → Verdict → Verdict
 with_bindings bs (solved cs) = solved (reverse_aux bs cs)
@@ -44,3 +44,8 @@ pub run_spent : (k : ℕ) (ps : List Pair) → k ≡ 0 → run k ps ≡ (unsuppo
 unfolding run
 run_spent zero ps h = refl
 run_spent (suc k) ps h = absurd (omega arith)
+
+-- the answer after a run: its bindings composed
+pub finished : (k : ℕ) (ps : List Pair) (a : Answer) → run k ps ≡ a → unify k ps ≡ (finish a.0, a.1)
+unfolding unify
+finished k ps a e = ap (λ (a : Answer). (finish a.0, a.1)) e

@@ -1,12 +1,12 @@
 -- A run in the first words of a work area: its pairs there, and its answer in the whole of it.
 use Prim.Native.Nat.{ℕ, ◌+◌, ◌*◌, ◌<◌, ◌≤◌, ◌^◌}
-use mathlib.Core.Path.{◌≡◌, refl, sym, ap, subst, ◌∙◌}
+use mathlib.Core.Path.{◌≡◌, sym, ap, subst, ◌∙◌}
 use mathlib.Core.List.{List, ◌++◌}
 use lib.ListN.{length, take, drop}
-use lib.Seq.{length-take-le}
+use lib.Seq.{length-take-le, take-append_seam, drop-append_seam}
 use native.Mathlib.Omega.{arith}
 use Rattle.rules.specs.Bytes.{Text}
-use Rattle.rules.specs.Tree.{sizes}
+use Rattle.rules.specs.Tree.{Trees, sizes}
 use Rattle.rules.specs.Substitution.{Pair, flatten}
 use Rattle.laws.proofs.Solving.Weights.{weight_size}
 use Rattle.laws.proofs.Solving.Budget.{flatten_size}
@@ -14,7 +14,14 @@ use Rattle.tree.specs.Cells.{trees_at}
 use Rattle.tree.specs.Arena.{Arena, Below}
 use Rattle.tree.proofs.Decoding.{frame_trees}
 use Rattle.unifier.specs.Running.{Roomy}
-use Rattle.unifier.specs.Areas.{NamesFew, spared_end}
+use Rattle.rules.specs.Solving.{Answer, solved}
+use Rattle.tree.specs.declared.area.Area.{Area}
+use Rattle.tree.specs.Areas.{trees_in, Lent, Grows}
+use Rattle.substitution.specs.Bindings.{bindings_of, Chain}
+use Rattle.elimination.specs.Area.{step_words}
+use Rattle.unifier.specs.Areas.{NamesFew, spared_end, HoldsBound, AnswersIn, EndsIn}
+use Rattle.unifier.specs.declared.unifying.Verdict.{Verdict}
+use Rattle.unifier.specs.declared.unifying.Verdict.TheVariants.{Solved, Failed, Unsupported}
 use Rattle.unifier.proofs.Parts.{part_agrees, part_arena, back_agrees, back_arena, back_below}
 
 -- the room of a run, by the nodes of its pairs, in so many words
@@ -25,6 +32,10 @@ roomy_few {ps = ps} n fuel nodes names l m e f =
     let y = weight_size ps in
     let z = f.few in
     record { names = f.names; over = f.over; room = (omega arith, omega arith) }
+
+-- a part of so many words, and the rest
+pub part_is : (w f r : List ℕ) (limit : ℕ) → w ≡ f ++ r → length f ≡ limit → (f ≡ take limit w) × (r ≡ drop limit w)
+part_is w f r limit e l = rw (e, ← l) (sym (take-append_seam f r), sym (drop-append_seam f r))
 
 module _ {s : Text} {w : List ℕ} {n : ℕ} (limit : ℕ) (h : limit ≤ length w) (l : 4 * n ≤ limit) (a : Arena s w n) where
   pub spared_arena : Arena s (take limit w) n
@@ -49,3 +60,48 @@ module _ {s : Text} {w : List ℕ} {n : ℕ} (limit : ℕ) (h : limit ≤ length
 
       pub whole_trees : (k : ℕ) → k < m → trees_at s u k ≡ trees_at s (u ++ drop limit w) k
       whole_trees k q = frame_trees s (u ++ drop limit w) c.links (back_agrees limit w h m t u long) k q
+
+-- the same over areas: p is the part of a, q what a run makes of it, u its words then
+module _ {p q : Area} (a : Area) (limit : ℕ) (h : limit ≤ length a.work.now) (l : 4 * a.free ≤ limit) (sp : p.sheet ≡ a.sheet) (wp : p.work.now ≡ take limit a.work.now) (fp : p.free ≡ a.free) (g : Grows p q) (u : List ℕ) (e : u ≡ q.work.now) where
+  kept : Below (take limit a.work.now) u a.free
+  kept = subst (λ (n : ℕ). Below (take limit a.work.now) u n) fp (subst (λ (w : List ℕ). Below w u p.free) wp (subst (λ (v : List ℕ). Below p.work.now v p.free) (sym e) g.below))
+
+  run_arena : Arena a.sheet.now u q.free
+  run_arena = subst (λ (v : List ℕ). Arena a.sheet.now v q.free) (sym e) (subst (λ s. Arena s.now q.work.now q.free) (g.lent.sheet ∙ sp) q.arena)
+
+  end_inside : 4 * q.free ≤ limit
+  end_inside = omega (arith, q.arena.links.room, ap length e, long limit h l a.arena kept)
+
+  pub spared_whole : Arena a.sheet.now (u ++ drop limit a.work.now) q.free
+  spared_whole = whole_arena limit h l a.arena kept end_inside run_arena
+
+  module _ {b : Area} {r : List ℕ} (er : r ≡ drop limit a.work.now) (lent : Lent a b) (wr : b.work.now ≡ u ++ r) (fb : b.free ≡ q.free) where
+    wb : b.work.now ≡ u ++ drop limit a.work.now
+    wb = wr ∙ ap (λ (r : List ℕ). u ++ r) er
+
+    spared_grows : Grows a b
+    spared_grows = record { lent = lent; grew = omega (arith, g.grew, fp, fb); below = rw wb (spared_below limit h l a.arena kept) }
+
+    spared_list : (k : ℕ) → k < q.free → trees_in q k ≡ trees_in b k
+    spared_list k i =
+        ap (λ s. trees_at s.now q.work.now k) (g.lent.sheet ∙ sp)
+        ∙ ap (λ (w : List ℕ). trees_at a.sheet.now w k) (sym e)
+        ∙ whole_trees limit h l a.arena kept end_inside run_arena k i
+        ∙ ap (λ (w : List ℕ). trees_at a.sheet.now w k) (sym wb)
+        ∙ sym (ap (λ s. trees_at s.now b.work.now k) lent.sheet)
+
+    pub spared_answers : {x : Answer} (v : Verdict) (n : ℕ) → AnswersIn p q x (record { verdict = v; spent = n }) → AnswersIn a b x (record { verdict = v; spent = n })
+    spared_answers (Solved k) n r =
+        let t = spared_list k r.bound.inside in
+        record {
+          grows = spared_grows;
+          is = r.is ∙ ap (λ (ts : Trees). (solved (bindings_of ts), n)) t;
+          bound = record { inside = omega (arith, r.bound.inside, fb); chain = subst Chain t r.bound.chain; room = omega (arith, r.bound.room, ap length e, long limit h l a.arena kept, spared_grows.below.len, fb) };
+        }
+    spared_answers Failed n r = record { grows = spared_grows; is = r.is; bound = tt }
+    spared_answers Unsupported n r = record { grows = spared_grows; is = r.is; bound = tt }
+
+  pub spared_ends : (m : ℕ) (v : Verdict) → HoldsBound q v → limit ≡ 4 * m + step_words → EndsIn q v m
+  spared_ends m (Solved k) r f = omega (arith, r.room, ap length e, long limit h l a.arena kept)
+  spared_ends m Failed r f = tt
+  spared_ends m Unsupported r f = tt

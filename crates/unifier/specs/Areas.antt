@@ -1,5 +1,5 @@
 -- What `unify` and `match` answer in an area. Definitions only.
-use Rattle.std.specs.Prelude.{ℕ, ◌+◌, ◌*◌, ◌<◌, ◌≤◌, ◌≡◌, List, length}
+use Rattle.std.specs.Prelude.{ℕ, ◌+◌, ◌*◌, ◌<◌, ◌≤◌, ◌^◌, ◌≡◌, List, reverse, length}
 use Rattle.rules.specs.Bytes.{Text}
 use Rattle.rules.specs.Substitution.{Pair}
 use Rattle.rules.specs.Solving as rules
@@ -10,9 +10,9 @@ use Rattle.substitution.specs.Bindings.{Chain}
 use Rattle.substitution.specs.Areas.{bindings_in}
 use Rattle.elimination.specs.Stack.{pairs_at}
 use Rattle.elimination.specs.Area.{step_words}
-use Rattle.unifier.specs.declared.unifying_area.Answer.{Answer}
-use Rattle.unifier.specs.declared.unifying_area.Verdict.{Verdict}
-use Rattle.unifier.specs.declared.unifying_area.Verdict.TheVariants.{Solved, Failed, Unsupported}
+use Rattle.unifier.specs.declared.unifying.Answer.{Answer}
+use Rattle.unifier.specs.declared.unifying.Verdict.{Verdict}
+use Rattle.unifier.specs.declared.unifying.Verdict.TheVariants.{Solved, Failed, Unsupported}
 
 -- the pairs from cell k on
 abbrev pub stack_in : Area → ℕ → List Pair
@@ -40,6 +40,30 @@ pub record AnswersIn (a b : Area) (x : rules.Answer) (r : Answer) : Type 0 where
   pub grows : Grows a b
   pub is : x ≡ (verdict_in b r.verdict, r.spent)
   pub bound : HoldsBound b r.verdict
+
+-- what the verdict of a run says: the bindings are not composed, and the list from a cell on has the last made first
+abbrev pub ran_in : Area → Verdict → rules.Verdict
+ran_in a (Solved k) = rules.solved (reverse (bindings_in a k))
+ran_in a Failed = rules.failed
+ran_in a Unsupported = rules.unsupported
+
+-- there is room to compose the bindings from cell k on
+pub record ComposableIn (a : Area) (k : ℕ) : Type 0 where
+  pub inside : k < a.free
+  pub chain : Chain (trees_in a k)
+  pub room : 4 * (a.free + 4097 * length (bindings_in a k)) + step_words ≤ length a.work.now
+  pub fits : a.free + 4097 * length (bindings_in a k) < 2 ^ 32
+
+abbrev pub HoldsMade : Area → Verdict → Type 0
+HoldsMade a (Solved k) = ComposableIn a k
+HoldsMade a Failed = Unit {0}
+HoldsMade a Unsupported = Unit {0}
+
+-- b is a with more cells, and r is the answer x of a run
+pub record RunsIn (a b : Area) (x : rules.Answer) (r : Answer) : Type 0 where
+  pub grows : Grows a b
+  pub is : x ≡ (ran_in b r.verdict, r.spent)
+  pub made : HoldsMade b r.verdict
 
 -- the pairs are over so many names at most
 pub record NamesFew (n : ℕ) (ps : List Pair) : Type 0 where

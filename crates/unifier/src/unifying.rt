@@ -1,119 +1,135 @@
-// `unify`: pairs are taken from the stack until there are none, a pair ends the run or the fuel is spent; then the bindings are composed.
-ghost use Rattle.std.specs.Prelude.{◌<◌, ◌≤◌};
+// `unify` over an area: the pairs and the bindings are lists of its cells.
+ghost use Rattle.std.specs.Prelude.{◌≡◌, ◌<◌, ◌≤◌};
+ghost use Rattle.rules.specs.Tree.{sizes};
 ghost use Rattle.rules.specs.Solving.{run, unify};
-ghost use Rattle.tree.specs.Cells.{trees_at};
-ghost use Rattle.tree.specs.Arena.{Arena};
-ghost use Rattle.elimination.specs.Stack.{Whole, pairs_at, FitPairs};
-ghost use Rattle.unifier.specs.Running.{Roomy, Runs, Answers};
+ghost use Rattle.tree.specs.Areas.{trees_in};
+ghost use Rattle.elimination.specs.Area.{Room};
+ghost use Rattle.elimination.specs.Stack.{Whole, FitPairs};
+ghost use Rattle.unifier.specs.Running.{Roomy};
+ghost use Rattle.unifier.specs.Areas.{stack_in, NamesFew, spared_end, RunsIn, AnswersIn, EndsIn};
 
+use crate::room::{NAME_CELLS, STEP_WORDS};
 use elimination::Taken;
 use stepping::step;
-use substitution::bindings::push_pair;
-use substitution::solving::{Composition, compose};
-use tree::cells::next_of;
+use substitution::pairing::push_pair;
+use substitution::solving::compose;
+use tree::area::Area;
 
-// A verdict with the number of pairs taken from the stack. The bindings are a list: the key and the value of each in turn.
-#[derive(Clone, Copy)]
-pub enum Outcome {
-    Solved {
-        bindings: usize,
-        free: usize,
-        spent: usize,
-    },
-    Failed {
-        spent: usize,
-    },
-    Unsupported {
-        spent: usize,
-    },
+// The bindings of solved pairs are a list: the key and the value of each in turn.
+#[derive(Clone, Copy, Debug, PartialEq, Eq)]
+pub enum Verdict {
+    Solved(usize),
+    Failed,
+    Unsupported,
 }
 
-// The run over the pairs from cell stack on. The bindings are not composed, the last made first.
-fn run(sheet: &[u8], work: &mut [u32], free: usize, stack: usize, fuel: usize) -> Outcome
-    requires arena { Arena sheet.now work.old free }
-    requires stack_lt_free { (stack < free) × (fuel ≤ 65536) × Whole (trees_at sheet.now work.old stack) × FitPairs (pairs_at sheet.now work.old stack) }
-    requires roomy { Roomy work.old free fuel (pairs_at sheet.now work.old stack) }
-    ensures { Runs sheet.now work.old work.new free (run fuel (pairs_at sheet.now work.old stack)) result }
+// A verdict with the number of pairs taken from the stack.
+#[derive(Clone, Copy, Debug, PartialEq, Eq)]
+pub struct Answer {
+    pub verdict: Verdict,
+    pub spent: usize,
+}
+
+// The run over the pairs from cell stack on: one after another is taken, until none is left or one ends the run. The bindings are not
+// composed, the last made first.
+fn run(area: &mut Area, stack: usize, fuel: usize) -> Answer
+    requires stack { (stack < area.old.free) × Whole (trees_in area.old stack) × FitPairs (stack_in area.old stack) }
+    requires fuel { fuel ≤ 65536 }
+    requires room { Roomy area.old.work.now area.old.free fuel (stack_in area.old stack) }
+    ensures { RunsIn area.old area.new (run fuel (stack_in area.old stack)) result }
 {
-    let mut left = fuel;
     let mut waiting = stack;
-    let mut made: usize = 0;
-    let mut end = free;
-    let mut apart: usize = 0;
-    while left != 0 {
+    let mut made = 0;
+    let mut apart = None;
+    for spent in 0..fuel {
         if waiting == 0 {
-            return Outcome::Solved {
-                bindings: made,
-                free: end,
-                spent: fuel - left,
+            return Answer {
+                verdict: Verdict::Solved(made),
+                spent,
             };
         }
-        let right = next_of(work, end, waiting);
-        let rest = next_of(work, end, right);
-        let taken = step(sheet, work, end, waiting, right, rest, apart);
-        left -= 1;
-        match taken {
-            Taken::Next {
-                stack: s,
-                free: f,
-                apart: a,
-            } => {
+        let right = area.next_of(waiting);
+        let rest = area.next_of(right);
+        match step(area, waiting, right, rest, apart) {
+            Taken::Next { stack: s, apart: a } => {
                 waiting = s;
-                end = f;
                 apart = a;
             }
             Taken::Bind {
                 key,
                 value,
                 stack: s,
-                free: f,
             } => {
-                let pushed = push_pair(sheet, work, f, key, value, made);
                 waiting = s;
-                made = pushed.index;
-                end = pushed.free;
-                apart = 0;
+                made = push_pair(area, key, value, made);
+                apart = None;
             }
             Taken::Fails => {
-                return Outcome::Failed { spent: fuel - left };
+                return Answer {
+                    verdict: Verdict::Failed,
+                    spent: spent + 1,
+                };
             }
             Taken::Unknown => {
-                return Outcome::Unsupported { spent: fuel - left };
+                return Answer {
+                    verdict: Verdict::Unsupported,
+                    spent: spent + 1,
+                };
             }
         }
     }
-    Outcome::Unsupported { spent: fuel }
+    Answer {
+        verdict: Verdict::Unsupported,
+        spent: fuel,
+    }
 }
 
 // Unifies the pairs from cell stack on.
-pub fn unify(sheet: &[u8], work: &mut [u32], free: usize, stack: usize, fuel: usize) -> Outcome
-    requires arena { Arena sheet.now work.old free }
-    requires stack_lt_free { (stack < free) × (fuel ≤ 65536) × Whole (trees_at sheet.now work.old stack) × FitPairs (pairs_at sheet.now work.old stack) }
-    requires roomy { Roomy work.old free fuel (pairs_at sheet.now work.old stack) }
-    ensures { Answers sheet.now work.old work.new free (unify fuel (pairs_at sheet.now work.old stack)) result }
+pub fn unify(area: &mut Area, stack: usize, fuel: usize) -> Answer
+    requires stack { (stack < area.old.free) × Whole (trees_in area.old stack) × FitPairs (stack_in area.old stack) }
+    requires fuel { fuel ≤ 65536 }
+    requires room { Roomy area.old.work.now area.old.free fuel (stack_in area.old stack) }
+    ensures { AnswersIn area.old area.new (unify fuel (stack_in area.old stack)) result }
 {
-    let ran = run(sheet, work, free, stack, fuel);
-    match ran {
-        Outcome::Failed { spent } => Outcome::Failed { spent: spent },
-        Outcome::Unsupported { spent } => Outcome::Unsupported { spent: spent },
-        Outcome::Solved {
-            bindings,
-            free: end,
-            spent,
-        } => {
-            let composed = compose(sheet, work, end, bindings);
-            let Composition::Composed {
-                bindings: list,
-                free: top,
-            } = composed
-            else {
-                return Outcome::Unsupported { spent: spent };
-            };
-            Outcome::Solved {
-                bindings: list,
-                free: top,
-                spent: spent,
-            }
-        }
+    let ran = run(area, stack, fuel);
+    let Verdict::Solved(made) = ran.verdict else {
+        return ran;
+    };
+    let verdict = match compose(area, made) {
+        Some(bindings) => Verdict::Solved(bindings),
+        None => Verdict::Unsupported,
+    };
+    Answer {
+        verdict,
+        spent: ran.spent,
     }
+}
+
+// Unifies the pairs from cell stack on, which have so many nodes and at most so many names, in as many words as that may take: those after
+// them are left for what follows.
+pub fn unify_sparing(
+    area: &mut Area,
+    stack: usize,
+    fuel: usize,
+    nodes: usize,
+    names: usize,
+) -> Answer
+    requires stack { (stack < area.old.free) × Whole (trees_in area.old stack) × FitPairs (stack_in area.old stack) }
+    requires fuel { fuel ≤ 65536 }
+    requires counts { (nodes ≡ sizes (trees_in area.old stack)) × NamesFew names (stack_in area.old stack) }
+    requires room { Room area.old.work.now (spared_end area.old.free nodes fuel names) }
+    ensures answers { AnswersIn area.old area.new (unify fuel (stack_in area.old stack)) result }
+    ensures ends { EndsIn area.new result.verdict (spared_end area.old.free nodes fuel names) }
+{
+    let limit = 4 * (area.free + nodes + 2 * fuel + NAME_CELLS * names) + STEP_WORDS;
+    let work = &mut *area.work;
+    let (lent, _) = work.split_at_mut(limit);
+    let mut part = Area {
+        sheet: area.sheet,
+        work: lent,
+        free: area.free,
+    };
+    let answer = unify(&mut part, stack, fuel);
+    area.free = part.free;
+    answer
 }

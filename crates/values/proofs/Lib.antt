@@ -1,4 +1,4 @@
-pub mod Valuing
-pub mod Entries
+pub mod Resuming
 pub mod CoverLaws
-pub mod MemberLaws
+pub mod ValueLaws
+pub mod Covering

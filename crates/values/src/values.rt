@@ -1,141 +1,77 @@
-// The values of a member's entries whose keys are variables of the pairs, as bindings.
-ghost use Rattle.std.specs.Prelude.{◌≡◌, ◌+◌, ◌*◌, ◌-◌, ◌<◌, ◌≤◌, ◌^◌, length};
-ghost use Rattle.tree.specs.Cells.{trees_at};
-ghost use Rattle.tree.specs.Arena.{Arena};
+// The values of a member's entries whose keys are variables of the pairs, as bindings in an area.
+ghost use Rattle.std.specs.Prelude.{◌+◌, ◌*◌, ◌-◌, ◌<◌, ◌≤◌, ◌^◌, length};
+ghost use Rattle.tree.specs.Areas.{trees_in};
 ghost use Rattle.reading.specs.Parsing.{stack_end};
-ghost use Rattle.sheet.specs.Lines.{part_of};
 ghost use Rattle.forms.specs.Form.{Inside};
 ghost use Rattle.variables.specs.Pairing.{names_of, OfVariables};
-ghost use Rattle.values.specs.Values.{FindsVariable, ReadsValue, EntriesThere, ReadsValues};
+ghost use Rattle.values.specs.Values.{EntriesThere};
+ghost use Rattle.values.specs.Areas.{FindsVariableIn, ReadsValueIn, ReadsValuesIn};
 
-use reading::{Parsed, parse};
-use sheet::{Cursor, Place, next_entry, part};
-use substitution::bindings::{Found, lookup, push_pair};
-use tree::cells::next_of;
-use tree::names::name_is;
+use reading::parse;
+use sheet::{Cursor, Sides, next_entry, part};
+use substitution::bindings::lookup;
+use substitution::pairing::push_pair;
+use tree::area::Area;
 
-// The cell of the variable of the list from cell `names` on whose name is the text from `from` to `to`, 0 for none.
-fn find_variable(
-    sheet: &[u8],
-    work: &[u32],
-    free: usize,
-    names: usize,
-    from: usize,
-    to: usize,
-) -> usize
-    requires arena { Arena sheet.now work.now free }
-    requires names_lt_free { (names < free) × (from ≤ to) × (to ≤ length sheet.now) × OfVariables (trees_at sheet.now work.now names) }
-    ensures { FindsVariable sheet.now work.now free (names_of (trees_at sheet.now work.now names)) (part_of from to sheet.now) result }
+// The cell of the variable of the list from cell `names` on that has a name.
+fn find_variable(area: &Area, names: usize, name: &[u8]) -> Option<usize>
+    requires { (names < area.now.free) × OfVariables (trees_in area.now names) }
+    ensures { FindsVariableIn area.now (names_of (trees_in area.now names)) name.now result }
 {
     let mut k = names;
     while k != 0 {
-        if name_is(sheet, work, free, k, part(sheet, from, to)) {
-            return k;
+        if area.name_is(k, name) {
+            return Some(k);
         }
-        k = next_of(work, free, k);
+        k = area.next_of(k);
     }
-    0
+    None
 }
 
-// Bindings and the free end after them, or a value that cannot be read.
-#[derive(Clone, Copy)]
-enum Values {
-    Bound { bindings: usize, free: usize },
-    Unreadable,
-}
-
-// Puts the value of an entry before the bindings from cell `list` on, if its key is one of the variables and not bound yet.
-fn read_value(
-    sheet: &[u8],
-    work: &mut [u32],
-    free: usize,
-    names: usize,
-    key: Place,
-    value: Place,
-    list: usize,
-) -> Values
-    requires arena { Arena sheet.now work.old free }
-    requires names_lt_free { (names < free) × (list < free) × OfVariables (trees_at sheet.now work.old names) }
-    requires inside { Inside sheet.now key × Inside sheet.now value × (length sheet.now ≤ 65536) }
-    requires to_in_bounds { (stack_end free value.from value.to + 8 ≤ length work.old) × (free + 2 * (value.to - value.from) + 2 < 2 ^ 32) }
-    ensures { ReadsValue sheet.now work.old work.new free (names_of (trees_at sheet.now work.old names)) key value list result }
+// Puts the value of an entry before the bindings from cell `list` on, if its key is one of the variables and not bound yet. None for a
+// value that cannot be read.
+fn read_value(area: &mut Area, names: usize, entry: Sides, list: usize) -> Option<usize>
+    requires links { (names < area.old.free) × (list < area.old.free) }
+    requires of_variables { OfVariables (trees_in area.old names) }
+    requires inside { Inside area.old.sheet.now entry.left × Inside area.old.sheet.now entry.right × (length area.old.sheet.now ≤ 65536) }
+    requires room { (stack_end area.old.free entry.right.from entry.right.to + 8 ≤ length area.old.work.now) × (area.old.free + 2 * (entry.right.to - entry.right.from) + 2 < 2 ^ 32) }
+    ensures { ReadsValueIn area.old area.new (names_of (trees_in area.old names)) entry.left entry.right list result }
 {
-    let key_from = key.from;
-    let key_to = key.to;
-    let x = find_variable(sheet, work, free, names, key_from, key_to);
-    if x == 0 {
-        return Values::Bound {
-            bindings: list,
-            free,
-        };
-    }
-    let found = lookup(sheet, work, free, list, x);
-    if let Found::At(_) = found {
-        return Values::Bound {
-            bindings: list,
-            free,
-        };
-    }
-    let from = value.from;
-    let to = value.to;
-    let read = parse(sheet, work, free, from, to);
-    let Parsed::Tree { index, free: end } = read else {
-        return Values::Unreadable;
+    let key = part(area.sheet, entry.left.from, entry.left.to);
+    let Some(x) = find_variable(area, names, key) else {
+        return Some(list);
     };
-    let pushed = push_pair(sheet, work, end, x, index, list);
-    let bindings = pushed.index;
-    let top = pushed.free;
-    Values::Bound {
-        bindings,
-        free: top,
+    if lookup(area, list, x).is_some() {
+        return Some(list);
     }
+    let value = parse(area, entry.right)?;
+    Some(push_pair(area, x, value, list))
 }
 
-// The bindings of a member's values, the free end after them and where its entries end, or a value that cannot be read.
-#[derive(Clone, Copy)]
-pub(crate) enum Read {
-    Bound {
-        bindings: usize,
-        free: usize,
-        next: Cursor,
-    },
-    Unreadable,
+// The bindings of a member's values, and where its entries end.
+#[derive(Clone, Copy, Debug, PartialEq, Eq)]
+pub(crate) struct Bound {
+    pub(crate) bindings: usize,
+    pub(crate) next: Cursor,
 }
 
-// The values of the entries from a cursor on, those whose keys are variables of the list from cell `names` on, as bindings.
-pub(crate) fn read_values(
-    sheet: &[u8],
-    work: &mut [u32],
-    free: usize,
-    names: usize,
-    start: Cursor,
-) -> Read
-    requires arena { Arena sheet.now work.old free }
-    requires names_lt_free { (names < free) × OfVariables (trees_at sheet.now work.old names) }
-    requires at_in_bounds { (start.at ≤ length sheet.now) × (length sheet.now ≤ 65536) }
-    requires sheet_in_bounds { (4 * free + 11 * length sheet.now + 9 ≤ length work.old) × (free + 2 * length sheet.now + 2 < 2 ^ 32) }
-    requires entries_there { EntriesThere sheet.now start.at }
-    ensures { ReadsValues sheet.now work.old work.new free (names_of (trees_at sheet.now work.old names)) start.at result }
+// The values of the entries from a cursor on, those whose keys are variables of the list from cell `names` on, as bindings. None where one
+// of them cannot be read.
+pub(crate) fn read_values(area: &mut Area, names: usize, start: Cursor) -> Option<Bound>
+    requires names { (names < area.old.free) × OfVariables (trees_in area.old names) }
+    requires start { (start.at ≤ length area.old.sheet.now) × (length area.old.sheet.now ≤ 65536) }
+    requires room { (4 * area.old.free + 11 * length area.old.sheet.now + 9 ≤ length area.old.work.now) × (area.old.free + 2 * length area.old.sheet.now + 2 < 2 ^ 32) }
+    requires entries_there { EntriesThere area.old.sheet.now start.at }
+    ensures { ReadsValuesIn area.old area.new (names_of (trees_in area.old names)) start.at result }
 {
     let mut cursor = start;
-    let mut list: usize = 0;
-    let mut end = free;
-    while let Some(entry) = next_entry(sheet, cursor) {
-        let read = read_value(sheet, work, end, names, entry.left, entry.right, list);
-        let Values::Bound {
-            bindings,
-            free: top,
-        } = read
-        else {
-            return Read::Unreadable;
-        };
+    let mut bindings: usize = 0;
+    while let Some(entry) = next_entry(area.sheet, cursor) {
+        bindings = read_value(area, names, entry, bindings)?;
         cursor = entry.next;
-        list = bindings;
-        end = top;
     }
-    Read::Bound {
-        bindings: list,
-        free: end,
+    Some(Bound {
+        bindings,
         next: cursor,
-    }
+    })
 }

@@ -7,7 +7,7 @@ use lib.ListN.{length, get_or, set, length-set}
 use lib.Seq.{slice, slice-cons, get_or-set_other}
 use native.Mathlib.Omega.{arith}
 use native.Mathlib.Numerals.{add-one}
-use Rattle.rules.specs.Bytes.{Text, same, sort}
+use Rattle.rules.specs.Bytes.{Text, sort}
 use Rattle.rules.specs.Tree.{Tree, Trees, size, sizes, variable_names, variable_names_in}
 use Rattle.equivalence.proofs.Comparing.{kept_none}
 use Rattle.text.specs.Places.{text_at, places_upto}
@@ -21,7 +21,7 @@ use Rattle.text.specs.Frames.{Outside}
 use Rattle.variables.specs.Ordered.{unique}
 use Rattle.variables.specs.Variables.{Readable, ReadableAll, Variable, Variables, VariablePlaces, repeats, Dropped, Ordered}
 use Rattle.variables.proofs.Ordering.{unique_skip, unique_keep, unique_sort}
-use Rattle.variables.proofs.Naming.{texts_append, variables_append, variables_sort, named_append, named_empty, arena_kept, tree_kept, next_kept, parts_spelled, parts_names}
+use Rattle.variables.proofs.Naming.{texts_append, variables_append, variables_sort, named_append, named_empty, tree_kept, next_kept, parts_spelled, parts_names}
 
 -- the texts of the words from i to end
 abbrev texts : Text → ℕ → ℕ → List ℕ → List Text
@@ -33,14 +33,6 @@ module _ (s : Text) (w : List ℕ) (i end : ℕ) (p : i < end) (q : end ≤ leng
 
   first_text : texts s i end w ≡ text_at s (get_or w i 0) ∷ texts s (i + 1) end w
   first_text = ap (map (text_at s)) first_word
-
-  pub repeats_last : end ≤ i + 1 → false ≡ repeats (texts s i end w)
-  unfolding repeats
-  repeats_last r = sym (ap repeats (first_text ∙ ap (λ (l : List ℕ). text_at s (get_or w i 0) ∷ map (text_at s) l) (slice_none (i + 1) end w r)))
-
-pub repeats_next : (s : Text) (w : List ℕ) (i end : ℕ) → i + 1 < end → end ≤ length w → repeats (texts s i end w) ≡ same (text_at s (get_or w i 0)) (text_at s (get_or w (i + 1) 0))
-unfolding repeats
-repeats_next s w i end p q = ap repeats (first_text s w i end (omega arith) q ∙ ap (λ (l : List Text). text_at s (get_or w i 0) ∷ l) (first_text s w (i + 1) end p q))
 
 no_more : (l : List Text) → l ≡ l ++ []
 no_more [] = refl
@@ -170,9 +162,6 @@ gathering_starts s w n list at i end p b e f = record {
 }
 
 module _ {s : Text} {w v : List ℕ} {n list at i end : ℕ} (a : Arena s w n) (l : 4 * n ≤ at) (p : 0 < i) (g : Gathering s w v n list at i end) where
-  pub here_arena : Arena s v n
-  here_arena = arena_kept s a l g.named.kept
-
   here_tree : tree_at s w i ≡ tree_at s v i
   here_tree = tree_kept s a l g.named.kept i p g.inside
 

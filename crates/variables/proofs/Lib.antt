@@ -5,3 +5,7 @@ pub mod Listings
 pub mod Listed
 pub mod Pairings
 pub mod Shortness
+pub mod Collecting
+pub mod ListingLaws
+pub mod Pairs
+pub mod Gathered

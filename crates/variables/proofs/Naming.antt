@@ -20,10 +20,9 @@ use Rattle.text.specs.Sorting.{insert_by, sort_by}
 use Rattle.text.proofs.Slices.{slice_same, slice_set, slice_join, slice_none}
 use Rattle.tree.specs.Cells.{start_of, length_of, kind_of, first_of, next_of, fixed_name, name_at, tree_at, trees_at}
 use Rattle.tree.specs.Arena.{Cell, Arena}
-use Rattle.tree.proofs.Decoding.{Agree, same_next, trees_none, trees_more, tree_variable, tree_atom, tree_apply, size_pos, size_apply, sizes_more, frame_tree, frame_trees}
+use Rattle.tree.proofs.Decoding.{Agree, same_next, trees_more, tree_variable, tree_atom, tree_apply, size_pos, size_apply, frame_tree}
 use Rattle.tree.proofs.FixedNames.{fixed_length}
 use Rattle.tree.proofs.Naming.{name_part, name_fixed}
-use Rattle.tree.proofs.Areas.{arena_frame}
 use Rattle.text.specs.Frames.{Outside}
 use Rattle.variables.specs.Variables.{Readable, ReadableAll, Variable, Variables, VariablePlaces}
 
@@ -114,14 +113,8 @@ module _ (s : Text) {w v : List ℕ} {n : ℕ} (a : Arena s w n) {at mid : ℕ} 
   cells_kept : Agree w v n
   cells_kept x h = sym (g.below x (omega arith))
 
-  pub arena_kept : Arena s v n
-  arena_kept = arena_frame s a g.len cells_kept
-
   pub tree_kept : (k : ℕ) → 0 < k → k < n → tree_at s w k ≡ tree_at s v k
   tree_kept k p q = frame_tree s v a.links cells_kept k p q
-
-  pub trees_kept : (k : ℕ) → k < n → trees_at s w k ≡ trees_at s v k
-  trees_kept k q = frame_trees s v a.links cells_kept k q
 
   pub next_kept : (k : ℕ) → k < n → next_of w k ≡ next_of v k
   next_kept k q = same_next w v cells_kept k q
@@ -185,10 +178,6 @@ module _ (s : Text) (w : List ℕ) (i : ℕ) where
   unfolding variable_names
   named_atom at r p e = named_empty s w at r (size (tree_at s w i)) (variable_names (tree_at s w i)) e (ap variable_names (tree_atom s w i p))
 
-  pub named_none : (at r : ℕ) → i ≡ 0 → r ≡ at → VariablePlaces s w w at r (sizes (trees_at s w i)) (variable_names_in (trees_at s w i))
-  unfolding variable_names
-  named_none at r z e = named_empty s w at r (sizes (trees_at s w i)) (variable_names_in (trees_at s w i)) e (ap variable_names_in (trees_none s w i z))
-
   pub list_spelled : (j : ℕ) → kind_of w i ≡ 0 → j ≡ first_of w i → Readable (tree_at s w i) → ReadableAll (trees_at s w j)
   list_spelled j k e b = subst (λ (j : ℕ). ReadableAll (trees_at s w j)) (sym e) (children_spelled (subst Readable (tree_apply s w i k) b))
 
@@ -215,29 +204,3 @@ module _ (s : Text) {w : List ℕ} {n : ℕ} (a : Arena s w n) (i : ℕ) (p : 0 
   pub parts_names : variable_names_in (trees_at s w i) ≡ variable_names (tree_at s w i) ++ variable_names_in (trees_at s w (next_of w i))
   unfolding variable_names
   parts_names = ap variable_names_in (trees_more s a.links i p q)
-
--- the list after its first tree
-module _ (s : Text) (w v : List ℕ) (n i j at mid : ℕ) (a : Arena s w n) (p : 0 < i) (q : i < n) (l : 4 * n ≤ at) (e : j ≡ next_of v i) (g : Outside w v at mid) where
-  next_is : j ≡ next_of w i
-  next_is = e ∙ sym (next_kept s a l g i q)
-
-  pub next_falls : j < i
-  next_falls = omega (arith, next_is, a.links.next i p q)
-
-  rest_is : trees_at s v j ≡ trees_at s w (next_of w i)
-  rest_is = let k = next_falls in sym (trees_kept s a l g j (omega arith)) ∙ ap (trees_at s w) next_is
-
-  pub rest_sizes : size (tree_at s w i) + sizes (trees_at s v j) ≡ sizes (trees_at s w i)
-  rest_sizes = omega (arith, sizes_more s a.links i p q, ap sizes rest_is)
-
-  pub rest_spelled : ReadableAll (trees_at s w i) → ReadableAll (trees_at s v j)
-  rest_spelled b = subst ReadableAll (sym rest_is) (parts_spelled s a i p q b).1
-
-  pub named_more : (u : List ℕ) (end : ℕ) → at + sizes (trees_at s w i) ≤ length w → VariablePlaces s w v at mid (size (tree_at s w i)) (variable_names (tree_at s w i))
-      → VariablePlaces s v u mid end (sizes (trees_at s v j)) (variable_names_in (trees_at s v j))
-      → VariablePlaces s w u at end (sizes (trees_at s w i)) (variable_names_in (trees_at s w i))
-  named_more u end room x y =
-      let z = rest_sizes in
-      let r = named_append s w v u at mid end (size (tree_at s w i)) (sizes (trees_at s v j)) (variable_names (tree_at s w i)) (variable_names_in (trees_at s v j)) x y (omega arith) in
-      let t : variable_names (tree_at s w i) ++ variable_names_in (trees_at s v j) ≡ variable_names_in (trees_at s w i) = ap (λ (ts : Trees). variable_names (tree_at s w i) ++ variable_names_in ts) rest_is ∙ sym (parts_names s a i p q) in
-      subst (VariablePlaces s w u at end (sizes (trees_at s w i))) t (subst (λ (k : ℕ). VariablePlaces s w u at end k (variable_names (tree_at s w i) ++ variable_names_in (trees_at s v j))) z r)

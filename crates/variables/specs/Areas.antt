@@ -4,17 +4,35 @@ use Rattle.std.specs.Prelude.{ℕ, ◌+◌, ◌*◌, ◌≤◌, ◌≡◌, List,
 use Rattle.std.proofs.Math.Seq.{slice}
 use Rattle.rules.specs.Bytes.{Text}
 use Rattle.rules.specs.Tree.{sizes, count, variable_names_in}
+use Rattle.text.specs.Places.{places_upto}
+use Rattle.text.specs.Sorting.{sort_by, Sorts}
 use Rattle.tree.specs.declared.area.Area.{Area}
 use Rattle.tree.specs.Areas.{trees_in, KeepsCells}
 use Rattle.substitution.specs.Areas.{bindings_in, Lists}
-use Rattle.variables.specs.Variables.{Variables, Ordered}
+use Rattle.variables.specs.Variables.{Variables, VariablePlaces, Dropped, Ordered}
 use Rattle.variables.specs.Listing.{variable_list, backwards}
 use Rattle.variables.specs.Pairing.{names_at, paired, flatten_before}
-use Rattle.variables.specs.declared.gathering_area.Places.{Places}
+use Rattle.variables.specs.declared.gathering.Places.{Places}
 
 -- the variables of the list from cell k on, the last first
 abbrev pub names_in : Area → ℕ → List Text
 names_in a k = names_at a.sheet.now a.work.now k
+
+-- b has the places of the variables ns from `at` to `end`, so many at most
+pub record PlacesIn (a b : Area) (at end most : ℕ) (ns : List Text) : Type 0 where
+  pub keeps : KeepsCells a b
+  pub places : VariablePlaces a.sheet.now a.work.now b.work.now at end most ns
+
+-- b is a with places in the order of their texts
+pub record SortsIn (a b : Area) (p : Places) : Type 0 where
+  pub keeps : KeepsCells a b
+  pub sorts : Sorts a.work.now b.work.now p.from p.to p.to (sort_by (places_upto a.sheet.now) (slice p.from p.to a.work.now))
+
+-- b is a with the places p without repeats as the places r
+pub record DropsIn (a b : Area) (p r : Places) : Type 0 where
+  pub keeps : KeepsCells a b
+  pub start : r.from ≡ p.from
+  pub dropped : Dropped a.sheet.now a.work.now b.work.now p.from p.to r.to
 
 -- b has the places of the variables of the trees of a list, in byte order and each once, above as many cells as the sheet has bytes
 pub record GathersIn (a b : Area) (list : ℕ) (p : Places) : Type 0 where

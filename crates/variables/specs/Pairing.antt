@@ -1,11 +1,10 @@
 -- At each variable the trees that two lists of bindings give it, as a list of trees in cells. Definitions only.
-use Rattle.std.specs.Prelude.{ℕ, ◌+◌, ◌*◌, ◌≡◌, List, [], ◌∷◌}
+use Rattle.std.specs.Prelude.{ℕ, ◌≡◌, List, [], ◌∷◌}
 use Rattle.rules.specs.Bytes.{Text}
-use Rattle.rules.specs.Tree.{Trees, none, more, count}
+use Rattle.rules.specs.Tree.{Trees, none, more}
 use Rattle.rules.specs.Substitution.{Binding, Pair, lookup}
 use Rattle.tree.specs.Cells.{trees_at}
-use Rattle.substitution.specs.Bindings.{key_of, bindings_at}
-use Rattle.substitution.specs.Building.{Made}
+use Rattle.substitution.specs.Bindings.{key_of}
 use Rattle.variables.specs.Listing.{variable_list, backwards}
 
 -- the names of a list of variables
@@ -32,8 +31,3 @@ paired ms bs (x ∷ xs) = (lookup ms x, lookup bs x) ∷ paired ms bs xs
 unfoldable pub flatten_before : List Pair → Trees → Trees
 flatten_before [] ts = ts
 flatten_before (p ∷ ps) ts = more p.0 (more p.1 (flatten_before ps ts))
-
--- from w, with the free end n, to v, with the free end m: the list from cell i on is that of the pairs, before the list from cell rest on
-pub record PairsUp (s : Text) (w v : List ℕ) (n names values bindings rest i m : ℕ) : Type 0 where
-  pub made : Made s w v n m i (flatten_before (paired (bindings_at s w values) (bindings_at s w bindings) (names_at s w names)) (trees_at s w rest))
-  pub used : m ≡ n + 2 * count (trees_at s w names)

@@ -1,108 +1,112 @@
-// The variables of trees in byte order, each once, as places in the work area.
-ghost use Rattle.std.specs.Prelude.{◌≡◌, map, ◌+◌, ◌*◌, ◌<◌, ◌≤◌, ◌^◌, length, get_or};
+// The variables of trees of an area in byte order, each once, as places above its cells.
+ghost use Rattle.std.specs.Prelude.{◌≡◌, map, ◌+◌, ◌*◌, ◌<◌, ◌≤◌, length};
 ghost use Rattle.std.proofs.Math.Seq.{slice};
-ghost use Rattle.rules.specs.Bytes.{same};
 ghost use Rattle.rules.specs.Tree.{size, sizes, variable_names, variable_names_in};
 ghost use Rattle.text.specs.Places.{text_at};
-ghost use Rattle.tree.specs.Cells.{tree_at, trees_at};
-ghost use Rattle.tree.specs.Arena.{Arena};
-ghost use Rattle.variables.specs.Variables.{Readable, ReadableAll, VariablePlaces, repeats, Dropped, Ordered};
+ghost use Rattle.tree.specs.Areas.{tree_in, trees_in};
+ghost use Rattle.variables.specs.Variables.{Readable, ReadableAll, repeats};
+ghost use Rattle.variables.specs.Areas.{GathersIn, PlacesIn, DropsIn, SortsIn};
 
 use text::places::{sort_places, text_at};
 use text::same;
-use tree::cells::{APPLICATION, ATOMS, first_of, kind_of, next_of};
+use tree::area::Area;
+use tree::kinds::Kind;
+
+// Places in the words of the work area from one position to another.
+#[derive(Clone, Copy, Debug, PartialEq, Eq)]
+pub struct Places {
+    pub from: usize,
+    pub to: usize,
+}
 
 // Writes the places of the variables of the tree of cell i from `at` on, and answers where they end.
 #[cycle(gather_gather_list)]
-fn gather(sheet: &[u8], work: &mut [u32], free: usize, i: usize, at: usize) -> usize
-    requires arena { Arena sheet.now work.old free }
-    requires i_nonzero { (0 < i) × (i < free) × Readable (tree_at sheet.now work.old i) }
-    requires free_bound { (4 * free ≤ at) × (at + size (tree_at sheet.now work.old i) ≤ length work.old) }
-    ensures { VariablePlaces sheet.now work.old work.new at result (size (tree_at sheet.now work.old i)) (variable_names (tree_at sheet.now work.old i)) }
+fn gather(area: &mut Area, i: usize, at: usize) -> usize
+    requires cell { (0 < i) × (i < area.old.free) × Readable (tree_in area.old i) }
+    requires room { (4 * area.old.free ≤ at) × (at + size (tree_in area.old i) ≤ length area.old.work.now) }
+    ensures { PlacesIn area.old area.new at result (size (tree_in area.old i)) (variable_names (tree_in area.old i)) }
 {
-    let kind = kind_of(work, i);
-    if kind == APPLICATION {
-        let first = first_of(work, free, i);
-        return gather_list(sheet, work, free, first, at);
+    match area.kind(i) {
+        Kind::Application => {
+            let first = area.first_of(i);
+            gather_list(area, first, at)
+        }
+        Kind::Variable(_) => {
+            let place = area.word(4 * i);
+            area.set_word(at, place);
+            at + 1
+        }
+        Kind::Atom(_) => at,
     }
-    if kind < ATOMS {
-        work[at] = work[4 * i];
-        return at + 1;
-    }
-    at
 }
 
-// The same of the trees of the list from cell i on.
+// The same of the trees of the list from cell `list` on.
 #[cycle(gather_gather_list)]
-fn gather_list(sheet: &[u8], work: &mut [u32], free: usize, i: usize, at: usize) -> usize
-    requires arena { Arena sheet.now work.old free }
-    requires i_lt_free { (i < free) × ReadableAll (trees_at sheet.now work.old i) }
-    requires free_bound { (4 * free ≤ at) × (at + sizes (trees_at sheet.now work.old i) ≤ length work.old) }
-    ensures { VariablePlaces sheet.now work.old work.new at result (sizes (trees_at sheet.now work.old i)) (variable_names_in (trees_at sheet.now work.old i)) }
-{
-    if i == 0 {
-        return at;
-    }
-    let mid = gather(sheet, work, free, i, at);
-    let next = next_of(work, free, i);
-    gather_list(sheet, work, free, next, mid)
-}
-
-// The same of a list of any length.
-fn gather_all(sheet: &[u8], work: &mut [u32], free: usize, list: usize, at: usize) -> usize
-    requires arena { Arena sheet.now work.old free }
-    requires list_lt_free { (list < free) × ReadableAll (trees_at sheet.now work.old list) }
-    requires free_bound { (4 * free ≤ at) × (at + sizes (trees_at sheet.now work.old list) ≤ length work.old) }
-    ensures { VariablePlaces sheet.now work.old work.new at result (sizes (trees_at sheet.now work.old list)) (variable_names_in (trees_at sheet.now work.old list)) }
+fn gather_list(area: &mut Area, list: usize, at: usize) -> usize
+    requires list { (list < area.old.free) × ReadableAll (trees_in area.old list) }
+    requires room { (4 * area.old.free ≤ at) × (at + sizes (trees_in area.old list) ≤ length area.old.work.now) }
+    ensures { PlacesIn area.old area.new at result (sizes (trees_in area.old list)) (variable_names_in (trees_in area.old list)) }
 {
     let mut i = list;
     let mut end = at;
     while i != 0 {
-        end = gather(sheet, work, free, i, end);
-        i = next_of(work, free, i);
+        end = gather(area, i, end);
+        i = area.next_of(i);
     }
     end
 }
 
 // Whether the text of the place at i stands also at the next one, before `end`.
-fn repeats(sheet: &[u8], work: &[u32], i: usize, end: usize) -> bool
-    requires { (i < end) × (end ≤ length work.now) }
-    ensures { result ≡ repeats (map (text_at sheet.now) (slice i end work.now)) }
+fn repeats(area: &Area, i: usize, end: usize) -> bool
+    requires { (i < end) × (end ≤ length area.now.work.now) }
+    ensures { result ≡ repeats (map (text_at area.now.sheet.now) (slice i end area.now.work.now)) }
 {
-    if end <= i + 1 {
-        return false;
+    match &area.work[i..end] {
+        [x, y, ..] => same(text_at(area.sheet, *x), text_at(area.sheet, *y)),
+        _ => false,
     }
-    same(text_at(sheet, work[i]), text_at(sheet, work[i + 1]))
 }
 
-// Drops each place from `at` to `end` whose text is also the next one's, and answers where the others end.
-fn drop_repeats(sheet: &[u8], work: &mut [u32], at: usize, end: usize) -> usize
-    requires { (at ≤ end) × (end ≤ length work.old) }
-    ensures { Dropped sheet.now work.old work.new at end result }
+// Drops each place whose text is also the next one's, and answers where the others are.
+fn drop_repeats(area: &mut Area, places: Places) -> Places
+    requires { (places.from ≤ places.to) × (places.to ≤ length area.old.work.now) × (4 * area.old.free ≤ places.from) }
+    ensures { DropsIn area.old area.new places result }
 {
-    let mut i = at;
-    let mut out = at;
-    while i < end {
-        if repeats(sheet, work, i, end) {
-            i += 1;
+    let Places { from, to } = places;
+    let mut out = from;
+    for i in from..to {
+        if repeats(area, i, to) {
             continue;
         }
-        work[out] = work[i];
+        let place = area.word(i);
+        area.set_word(out, place);
         out += 1;
-        i += 1;
     }
-    out
+    Places { from, to: out }
 }
 
-// Writes the places of the variables of the trees of the list, in byte order and each once, from `at` on, and answers where they end. As
-// many words as the trees have nodes, and as many again, are scratch.
-pub fn variables_of(sheet: &[u8], work: &mut [u32], free: usize, list: usize, at: usize) -> usize
-    requires arena { Arena sheet.now work.old free }
-    requires list_lt_free { (list < free) × ReadableAll (trees_at sheet.now work.old list) }
-    requires free_bound { (4 * free ≤ at) × (at + 2 * sizes (trees_at sheet.now work.old list) ≤ length work.old) }
-    ensures { Ordered sheet.now work.old work.new at result (sizes (trees_at sheet.now work.old list)) (variable_names_in (trees_at sheet.now work.old list)) }
+// Sorts places by their texts. As many words after them are scratch.
+fn sort(area: &mut Area, places: Places)
+    requires { (places.from ≤ places.to) × (places.to + places.to ≤ length area.old.work.now + places.from) × (4 * area.old.free ≤ places.from) }
+    ensures { SortsIn area.old area.new places }
 {
-    let end = gather_all(sheet, work, free, list, at);
-    sort_places(sheet, work, at, end, end);
-    drop_repeats(sheet, work, at, end)
+    let Places { from, to } = places;
+    let sheet = area.sheet;
+    let work = &mut *area.work;
+    sort_places(sheet, work, from, to, to);
+}
+
+// Writes the places of the variables of the trees of the list, in byte order and each once, above as many cells as the sheet has bytes. As
+// many words as the trees have nodes, and as many again, are scratch.
+pub fn variables_of(area: &mut Area, list: usize) -> Places
+    requires list { (list < area.old.free) × ReadableAll (trees_in area.old list) }
+    requires few { sizes (trees_in area.old list) ≤ length area.old.sheet.now }
+    requires room { 4 * (area.old.free + length area.old.sheet.now) + 2 * length area.old.sheet.now ≤ length area.old.work.now }
+    ensures { GathersIn area.old area.new list result }
+{
+    let from = 4 * (area.free + area.sheet.len());
+    let to = gather_list(area, list, from);
+    let places = Places { from, to };
+    sort(area, places);
+    drop_repeats(area, places)
 }

@@ -1,48 +1,53 @@
-// Variables at places of the sheet as a list of cells.
-ghost use Rattle.std.specs.Prelude.{◌≡◌, map, ◌+◌, ◌*◌, ◌-◌, ◌<◌, ◌≤◌, ◌^◌, length};
+// Variables at places of the sheet as a list of cells of an area.
+ghost use Rattle.std.specs.Prelude.{◌≡◌, map, ◌+◌, ◌*◌, ◌-◌, ◌/◌, ◌%◌, ◌<◌, ◌≤◌, ◌^◌, length};
 ghost use Rattle.std.proofs.Math.Seq.{slice};
 ghost use Rattle.rules.specs.Tree.{variable};
 ghost use Rattle.text.specs.Places.{text_at};
-ghost use Rattle.tree.specs.Arena.{Arena, Linked};
-ghost use Rattle.variables.specs.Variables.{Variable, Variables};
-ghost use Rattle.variables.specs.Listing.{ListsVariables};
+ghost use Rattle.tree.specs.Areas.{Pushes};
+ghost use Rattle.variables.specs.Variables.{Variable};
+ghost use Rattle.variables.specs.Areas.{Listable, ListsVariablesIn};
 
-use leaves::leaf_kind;
-use substitution::bindings::Pushed;
+use crate::gathering::Places;
+use leaves::sorts::variable_sort;
+use sheet::Place;
 use text::places::{text_at, wide};
-use tree::cells::push_cell;
+use tree::area::Area;
 
-// Writes the variable at a place before the list at `next`, and returns the free end after it.
-pub fn push_variable(sheet: &[u8], work: &mut [u32], free: usize, x: u32, next: usize) -> usize
-    requires arena { Arena sheet.now work.old free }
-    requires variable { Variable sheet.now x × (length sheet.now ≤ 65536) }
-    requires next_lt_free { (next < free) × (4 * free + 4 ≤ length work.old) × (free < 2 ^ 32) }
-    ensures { (result ≡ free + 1) × Linked sheet.now work.old work.new free next (variable (text_at sheet.now x)) }
+// The place that a word names.
+fn place_of(x: u32) -> Place
+    ensures { (result.from ≡ x / 65536) × (result.to ≡ x / 65536 + x % 65536) }
 {
-    let place = wide(x);
-    let kind = leaf_kind(text_at(sheet, x));
-    push_cell(work, free, place / 65536, place % 65536, kind, 0, next, 1)
+    let word = wide(x);
+    let from = word / 65536;
+    Place {
+        from,
+        to: from + word % 65536,
+    }
 }
 
-// The variables at the places from `at` to `end` as a list of cells, the last first. The places stand after the cells.
-pub fn list_variables(sheet: &[u8], work: &mut [u32], free: usize, at: usize, end: usize) -> Pushed
-    requires arena { Arena sheet.now work.old free × (length sheet.now ≤ 65536) }
-    requires at_le_end { (at ≤ end) × (end ≤ length work.old) × Variables sheet.now (slice at end work.old) }
-    requires at_bound { (4 * (free + (end - at)) ≤ at) × (free + (end - at) < 2 ^ 32) }
-    ensures { ListsVariables sheet.now work.old work.new free (end - at) (map (text_at sheet.now) (slice at end work.old)) result.index result.free }
+// Writes the variable at a place before the list at `next`, and answers its cell.
+pub fn push_variable(area: &mut Area, x: u32, next: usize) -> usize
+    requires variable { Variable area.old.sheet.now x × (length area.old.sheet.now ≤ 65536) }
+    requires link { next < area.old.free }
+    requires room { (4 * area.old.free + 4 ≤ length area.old.work.now) × (area.old.free < 2 ^ 32) }
+    ensures { Pushes area.old area.new result next (variable (text_at area.old.sheet.now x)) }
 {
-    let mut i = at;
+    let sort = variable_sort(text_at(area.sheet, x));
+    area.push_variable(place_of(x), sort, next)
+}
+
+// The variables at places as a list of cells, the last first. The places stand above these cells.
+pub fn list_variables(area: &mut Area, places: Places) -> usize
+    requires short { length area.old.sheet.now ≤ 65536 }
+    requires places { Listable area.old places }
+    requires room { (4 * (area.old.free + (places.to - places.from)) ≤ places.from) × (area.old.free + (places.to - places.from) < 2 ^ 32) }
+    ensures { ListsVariablesIn area.old area.new (places.to - places.from) (map (text_at area.old.sheet.now) (slice places.from places.to area.old.work.now)) result }
+{
+    let Places { from, to } = places;
     let mut list: usize = 0;
-    let mut top = free;
-    while i < end {
-        let x = work[i];
-        let after = push_variable(sheet, work, top, x, list);
-        list = top;
-        top = after;
-        i += 1;
+    for i in from..to {
+        let x = area.work[i];
+        list = push_variable(area, x, list);
     }
-    Pushed {
-        index: list,
-        free: top,
-    }
+    list
 }

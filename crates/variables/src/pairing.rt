@@ -1,59 +1,47 @@
-// The pairs of trees that two lists of bindings give variables.
+// The pairs of trees that two lists of bindings of an area give variables.
 ghost use Rattle.std.specs.Prelude.{◌≡◌, ◌+◌, ◌*◌, ◌<◌, ◌≤◌, ◌^◌, length};
 ghost use Rattle.rules.specs.Tree.{variable, count};
 ghost use Rattle.rules.specs.Substitution.{lookup};
-ghost use Rattle.tree.specs.Cells.{name_at, tree_at, trees_at};
-ghost use Rattle.tree.specs.Arena.{Arena};
-ghost use Rattle.substitution.specs.Bindings.{bindings_at};
-ghost use Rattle.variables.specs.Pairing.{OfVariables, PairsUp};
+ghost use Rattle.tree.specs.Areas.{name_in, tree_in, trees_in};
+ghost use Rattle.substitution.specs.Areas.{bindings_in};
+ghost use Rattle.variables.specs.Pairing.{OfVariables};
+ghost use Rattle.variables.specs.Areas.{PairsUpIn};
 
-use substitution::bindings::{Found, Pushed, lookup, push_pair};
-use tree::cells::next_of;
+use substitution::bindings::lookup;
+use substitution::pairing::push_pair;
+use tree::area::Area;
 
 // The cell of the tree that the bindings from cell b on give the variable of cell x: its own where they have no such key.
-fn value_at(sheet: &[u8], work: &[u32], free: usize, b: usize, x: usize) -> usize
-    requires arena { Arena sheet.now work.now free }
-    requires b_lt_free { b < free }
-    requires x_nonzero { (0 < x) × (x < free) × (tree_at sheet.now work.now x ≡ variable (name_at sheet.now work.now x)) }
-    ensures { (0 < result) × (result < free) × (tree_at sheet.now work.now result ≡ lookup (bindings_at sheet.now work.now b) (name_at sheet.now work.now x)) }
+fn value_at(area: &Area, b: usize, x: usize) -> usize
+    requires b_link { b < area.now.free }
+    requires x_cell { (0 < x) × (x < area.now.free) × (tree_in area.now x ≡ variable (name_in area.now x)) }
+    ensures cell { (0 < result) × (result < area.now.free) }
+    ensures value { tree_in area.now result ≡ lookup (bindings_in area.now b) (name_in area.now x) }
 {
-    let found = lookup(sheet, work, free, b, x);
-    let Found::At(value) = found else {
-        return x;
-    };
-    value
+    lookup(area, b, x).unwrap_or(x)
 }
 
 // The pairs of all variables of the list from cell `names` on, the last of the list first, before the list from cell `rest` on. The left
 // sides are the trees that the bindings from cell `values` on give them, the right ones those of the bindings from cell `bindings` on.
 pub fn pair_variables(
-    sheet: &[u8],
-    work: &mut [u32],
-    free: usize,
+    area: &mut Area,
     names: usize,
     values: usize,
     bindings: usize,
     rest: usize,
-) -> Pushed
-    requires arena { Arena sheet.now work.old free }
-    requires names_lt_free { (names < free) × (values < free) × (bindings < free) × OfVariables (trees_at sheet.now work.old names) × (rest < free) }
-    requires names_in_bounds { (4 * (free + 2 * count (trees_at sheet.now work.old names)) ≤ length work.old) × (free + 2 * count (trees_at sheet.now work.old names) < 2 ^ 32) }
-    ensures { PairsUp sheet.now work.old work.new free names values bindings rest result.index result.free }
+) -> usize
+    requires links { (names < area.old.free) × (values < area.old.free) × (bindings < area.old.free) × (rest < area.old.free) }
+    requires of_variables { OfVariables (trees_in area.old names) }
+    requires room { (4 * (area.old.free + 2 * count (trees_in area.old names)) ≤ length area.old.work.now) × (area.old.free + 2 * count (trees_in area.old names) < 2 ^ 32) }
+    ensures { PairsUpIn area.old area.new names values bindings rest result }
 {
     let mut k = names;
     let mut list = rest;
-    let mut end = free;
     while k != 0 {
-        let left = value_at(sheet, work, end, values, k);
-        let right = value_at(sheet, work, end, bindings, k);
-        let next = next_of(work, end, k);
-        let pushed = push_pair(sheet, work, end, left, right, list);
-        list = pushed.index;
-        end = pushed.free;
-        k = next;
+        let left = value_at(area, values, k);
+        let right = value_at(area, bindings, k);
+        list = push_pair(area, left, right, list);
+        k = area.next_of(k);
     }
-    Pushed {
-        index: list,
-        free: end,
-    }
+    list
 }

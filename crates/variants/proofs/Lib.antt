@@ -1,5 +1,6 @@
 pub mod NameLaws
 pub mod Lookups
-pub mod Entering
-pub mod MemberReading
+pub mod EntryLaws
+pub mod ReadingMembers
 pub mod Claiming
+pub mod ClaimingIn

@@ -8,10 +8,7 @@ use Rattle.rules.specs.Sums.{equivalent}
 use Rattle.rules.specs.Reduction.{normalize}
 use Rattle.rules.specs.Substitution.{Binding}
 use Rattle.rules.specs.Sheet.{Member}
-use Rattle.rules.specs.Variants.{instance_of, sound}
-use Rattle.tree.specs.Cells.{tree_at}
-use Rattle.tree.specs.Arena.{Below}
-use Rattle.substitution.specs.Bindings.{bindings_at}
+use Rattle.rules.specs.Variants.{instance_of}
 use Rattle.forms.specs.Members.{members_at}
 
 -- the tree t is the reduced instance of a term, up to the order of summands
@@ -19,13 +16,7 @@ unfoldable pub reduces_to : List Binding → Tree → Tree → Option Bool
 unfolding instance_of normalize equivalent
 reduces_to bs term t = instance_of bs term >>= λ i. Some (equivalent (normalize i) t)
 
-abbrev pub ClaimsInstance : Text → List ℕ → List ℕ → ℕ → ℕ → ℕ → ℕ → Option Bool → Type 0
-ClaimsInstance s w v n term list value r = (r ≡ reduces_to (bindings_at s w list) (tree_at s w term) (tree_at s w value)) × Below w v n
-
 -- exactly one member stands at a position
 pub record OneMember (s : Text) (at : ℕ) : Type 0 where
   pub member : Member
   pub is : members_at s at ≡ Some (member ∷ [])
-
-abbrev pub ClaimsSound : Text → List ℕ → List ℕ → ℕ → ℕ → ℕ → Option Bool → Type 0
-ClaimsSound s w v n term at r = ((m : Member) → members_at s at ≡ Some (m ∷ []) → r ≡ sound (tree_at s w term) m) × Below w v n

@@ -1,5 +1,5 @@
 // Members of a sheet against a term (variants.rs).
 #![tactic(auto)]
 
-pub mod members; // members.rt: a member's texts as trees, its keys and their values as bindings
 pub mod soundness; // soundness.rt: whether a member is a sound variant of a term
+pub mod members; // members.rt: a member's texts as trees of an area, its keys and their values as bindings

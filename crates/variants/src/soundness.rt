@@ -1,71 +1,38 @@
-// Kind `sound`: the instance of a term under a member's bindings, reduced, against the member's own tree.
+// Kind `sound` in an area: the instance of a term under a member's bindings, reduced, against the member's own tree.
 ghost use Rattle.std.specs.Prelude.{◌+◌, ◌*◌, ◌<◌, ◌≤◌, length};
 ghost use Rattle.rules.specs.Tree.{size};
-ghost use Rattle.tree.specs.Cells.{tree_at};
-ghost use Rattle.tree.specs.Arena.{Arena};
-ghost use Rattle.variants.specs.Members.{texts_end};
-ghost use Rattle.variants.specs.Soundness.{ClaimsInstance, OneMember, ClaimsSound};
+ghost use Rattle.tree.specs.Areas.{tree_in};
+ghost use Rattle.reading.specs.Areas.{texts_end_in};
+ghost use Rattle.variants.specs.Soundness.{OneMember};
+ghost use Rattle.variants.specs.Areas.{ClaimsInstanceIn, ClaimsSoundIn};
 
 use crate::members::{Variant, read_member};
 use equivalence::equivalent;
 use reduction::normalizing::normalize;
 use sheet::Cursor;
-use substitution::instances::{Built, substitute};
+use substitution::instances::substitute;
+use tree::area::Area;
 
-// Whether the instance of the tree of cell term under the bindings from cell bindings on reduces to the tree of cell value, up to
-// the order of summands.
-fn reduces_to(
-    sheet: &[u8],
-    work: &mut [u32],
-    free: usize,
-    term: usize,
-    bindings: usize,
-    value: usize,
-) -> Option<bool>
-    requires arena { Arena sheet.now work.old free }
-    requires term_nonzero { (0 < term) × (term < free) × (bindings < free) × (0 < value) × (value < free) }
-    requires value_bound { (size (tree_at sheet.now work.old value) ≤ 4096) × (4 * free + 155648 ≤ length work.old) × (free < 1048576) }
-    ensures { ClaimsInstance sheet.now work.old work.new free term bindings value result }
+// Whether the instance of the tree of cell term under a member's bindings reduces to the member's tree, up to the order of summands, if the
+// instance is not too large.
+fn reduces_to(area: &mut Area, term: usize, member: Variant) -> Option<bool>
+    requires cells { (0 < term) × (term < area.old.free) × (member.bindings < area.old.free) × (0 < member.value) × (member.value < area.old.free) }
+    requires room { (size (tree_in area.old member.value) ≤ 4096) × (4 * area.old.free + 155648 ≤ length area.old.work.now) × (area.old.free < 1048576) }
+    ensures { ClaimsInstanceIn area.old area.new term member result }
 {
-    let built = substitute(sheet, work, free, term, bindings, 0, 4096);
-    let Built::Done {
-        index,
-        free: end,
-        budget: _,
-    } = built
-    else {
-        return None;
-    };
-    let normal = normalize(sheet, work, end, index, 0);
-    let i = normal.index;
-    let stop = normal.free;
-    let same = equivalent(sheet, work, stop, i, value, 4 * stop);
-    Some(same)
+    let instance = substitute(area, term, member.bindings, 0, 4096)?;
+    let normal = normalize(area, instance.index, 0);
+    Some(equivalent(area, normal, member.value))
 }
 
-// Whether the one member at the cursor is a sound variant of the tree of cell term.
-pub fn sound(
-    sheet: &[u8],
-    work: &mut [u32],
-    free: usize,
-    term: usize,
-    start: Cursor,
-) -> Option<bool>
-    requires arena { Arena sheet.now work.old free }
-    requires term_nonzero { (0 < term) × (term < free) }
-    requires sheet_len_bound { (length sheet.now ≤ 65536) × (1048576 + 16 * length sheet.now ≤ length work.old) × (texts_end sheet.now free start.at ≤ 1 + 4 * length sheet.now) }
-    requires one_member { OneMember sheet.now start.at }
-    ensures { ClaimsSound sheet.now work.old work.new free term start.at result }
+// Whether the one member at the cursor is a sound variant of the tree of cell term, if its texts can be read and the instance is not too
+// large.
+pub fn sound(area: &mut Area, term: usize, start: Cursor) -> Option<bool>
+    requires term { (0 < term) × (term < area.old.free) }
+    requires room { (length area.old.sheet.now ≤ 65536) × (1048576 + 16 * length area.old.sheet.now ≤ length area.old.work.now) × (texts_end_in area.old start.at ≤ 1 + 4 * length area.old.sheet.now) }
+    requires one_member { OneMember area.old.sheet.now start.at }
+    ensures { ClaimsSoundIn area.old area.new term start.at result }
 {
-    let member = read_member(sheet, work, free, start);
-    let Variant::Read {
-        value,
-        bindings,
-        free: end,
-        next: _,
-    } = member
-    else {
-        return None;
-    };
-    reduces_to(sheet, work, end, term, bindings, value)
+    let member = read_member(area, start)?;
+    reduces_to(area, term, member)
 }

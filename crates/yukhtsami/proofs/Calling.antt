@@ -8,6 +8,7 @@ use native.Mathlib.Omega.{arith}
 use Rattle.rules.specs.Bytes.{Text}
 use Rattle.rules.specs.Sheet.{Sheet}
 use Rattle.rules.specs.Call.{Reply, refused, admitted, settled, call, refusal_number, written, overwritten, zeroed, cleared, work_after}
+use Rattle.tree.specs.declared.area.Area.{Area}
 use Rattle.forms.specs.Form.{sheet_of, EnoughWords}
 use Rattle.forms.specs.declared.form.Form.{Form}
 use Rattle.answers.specs.Deciding.{reply_of, Standing}
@@ -23,13 +24,13 @@ pub more_words : (s : Text) (f : Form) {n m : ℕ} → EnoughWords s f n → n �
 more_words s f h k = record { sheet = h.sheet; stands = h.stands; enough = (let e = h.enough in omega arith) }
 
 -- what was decided, with an output
-pub decided_held : (s : Text) (f : Form) {w : List ℕ} {d : Result Lines Refusal} → Decoded s f → DecidesForm (sheet_of s f) s w d → Standing s w d
-decided_held s f x h = (h x.sheet x.decodes).held
+pub decided_held : (s : Text) (f : Form) {a b : Area} {d : Result Lines Refusal} → Decoded s f → DecidesForm (sheet_of s f) a b d → Standing b d
+decided_held s f x h = (h.decides x.sheet x.decodes).held
 
-pub decided_settles : (s : Text) (f : Form) {w : List ℕ} (d : Result Lines Refusal) {out v : Text} {r : Result ℕ Refusal} → DecidesForm (sheet_of s f) s w d
-    → Settles (within_room (reply_of s w d) (length out)) out v r → SettlesForm (sheet_of s f) out v r
+pub decided_settles : (s : Text) (f : Form) {a b : Area} (d : Result Lines Refusal) {out v : Text} {r : Result ℕ Refusal} → DecidesForm (sheet_of s f) a b d
+    → Settles (within_room (reply_of b d) (length out)) out v r → SettlesForm (sheet_of s f) out v r
 unfolding settled within_room
-decided_settles s f {w} d {out} {v} {r} h k sheet e = subst (λ (z : Reply Text). Settles (within_room z (length out)) out v r) (h sheet e).reply k
+decided_settles s f d {out} {v} {r} h k sheet e = subst (λ (z : Reply Text). Settles (within_room z (length out)) out v r) (h.decides sheet e).reply k
 
 -- the whole call, by what was admitted and settled
 module _ (s : Text) (w : List ℕ) (out : Text) where

@@ -15,15 +15,21 @@ use answers::giving::{Reply, give};
 use forms::form::Form;
 use kinds::decide;
 use rules::Refusal;
+use tree::area::Area;
 
-// Decides a sheet that is admitted, and gives what was decided. Every word of the work area is free afterwards.
+// Decides a sheet that is admitted in an area with no cell yet, and gives what was decided. Every word of the work area is free afterwards.
 fn settle(sheet: &[u8], work: &mut [u32], output: &mut [u8], form: Form) -> Reply
     requires decoded { Decoded sheet.now form }
     requires enough_words { EnoughWords sheet.now form (length work.old) }
     ensures { SettlesForm (sheet_of sheet.now form) output.old output.new result }
 {
-    let decision = decide(sheet, work, form);
-    give(sheet, work, decision, output)
+    let mut area = Area {
+        sheet,
+        work,
+        free: 1,
+    };
+    let decision = decide(&mut area, form);
+    give(&area, decision, output)
 }
 
 // Settles a sheet that is admitted, and clears the words that it needed.
@@ -48,10 +54,8 @@ fn settle_and_clear(
 pub fn answer(sheet: &[u8], work: &mut [u32], output: &mut [u8]) -> Reply
     ensures { CallAnswers sheet.now work.old work.new output.old output.new result }
 {
-    match admit(sheet, work.len()) {
-        Ok(admitted) => settle_and_clear(sheet, work, output, admitted.form, admitted.needed),
-        Err(refusal) => Err(refusal),
-    }
+    let admitted = admit(sheet, work.len())?;
+    settle_and_clear(sheet, work, output, admitted.form, admitted.needed)
 }
 
 // What the exported call gives: the refusal's number, 0 for none, and the count of bytes written.

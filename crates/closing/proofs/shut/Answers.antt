@@ -1,32 +1,20 @@
-use Rattle.closing.specs.Closing.{most}
 use Rattle.rules.specs.Tree.{none}
-use Rattle.tree.specs.Cells.{trees_at}
+use Rattle.tree.specs.Areas.{trees_in}
 use Rattle.closing.specs.Machine.{back}
-use Rattle.closing.proofs.Making.{closes_of}
-use Rattle.closing.proofs.Shutting.{letter_high, close_atom, close_sum, close_list, plus_named}
+use Rattle.closing.proofs.Shuts.{closes_of, close_atom, close_sum, close_list}
 use Rattle.closing.proofs.shut.Goals as goal
 
-pub atom-requires : goal.atom-requires
-atom-requires c =
-    let a = c.args in
-    record { arena = c.requires.arena; chain_lt_free = c.requires.chain_lt_free; chain_in_bounds = c.requires.chain_in_bounds; le_letter = (letter_high c.requires.name_placed.0 none c.is_letter_name.ensures c.letter_kind.ensures.0 c.if-is_letter_name.true, c.letter_kind.ensures.1) }
+pub atom-requires-clause-letter : goal.atom-requires-clause-letter
+atom-requires-clause-letter c = (close_atom c.part-text.ensures none c.is_letter_name.ensures c.if-is_letter_name.true).0
 
 pub returns-then-is_letter_name : goal.returns-then-is_letter_name
-returns-then-is_letter_name c =
-    let a = c.args in
-    closes_of a.sheet.now a.work.now c.atom.new.work a.free (most a.sheet.now a.work.now a.free a.chain) a.next c.atom.result c.atom.ensures (close_atom c.requires.name_placed.0 (back (trees_at a.sheet.now a.work.now a.chain) none) c.is_letter_name.ensures c.letter_kind.ensures.0 c.if-is_letter_name.true)
+returns-then-is_letter_name c = closes_of _ _ _ _ _ (close_atom c.part-text.ensures (back (trees_in c.args.area.now c.args.chain) none) c.is_letter_name.ensures c.if-is_letter_name.true).1 c.atom.ensures
 
-pub sum-requires : goal.sum-requires
-sum-requires c =
-    let a = c.args in
-    record { arena = c.requires.arena; chain_lt_start = c.requires.chain_lt_free; chain_in_bounds = c.requires.chain_in_bounds; name_placed = (c.requires.name_placed.0, c.requires.name_placed.1, plus_named c.requires.name_placed.0 none c.is_letter_name.ensures c.same.ensures c.if-same.true) }
+pub sum-requires-clause-name : goal.sum-requires-clause-name
+sum-requires-clause-name c = (c.requires.name, (close_sum c.part-text.ensures none c.is_letter_name.ensures c.same.ensures c.if-is_letter_name.false c.if-same.true).0)
 
 pub returns-then-same : goal.returns-then-same
-returns-then-same c =
-    let a = c.args in
-    closes_of a.sheet.now a.work.now c.sum.new.work a.free (most a.sheet.now a.work.now a.free a.chain) a.next c.sum.result c.sum.ensures (close_sum c.requires.name_placed.0 (back (trees_at a.sheet.now a.work.now a.chain) none) c.is_letter_name.ensures c.same.ensures c.if-is_letter_name.false c.if-same.true)
+returns-then-same c = closes_of _ _ _ _ _ (close_sum c.part-text.ensures (back (trees_in c.args.area.now c.args.chain) none) c.is_letter_name.ensures c.same.ensures c.if-is_letter_name.false c.if-same.true).1 c.sum.ensures
 
 pub returns : goal.returns
-returns c =
-    let a = c.args in
-    closes_of a.sheet.now a.work.now c.list.new.work a.free (most a.sheet.now a.work.now a.free a.chain) a.next c.list.result c.list.ensures (close_list c.requires.name_placed.0 (back (trees_at a.sheet.now a.work.now a.chain) none) c.is_letter_name.ensures c.same.ensures c.if-is_letter_name.false c.if-same.false)
+returns c = closes_of _ _ _ _ _ (close_list c.part-text.ensures (back (trees_in c.args.area.now c.args.chain) none) c.is_letter_name.ensures c.same.ensures c.if-is_letter_name.false c.if-same.false) c.list.ensures

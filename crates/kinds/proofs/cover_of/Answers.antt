@@ -1,28 +1,22 @@
-use native.Mathlib.Omega.{arith}
+use Rattle.std.proofs.lemmas.Result.{err_from_is_err_and}
 use Rattle.kinds.proofs.Covers.{cover_unread, cover_asks, cover_decided}
 use Rattle.kinds.proofs.cover_of.Goals as goal
 
-pub read_pairs-read-requires : goal.read_pairs-read-requires
-read_pairs-read-requires c =
-    let k = c.requires.cover_asked in
-    record { sheet_len_bound = (k.short, omega (arith, c.requires.sheet_in_bounds)); at_in_bounds = k.inside; pairs_there = record { entries = k.entries; rest = k.rest; lines = k.lines } }
-
-pub returns-in_default : goal.returns-in_default
-returns-in_default c =
-    let a = c.args in
-    let k = c.requires.cover_asked in
-    cover_unread a.sheet.now a.pairs.at k (rw c.in_default.is at (c.read_pairs-read.ensures k.entries k.rest k.lines)).0
+pub returns-in_err-read : goal.returns-in_err-read
+returns-in_err-read c =
+    let p = err_from_is_err_and c.from_residual.result c.from_residual.ensures.1 in
+    let k = c.requires.asked in
+    let u = c.in_err-read.ensures.1 k.entries k.rest k.lines in
+    rw (p.1, p.2, c.in_err-read.ensures.0) (cover_unread k u.0 u.1.lent)
 
 pub covered-claim-requires : goal.covered-claim-requires
 covered-claim-requires c =
-    let a = c.args in
-    let k = c.requires.cover_asked in
-    let r = rw c.in-Stack.is at (c.read_pairs-read.ensures k.entries k.rest k.lines) in
-    record { arena = r.arena; stack_lt_free = (r.inside, cover_asks a.sheet.now a.pairs.at k r c.requires.sheet_in_bounds) }
+    let k = c.requires.asked in
+    let h = c.in_ok-read.ensures k.entries k.rest k.lines in
+    record { stack = (h.inside, cover_asks k c.requires.ready.no_cells h c.requires.words) }
 
 pub returns : goal.returns
 returns c =
-    let a = c.args in
-    let k = c.requires.cover_asked in
-    let r = rw c.in-Stack.is at (c.read_pairs-read.ensures k.entries k.rest k.lines) in
-    cover_decided a.sheet.now a.pairs.at k r c.covered-claim.result c.covered-claim.ensures.0
+    let k = c.requires.asked in
+    let h = c.in_ok-read.ensures k.entries k.rest k.lines in
+    cover_decided k c.requires.ready.no_cells h c.covered-claim.ensures

@@ -1,81 +1,53 @@
-use mathlib.Core.Path.{subst}
-use native.Mathlib.Omega.{arith}
-use Rattle.forms.specs.Form.{Within}
 use Rattle.kinds.proofs.Solves.{unify_asked, match_asked}
 use Rattle.kinds.proofs.Covers.{cover_asked}
 use Rattle.kinds.proofs.Completes.{complete_asked}
-use Rattle.kinds.proofs.KindLaws.{form_decided, least_words, colon_words, complete_words, equal_decided, reduce_decided, sound_decided, sound_asked}
+use Rattle.kinds.proofs.KindLaws.{form_decided, colon_words, complete_words, sound_asked}
 use Rattle.kinds.proofs.decide.Goals as goal
 
-pub equal-requires : goal.equal-requires
-equal-requires c =
-    let a = c.args in
-    let h = subst (Within a.sheet.now) c.in-Equal.is c.requires.decoded.within in
-    record { sheet_len_bound = (c.requires.decoded.short, omega (arith, least_words a.sheet.now a.form c.requires.enough_words)); inside = h }
+pub unify_pairs-requires-clause-asked : goal.unify_pairs-requires-clause-asked
+unify_pairs-requires-clause-asked c = unify_asked _ _ _ c.args.form c.in-Unify.is c.requires.decoded
 
-pub reduce-requires : goal.reduce-requires
-reduce-requires c =
-    let a = c.args in
-    let h = subst (Within a.sheet.now) c.in-Reduce.is c.requires.decoded.within in
-    record { sheet_len_bound = (c.requires.decoded.short, least_words a.sheet.now a.form c.requires.enough_words); inside = h }
+pub unify_pairs-requires-clause-words : goal.unify_pairs-requires-clause-words
+unify_pairs-requires-clause-words c = colon_words _ c.args.form c.requires.enough_words
 
-pub solving-requires : goal.solving-requires
-solving-requires c =
-    let a = c.args in
-    record { asked = unify_asked a.sheet.now _ _ a.form c.in-Unify.is c.requires.decoded; sheet_in_bounds = colon_words a.sheet.now a.form c.requires.enough_words }
+pub match_pairs-requires-clause-asked : goal.match_pairs-requires-clause-asked
+match_pairs-requires-clause-asked c = match_asked _ _ _ c.args.form c.in-Match.is c.requires.decoded
 
-pub solving-requires-in-Match : goal.solving-requires-in-Match
-solving-requires-in-Match c =
-    let a = c.args in
-    record { asked = match_asked a.sheet.now _ _ a.form c.in-Match.is c.requires.decoded; sheet_in_bounds = colon_words a.sheet.now a.form c.requires.enough_words }
+pub match_pairs-requires-clause-words : goal.match_pairs-requires-clause-words
+match_pairs-requires-clause-words c = colon_words _ c.args.form c.requires.enough_words
 
-pub sound_of-requires : goal.sound_of-requires
-sound_of-requires c =
-    let a = c.args in
-    let h = subst (Within a.sheet.now) c.in-Sound.is c.requires.decoded.within in
-    record { sheet_len_bound = (c.requires.decoded.short, least_words a.sheet.now a.form c.requires.enough_words); inside = h.0; one_member = sound_asked a.sheet.now _ _ a.form c.in-Sound.is c.requires.decoded }
+pub sound_of-requires-clause-one_member : goal.sound_of-requires-clause-one_member
+sound_of-requires-clause-one_member c = sound_asked _ _ _ c.args.form c.in-Sound.is c.requires.decoded
 
-pub cover_of-requires : goal.cover_of-requires
-cover_of-requires c =
-    let a = c.args in
-    record { cover_asked = cover_asked a.sheet.now _ _ a.form c.in-Cover.is c.requires.decoded; sheet_in_bounds = colon_words a.sheet.now a.form c.requires.enough_words }
+pub cover_of-requires-clause-asked : goal.cover_of-requires-clause-asked
+cover_of-requires-clause-asked c = cover_asked _ _ _ c.args.form c.in-Cover.is c.requires.decoded
 
-pub complete_of-requires : goal.complete_of-requires
-complete_of-requires c =
-    let a = c.args in
-    record { complete_asked = complete_asked a.sheet.now _ _ a.form c.in-Complete.is c.requires.decoded; sheet_in_bounds = complete_words a.sheet.now _ _ a.form c.in-Complete.is c.requires.enough_words }
+pub cover_of-requires-clause-words : goal.cover_of-requires-clause-words
+cover_of-requires-clause-words c = colon_words _ c.args.form c.requires.enough_words
+
+pub complete_of-requires-clause-asked : goal.complete_of-requires-clause-asked
+complete_of-requires-clause-asked c = complete_asked _ _ _ c.args.form c.in-Complete.is c.requires.decoded
+
+pub complete_of-requires-clause-words : goal.complete_of-requires-clause-words
+complete_of-requires-clause-words c = complete_words _ _ _ c.args.form c.in-Complete.is c.requires.enough_words
 
 pub returns-in-Equal : goal.returns-in-Equal
-returns-in-Equal c =
-    let a = c.args in
-    equal_decided a.sheet.now c.in-Equal.left c.in-Equal.right a.form c.in-Equal.is c.equal.ensures
+returns-in-Equal c = rw c.in-Equal.is c.equal.ensures
 
 pub returns-in-Reduce : goal.returns-in-Reduce
-returns-in-Reduce c =
-    let a = c.args in
-    reduce_decided a.sheet.now c.in-Reduce.term a.form c.in-Reduce.is c.reduce.ensures
+returns-in-Reduce c = rw c.in-Reduce.is c.reduce.ensures
 
 pub returns-in-Unify : goal.returns-in-Unify
-returns-in-Unify c =
-    let a = c.args in
-    form_decided a.sheet.now a.form c.requires.decoded c.solving.ensures
+returns-in-Unify c = form_decided _ c.args.form c.requires.decoded c.unify_pairs.ensures
 
 pub returns-in-Match : goal.returns-in-Match
-returns-in-Match c =
-    let a = c.args in
-    form_decided a.sheet.now a.form c.requires.decoded c.solving-in-Match.ensures
+returns-in-Match c = form_decided _ c.args.form c.requires.decoded c.match_pairs.ensures
 
 pub returns-in-Sound : goal.returns-in-Sound
-returns-in-Sound c =
-    let a = c.args in
-    sound_decided a.sheet.now _ _ a.form c.in-Sound.is c.sound_of.ensures
+returns-in-Sound c = rw c.in-Sound.is c.sound_of.ensures
 
 pub returns-in-Cover : goal.returns-in-Cover
-returns-in-Cover c =
-    let a = c.args in
-    form_decided a.sheet.now a.form c.requires.decoded c.cover_of.ensures
+returns-in-Cover c = form_decided _ c.args.form c.requires.decoded c.cover_of.ensures
 
 pub returns-in-Complete : goal.returns-in-Complete
-returns-in-Complete c =
-    let a = c.args in
-    form_decided a.sheet.now a.form c.requires.decoded c.complete_of.ensures
+returns-in-Complete c = form_decided _ c.args.form c.requires.decoded c.complete_of.ensures

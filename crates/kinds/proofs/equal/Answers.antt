@@ -1,17 +1,16 @@
-use mathlib.Core.Path.{sym, ◌∙◌}
-use Rattle.std.specs.Prelude.{Some, None}
-use Rattle.kinds.proofs.Equals.{equal_told}
-use Rattle.answers.specs.declared.deciding.Key.TheVariants as key
-use Rattle.answers.proofs.Decides.{decides_as, claim_decides, unreadable_decides}
+use mathlib.Core.Path.{◌≡◌, refl}
+use Rattle.std.proofs.lemmas.Result.{err_from_is_err_and}
+use Rattle.rules.specs.declared.Refusal.TheVariants.{UnreadableTerm}
+use Rattle.kinds.proofs.Equals.{equal_unread, equal_decided}
 use Rattle.kinds.proofs.equal.Goals as goal
 
-pub returns-in_default : goal.returns-in_default
-returns-in_default c =
-    let a = c.args in
-    decides_as (equal_told a.sheet.now a.left.from a.left.to a.right.from a.right.to None (sym c.in_default.is ∙ c.equivalent_texts.ensures.value)) unreadable_decides
+pub returns-in_err-same : goal.returns-in_err-same
+returns-in_err-same c =
+    let p = err_from_is_err_and c.from_residual.result c.from_residual.ensures.1 in
+    let o = c.in_err-same.ensures in
+    let m = rw o.ok_part at o.value in
+    let e : c.in_err-same.field-0.0 ≡ UnreadableTerm = cc in
+    rw (p.1, p.2, e) (equal_unread c.args.left c.args.right (record { work = refl; sheet = refl }) (rw o.ok_part at c.equivalent_texts.ensures.value))
 
 pub returns : goal.returns
-returns c =
-    let a = c.args in
-    let r = Some c.in-Some.same in
-    decides_as (equal_told a.sheet.now a.left.from a.left.to a.right.from a.right.to r (sym c.in-Some.is ∙ c.equivalent_texts.ensures.value)) (claim_decides key.Equal r)
+returns c = equal_decided c.args.left c.args.right (record { work = refl; sheet = refl }) (rw c.in_ok-same.ensures.ok_part at c.equivalent_texts.ensures.value)

@@ -1,57 +1,36 @@
 use mathlib.Core.Path.{sym, ◌∙◌}
 use native.Mathlib.Omega.{arith}
-use Rattle.tree.proofs.Areas.{below_same}
+use Rattle.tree.specs.Areas.{name_in, tree_in}
+use Rattle.tree.proofs.Keeping.{grows_keeps}
+use Rattle.substitution.specs.Areas.{bindings_in}
+use Rattle.elimination.specs.Areas.{pairs_in}
 use Rattle.steps.proofs.Fitting.{bound_value}
-use Rattle.equivalence.proofs.Scratch.{below_kept}
-use Rattle.moving.proofs.Moving.{onwards_same, onwards_binding, bound_agrees, new_sortless, new_sorted}
+use Rattle.moving.proofs.MovingInAreas.{onwards_same, onwards_bound, bound_agrees, new_sorted}
 use Rattle.moving.proofs.match_key.Goals as goal
 
-pub equivalent-requires : goal.equivalent-requires
-equivalent-requires c =
-    let f = rw c.in-At.is at c.lookup-found.ensures in
-    let i = (bound_value _ _ _ c.requires.fit.1 f.is_bound).small in
+pub equivalent-requires-clause-small : goal.equivalent-requires-clause-small
+equivalent-requires-clause-small c =
+    let i = (bound_value _ _ _ c.requires.fit.1 c.in-Some.ensures.is_bound).small in
     let j = c.requires.fit.0.small in
-    let room = c.requires.room.0 in
-    record { arena = c.requires.arena; i_nonzero = (f.some_cell, f.inside, c.requires.key_nonzero.2, c.requires.key_nonzero.3, omega arith); i_bound = (omega arith, omega arith); j_in_bounds = omega arith }
+    (omega arith, omega arith)
+
+pub equivalent-requires-clause-room : goal.equivalent-requires-clause-room
+equivalent-requires-clause-room c =
+    let i = (bound_value _ _ _ c.requires.fit.1 c.in-Some.ensures.is_bound).small in
+    let j = c.requires.fit.0.small in
+    omega (arith, i, j, c.requires.room.0)
 
 pub returns-then-equivalent : goal.returns-then-equivalent
 returns-then-equivalent c =
-    let a = c.args in
-    let f = rw c.in-At.is at c.lookup-found.ensures in
-    onwards_same c.requires.arena a.rest a.made c.requires.key_nonzero.4 c.requires.key_nonzero.5 c.requires.key_nonzero_2.2 c.requires.key_nonzero_2.3 (bound_agrees _ _ _ _ f.is_bound (sym c.if-equivalent.true ∙ c.equivalent.ensures.value)) (below_kept c.equivalent.ensures.outside (omega arith)) (omega arith)
+    let a = c.args.area.now in
+    let i = c.requires.cells in
+    let e = c.equivalent.ensures in
+    onwards_same c.args.rest c.args.made i.4 i.5 c.requires.lists.0 c.requires.lists.1 (grows_keeps e.keeps) e.keeps.end
+    (bound_agrees (tree_in a c.in-Some.old) (name_in a c.args.key) (tree_in a c.args.value) (pairs_in a c.args.rest) (bindings_in a c.args.made) c.in-Some.ensures.is_bound (sym e.value ∙ c.if-equivalent.true))
 
-pub returns-then-kind-eq-VARIABLE_OTHER : goal.returns-then-kind-eq-VARIABLE_OTHER
-returns-then-kind-eq-VARIABLE_OTHER c =
-    let a = c.args in
-    let s = a.sheet.now in
-    let w = a.work.now in
-    let f = rw c.in-Nothing.is at c.lookup-found.ensures in
-    (new_sortless s w a.key _ _ _ f.0 c.requires.key_nonzero_2.0 c.requires.key_nonzero_2.1 (c.requires.arena.cell a.key c.requires.key_nonzero.0 c.requires.key_nonzero.1) c.kind_of-kind.ensures c.if-kind-eq-VARIABLE_OTHER.true, below_same _ _)
-
-pub push_pair-pushed-requires : goal.push_pair-pushed-requires
-push_pair-pushed-requires c =
-    let room = c.requires.room in
-    record { arena = c.requires.arena; left_nonzero = (c.requires.key_nonzero.0, c.requires.key_nonzero.1, c.requires.key_nonzero.2, c.requires.key_nonzero.3, c.requires.key_nonzero.5); free_in_bounds = (omega (arith, room.0), omega (arith, room.1)) }
-
-pub returns-then-sorted : goal.returns-then-sorted
-returns-then-sorted c =
-    let a = c.args in
-    let s = a.sheet.now in
-    let w = a.work.now in
-    let f = rw c.in-Nothing.is at c.lookup-found.ensures in
-    onwards_binding c.requires.arena a.rest a.made c.requires.key_nonzero.4 c.requires.key_nonzero.5 c.requires.key_nonzero_2.2 c.requires.key_nonzero_2.3 a.key a.value c.requires.key_nonzero_2.0 c.requires.key_nonzero_2.1
-    (new_sorted s w a.key _ _ _ f.0 c.requires.key_nonzero_2.0 c.requires.key_nonzero_2.1 (c.requires.arena.cell a.key c.requires.key_nonzero.0 c.requires.key_nonzero.1) c.kind_of-kind.ensures c.if-kind-eq-VARIABLE_OTHER.false (sym c.if-sorted.true ∙ c.sorted.ensures))
-    c.push_pair-pushed.ensures (omega arith)
-
-pub returns-else-equivalent : goal.returns-else-equivalent
-returns-else-equivalent c =
-    let f = rw c.in-At.is at c.lookup-found.ensures in
-    (bound_agrees _ _ _ _ f.is_bound (sym c.if-equivalent.false ∙ c.equivalent.ensures.value), below_kept c.equivalent.ensures.outside (omega arith))
-
-pub returns-else-sorted : goal.returns-else-sorted
-returns-else-sorted c =
-    let a = c.args in
-    let s = a.sheet.now in
-    let w = a.work.now in
-    let f = rw c.in-Nothing.is at c.lookup-found.ensures in
-    (new_sorted s w a.key _ _ _ f.0 c.requires.key_nonzero_2.0 c.requires.key_nonzero_2.1 (c.requires.arena.cell a.key c.requires.key_nonzero.0 c.requires.key_nonzero.1) c.kind_of-kind.ensures c.if-kind-eq-VARIABLE_OTHER.false (sym c.if-sorted.false ∙ c.sorted.ensures), below_same _ _)
+pub returns : goal.returns
+returns c =
+    let a = c.args.area.now in
+    let s = c.in-Some-sort_of in
+    onwards_bound c.args.key c.args.rest c.args.made c.requires.cells.4 c.requires.lists.0 c.requires.lists.1 c.requires.key_variable c.push_pair-bindings.ensures.lists c.push_pair-bindings.ensures.end
+    (new_sorted (name_in a c.args.key) (tree_in a c.args.value) (pairs_in a c.args.rest) (bindings_in a c.args.made) c.in_default.ensures.0 c.requires.key_variable c.sort_of.ensures s.sort s.is (sym c.sorted.ensures ∙ c.if-not-sorted.false))

@@ -1,18 +1,20 @@
 use native.Mathlib.Omega.{arith}
-use Rattle.pairs.proofs.Reversing.{pairs_there}
+use Rattle.tree.proofs.Keeping.{grows_length}
+use Rattle.reading.proofs.Keeping.{sheet_length}
+use Rattle.pairs.proofs.ReadingPairs.{pairs_there}
 use Rattle.pairs.proofs.read_pairs.Goals as goal
 
-pub returns-in_default : goal.returns-in_default
-returns-in_default c =
-    let x = rw c.in_default.is at c.read_reversed-reversed.ensures in
-    λ es rest h. (x.0 es rest h, x.1)
+pub returns-in_err-reversed : goal.returns-in_err-reversed
+returns-in_err-reversed c = rw c.from_residual.ensures (λ es rest h. (c.in_err-reversed.ensures.0 es rest h, c.in_err-reversed.ensures.1))
 
-pub reverse-list-requires : goal.reverse-list-requires
-reverse-list-requires c =
-    let x = rw c.in-Stack.is at c.read_reversed-reversed.ensures in
-    record { arena = x.arena; list_lt_free = x.inside; list_in_bounds = (omega (arith, x.used, x.within, x.len, c.requires.sheet_len_bound), omega (arith, x.used, x.within, c.requires.sheet_len_bound)) }
+pub reverse-stack-requires-clause-list : goal.reverse-stack-requires-clause-list
+reverse-stack-requires-clause-list c = c.in_ok-reversed.ensures.inside
+
+pub reverse-stack-requires-clause-room : goal.reverse-stack-requires-clause-room
+reverse-stack-requires-clause-room c =
+    let x = c.in_ok-reversed.ensures in
+    let q = c.requires.room in
+    (omega (arith, x.used, x.onward, sheet_length x.grows.lent, x.within, grows_length x.grows, q), omega (arith, x.used, x.onward, sheet_length x.grows.lent, x.within, q))
 
 pub returns : goal.returns
-returns c =
-    let x = rw c.in-Stack.is at c.read_reversed-reversed.ensures in
-    λ es rest h. pairs_there x c.reverse-list.ensures.0 c.reverse-list.ensures.1 es rest h
+returns c = pairs_there c.in_ok-reversed.ensures c.reverse-stack.ensures.lists c.reverse-stack.ensures.end

@@ -1,33 +1,17 @@
-use native.Mathlib.Omega.{arith}
-use Rattle.pairs.proofs.Reversing.{reversing_starts, reversing_ends, reversing_room, reversing_turn}
+use Rattle.pairs.proofs.ReadingPairs.{turning_starts, turning_ends, turning_room, turning_turn}
 use Rattle.pairs.proofs.reverse.Goals as goal
 
 pub loop-left-init : goal.loop-left-init
-loop-left-init c =
-    let a = c.args in
-    reversing_starts a.sheet.now a.work.now a.free a.list c.requires.arena c.requires.list_lt_free
+loop-left-init c = turning_starts c.args.area.now c.args.list c.requires.list
 
-pub next_of-next-requires : goal.next_of-next-requires
-next_of-next-requires c =
-    let h = c.loop-left.invariant in
-    record { links = h.made.arena.links; k_nonzero = (omega arith, omega (arith, h.left, h.made.grew)) }
-
-pub share-after-requires : goal.share-after-requires
-share-after-requires c =
-    let a = c.args in
-    let h = c.loop-left.invariant in
-    let r = reversing_room a.sheet.now a.work.now a.free a.list c.requires.arena h (omega arith) in
-    record { arena = h.made.arena; k_nonzero = (omega arith, omega (arith, h.left, h.made.grew), h.made.inside); free_in_bounds = (omega (arith, c.requires.list_in_bounds.0, h.made.grown.len), omega (arith, c.requires.list_in_bounds.1)) }
-
-pub loop-left-smaller : goal.loop-left-smaller
-loop-left-smaller c = omega (arith, c.next_of-next.ensures.1)
+pub share-first-requires-clause-room : goal.share-first-requires-clause-room
+share-first-requires-clause-room c = turning_room c.loop-left.invariant c.loop-left-test.true c.requires.room.0 c.requires.room.1
 
 pub loop-left-preserved : goal.loop-left-preserved
-loop-left-preserved c =
-    let a = c.args in
-    reversing_turn a.sheet.now a.work.now a.free a.list c.requires.arena c.loop-left.invariant (omega arith) c.next_of-next.result c.share-after.result c.next_of-next.ensures.0 c.share-after.ensures.1 c.share-after.ensures.0
+loop-left-preserved c = turning_turn c.loop-left.invariant c.loop-left-test.true c.next_of-next.ensures.next c.next_of-next.ensures.below c.share-first.ensures
 
-pub returns : goal.returns
-returns c =
-    let a = c.args in
-    reversing_ends a.sheet.now a.work.now a.free a.list c.requires.arena c.loop-left.invariant (omega arith)
+pub returns-clause-lists : goal.returns-clause-lists
+returns-clause-lists c = (turning_ends c.loop-left.invariant c.loop-left-test.false).0
+
+pub returns-clause-end : goal.returns-clause-end
+returns-clause-end c = (turning_ends c.loop-left.invariant c.loop-left-test.false).1

@@ -1,10 +1,8 @@
-use Rattle.sorts.specs.Numbers.{numbered}
-use Rattle.sorts.proofs.Sorting.{basic_atom, basic_other}
+use mathlib.Core.Path.{sym, ◌∙◌}
+use Rattle.sorts.proofs.Testing.{same_some, basic_variable}
 use Rattle.sorts.proofs.basic.Goals as goal
 
-pub returns-then-kind-ge-ATOMS : goal.returns-then-kind-ge-ATOMS
-returns-then-kind-ge-ATOMS c = basic_atom _ _ _ c.kind_of-kind.ensures (numbered c.args.sort) c.args.letter c.if-kind-ge-ATOMS.true
-
-pub returns : goal.returns
-returns c =
-    basic_other _ _ _ c.kind_of-kind.ensures c.args.sort c.args.letter c.requires.sort_bound (c.requires.arena.cell c.args.i c.requires.i_nonzero.0 c.requires.i_nonzero.1) c.if-kind-ge-ATOMS.false
+pub returns-in-Variable : goal.returns-in-Variable
+returns-in-Variable c =
+    let v = c.in-Variable in
+    c.eq.ensures ∙ same_some v.own c.args.sort ∙ sym (basic_variable c.args.area.now c.args.i c.args.sort c.args.letter v.own (sym c.kind.ensures ∙ v.is) c.requires.0 c.requires.1)

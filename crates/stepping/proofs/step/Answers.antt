@@ -1,51 +1,64 @@
-use native.Mathlib.Omega.{arith}
 use mathlib.Core.Path.{sym, ◌∙◌}
-use Rattle.tree.specs.Cells.{tree_at}
-use Rattle.elimination.specs.Stack.{pairs_at}
-use Rattle.steps.proofs.Differing.{differing_none, top_differs, differing_rest}
-use Rattle.stepping.proofs.Steps.{is_key, no_key, step_same, step_left, step_right, step_decompose, step_dropped, steps_as}
+use native.Mathlib.Omega.{arith}
+use Rattle.tree.specs.Areas.{tree_in}
+use Rattle.tree.proofs.ByKind.{tree_a_variable}
+use Rattle.elimination.specs.Areas.{pairs_in}
+use Rattle.stepping.proofs.Taking.{top_apart, rest_apart, no_variable_in, same_goes, left_eliminated, right_eliminated, neither_eliminated, goes_dropped, taken_as}
 use Rattle.stepping.proofs.step.Goals as goal
 
-pub same_pair-requires : goal.same_pair-requires
-same_pair-requires c =
+pub same_pair-requires-clause-apart : goal.same_pair-requires-clause-apart
+same_pair-requires-clause-apart c =
     let a = c.args in
-    record { arena = c.requires.arena; left_nonzero = (c.requires.left_nonzero.0, c.requires.left_nonzero.1, c.requires.left_nonzero.2, c.requires.left_nonzero.3); right_value = λ e. top_differs (tree_at a.sheet.now a.work.now a.left) (tree_at a.sheet.now a.work.now a.right) (pairs_at a.sheet.now a.work.now a.rest) a.apart c.requires.differing e }
+    λ e. top_apart (tree_in a.area.now a.left) (tree_in a.area.now a.right) (pairs_in a.area.now a.rest) a.apart c.requires.differing e
 
-pub returns-then-apart-eq0 : goal.returns-then-apart-eq0
-returns-then-apart-eq0 c = step_dropped _ c.requires.arena c.requires.left_nonzero.4 c.requires.whole.0 (step_same c.args.sheet.now c.args.work.now c.args.left c.args.right _ c.same_pair.ensures c.if-same_pair.true) (differing_none _)
+pub eliminate-requires-clause-key_variable : goal.eliminate-requires-clause-key_variable
+eliminate-requires-clause-key_variable c = tree_a_variable c.args.area.now c.args.left _ (sym c.kind.ensures ∙ c.in-Variable-default.is-0)
+
+pub eliminate-requires-in_default-Variable : goal.eliminate-requires-in_default-Variable
+eliminate-requires-in_default-Variable c =
+    let i = c.requires.cells in
+    let room = c.requires.room in
+    record { cells = (i.2, i.3, i.0, i.1, i.4); key_variable = tree_a_variable c.args.area.now c.args.right _ (sym c.kind-2.ensures ∙ c.in_default-Variable.is-1); whole = c.requires.whole.0; room = (omega (arith, room.0), omega (arith, room.1)) }
+
+pub returns-in-Variable-default : goal.returns-in-Variable-default
+returns-in-Variable-default c =
+    let a = c.args.area.now in
+    let l = tree_in a c.args.left in
+    let r = tree_in a c.args.right in
+    taken_as a c.eliminate.new.area _ c.eliminate.result (left_eliminated l r (pairs_in a c.args.rest) (sym c.same_pair.ensures ∙ c.if-same_pair.false) (tree_a_variable a c.args.left _ (sym c.kind.ensures ∙ c.in-Variable-default.is-0))) c.eliminate.ensures
+
+pub returns-in_default-Variable : goal.returns-in_default-Variable
+returns-in_default-Variable c =
+    let a = c.args.area.now in
+    let l = tree_in a c.args.left in
+    let r = tree_in a c.args.right in
+    let n = no_variable_in a c.args.left (λ v e. c.in_default-Variable.not-Variable-0 v (c.kind.ensures ∙ e)) in
+    taken_as a c.eliminate-in_default-Variable.new.area _ c.eliminate-in_default-Variable.result
+    (right_eliminated l r (pairs_in a c.args.rest) (sym c.same_pair.ensures ∙ c.if-same_pair.false) n (tree_a_variable a c.args.right _ (sym c.kind-2.ensures ∙ c.in_default-Variable.is-1)))
+    c.eliminate-in_default-Variable.ensures
+
+pub returns-in_default : goal.returns-in_default
+returns-in_default c =
+    let a = c.args in
+    goes_dropped a.area.now _ a.rest c.requires.cells.4 c.requires.whole.0 (same_goes (tree_in a.area.now a.left) (tree_in a.area.now a.right) (pairs_in a.area.now a.rest) (sym c.same_pair.ensures ∙ c.if-same_pair.true)) tt
+
+pub overflow_sub-result : goal.overflow_sub-result
+overflow_sub-result c =
+    let a = c.args in
+    (rest_apart (tree_in a.area.now a.left) (tree_in a.area.now a.right) (pairs_in a.area.now a.rest) c.in-Some.pairs c.requires.differing c.in-Some.is (sym c.same_pair.ensures ∙ c.if-same_pair.true)).0
 
 pub returns-then-same_pair : goal.returns-then-same_pair
 returns-then-same_pair c =
     let a = c.args in
-    step_dropped _ c.requires.arena c.requires.left_nonzero.4 c.requires.whole.0 (step_same a.sheet.now a.work.now a.left a.right _ c.same_pair.ensures c.if-same_pair.true) (differing_rest (tree_at a.sheet.now a.work.now a.left) (tree_at a.sheet.now a.work.now a.right) (pairs_at a.sheet.now a.work.now a.rest) a.apart c.requires.differing (sym c.same_pair.ensures ∙ c.if-same_pair.true))
+    let l = tree_in a.area.now a.left in
+    let r = tree_in a.area.now a.right in
+    let ps = pairs_in a.area.now a.rest in
+    let e = sym c.same_pair.ensures ∙ c.if-same_pair.true in
+    goes_dropped a.area.now _ a.rest c.requires.cells.4 c.requires.whole.0 (same_goes l r ps e) (rest_apart l r ps c.in-Some.pairs c.requires.differing c.in-Some.is e).1
 
-pub eliminate-requires : goal.eliminate-requires
-eliminate-requires c =
-    let k = is_key c.is_variable.ensures c.if-is_variable.true in
-    record { arena = c.requires.arena; key_nonzero = c.requires.left_nonzero; key_nonzero_2 = (k.0, k.1, c.requires.whole.0); room = (omega (arith, c.requires.room.0), omega (arith, c.requires.room.1)) }
-
-pub returns-then-is_variable : goal.returns-then-is_variable
-returns-then-is_variable c =
-    let a = c.args in
-    let k = is_key c.is_variable.ensures c.if-is_variable.true in
-    steps_as a.sheet.now a.work.now c.eliminate.new.work a.free _ c.eliminate.result (step_left a.sheet.now a.work.now a.left a.right _ c.same_pair.ensures c.if-same_pair.false k.0 k.1) c.eliminate.ensures
-
-pub eliminate-requires-then-is_variable-2 : goal.eliminate-requires-then-is_variable-2
-eliminate-requires-then-is_variable-2 c =
-    let k = is_key c.is_variable-2.ensures c.if-is_variable-2.true in
-    record { arena = c.requires.arena; key_nonzero = (c.requires.left_nonzero.2, c.requires.left_nonzero.3, c.requires.left_nonzero.0, c.requires.left_nonzero.1, c.requires.left_nonzero.4); key_nonzero_2 = (k.0, k.1, c.requires.whole.0); room = (omega (arith, c.requires.room.0), omega (arith, c.requires.room.1)) }
-
-pub returns-then-is_variable-2 : goal.returns-then-is_variable-2
-returns-then-is_variable-2 c =
-    let a = c.args in
-    let k = is_key c.is_variable-2.ensures c.if-is_variable-2.true in
-    steps_as a.sheet.now a.work.now c.eliminate-then-is_variable-2.new.work a.free _ c.eliminate-then-is_variable-2.result (step_right a.sheet.now a.work.now a.left a.right _ c.same_pair.ensures c.if-same_pair.false (no_key c.is_variable.ensures c.if-is_variable.false) k.0 k.1) c.eliminate-then-is_variable-2.ensures
-
-pub decompose-requires : goal.decompose-requires
-decompose-requires c = record { arena = c.requires.arena; left_nonzero = c.requires.left_nonzero; whole = c.requires.whole; room = c.requires.room; right_value = sym c.same_pair.ensures ∙ c.if-same_pair.false }
-
-pub returns : goal.returns
-returns c =
-    let a = c.args in
-    let e = step_decompose a.sheet.now a.work.now a.left a.right (pairs_at a.sheet.now a.work.now a.rest) c.same_pair.ensures c.if-same_pair.false (no_key c.is_variable.ensures c.if-is_variable.false) (no_key c.is_variable-2.ensures c.if-is_variable-2.false) in
-    rw e c.decompose.ensures
+pub returns-in_default-2 : goal.returns-in_default-2
+returns-in_default-2 c =
+    let a = c.args.area.now in
+    let n = no_variable_in a c.args.left (λ v e. c.in_default-2.not-Variable-0 v (c.kind.ensures ∙ e)) in
+    let m = no_variable_in a c.args.right (λ v e. c.in_default-2.not-Variable-1 v (c.kind-2.ensures ∙ e)) in
+    rw (neither_eliminated (tree_in a c.args.left) (tree_in a c.args.right) (pairs_in a c.args.rest) (sym c.same_pair.ensures ∙ c.if-same_pair.false) n m) c.decompose.ensures

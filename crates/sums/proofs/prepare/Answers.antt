@@ -1,74 +1,78 @@
+use mathlib.Core.Path.{refl, ap}
+use Rattle.rules.specs.Tree.{size}
 use native.Mathlib.Omega.{arith}
-use mathlib.Core.Path.{refl, ◌∙◌}
-use Prim.Native.Nat.{◌+◌, ◌-◌, ◌*◌}
-use lib.ListN.{length-set}
-use Rattle.sums.proofs.Preparing.{first_arena, second_room, mark_room, gathered_arena, all_cells, mark_zero, describe_order, describe_room, described_arena, cells₄, lasting₄, cancel_room, readied}
-use borrow.Author.Rules.{rules}
+use Prim.Native.Nat.{◌+◌, ◌*◌}
+use lib.Seq.{length-take-le}
+use Rattle.tree.proofs.Lists.{count_size}
+use Rattle.tree.proofs.Parting.{parted, part_arena, part_tree, joined_arena}
+use Rattle.sums.proofs.Readying.{prepares, whole_length}
 use Rattle.sums.proofs.prepare.Goals as goal
 
-pub gather-end-requires : goal.gather-end-requires
-gather-end-requires c =
-    let a = c.args in
-    let q = c.requires.left_nonzero in
-    record { arena = first_arena a.sheet.now a.work.now c.gather-mid.new.work a.work.now a.free a.left a.right a.at c.gather-mid.result 0 a.every c.requires.arena q.2 q.3 q.5 c.requires.right_bound.1 c.gather-mid.ensures; i_nonzero = (q.2, q.3, q.4); free_bound = (omega (arith, q.5, c.gather-mid.ensures.grew), second_room a.sheet.now a.work.now c.gather-mid.new.work a.work.now a.free a.left a.right a.at c.gather-mid.result 0 a.every c.requires.arena q.2 q.3 q.5 c.requires.right_bound.1 c.gather-mid.ensures) }
+pub invariant_of-trees : goal.invariant_of-trees
+invariant_of-trees c =
+    let a = c.args.area.now in
+    let p = c.split_at_mut-cells.ensures in
+    record { arena = part_arena (parted _ _ _ _ p.value p.front_len) a.free (omega arith) a.sheet.now a.arena }
 
-pub offset_bounds-work-end : goal.offset_bounds-work-end
-offset_bounds-work-end c =
-    let a = c.args in
-    let q = c.requires.left_nonzero in
-    let k = mark_room a.sheet.now a.work.now c.gather-mid.new.work c.gather-end.new.work a.free a.left a.right a.at c.gather-mid.result c.gather-end.result a.every c.requires.arena q.2 q.3 q.5 c.requires.right_bound.1 c.gather-mid.ensures c.gather-end.ensures in
-    search rules
+pub cancel_in-mid-requires-clause-small : goal.cancel_in-mid-requires-clause-small
+cancel_in-mid-requires-clause-small c =
+    let a = c.args.area.now in
+    let q = c.requires.cells in
+    let p = c.split_at_mut-cells.ensures in
+    let x = part_tree (parted _ _ _ _ p.value p.front_len) a.free (omega arith) a.sheet.now a.arena c.args.left q.0 q.1 in
+    let y = part_tree (parted _ _ _ _ p.value p.front_len) a.free (omega arith) a.sheet.now a.arena c.args.right q.2 q.3 in
+    rw (x, y) c.requires.small
 
-pub bounds-work-end : goal.bounds-work-end
-bounds-work-end c =
-    let a = c.args in
-    let q = c.requires.left_nonzero in
-    mark_room a.sheet.now a.work.now c.gather-mid.new.work c.gather-end.new.work a.free a.left a.right a.at c.gather-mid.result c.gather-end.result a.every c.requires.arena q.2 q.3 q.5 c.requires.right_bound.1 c.gather-mid.ensures c.gather-end.ensures
+pub cancel_in-mid-requires-clause-room : goal.cancel_in-mid-requires-clause-room
+cancel_in-mid-requires-clause-room c =
+    let a = c.args.area.now in
+    let q = c.requires.cells in
+    let p = c.split_at_mut-cells.ensures in
+    let x = part_tree (parted _ _ _ _ p.value p.front_len) a.free (omega arith) a.sheet.now a.arena c.args.left q.0 q.1 in
+    let y = part_tree (parted _ _ _ _ p.value p.front_len) a.free (omega arith) a.sheet.now a.arena c.args.right q.2 q.3 in
+    let i = count_size a c.args.left q.0 q.1 c.count_of.ensures.count in
+    let j = count_size a c.args.right q.2 q.3 c.count_of-2.ensures.count in
+    let n = length-take-le (17 * (c.count_of.result + c.count_of-2.result) + 2) c.split_at_mut-cells.result.1.now (omega (arith, p.back_len, c.requires.room)) in
+    rw (x, y) (omega arith)
 
-pub overflow_mul-base : goal.overflow_mul-base
-overflow_mul-base c =
-    let a = c.args in
-    let q = c.requires.left_nonzero in
-    let k = describe_order a.sheet.now a.work.now c.gather-mid.new.work c.gather-end.new.work a.free a.left a.right a.at c.gather-mid.result c.gather-end.result a.every c.requires.arena q.2 q.3 q.5 c.requires.right_bound.1 c.gather-mid.ensures c.gather-end.ensures (c.gather-end.result - a.at) (c.gather-end.result + 2 * (c.gather-end.result - a.at) + 1) refl refl in
-    let r = describe_room a.sheet.now a.work.now c.gather-mid.new.work c.gather-end.new.work a.free a.left a.right a.at c.gather-mid.result c.gather-end.result a.every c.requires.arena q.2 q.3 q.5 c.requires.right_bound.1 c.gather-mid.ensures c.gather-end.ensures (c.gather-end.result - a.at) (c.gather-end.result + 2 * (c.gather-end.result - a.at) + 1) refl refl c.requires.right_bound.0 in
-    let e = length-set c.gather-end.new.work c.gather-end.result 0 in
-    omega arith
+pub invariant_of-area : goal.invariant_of-area
+invariant_of-area c =
+    let a = c.args.area.now in
+    let q = c.requires.cells in
+    let p = c.split_at_mut-cells.ensures in
+    let i = count_size a c.args.left q.0 q.1 c.count_of.ensures.count in
+    let j = count_size a c.args.right q.2 q.3 c.count_of-2.ensures.count in
+    record { arena = joined_arena (parted _ _ _ _ p.value p.front_len) a.free (omega arith) _ (whole_length _ _ _ (omega (arith, p.back_len, c.requires.room)) c.cancel_in-mid.auto.words) a.arena }
 
-pub overflow_add-base : goal.overflow_add-base
-overflow_add-base c =
-    let a = c.args in
-    let q = c.requires.left_nonzero in
-    let k = describe_order a.sheet.now a.work.now c.gather-mid.new.work c.gather-end.new.work a.free a.left a.right a.at c.gather-mid.result c.gather-end.result a.every c.requires.arena q.2 q.3 q.5 c.requires.right_bound.1 c.gather-mid.ensures c.gather-end.ensures (c.gather-end.result - a.at) (c.gather-end.result + 2 * (c.gather-end.result - a.at) + 1) refl refl in
-    let r = describe_room a.sheet.now a.work.now c.gather-mid.new.work c.gather-end.new.work a.free a.left a.right a.at c.gather-mid.result c.gather-end.result a.every c.requires.arena q.2 q.3 q.5 c.requires.right_bound.1 c.gather-mid.ensures c.gather-end.ensures (c.gather-end.result - a.at) (c.gather-end.result + 2 * (c.gather-end.result - a.at) + 1) refl refl c.requires.right_bound.0 in
-    let e = length-set c.gather-end.new.work c.gather-end.result 0 in
-    omega arith
+pub overflow_add-result : goal.overflow_add-result
+overflow_add-result c =
+    let a = c.args.area.now in
+    let q = c.requires.cells in
+    let p = c.split_at_mut-cells.ensures in
+    let x = part_tree (parted _ _ _ _ p.value p.front_len) a.free (omega arith) a.sheet.now a.arena c.args.left q.0 q.1 in
+    let y = part_tree (parted _ _ _ _ p.value p.front_len) a.free (omega arith) a.sheet.now a.arena c.args.right q.2 q.3 in
+    let i = count_size a c.args.left q.0 q.1 c.count_of.ensures.count in
+    let j = count_size a c.args.right q.2 q.3 c.count_of-2.ensures.count in
+    omega (arith, c.cancel_in-mid.ensures.high, c.cancel_in-mid.ensures.bound, ap size x, ap size y, c.requires.small, q.4)
 
-pub overflow_add-base-2 : goal.overflow_add-base-2
-overflow_add-base-2 c =
-    let a = c.args in
-    let q = c.requires.left_nonzero in
-    let k = describe_order a.sheet.now a.work.now c.gather-mid.new.work c.gather-end.new.work a.free a.left a.right a.at c.gather-mid.result c.gather-end.result a.every c.requires.arena q.2 q.3 q.5 c.requires.right_bound.1 c.gather-mid.ensures c.gather-end.ensures (c.gather-end.result - a.at) (c.gather-end.result + 2 * (c.gather-end.result - a.at) + 1) refl refl in
-    let r = describe_room a.sheet.now a.work.now c.gather-mid.new.work c.gather-end.new.work a.free a.left a.right a.at c.gather-mid.result c.gather-end.result a.every c.requires.arena q.2 q.3 q.5 c.requires.right_bound.1 c.gather-mid.ensures c.gather-end.ensures (c.gather-end.result - a.at) (c.gather-end.result + 2 * (c.gather-end.result - a.at) + 1) refl refl c.requires.right_bound.0 in
-    let e = length-set c.gather-end.new.work c.gather-end.result 0 in
-    omega arith
-
-pub describe-requires : goal.describe-requires
-describe-requires c =
-    let a = c.args in
-    let q = c.requires.left_nonzero in
-    record { arena = gathered_arena a.sheet.now a.work.now c.gather-mid.new.work c.gather-end.new.work a.free a.left a.right a.at c.gather-mid.result c.gather-end.result a.every c.requires.arena q.2 q.3 q.5 c.requires.right_bound.1 c.gather-mid.ensures c.gather-end.ensures; free_bound = describe_order a.sheet.now a.work.now c.gather-mid.new.work c.gather-end.new.work a.free a.left a.right a.at c.gather-mid.result c.gather-end.result a.every c.requires.arena q.2 q.3 q.5 c.requires.right_bound.1 c.gather-mid.ensures c.gather-end.ensures (c.gather-end.result - a.at) (c.gather-end.result + 2 * (c.gather-end.result - a.at) + 1) refl refl; cells = (all_cells a.sheet.now a.work.now c.gather-mid.new.work c.gather-end.new.work a.free a.left a.right a.at c.gather-mid.result c.gather-end.result a.every c.requires.arena q.2 q.3 q.5 c.requires.right_bound.1 c.gather-mid.ensures c.gather-end.ensures, mark_zero a.sheet.now a.work.now c.gather-mid.new.work c.gather-end.new.work a.free a.left a.right a.at c.gather-mid.result c.gather-end.result a.every c.requires.arena q.2 q.3 q.5 c.requires.right_bound.1 c.gather-mid.ensures c.gather-end.ensures (c.gather-end.result - a.at) refl); work_bound = describe_room a.sheet.now a.work.now c.gather-mid.new.work c.gather-end.new.work a.free a.left a.right a.at c.gather-mid.result c.gather-end.result a.every c.requires.arena q.2 q.3 q.5 c.requires.right_bound.1 c.gather-mid.ensures c.gather-end.ensures (c.gather-end.result - a.at) (c.gather-end.result + 2 * (c.gather-end.result - a.at) + 1) refl refl c.requires.right_bound.0 }
-
-pub cancel-requires : goal.cancel-requires
-cancel-requires c =
-    let a = c.args in
-    let q = c.requires.left_nonzero in
-    record { arena = described_arena a.sheet.now a.work.now c.gather-mid.new.work c.gather-end.new.work a.free a.left a.right a.at c.gather-mid.result c.gather-end.result a.every c.requires.arena q.2 q.3 q.5 c.requires.right_bound.1 c.gather-mid.ensures c.gather-end.ensures (c.gather-end.result - a.at) (c.gather-end.result + 2 * (c.gather-end.result - a.at) + 1) refl refl c.describe.new.work c.describe.ensures; free_bound = cancel_room a.sheet.now a.work.now c.gather-mid.new.work c.gather-end.new.work a.free a.left a.right a.at c.gather-mid.result c.gather-end.result a.every c.requires.arena q.2 q.3 q.5 c.requires.right_bound.1 c.gather-mid.ensures c.gather-end.ensures (c.gather-end.result - a.at) (c.gather-end.result + 2 * (c.gather-end.result - a.at) + 1) refl refl c.describe.new.work c.describe.ensures; cells = (cells₄ a.sheet.now a.work.now c.gather-mid.new.work c.gather-end.new.work a.free a.left a.right a.at c.gather-mid.result c.gather-end.result a.every c.requires.arena q.2 q.3 q.5 c.requires.right_bound.1 c.gather-mid.ensures c.gather-end.ensures (c.gather-end.result - a.at) (c.gather-end.result + 2 * (c.gather-end.result - a.at) + 1) refl refl c.describe.new.work c.describe.ensures, lasting₄ a.sheet.now a.work.now c.gather-mid.new.work c.gather-end.new.work a.free a.left a.right a.at c.gather-mid.result c.gather-end.result a.every c.requires.arena q.2 q.3 q.5 c.requires.right_bound.1 c.gather-mid.ensures c.gather-end.ensures (c.gather-end.result - a.at) (c.gather-end.result + 2 * (c.gather-end.result - a.at) + 1) refl refl c.describe.new.work c.describe.ensures) }
-
-pub shape_of-work : goal.shape_of-work
-shape_of-work c = c.cancel.ensures.zeroed.len ∙ c.describe.ensures.kept.len ∙ length-set c.gather-end.new.work c.gather-end.result 0 ∙ c.gather-end.ensures.kept.len ∙ c.gather-mid.ensures.kept.len
+pub overflow_add-result-2 : goal.overflow_add-result-2
+overflow_add-result-2 c =
+    let a = c.args.area.now in
+    let q = c.requires.cells in
+    let p = c.split_at_mut-cells.ensures in
+    let x = part_tree (parted _ _ _ _ p.value p.front_len) a.free (omega arith) a.sheet.now a.arena c.args.left q.0 q.1 in
+    let y = part_tree (parted _ _ _ _ p.value p.front_len) a.free (omega arith) a.sheet.now a.arena c.args.right q.2 q.3 in
+    let i = count_size a c.args.left q.0 q.1 c.count_of.ensures.count in
+    let j = count_size a c.args.right q.2 q.3 c.count_of-2.ensures.count in
+    omega (arith, c.cancel_in-mid.ensures.bound, ap size x, ap size y, c.requires.small, q.4)
 
 pub returns : goal.returns
 returns c =
-    let a = c.args in
-    let q = c.requires.left_nonzero in
-    readied a.sheet.now a.work.now c.gather-mid.new.work c.gather-end.new.work a.free a.left a.right a.at c.gather-mid.result c.gather-end.result a.every c.requires.arena q.2 q.3 q.5 c.requires.right_bound.1 c.gather-mid.ensures c.gather-end.ensures (c.gather-end.result - a.at) (c.gather-end.result + 2 * (c.gather-end.result - a.at) + 1) refl refl c.describe.new.work c.describe.ensures c.cancel.new.work c.cancel.ensures
+    let a = c.args.area.now in
+    let q = c.requires.cells in
+    let p = c.split_at_mut-cells.ensures in
+    let x = part_tree (parted _ _ _ _ p.value p.front_len) a.free (omega arith) a.sheet.now a.arena c.args.left q.0 q.1 in
+    let y = part_tree (parted _ _ _ _ p.value p.front_len) a.free (omega arith) a.sheet.now a.arena c.args.right q.2 q.3 in
+    let i = count_size a c.args.left q.0 q.1 c.count_of.ensures.count in
+    let j = count_size a c.args.right q.2 q.3 c.count_of-2.ensures.count in
+    prepares (parted _ _ _ _ p.value p.front_len) (omega arith) (omega arith) (omega (arith, p.back_len, c.requires.room)) c.cancel_in-mid.auto.words (record { work = refl; sheet = refl }) refl refl refl refl refl (rw (x, y) at c.cancel_in-mid.ensures)

@@ -1,50 +1,45 @@
-use native.Mathlib.Omega.{arith}
 use mathlib.Core.Path.{refl}
-use Prim.Native.Nat.{◌<◌}
-use Rattle.substitution.proofs.Chains.{value_some, entry}
-use Rattle.verdicts.specs.Verdicts.{bindings_text}
-use Rattle.verdicts.proofs.VerdictLines.{lines_none, lines_more, begun_none, begun_more, begun_past, begun_all}
+use native.Mathlib.Omega.{arith}
+use Rattle.rules.specs.Answer.{binding_lines}
+use Rattle.substitution.specs.Areas.{bindings_in}
+use Rattle.verdicts.proofs.VerdictLines.{lines_none, value_cell, rest_chain, lines_more, begun_none, begun_more, begun_past, begun_all}
 use Rattle.verdicts.proofs.put_bindings.Goals as goal
 
 pub loop-key-init : goal.loop-key-init
 loop-key-init c =
     let a = c.args in
-    (c.requires.list_lt_free, c.requires.chain, begun_none a.pass a.output.now a.at (bindings_text a.sheet.now a.work.now a.list) c.requires.at_in_bounds)
+    (c.requires.0, c.requires.1, begun_none a.out.now (binding_lines (bindings_in a.area.now a.list)))
 
 pub returns-in_err-line : goal.returns-in_err-line
 returns-in_err-line c =
     let i = c.loop-key.invariant in
-    let p : 0 < c.loop-key.key = omega arith in
-    let e = lines_more c.args.sheet.now c.requires.arena.links c.loop-key.key c.value_of-value.result _ p i.0 i.1 c.value_of-value.ensures.0 refl in
+    let e = lines_more c.args.area.now _ _ (omega arith) i.0 i.1 c.next_of-value.ensures.next _ refl in
     rw c.from_residual.ensures (begun_past i.2 _ _ e c.in_err-line.ensures)
 
-pub put_line-requires-in-loop-key-clause-i_nonzero : goal.put_line-requires-in-loop-key-clause-i_nonzero
-put_line-requires-in-loop-key-clause-i_nonzero c =
+pub line-requires-in-loop-key : goal.line-requires-in-loop-key
+line-requires-in-loop-key c =
     let i = c.loop-key.invariant in
-    let p : 0 < c.loop-key.key = omega arith in
-    (value_some c.args.sheet.now c.requires.arena.links c.loop-key.key c.value_of-value.result p i.0 i.1 c.value_of-value.ensures.0, omega arith)
+    value_cell c.args.area.now _ _ (omega arith) i.0 i.1 c.next_of-value.ensures.next
 
-pub returns-in_err-end : goal.returns-in_err-end
-returns-in_err-end c =
+pub returns-in_err-line-2 : goal.returns-in_err-line-2
+returns-in_err-line-2 c =
     let i = c.loop-key.invariant in
-    let p : 0 < c.loop-key.key = omega arith in
-    let e = lines_more c.args.sheet.now c.requires.arena.links c.loop-key.key c.value_of-value.result _ p i.0 i.1 c.value_of-value.ensures.0 refl in
-    rw c.from_residual-in_err-end.ensures (begun_past (begun_more i.2 _ _ e c.in_ok-line.ensures) _ _ refl c.in_err-end.ensures)
+    let e = lines_more c.args.area.now _ _ (omega arith) i.0 i.1 c.next_of-value.ensures.next _ refl in
+    rw c.from_residual-in_err-line-2.ensures (begun_past (begun_more i.2 _ _ e c.in_ok-line.ensures) _ _ refl c.in_err-line-2.ensures)
 
-pub rest_of-key-requires-clause-v_nonzero : goal.rest_of-key-requires-clause-v_nonzero
-rest_of-key-requires-clause-v_nonzero c =
+pub next_of-key-requires : goal.next_of-key-requires
+next_of-key-requires c =
     let i = c.loop-key.invariant in
-    let p : 0 < c.loop-key.key = omega arith in
-    (value_some c.args.sheet.now c.requires.arena.links c.loop-key.key c.value_of-value.result p i.0 i.1 c.value_of-value.ensures.0, omega arith)
+    value_cell c.args.area.now _ _ (omega arith) i.0 i.1 c.next_of-value.ensures.next
 
 pub loop-key-preserved : goal.loop-key-preserved
 loop-key-preserved c =
-    let s = c.args.sheet.now in
-    let l = c.requires.arena.links in
+    let a = c.args.area.now in
     let i = c.loop-key.invariant in
-    let p : 0 < c.loop-key.key = omega arith in
-    let e = lines_more s l c.loop-key.key c.value_of-value.result c.rest_of-key.result p i.0 i.1 c.value_of-value.ensures.0 c.rest_of-key.ensures.0 in
-    (omega arith, (entry s l c.loop-key.key c.value_of-value.result p i.0 i.1 c.value_of-value.ensures.0 c.rest_of-key.result c.rest_of-key.ensures.0).chain, begun_more (begun_more i.2 _ _ e c.in_ok-line.ensures) _ _ refl c.in_ok-end.ensures)
+    let e = c.next_of-value.ensures.next in
+    let f = c.next_of-key.ensures.next in
+    let l = lines_more a _ _ (omega arith) i.0 i.1 e _ f in
+    (omega arith, rest_chain a _ _ (omega arith) i.0 i.1 e _ f, begun_more (begun_more i.2 _ _ l c.in_ok-line.ensures) _ _ refl c.in_ok-line-2.ensures)
 
 pub returns : goal.returns
-returns c = begun_all c.loop-key.invariant.2 (lines_none c.args.sheet.now c.args.work.now c.loop-key.key c.loop-key-test.false)
+returns c = begun_all c.loop-key.invariant.2 (lines_none c.args.area.now c.loop-key.key c.loop-key-test.false)

@@ -1,5 +1,17 @@
+use mathlib.Core.Path.{refl}
+use native.Mathlib.Omega.{arith}
+use Rattle.tree.proofs.Pushing.{arena_none}
+use Rattle.kinds.proofs.KindLaws.{least_words, form_ready}
 use Rattle.yukhtsami.proofs.Calling.{decided_held, decided_settles}
 use Rattle.yukhtsami.proofs.settle.Goals as goal
+
+pub invariant_of-area : goal.invariant_of-area
+invariant_of-area c =
+    let a = c.args in
+    record { arena = arena_none a.sheet.now a.work.now (omega (arith, least_words a.sheet.now a.form c.requires.enough_words)) }
+
+pub decide-decision-requires-clause-ready : goal.decide-decision-requires-clause-ready
+decide-decision-requires-clause-ready c = form_ready c.args.form refl c.requires.decoded c.requires.enough_words
 
 pub give-requires : goal.give-requires
 give-requires c = decided_held c.args.sheet.now c.args.form c.requires.decoded c.decide-decision.ensures

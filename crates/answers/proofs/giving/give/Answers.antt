@@ -1,7 +1,6 @@
-use Rattle.std.proofs.Common.{◌≡◌}
+use Rattle.std.proofs.Common.{◌≡◌, refl, rules}
 use Rattle.std.proofs.lemmas.Result.{err_from_is_err_and}
 use Rattle.rules.specs.declared.Refusal.TheVariants.{ShortOutput}
-use Rattle.answers.specs.Deciding.{lines_text}
 use Rattle.answers.proofs.Gives.{refused_settles, short_settles, written_settles}
 use Rattle.answers.proofs.giving.give.Goals as goal
 
@@ -16,9 +15,8 @@ returns-in_err-ok_or c =
     let l = c.in_err-ok_or.ensures in
     let m = rw l.ok_part at l.value in
     let e : c.in_err-ok_or.field-0.0 ≡ ShortOutput = cc in
-    rw (p.1, p.2, e, c.in_ok-lines.was) (short_settles (rw l.ok_part at c.put_lines.ensures))
+    rw (p.1, p.2, e, c.in_ok-lines.was) (short_settles refl refl (rw l.ok_part at c.put_lines.ensures) (search rules))
 
 pub returns : goal.returns
 returns c =
-    let t = lines_text c.args.sheet.now c.args.work.now c.in_ok-lines.lines in
-    rw c.in_ok-lines.was (written_settles (rw c.in_ok-ok_or.ensures.ok_part at c.put_lines.ensures) (rw c.unwrap.ensures at c.put_lines-written.ensures))
+    rw c.in_ok-lines.was (written_settles refl refl (rw c.in_ok-ok_or.ensures.ok_part at c.put_lines.ensures) refl refl refl (rw c.unwrap.ensures at c.put_lines-2.ensures) (search rules))

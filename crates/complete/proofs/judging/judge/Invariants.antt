@@ -1,9 +1,6 @@
-use Prim.Native.Nat.{◌-◌}
-use Rattle.complete.proofs.Deciding.{Going}
+use mathlib.Core.Path.{◌≡◌}
+use Rattle.complete.proofs.JudgingIn.{GoingIn}
 use Rattle.complete.proofs.judging.judge.Given as goal
 
 abbrev pub invariant-loop-i : goal.invariant-loop-i
-invariant-loop-i l = Going l.sheet l.initial.work l.work l.free l.fresh l.term l.names l.members l.count l.i l.state
-
-abbrev pub decreases-loop-i : goal.decreases-loop-i
-decreases-loop-i l = l.count - l.i
+invariant-loop-i l = GoingIn l.initial.area l.area l.asked l.i l.state × (l.free ≡ l.initial.area.free)

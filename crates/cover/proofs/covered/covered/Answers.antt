@@ -1,86 +1,51 @@
-use mathlib.Core.Path.{refl, sym}
 use native.Mathlib.Omega.{arith}
-use lib.Seq.{length-take-le}
-use Rattle.cover.proofs.Rooms.{asked_nodes, asked_spelled, asked_few, asked_colons}
-use Rattle.cover.proofs.Solutions.{stack_below, end_few, nodes_few, limit_inside, unify_arena, unify_whole, unify_fit, unify_roomy, unsolved, all_arena, names_inside, all_room, all_matchable, claimed}
-use borrow.Enum.Refused.{opened}
+use Rattle.cover.proofs.Rooms.{asked_nodes, asked_spelled, asked_few}
+use Rattle.cover.proofs.SolvingIn.{nodes_inside, run_stack, run_counts, run_room, unsolved, names_variables, all_room, all_matchable, claimed}
 use Rattle.cover.proofs.covered.covered.Goals as goal
 
-pub names_of-listed-requires : goal.names_of-listed-requires
-names_of-listed-requires c =
-    let k = c.requires.stack_lt_free.1 in
-    record { arena = (c.requires.arena, k.short); stack_lt_free = (c.requires.stack_lt_free.0, k.whole, asked_spelled k, omega (arith, asked_nodes k, asked_few k)); sheet_in_bounds = (omega (arith, k.words, k.used, k.inside), omega (arith, k.used, k.inside, k.short)) }
+pub names_of-names-requires-clause-stack : goal.names_of-names-requires-clause-stack
+names_of-names-requires-clause-stack c = let k = c.requires.stack in (k.0, k.1.whole, asked_spelled k.1)
+
+pub names_of-names-requires-clause-few : goal.names_of-names-requires-clause-few
+names_of-names-requires-clause-few c = let k = c.requires.stack.1 in (omega (arith, asked_nodes k, asked_few k), k.short)
 
 pub nodes_in-nodes-requires : goal.nodes_in-nodes-requires
-nodes_in-nodes-requires c =
-    let k = c.requires.stack_lt_free.1 in
-    let h = c.names_of-listed.ensures in
-    record { arena = h.arena; i_lt_free = (stack_below c.requires.arena c.requires.stack_lt_free.0 k h, omega (arith, nodes_few c.requires.arena c.requires.stack_lt_free.0 k h)) }
+nodes_in-nodes-requires c = nodes_inside c.requires.stack.0 c.requires.stack.1 c.names_of-names.ensures
 
-pub overflow_add-limit : goal.overflow_add-limit
-overflow_add-limit c =
-    let k = c.requires.stack_lt_free.1 in
-    let h = c.names_of-listed.ensures in
-    omega (arith, c.nodes_in-nodes.ensures, end_few c.requires.arena c.requires.stack_lt_free.0 k h, nodes_few c.requires.arena c.requires.stack_lt_free.0 k h)
+pub unify_sparing-answer-requires-clause-stack : goal.unify_sparing-answer-requires-clause-stack
+unify_sparing-answer-requires-clause-stack c = run_stack c.requires.stack.0 c.requires.stack.1 c.names_of-names.ensures
 
-pub overflow_add-limit-2 : goal.overflow_add-limit-2
-overflow_add-limit-2 c =
-    let k = c.requires.stack_lt_free.1 in
-    let h = c.names_of-listed.ensures in
-    omega (arith, c.nodes_in-nodes.ensures, end_few c.requires.arena c.requires.stack_lt_free.0 k h, nodes_few c.requires.arena c.requires.stack_lt_free.0 k h)
+pub unify_sparing-answer-requires-clause-counts : goal.unify_sparing-answer-requires-clause-counts
+unify_sparing-answer-requires-clause-counts c = run_counts c.requires.stack.0 c.requires.stack.1 c.names_of-names.ensures _ _ c.nodes_in-nodes.ensures c.count_of-colons.ensures
 
-pub overflow_add-limit-3 : goal.overflow_add-limit-3
-overflow_add-limit-3 c =
-    let k = c.requires.stack_lt_free.1 in
-    let h = c.names_of-listed.ensures in
-    omega (arith, c.nodes_in-nodes.ensures, c.count_of.ensures, asked_colons k, end_few c.requires.arena c.requires.stack_lt_free.0 k h, nodes_few c.requires.arena c.requires.stack_lt_free.0 k h)
+pub unify_sparing-answer-requires-clause-room : goal.unify_sparing-answer-requires-clause-room
+unify_sparing-answer-requires-clause-room c = run_room c.requires.stack.0 c.requires.stack.1 c.names_of-names.ensures _ _ c.nodes_in-nodes.ensures c.count_of-colons.ensures
 
-pub overflow_mul-limit-2 : goal.overflow_mul-limit-2
-overflow_mul-limit-2 c =
-    let k = c.requires.stack_lt_free.1 in
-    let h = c.names_of-listed.ensures in
-    omega (arith, c.nodes_in-nodes.ensures, c.count_of.ensures, asked_colons k, end_few c.requires.arena c.requires.stack_lt_free.0 k h, nodes_few c.requires.arena c.requires.stack_lt_free.0 k h)
+pub any_covers-requires-clause-of_variables : goal.any_covers-requires-clause-of_variables
+any_covers-requires-clause-of_variables c =
+    let k = c.requires.stack in
+    let y = c.unify_sparing-answer.ensures in
+    names_variables k.0 k.1 c.names_of-names.ensures _ _ c.nodes_in-nodes.ensures c.count_of-colons.ensures y.answers _ c.in-Solved.is y.ends
 
-pub overflow_add-limit-4 : goal.overflow_add-limit-4
-overflow_add-limit-4 c =
-    let k = c.requires.stack_lt_free.1 in
-    let h = c.names_of-listed.ensures in
-    omega (arith, c.nodes_in-nodes.ensures, c.count_of.ensures, asked_colons k, end_few c.requires.arena c.requires.stack_lt_free.0 k h, nodes_few c.requires.arena c.requires.stack_lt_free.0 k h)
+pub any_covers-requires-clause-room : goal.any_covers-requires-clause-room
+any_covers-requires-clause-room c =
+    let k = c.requires.stack in
+    let y = c.unify_sparing-answer.ensures in
+    all_room k.0 k.1 c.names_of-names.ensures _ _ c.nodes_in-nodes.ensures c.count_of-colons.ensures y.answers _ c.in-Solved.is y.ends
 
-pub slice_bounds-unify-end : goal.slice_bounds-unify-end
-slice_bounds-unify-end c = limit_inside c.requires.arena c.requires.stack_lt_free.0 c.requires.stack_lt_free.1 c.names_of-listed.ensures _ c.nodes_in-nodes.result c.count_of.result c.nodes_in-nodes.ensures c.count_of.ensures refl
+pub any_covers-requires-clause-matchable : goal.any_covers-requires-clause-matchable
+any_covers-requires-clause-matchable c =
+    let k = c.requires.stack in
+    let y = c.unify_sparing-answer.ensures in
+    all_matchable k.0 k.1 c.names_of-names.ensures _ _ c.nodes_in-nodes.ensures c.count_of-colons.ensures y.answers _ c.in-Solved.is y.ends
 
-pub slice_bounds-unify-end-2 : goal.slice_bounds-unify-end-2
-slice_bounds-unify-end-2 c = sym (length-take-le _ _ (limit_inside c.requires.arena c.requires.stack_lt_free.0 c.requires.stack_lt_free.1 c.names_of-listed.ensures _ c.nodes_in-nodes.result c.count_of.result c.nodes_in-nodes.ensures c.count_of.ensures refl))
+pub returns-in-Solved : goal.returns-in-Solved
+returns-in-Solved c =
+    let k = c.requires.stack in
+    let y = c.unify_sparing-answer.ensures in
+    claimed k.0 k.1 c.names_of-names.ensures _ _ c.nodes_in-nodes.ensures c.count_of-colons.ensures y.answers _ c.in-Solved.is y.ends _ c.any_covers.ensures
 
-pub unify-outcome-requires : goal.unify-outcome-requires
-unify-outcome-requires c =
-    let a = c.requires.arena in
-    let p = c.requires.stack_lt_free.0 in
-    let k = c.requires.stack_lt_free.1 in
-    let h = c.names_of-listed.ensures in
-    let n = c.nodes_in-nodes.ensures in
-    let d = c.count_of.ensures in
-    record { arena = unify_arena a p k h _ _ _ n d refl; stack_lt_free = (stack_below a p k h, omega arith, unify_whole a p k h _ _ _ n d refl, unify_fit a p k h _ _ _ n d refl); roomy = unify_roomy a p k h _ _ _ n d refl }
-
-pub returns-in_default : goal.returns-in_default
-returns-in_default c =
-    let x = unsolved c.requires.arena c.requires.stack_lt_free.0 c.requires.stack_lt_free.1 c.names_of-listed.ensures _ _ _ c.nodes_in-nodes.ensures c.count_of.ensures refl c.unify-outcome.new.work c.unify-outcome.result (opened c.in_default.in_default-own.keys2) c.unify-outcome.ensures in
-    ((λ ms f. x.0 ms), x.1)
-
-pub any_covers-requires : goal.any_covers-requires
-any_covers-requires c =
-    let a = c.requires.arena in
-    let p = c.requires.stack_lt_free.0 in
-    let k = c.requires.stack_lt_free.1 in
-    let h = c.names_of-listed.ensures in
-    let n = c.nodes_in-nodes.ensures in
-    let d = c.count_of.ensures in
-    let u = c.unify-outcome.new.work in
-    let y = rw c.in-Solved.is at c.unify-outcome.ensures in
-    record { arena = all_arena a p k h _ _ _ n d refl u _ _ _ y; names_lt_free = names_inside a p k h _ _ _ n d refl u _ _ _ y; at_in_bounds = (k.inside, k.short); names_in_bounds = all_room a p k h _ _ _ n d refl u _ _ _ y; all_matchable = all_matchable a p k h _ _ _ n d refl u _ _ _ y }
-
-pub returns : goal.returns
-returns c =
-    let y = rw c.in-Solved.is at c.unify-outcome.ensures in
-    claimed c.requires.arena c.requires.stack_lt_free.0 c.requires.stack_lt_free.1 c.names_of-listed.ensures _ _ _ c.nodes_in-nodes.ensures c.count_of.ensures refl c.unify-outcome.new.work _ _ _ y c.any_covers.result c.any_covers.ensures
+pub returns-in-Failed : goal.returns-in-Failed
+returns-in-Failed c =
+    let k = c.requires.stack in
+    unsolved k.0 k.1 c.names_of-names.ensures _ _ c.nodes_in-nodes.ensures c.count_of-colons.ensures c.unify_sparing-answer.ensures.answers c.in-Failed.is

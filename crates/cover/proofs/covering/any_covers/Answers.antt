@@ -1,63 +1,58 @@
-use mathlib.Core.Path.{sym, ap, subst}
+use mathlib.Core.Path.{refl, sym, ap}
+use lib.ListN.{length}
 use native.Mathlib.Omega.{arith}
-use Rattle.rules.specs.Tree.{count}
-use Rattle.tree.proofs.Areas.{arena_frame}
-use Rattle.variables.specs.Pairing.{OfVariables}
-use Rattle.cover.proofs.Deciding.{deciding_starts, deciding_ends, names_now, next_after, next_matchable, deciding_yes, deciding_no}
+use Rattle.tree.proofs.Keeping.{keeps_same, keeps_then, grows_keeps, grows_then}
+use Rattle.tree.proofs.Truncating.{keeps_truncated}
+use Rattle.cover.proofs.DecidingIn.{deciding_starts, deciding_ends, here_variables, here_room, next_after, next_inside, next_matchable, deciding_yes, deciding_no}
 use Rattle.cover.proofs.covering.any_covers.Goals as goal
 
 pub loop-line-init : goal.loop-line-init
-loop-line-init c =
-    let a = c.args in
-    λ ms e. deciding_starts a.sheet.now a.work.now a.free a.names a.bindings ms a.start.at c.requires.at_in_bounds.0 e
+loop-line-init c = let a = c.args in (keeps_same a.area.now, refl, λ ms e. deciding_starts a.area.now a.names a.bindings ms a.start.at c.requires.start.0 e)
 
-pub shape_of-work : goal.shape_of-work
-shape_of-work c =
-    let k = c.requires.all_matchable in
-    (c.loop-line.invariant k.members k.reads).below.len
+pub pass_member-requires-clause-of_variables : goal.pass_member-requires-clause-of_variables
+pass_member-requires-clause-of_variables c = here_variables c.loop-line.invariant.0 c.requires.links.0 c.requires.links.1 c.requires.of_variables
 
-pub returns : goal.returns
-returns c =
-    let k = c.requires.all_matchable in
-    let e = c.in_default.ensures in
-    ((λ ms f. sym (deciding_ends c.requires.arena c.requires.names_lt_free.0 c.requires.names_lt_free.1 (c.loop-line.invariant ms f) e)), (c.loop-line.invariant k.members k.reads).below)
+pub pass_member-requires-clause-start : goal.pass_member-requires-clause-start
+pass_member-requires-clause-start c =
+    let h = c.loop-line.invariant in
+    let k = c.requires.matchable in
+    let s = ap (λ s. length s.now) h.0.lent.sheet in
+    (next_inside h.0 c.requires.links.0 c.requires.links.1 (h.2 k.members k.reads) c.in-Some.line c.in-Some.ensures, omega (arith, s, c.requires.start.1))
 
-pub covers-found-requires : goal.covers-found-requires
-covers-found-requires c =
-    let k = c.requires.all_matchable in
-    let h = c.loop-line.invariant k.members k.reads in
-    let e = c.in-Some.ensures in
-    let x = names_now c.requires.arena c.requires.names_lt_free.0 c.requires.names_lt_free.1 h in
-    let y = ap count x in
-    let l = h.below.len in
-    let b = arena_frame c.args.sheet.now c.requires.arena h.below.len h.below.words in
-    record { arena = b; names_lt_free = (c.requires.names_lt_free.0, c.requires.names_lt_free.1, subst OfVariables x c.requires.names_lt_free.2); at_in_bounds = ((next_after c.requires.arena c.requires.names_lt_free.0 c.requires.names_lt_free.1 h c.in-Some.line e).1, c.requires.at_in_bounds.1); names_in_bounds = (omega (arith, c.requires.names_in_bounds.0), omega (arith, c.requires.names_in_bounds.1)); cases = next_matchable c.requires.arena c.requires.names_lt_free.0 c.requires.names_lt_free.1 h c.in-Some.line e k.matched }
+pub pass_member-requires-clause-room : goal.pass_member-requires-clause-room
+pass_member-requires-clause-room c = here_room c.loop-line.invariant.0 c.requires.links.0 c.requires.links.1 c.requires.room.0 c.requires.room.1
 
-pub shape_of-work-in_default-found : goal.shape_of-work-in_default-found
-shape_of-work-in_default-found c =
-    let k = c.requires.all_matchable in
-    let e = c.in-Some.ensures in
-    let y = rw c.in_default-found.is at c.covers-found.ensures in
-    (deciding_yes c.requires.arena c.requires.names_lt_free.0 c.requires.names_lt_free.1 (c.loop-line.invariant k.members k.reads) c.in-Some.line e y).1.len
+pub pass_member-requires-clause-matchable : goal.pass_member-requires-clause-matchable
+pass_member-requires-clause-matchable c =
+    let h = c.loop-line.invariant in
+    let k = c.requires.matchable in
+    next_matchable h.0 c.requires.links.0 c.requires.links.1 (h.2 k.members k.reads) c.in-Some.line c.in-Some.ensures k.matched
 
-pub returns-in_default-found : goal.returns-in_default-found
-returns-in_default-found c =
-    let k = c.requires.all_matchable in
-    let e = c.in-Some.ensures in
-    let y = rw c.in_default-found.is at c.covers-found.ensures in
-    ((λ ms g. sym (deciding_yes c.requires.arena c.requires.names_lt_free.0 c.requires.names_lt_free.1 (c.loop-line.invariant ms g) c.in-Some.line e y).0), (deciding_yes c.requires.arena c.requires.names_lt_free.0 c.requires.names_lt_free.1 (c.loop-line.invariant k.members k.reads) c.in-Some.line e y).1)
+pub returns-in_default-pass_member : goal.returns-in_default-pass_member
+returns-in_default-pass_member c =
+    let h = c.loop-line.invariant in
+    let y = rw c.in_default-pass_member.is at c.pass_member.ensures in
+    ((λ ms e. deciding_yes h.0 c.requires.links.0 c.requires.links.1 (h.2 ms e) c.in-Some.line c.in-Some.ensures y), grows_then (grows_keeps h.0) y.1)
 
 pub loop-line-smaller : goal.loop-line-smaller
 loop-line-smaller c =
-    let k = c.requires.all_matchable in
-    let h = c.loop-line.invariant k.members k.reads in
-    let e = c.in-Some.ensures in
-    let y = rw c.in-No.is at c.covers-found.ensures in
-    let x = next_after c.requires.arena c.requires.names_lt_free.0 c.requires.names_lt_free.1 h c.in-Some.line e in
-    omega (arith, x.0, x.1, y.0.low, y.0.high)
+    let h = c.loop-line.invariant in
+    let k = c.requires.matchable in
+    let y = rw c.in-Some-pass_member.is at c.pass_member.ensures in
+    let x = next_after h.0 c.requires.links.0 c.requires.links.1 (h.2 k.members k.reads) c.in-Some.line c.in-Some.ensures in
+    omega (arith, x.0, x.1, y.0.low)
 
 pub loop-line-preserved : goal.loop-line-preserved
 loop-line-preserved c =
-    let e = c.in-Some.ensures in
-    let y = rw c.in-No.is at c.covers-found.ensures in
-    λ ms g. deciding_no c.requires.arena c.requires.names_lt_free.0 c.requires.names_lt_free.1 (c.loop-line.invariant ms g) c.in-Some.line e c.in-No.next y
+    let h = c.loop-line.invariant in
+    let y = rw c.in-Some-pass_member.is at c.pass_member.ensures in
+    let t = c.truncate.ensures in (
+      keeps_then h.0 (keeps_truncated (sym h.0.end) y.1 t.lent t.end t.words),
+      refl,
+      λ ms e. deciding_no h.0 c.requires.links.0 c.requires.links.1 (h.2 ms e) c.in-Some.line c.in-Some.ensures c.in-Some-pass_member.next y,
+    )
+
+pub returns : goal.returns
+returns c =
+    let h = c.loop-line.invariant in
+    ((λ ms e. deciding_ends h.0 c.requires.links.0 c.requires.links.1 (h.2 ms e) c.in_default.ensures), grows_keeps h.0)

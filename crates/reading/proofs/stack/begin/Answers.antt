@@ -1,14 +1,14 @@
-use native.Mathlib.Omega.{arith}
-use lib.ListN.{length-set}
+use mathlib.Core.Path.{refl}
 use Rattle.reading.proofs.Stacks.{opened}
+use Rattle.reading.proofs.StacksIn.{held_of, placed_of}
 use Rattle.reading.proofs.stack.begin.Goals as goal
 
-pub bounds-work-top-2 : goal.bounds-work-top-2
-bounds-work-top-2 c = simp length-set (omega arith)
-
-pub bounds-work-top-3 : goal.bounds-work-top-3
-bounds-work-top-3 c = simp length-set (omega arith)
+pub invariant_of-area : goal.invariant_of-area
+invariant_of-area c = record { arena = (opened (held_of c.args.area.now c.requires.held) c.requires.room (placed_of c.requires.name)).held.arena }
 
 pub returns : goal.returns
-returns c =
-    opened c.requires.held c.requires.depth_in_bounds c.requires.from_le_to.1
+returns c = record {
+  lent = record { work = refl; sheet = refl };
+  end = refl;
+  opened = opened (held_of c.args.area.now c.requires.held) c.requires.room (placed_of c.requires.name);
+}

@@ -1,17 +1,9 @@
-use Rattle.tree.specs.Cells.{first_of, tree_at, trees_at}
-use native.Mathlib.Omega.{arith}
-use mathlib.Core.Path.{◌∙◌}
-use Rattle.rewriting.proofs.Holding.{constant_by, constant_not, arguments_none}
+use mathlib.Core.Path.{sym, ap, ◌∙◌}
+use Rattle.rules.specs.Maybe.{◌>>=◌, guard}
+use Rattle.rules.specs.Reduction.{arguments0, is_constant}
+use Rattle.rewriting.proofs.Arguments.{no_children}
 use Rattle.rewriting.proofs.naming.is_constant.Goals as goal
 
-pub returns-then-applies : goal.returns-then-applies
-returns-then-applies c =
-    let a = c.args in
-    let t = tree_at a.sheet.now a.work.now a.k in
-    let ts = trees_at a.sheet.now a.work.now (first_of a.work.now a.k) in
-    constant_by a.text.now t ts c.applies.ensures c.if-applies.true ∙ arguments_none a.sheet.now a.work.now c.requires.arena.links (first_of a.work.now a.k) c.first_of.ensures.0 (omega (arith, c.first_of.ensures.0, c.first_of.ensures.1, c.requires.k_nonzero.1))
-
 pub returns : goal.returns
-returns c =
-    let a = c.args in
-    constant_not a.text.now (tree_at a.sheet.now a.work.now a.k) (trees_at a.sheet.now a.work.now (first_of a.work.now a.k)) c.applies.ensures c.if-applies.false
+unfolding is_constant
+returns c = ap (λ o. o >>= arguments0) c.arguments_of.ensures.trees ∙ no_children c.args.area.now c.arguments_of.result c.arguments_of.ensures.list ∙ ap guard (sym c.eq.ensures)

@@ -1,23 +1,17 @@
 use native.Mathlib.Omega.{arith}
 use mathlib.Core.Path.{ap}
 use Rattle.rules.specs.Tree.{count}
-use Rattle.tree.proofs.Decoding.{frame_trees}
-use Rattle.schemes.proofs.Chaining.{follows}
+use Rattle.tree.proofs.Keeping.{adds_grows, grows_trees}
+use Rattle.schemes.proofs.Lining.{follows}
 use Rattle.schemes.proofs.choosing.join.Goals as goal
 
-pub keep-kept-requires : goal.keep-kept-requires
-keep-kept-requires c = record { arena = c.requires.arena; i_nonzero = (c.requires.value_nonzero.0, c.requires.value_nonzero.1, c.requires.value_nonzero.3); free_in_bounds = (omega (arith, c.requires.equations_in_bounds.0), omega (arith, c.requires.equations_in_bounds.1)) }
-
-pub append-chain-requires : goal.append-chain-requires
-append-chain-requires c =
-    let a = c.args in
-    let k = c.keep-kept.ensures in
-    let v = c.keep-kept.new.work in
-    let e = ap count (frame_trees a.sheet.now v c.requires.arena.links k.0.grown.below a.equations c.requires.value_nonzero.2) in
-    record { arena = k.0.arena; a_lt_free = (omega (arith, c.requires.value_nonzero.2, k.0.grew), omega (arith, c.requires.value_nonzero.4, k.0.grew)); a_in_bounds = (omega (arith, k.1, k.0.grown.len, e, c.requires.equations_in_bounds.0), omega (arith, k.1, e, c.requires.equations_in_bounds.1)) }
+pub append-equations-requires-clause-room : goal.append-equations-requires-clause-room
+append-equations-requires-clause-room c =
+    let k = c.keep-values.ensures in
+    let e = ap count (grows_trees (adds_grows k.puts.adds) c.args.equations c.requires.cells.2) in
+    (omega (arith, k.end, k.puts.adds.grown.len, e, c.requires.room.0), omega (arith, k.end, e, c.requires.room.1))
 
 pub returns : goal.returns
 returns c =
-    let a = c.args in
-    let k = c.keep-kept.ensures in
-    follows a.value a.equations c.requires.arena c.requires.value_nonzero.2 c.requires.value_nonzero.4 k.0 k.1 c.append-chain.ensures
+    let k = c.keep-values.ensures in
+    follows c.args.value c.args.equations c.requires.cells.2 c.requires.cells.4 k.puts k.end c.append-equations.ensures

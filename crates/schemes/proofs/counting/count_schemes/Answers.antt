@@ -1,46 +1,32 @@
 use native.Mathlib.Omega.{arith}
 use mathlib.Core.Path.{ap, ◌∙◌}
-use Prim.Native.Nat.{ℕ, ◌*◌}
+use Prim.Native.Nat.{◌*◌}
 use Rattle.rules.specs.Tree.{Trees}
 use Rattle.rules.specs.Variants.{scheme_count, scheme_counts}
-use Rattle.tree.specs.Cells.{tree_at, trees_at}
+use Rattle.tree.specs.Areas.{tree_in, trees_in}
 use Rattle.schemes.specs.Choices.{over}
-use Rattle.schemes.specs.Counting.{capped}
-use Rattle.schemes.proofs.Counts.{ways_few, own_ways, capped_few, count_tree, counted_over, counted_some}
+use Rattle.schemes.specs.Areas.{counted_in}
+use Rattle.schemes.proofs.Counts.{ways_few, own_ways}
+use Rattle.schemes.proofs.Numbering.{within, tree_past, tree_counted, once}
 use Rattle.schemes.proofs.counting.count_schemes.Goals as goal
 
-pub count_list-below-requires : goal.count_list-below-requires
-count_list-below-requires c = record { arena = c.requires.arena; i_lt_free = (omega (arith, c.child_of-first.ensures.0, c.requires.i_nonzero.1), omega arith) }
+pub returns-in_err-below : goal.returns-in_err-below
+returns-in_err-below c =
+    let t = tree_in c.args.area.now c.args.i in
+    c.from_residual.ensures ∙ tree_past 1 t (c.in_err-below.ensures ∙ ap (λ (ts : Trees). counted_in (1 * scheme_counts ts)) c.child_of-first.ensures.children) ∙ once (scheme_count t)
 
-pub ways_of-requires : goal.ways_of-requires
-ways_of-requires c = record { arena = c.requires.arena; i_nonzero = (c.requires.i_nonzero.0, c.requires.i_nonzero.1, omega (arith, c.child_of-first.ensures.0, c.requires.i_nonzero.1)) }
-
-pub times-count-requires : goal.times-count-requires
-times-count-requires c =
-    let a = c.args in
-    let s = a.sheet.now in
-    let w = a.work.now in
-    let ts = trees_at s w c.child_of-first.result in
-    (omega (arith, c.count_list-below.ensures, capped_few (1 * scheme_counts ts)), omega (arith, c.ways_of.ensures, (ways_few (over (tree_at s w a.i) ts)).1))
-
-pub returns-then-count-gt4096 : goal.returns-then-count-gt4096
-returns-then-count-gt4096 c =
-    let a = c.args in
-    let s = a.sheet.now in
-    let w = a.work.now in
-    let t = tree_at s w a.i in
-    let f = c.child_of-first.ensures.1 s in
-    let below = c.count_list-below.ensures ∙ ap (λ (ts : Trees). capped (1 * scheme_counts ts)) f in
-    let here = c.times-count.ensures ∙ ap (λ (k : ℕ). capped (c.count_list-below.result * k)) (c.ways_of.ensures ∙ own_ways t (trees_at s w c.child_of-first.result) f) in
-    counted_over c.times-count.result (scheme_count t) c.if-count-gt4096.true (count_tree 1 t below here)
+pub times-requires : goal.times-requires
+times-requires c =
+    let a = c.args.area.now in
+    let ts = trees_in a c.child_of-first.result in
+    let w = within (1 * scheme_counts ts) c.in_ok-below.below c.in_ok-below.ensures in
+    (omega (arith, w.0, w.1), omega (arith, c.choices-ways.ensures, c.rule_at.ensures.ways, (ways_few (over (tree_in a c.args.i) ts)).1))
 
 pub returns : goal.returns
 returns c =
-    let a = c.args in
-    let s = a.sheet.now in
-    let w = a.work.now in
-    let t = tree_at s w a.i in
-    let f = c.child_of-first.ensures.1 s in
-    let below = c.count_list-below.ensures ∙ ap (λ (ts : Trees). capped (1 * scheme_counts ts)) f in
-    let here = c.times-count.ensures ∙ ap (λ (k : ℕ). capped (c.count_list-below.result * k)) (c.ways_of.ensures ∙ own_ways t (trees_at s w c.child_of-first.result) f) in
-    counted_some c.times-count.result (scheme_count t) (omega (arith, c.if-count-gt4096.false)) (count_tree 1 t below here)
+    let a = c.args.area.now in
+    let t = tree_in a c.args.i in
+    let f = c.child_of-first.ensures.children in
+    let below = c.in_ok-below.ensures ∙ ap (λ (ts : Trees). counted_in (1 * scheme_counts ts)) f in
+    let ways = c.choices-ways.ensures ∙ c.rule_at.ensures.ways ∙ own_ways t (trees_in a c.child_of-first.result) f in
+    tree_counted 1 t c.in_ok-below.below c.choices-ways.result below ways c.times.ensures ∙ once (scheme_count t)

@@ -1,31 +1,24 @@
+use mathlib.Core.Path.{◌≡◌}
+use mathlib.Core.Logic.{◌⊎◌, inl, inr}
 use native.Mathlib.Omega.{arith}
-use mathlib.Core.Logic.{inl, inr}
-use Rattle.steps.proofs.Differing.{counting_start, counting_next, counting_end, counting_apart}
+use Rattle.steps.proofs.Differing.{counting_next}
+use Rattle.steps.proofs.Pairing.{none_apart, none_paired, some_paired}
 use Rattle.steps.proofs.pushing.paired.Goals as goal
-
-pub loop-a-init : goal.loop-a-init
-loop-a-init c = counting_start c.requires.left_lt_free.0 c.requires.left_lt_free.1
-
-pub returns-then-b-eq0 : goal.returns-then-b-eq0
-returns-then-b-eq0 c = counting_apart c.loop-a.invariant c.requires.links (λ e f. omega arith) (inr c.if-b-eq0.true)
-
-pub next_of-a-requires : goal.next_of-a-requires
-next_of-a-requires c = record { links = c.requires.links; k_nonzero = (omega arith, c.loop-a.invariant.left_inside) }
-
-pub next_of-b-requires : goal.next_of-b-requires
-next_of-b-requires c = record { links = c.requires.links; k_nonzero = (omega arith, c.loop-a.invariant.right_inside) }
-
-pub overflow_add-pairs : goal.overflow_add-pairs
-overflow_add-pairs c = omega (arith, c.loop-a.invariant.within)
-
-pub loop-a-smaller : goal.loop-a-smaller
-loop-a-smaller c = omega (arith, c.next_of-a.ensures.1)
+use Rattle.steps.proofs.pushing.paired.Goals.{then-loop-a-test+else-b-ne0, else-loop-a-test, then-a-b-via-then-a-b, then-a-b-via-else-a-b+then-pairs-eq0}
 
 pub loop-a-preserved : goal.loop-a-preserved
-loop-a-preserved c = counting_next c.loop-a.invariant c.requires.links (omega arith) (omega arith) c.next_of-a.ensures c.next_of-b.ensures
+loop-a-preserved c =
+    counting_next c.loop-a.invariant c.args.area.now.arena.links (omega arith) (omega arith) (c.next_of-a.ensures.next, c.next_of-a.ensures.below) (c.next_of-b.ensures.next, c.next_of-b.ensures.below)
 
-pub returns-then-b-ne0 : goal.returns-then-b-ne0
-returns-then-b-ne0 c = counting_apart c.loop-a.invariant c.requires.links (λ e f. omega arith) (inl (omega arith))
+pub returns-then-a-b : goal.returns-then-a-b
+returns-then-a-b c =
+    let v : (c.loop-a.a ≡ 0) ⊎ (c.loop-a.b ≡ 0) = elim c.loop-a-test.branch [ then-loop-a-test+else-b-ne0 w ↦ inr (omega (arith, w.if-b-ne0.false)) | else-loop-a-test w ↦ inl (omega (arith, w.loop-a-test.false)) ] in
+    elim c.then-a-b.branch [
+      | then-a-b-via-then-a-b w ↦ none_apart c.args.area.now c.loop-a.invariant w.if-a-b.true v
+      | then-a-b-via-else-a-b+then-pairs-eq0 w ↦ none_paired c.args.area.now c.loop-a.invariant (omega (arith, w.if-a-b.false)) v w.if-pairs-eq0.true
+    ]
 
 pub returns : goal.returns
-returns c = counting_end c.loop-a.invariant (omega arith) (omega arith)
+returns c =
+    let v : (c.loop-a.a ≡ 0) ⊎ (c.loop-a.b ≡ 0) = elim c.loop-a-test.branch [ then-loop-a-test+else-b-ne0 w ↦ inr (omega (arith, w.if-b-ne0.false)) | else-loop-a-test w ↦ inl (omega (arith, w.loop-a-test.false)) ] in
+    some_paired c.args.area.now c.loop-a.invariant (omega arith) v (omega arith)

@@ -1,43 +1,25 @@
 use native.Mathlib.Omega.{arith}
-use Rattle.steps.proofs.Leaving.{seen_starts, seen_zero, seen_first, seen_second, seen_none, seen_one}
+use Rattle.steps.proofs.SeenCells.{words, seen_zero, seen_first, seen_second, seen_all, left_words, word_inside}
+use Rattle.steps.specs.declared.rest.Left.TheVariants as left
 use Rattle.steps.proofs.rest.left_of.Goals as goal
 
-pub loop-k-init : goal.loop-k-init
-loop-k-init c = seen_starts c.args.work.now c.args.at c.args.end c.requires.1 c.requires.0
-
-pub bounds-work-k : goal.bounds-work-k
-bounds-work-k c = omega (arith, c.loop-k-test.true, c.requires.1)
-
-pub overflow_add-k : goal.overflow_add-k
-overflow_add-k c = omega (arith, c.loop-k-test.true, c.requires.1)
-
-pub loop-k-smaller-then-cell-eq0 : goal.loop-k-smaller-then-cell-eq0
-loop-k-smaller-then-cell-eq0 c = omega (arith, c.loop-k-test.true)
-
-pub loop-k-preserved-then-cell-eq0 : goal.loop-k-preserved-then-cell-eq0
-loop-k-preserved-then-cell-eq0 c =
+pub loop-word-preserved-then-word-eq0 : goal.loop-word-preserved-then-word-eq0
+loop-word-preserved-then-word-eq0 c =
     let a = c.args in
-    seen_zero a.work.now a.at a.end c.requires.1 c.loop-k.k c.loop-k.found c.wide-cell.result c.loop-k.invariant c.loop-k-test.true c.wide-cell.ensures.0 c.if-cell-eq0.true
+    seen_zero a.area.now (words a.area.now a.at a.end) c.loop-word.word-index c.loop-word-test.true c.loop-word.left c.if-word-eq0.true c.loop-word.invariant
 
-pub returns-then-found-ne0 : goal.returns-then-found-ne0
-returns-then-found-ne0 c =
+pub returns-in-One : goal.returns-in-One
+returns-in-One c =
     let a = c.args in
-    seen_second a.work.now a.at a.end c.requires.1 c.loop-k.k c.loop-k.found c.wide-cell.result c.loop-k.invariant c.loop-k-test.true c.wide-cell.ensures.0 (omega (arith, c.if-found-ne0.true)) (omega (arith, c.if-cell-eq0.false))
+    left_words a.area.now a.at a.end left.Several (seen_second a.area.now (words a.area.now a.at a.end) c.loop-word.word-index c.loop-word-test.true c.in-One.is c.if-word-eq0.false c.loop-word.invariant)
 
-pub loop-k-smaller : goal.loop-k-smaller
-loop-k-smaller c = omega (arith, c.loop-k-test.true)
-
-pub loop-k-preserved : goal.loop-k-preserved
-loop-k-preserved c =
+pub loop-word-preserved : goal.loop-word-preserved
+loop-word-preserved c =
     let a = c.args in
-    seen_first a.work.now a.at a.end c.requires.1 c.loop-k.k c.loop-k.found c.wide-cell.result c.loop-k.invariant c.loop-k-test.true c.wide-cell.ensures.0 (omega (arith, c.if-found-ne0.false))
-
-pub returns-then-found-eq0 : goal.returns-then-found-eq0
-returns-then-found-eq0 c =
-    let a = c.args in
-    seen_none a.work.now a.at a.end c.requires.1 c.loop-k.k c.loop-k.found c.loop-k.invariant (omega (arith, c.loop-k-test.false)) c.if-found-eq0.true
+    let k = word_inside a.area.now a.at a.end c.requires.cells c.loop-word.word-index c.loop-word-test.true in
+    seen_first a.area.now (words a.area.now a.at a.end) c.loop-word.word-index c.loop-word-test.true c.in-Nothing.is c.wide.ensures.0 c.if-word-eq0.false (omega (arith, k, c.wide.ensures.0)) c.loop-word.invariant
 
 pub returns : goal.returns
 returns c =
     let a = c.args in
-    seen_one a.work.now a.at a.end c.requires.1 c.loop-k.k c.loop-k.found c.loop-k.invariant (omega (arith, c.loop-k-test.false)) (omega (arith, c.if-found-eq0.false))
+    left_words a.area.now a.at a.end c.loop-word.left (seen_all a.area.now (words a.area.now a.at a.end) c.loop-word.word-index (omega (arith, c.loop-word-test.false)) c.loop-word.left c.loop-word.invariant)

@@ -1,12 +1,13 @@
 use Prim.Native.Nat.{◌<◌}
 use mathlib.Core.Path.{◌≡◌}
 use Rattle.rules.specs.Matching.{bound}
-use Rattle.tree.specs.Cells.{name_at}
-use Rattle.substitution.specs.Bindings.{bindings_at}
+use Rattle.tree.specs.Areas.{name_in}
+use Rattle.substitution.specs.Areas.{bindings_in}
 use Rattle.substitution.proofs.bindings.lookup.Given as goal
 
-abbrev pub invariant-loop-k : goal.invariant-loop-k
-invariant-loop-k l = (l.k < l.free) × (bound (name_at l.sheet l.work l.x) (bindings_at l.sheet l.work l.b) ≡ bound (name_at l.sheet l.work l.x) (bindings_at l.sheet l.work l.k))
+-- the bindings from the key on answer for all
+abbrev pub invariant-loop-key : goal.invariant-loop-key
+invariant-loop-key l = (l.key < l.area.free) × (bound (name_in l.area l.x) (bindings_in l.area l.b) ≡ bound (name_in l.area l.x) (bindings_in l.area l.key))
 
-abbrev pub decreases-loop-k : goal.decreases-loop-k
-decreases-loop-k l = l.k
+abbrev pub decreases-loop-key : goal.decreases-loop-key
+decreases-loop-key l = l.key

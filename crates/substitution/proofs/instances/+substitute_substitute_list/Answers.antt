@@ -1,133 +1,92 @@
 use native.Mathlib.Omega.{arith}
-use mathlib.Core.Path.{◌≡◌, refl, ap, ◌∙◌}
-use Rattle.rules.specs.Tree.{size, sizes}
-use Rattle.rules.specs.Substitution.{lookup}
-use Rattle.tree.specs.Cells.{kind_of, next_of}
-use Rattle.tree.proofs.Decoding.{size_pos}
-use Rattle.substitution.specs.Bindings.{bindings_at}
-use Rattle.substitution.specs.Building.{instance_at}
-use Rattle.substitution.proofs.Substituting.{instance_apply, instances_none, instances_more, instance_frame}
-use Rattle.substitution.proofs.Placing.{listed_none, placed_unchanged, placed_apply, builds_more}
-use Rattle.tree.proofs.Areas.{grown_same, grown_within}
+use mathlib.Core.Path.{◌≡◌, refl, sym, ap, ◌∙◌}
+use Prim.Native.Nat.{◌<◌}
+use Rattle.tree.specs.declared.kinds.Kind.TheVariants.{Application}
+use Rattle.tree.specs.Areas.{cell_kind, next_in, name_in, tree_in}
+use Rattle.tree.proofs.Keeping.{adds_grows}
+use Rattle.substitution.specs.Areas.{instance_in, instances_in}
+use Rattle.substitution.proofs.Listing.{puts_push, kind_later, over_same, over_new, over_tree, over_list, listed_none, places_over, builds_more, over_apply, over_more}
+use Rattle.substitution.proofs.Instantiating.{instance_application, instance_atom, instance_found, instances_none, instances_more, instance_later}
 use Rattle.substitution.proofs.instances.+substitute_substitute_list.Goals as goal
 
-pub substitute-image-k-requires : goal.substitute-image-k-requires
-substitute-image-k-requires t c = record { arena = c.requires.arena; i_nonzero = (c.requires.i_nonzero.0, c.requires.i_nonzero.1, c.requires.i_nonzero.2); i_nonzero_2 = omega (arith, c.kind_of.ensures, c.if-kind_of-gt-APPLICATION.true) }
+pub substitute-returns-in_err-left-in-Application : goal.substitute-returns-in_err-left-in-Application
+substitute-returns-in_err-left-in-Application t c =
+    let a = c.args.area.now in
+    let e = c.in_err-left-in-Application.ensures in
+    rw c.from_residual.ensures (over_tree a (instance_in a c.args.b c.args.i) (omega arith))
 
-pub substitute-place-requires : goal.substitute-place-requires
-substitute-place-requires t c = record { arena = c.requires.arena; i_nonzero = (c.image-k.ensures.0, c.image-k.ensures.1, c.requires.i_nonzero.3); budget_in_bounds = (c.requires.budget_in_bounds.0, c.requires.budget_in_bounds.1) }
+pub substitute-returns-in_err-children-in-Application : goal.substitute-returns-in_err-children-in-Application
+substitute-returns-in_err-children-in-Application t c =
+    let a = c.args.area.now in
+    let e = c.in_ok-left-in-Application.ensures in
+    rw (c.from_residual-in_err-children-in-Application.ensures, instance_application a c.args.b c.args.i c.first_of-first.result c.first_of-first.ensures.first (sym c.kind.ensures ∙ c.in-Application.is))
+    (over_apply (name_in a c.args.i) _ (omega arith) c.in_err-children-in-Application.ensures)
 
-pub substitute-returns-then-kind_of-gt-APPLICATION : goal.substitute-returns-then-kind_of-gt-APPLICATION
-substitute-returns-then-kind_of-gt-APPLICATION t c = rw (← c.image-k.ensures.2) c.place.ensures
+pub substitute-push_like-index-requires-clause-k_cell : goal.substitute-push_like-index-requires-clause-k_cell
+substitute-push_like-index-requires-clause-k_cell t c =
+    let h = c.in_ok-children-in-Application.ensures in
+    let i = c.requires.cells in
+    (i.0, omega (arith, i.1, h.lists.adds.grew), kind_later h.lists c.args.i i.0 i.1 (sym c.kind.ensures ∙ c.in-Application.is))
 
-pub substitute-returns-then-budget-eq0 : goal.substitute-returns-then-budget-eq0
-substitute-returns-then-budget-eq0 t c =
-    let a = c.args in
-    (omega (arith, size_pos (instance_at a.sheet.now a.work.now a.b a.i)), grown_same _ _ _)
+pub substitute-returns-then-children-first : goal.substitute-returns-then-children-first
+substitute-returns-then-children-first t c =
+    let a = c.args.area.now in
+    let i = c.requires.cells in
+    let e = c.in_ok-left-in-Application.ensures in
+    let h = c.in_ok-children-in-Application.ensures in
+    let k : cell_kind a c.args.i ≡ Application = sym c.kind.ensures ∙ c.in-Application.is in
+    let f = c.first_of-first.ensures.first in
+    rw (instance_application a c.args.b c.args.i c.first_of-first.result f k)
+    (places_over h (omega arith) (name_in a c.args.i) i.3 c.keep-index.ensures.puts c.keep-index.ensures.end (over_same h.lists c.args.i i.0 i.1 k (c.if-children-first.true ∙ f)))
 
-pub substitute-overflow_sub-budget : goal.substitute-overflow_sub-budget
-substitute-overflow_sub-budget t c = omega arith
+pub substitute-returns-else-children-first : goal.substitute-returns-else-children-first
+substitute-returns-else-children-first t c =
+    let a = c.args.area.now in
+    let i = c.requires.cells in
+    let e = c.in_ok-left-in-Application.ensures in
+    let h = c.in_ok-children-in-Application.ensures in
+    let k : cell_kind a c.args.i ≡ Application = sym c.kind.ensures ∙ c.in-Application.is in
+    let g = c.push_like-index.ensures in
+    rw (instance_application a c.args.b c.args.i c.first_of-first.result c.first_of-first.ensures.first k)
+    (places_over h (omega arith) (name_in a c.args.i) i.3 (puts_push g) (omega (arith, g.end)) (over_new h.lists c.args.i i.0 i.1 k))
 
-pub substitute-substitute_list-children-requires : goal.substitute-substitute_list-children-requires
-substitute-substitute_list-children-requires t c =
-    (omega (arith, c.decreases, c.first_of-first.ensures.1), (c.requires.arena, ((omega (arith, c.first_of-first.ensures.1, c.requires.i_nonzero.1), c.requires.i_nonzero.2), (omega (arith, c.requires.budget_in_bounds.0), omega (arith, c.requires.budget_in_bounds.1), omega (arith, c.requires.budget_in_bounds.2)))))
+pub substitute-returns-in-Variable : goal.substitute-returns-in-Variable
+substitute-returns-in-Variable t c =
+    let a = c.args.area.now in
+    let v = c.in-Variable in
+    let e : tree_in a c.unwrap_or-image.result ≡ instance_in a c.args.b c.args.i = ap (tree_in a) c.unwrap_or-image.ensures ∙ instance_found a c.args.b c.args.i v.field-0 c.lookup.result (sym c.kind.ensures ∙ v.is) c.lookup.ensures in
+    rw e at c.place.ensures
 
-pub substitute-returns-in_default : goal.substitute-returns-in_default
-unfolding size
-substitute-returns-in_default t c =
-    let a = c.args in
-    let s = a.sheet.now in
-    let w = a.work.now in
-    let d = rw c.in_default.is at c.substitute_list-children.ensures in
-    let k : kind_of w a.i ≡ 0 = omega (arith, c.kind_of.ensures, c.if-kind_of-gt-APPLICATION.false) in
-    let e = instance_apply (lookup (bindings_at s w a.b)) s w a.i c.first_of-first.result k c.first_of-first.ensures.0 in
-    (omega (arith, d.0, ap size e), grown_within d.1 (omega arith) (omega arith))
-
-pub substitute-keep-kept-requires : goal.substitute-keep-kept-requires
-substitute-keep-kept-requires t c =
-    let d = rw c.in-Done.is at c.substitute_list-children.ensures in
-    record { arena = d.made.arena; i_nonzero = (c.requires.i_nonzero.0, omega (arith, d.made.grew, c.requires.i_nonzero.1), omega (arith, d.made.grew, c.requires.i_nonzero.3)); free_in_bounds = (omega (arith, d.used, d.made.grown.len, c.requires.budget_in_bounds.0, c.if-budget-eq0.false), omega (arith, d.used, c.requires.budget_in_bounds.1, c.if-budget-eq0.false)) }
-
-pub substitute-returns-then-index-first : goal.substitute-returns-then-index-first
-substitute-returns-then-index-first t c =
-    let a = c.args in
-    let s = a.sheet.now in
-    let w = a.work.now in
-    let d = rw c.in-Done.is at c.substitute_list-children.ensures in
-    let k : kind_of w a.i ≡ 0 = omega (arith, c.kind_of.ensures, c.if-kind_of-gt-APPLICATION.false) in
-    rw (instance_apply (lookup (bindings_at s w a.b)) s w a.i c.first_of-first.result k c.first_of-first.ensures.0)
-    (placed_unchanged a.i a.next c.requires.arena c.requires.i_nonzero.0 c.requires.i_nonzero.1 k (omega (arith, c.if-budget-eq0.false)) c.requires.i_nonzero.3 d _ _ (c.if-index-first.true ∙ c.first_of-first.ensures.0) c.keep-kept.ensures.0 c.keep-kept.ensures.1)
-
-pub substitute-overflow_sub-budget-2 : goal.substitute-overflow_sub-budget-2
-substitute-overflow_sub-budget-2 t c =
-    let d = rw c.in-Done.is at c.substitute_list-children.ensures in
-    omega (arith, d.spent)
-
-pub substitute-push_like-after-requires : goal.substitute-push_like-after-requires
-substitute-push_like-after-requires t c =
-    let d = rw c.in-Done.is at c.substitute_list-children.ensures in
-    record { free_in_bounds = (omega (arith, d.used, d.made.grown.len, c.requires.budget_in_bounds.0, c.if-budget-eq0.false), omega (arith, d.made.grew, c.requires.i_nonzero.1)); first_bound = (omega (arith, d.made.inside, d.used, c.requires.budget_in_bounds.1), omega (arith, c.requires.i_nonzero.3, c.requires.budget_in_bounds.1), omega (arith, c.requires.budget_in_bounds.2)) }
-
-pub substitute-returns : goal.substitute-returns
-substitute-returns t c =
-    let a = c.args in
-    let s = a.sheet.now in
-    let w = a.work.now in
-    let d = rw c.in-Done.is at c.substitute_list-children.ensures in
-    let k : kind_of w a.i ≡ 0 = omega (arith, c.kind_of.ensures, c.if-kind_of-gt-APPLICATION.false) in
-    rw (instance_apply (lookup (bindings_at s w a.b)) s w a.i c.first_of-first.result k c.first_of-first.ensures.0)
-    (placed_apply a.i a.next c.requires.arena c.requires.i_nonzero.0 c.requires.i_nonzero.1 k (omega (arith, c.if-budget-eq0.false)) c.requires.i_nonzero.3 d c.push_like-after.result c.requires.budget_in_bounds.0 c.push_like-after.ensures.1 c.push_like-after.ensures.0)
+pub substitute-returns-in-Atom : goal.substitute-returns-in-Atom
+substitute-returns-in-Atom t c =
+    let v = c.in-Atom in
+    rw (instance_atom c.args.area.now c.args.b c.args.i v.field-0 (sym c.kind.ensures ∙ v.is)) at c.place-in-Atom.ensures
 
 pub substitute_list-returns-then-i-eq0 : goal.substitute_list-returns-then-i-eq0
 substitute_list-returns-then-i-eq0 t c =
-    let a = c.args in
-    let s = a.sheet.now in
-    let w = a.work.now in
-    rw (instances_none (lookup (bindings_at s w a.b)) s w a.i c.if-i-eq0.true) (listed_none a.budget c.requires.arena)
+    let a = c.args.area.now in
+    rw (instances_none a c.args.b c.args.i c.if-i-eq0.true) (listed_none a c.args.budget)
 
-pub substitute_list-returns-then-budget-eq0 : goal.substitute_list-returns-then-budget-eq0
-unfolding size
-substitute_list-returns-then-budget-eq0 t c =
-    let a = c.args in
-    let s = a.sheet.now in
-    let w = a.work.now in
-    let e = instances_more (lookup (bindings_at s w a.b)) s w a.i (next_of w a.i) c.requires.arena.links (omega (arith, c.if-i-eq0.false)) c.requires.i_lt_free.0 refl in
-    (omega (arith, ap sizes e, size_pos (instance_at s w a.b a.i)), grown_same _ _ _)
+pub substitute_list-returns-in_err-left : goal.substitute_list-returns-in_err-left
+substitute_list-returns-in_err-left t c =
+    let a = c.args.area.now in
+    let e = c.in_err-left.ensures in
+    let n = next_in a c.args.i in
+    rw (c.from_residual.ensures, instances_more a c.args.b c.args.i n refl (omega arith) c.requires.links.0)
+    (over_list a (instance_in a c.args.b c.args.i) (instances_in a c.args.b n) (omega arith))
 
-pub substitute_list-overflow_sub-budget : goal.substitute_list-overflow_sub-budget
-substitute_list-overflow_sub-budget t c = omega arith
-
-pub substitute_list-substitute_list-rest-requires : goal.substitute_list-substitute_list-rest-requires
-substitute_list-substitute_list-rest-requires t c =
-    (omega (arith, c.decreases, c.next_of-next.ensures.1), (c.requires.arena, ((omega (arith, c.next_of-next.ensures.1, c.requires.i_lt_free.0), c.requires.i_lt_free.1), (omega (arith, c.requires.budget_in_bounds.0), omega (arith, c.requires.budget_in_bounds.1), omega (arith, c.requires.budget_in_bounds.2)))))
-
-pub substitute_list-returns-in_default : goal.substitute_list-returns-in_default
-unfolding size
-substitute_list-returns-in_default t c =
-    let a = c.args in
-    let s = a.sheet.now in
-    let w = a.work.now in
-    let d = rw c.in_default.is at c.substitute_list-rest.ensures in
-    let e = instances_more (lookup (bindings_at s w a.b)) s w a.i c.next_of-next.result c.requires.arena.links (omega (arith, c.if-i-eq0.false)) c.requires.i_lt_free.0 c.next_of-next.ensures.0 in
-    (omega (arith, d.0, ap sizes e, size_pos (instance_at s w a.b a.i)), grown_within d.1 (omega arith) (omega arith))
-
-pub substitute_list-overflow_add-left : goal.substitute_list-overflow_add-left
-substitute_list-overflow_add-left t c =
-    let d = rw c.in-Done.is at c.substitute_list-rest.ensures in
-    omega (arith, d.spent, c.requires.budget_in_bounds.2)
-
-pub substitute_list-substitute-requires : goal.substitute_list-substitute-requires
-substitute_list-substitute-requires t c =
-    let d = rw c.in-Done.is at c.substitute_list-rest.ensures in
-    (omega (arith, c.decreases), (d.made.arena, ((omega (arith, c.if-i-eq0.false), omega (arith, d.made.grew, c.requires.i_lt_free.0), omega (arith, d.made.grew, c.requires.i_lt_free.1), d.made.inside), (omega (arith, d.used, d.made.grown.len, c.requires.budget_in_bounds.0, c.if-budget-eq0.false), omega (arith, d.used, c.requires.budget_in_bounds.1, c.if-budget-eq0.false), omega (arith, d.spent, c.requires.budget_in_bounds.2, c.if-budget-eq0.false)))))
+pub substitute_list-returns-in_err-rest : goal.substitute_list-returns-in_err-rest
+substitute_list-returns-in_err-rest t c =
+    let a = c.args.area.now in
+    let e = c.in_ok-left.ensures in
+    rw (c.from_residual-in_err-rest.ensures, instances_more a c.args.b c.args.i c.next_of-next.result c.next_of-next.ensures.next (omega arith) c.requires.links.0)
+    (over_more (instance_in a c.args.b c.args.i) _ (omega arith) c.in_err-rest.ensures)
 
 pub substitute_list-returns : goal.substitute_list-returns
 substitute_list-returns t c =
-    let a = c.args in
-    let s = a.sheet.now in
-    let w = a.work.now in
-    let v = c.substitute_list-rest.new.work in
-    let d = rw c.in-Done.is at c.substitute_list-rest.ensures in
-    let e = instances_more (lookup (bindings_at s w a.b)) s w a.i c.next_of-next.result c.requires.arena.links (omega (arith, c.if-i-eq0.false)) c.requires.i_lt_free.0 c.next_of-next.ensures.0 in
-    let f = instance_frame s v a.b a.i c.requires.arena.links d.made.grown.below c.requires.i_lt_free.1 (omega (arith, c.if-i-eq0.false)) c.requires.i_lt_free.0 in
-    rw (e, f) (builds_more (omega (arith, c.if-budget-eq0.false)) d c.substitute.new.work _ c.substitute.result c.substitute.ensures)
+    let a = c.args.area.now in
+    let e = c.in_ok-left.ensures in
+    let h = c.in_ok-rest.ensures in
+    let p : 0 < c.args.i = omega arith in
+    rw (instances_more a c.args.b c.args.i c.next_of-next.result c.next_of-next.ensures.next p c.requires.links.0, ← instance_later c.args.b c.args.i (adds_grows h.lists.adds) c.requires.links.1 p c.requires.links.0)
+    (builds_more h (omega arith) c.substitute.new.area _ c.substitute.result c.substitute.ensures)

@@ -1,82 +1,78 @@
 use native.Mathlib.Omega.{arith}
 use Rattle.unifier.proofs.Tops.{top_whole, top_fit}
-use Rattle.unifier.proofs.Invariant.{holds_start, holds_solved, holds_spent, holds_right, holds_top, step_room, step_differs, bind_room, holds_fails, holds_unknown, holds_next, holds_bind}
+use Rattle.unifier.proofs.Taking.{holds_start, holds_solved, holds_spent, holds_right, holds_top, step_room, step_apart, bind_cells, bind_room, holds_fails, holds_unknown, holds_next, holds_bind}
 use Rattle.unifier.proofs.unifying.run.Goals as goal
+use Rattle.unifier.proofs.unifying.run.Goals.{in-Next, in-Bind}
 
-pub loop-left-init : goal.loop-left-init
-loop-left-init c =
-    holds_start c.requires.arena c.requires.stack_lt_free.0 c.requires.stack_lt_free.2 c.requires.stack_lt_free.3 c.requires.roomy
-
-pub overflow_sub-result : goal.overflow_sub-result
-overflow_sub-result c = omega (arith, c.loop-left.invariant.within)
+pub loop-spent-init : goal.loop-spent-init
+loop-spent-init c = holds_start c.requires.stack.0 c.requires.stack.1 c.requires.stack.2 c.requires.room
 
 pub returns-then-waiting-eq0 : goal.returns-then-waiting-eq0
-returns-then-waiting-eq0 c = holds_solved c.loop-left.invariant (omega arith) c.if-waiting-eq0.true
-
-pub next_of-right-requires : goal.next_of-right-requires
-next_of-right-requires c =
-    let h = c.loop-left.invariant in
-    record { links = h.arena.links; k_nonzero = (omega arith, h.stack) }
+returns-then-waiting-eq0 c = holds_solved c.loop-spent.invariant c.loop-spent-test.true c.if-waiting-eq0.true
 
 pub next_of-rest-requires : goal.next_of-rest-requires
-next_of-rest-requires c =
-    let h = c.loop-left.invariant in
-    record { links = h.arena.links; k_nonzero = holds_right h (omega arith) c.next_of-right.ensures }
+next_of-rest-requires c = let e = c.next_of-right.ensures in holds_right c.loop-spent.invariant (omega arith) e.next e.below
 
-pub step-taken-requires : goal.step-taken-requires
-step-taken-requires c =
-    let h = c.loop-left.invariant in
-    let r = holds_right h (omega arith) c.next_of-right.ensures in
-    let t = holds_top h (omega arith) c.next_of-right.ensures c.next_of-rest.ensures in
+pub step-requires-clause-cells : goal.step-requires-clause-cells
+step-requires-clause-cells c =
+    let h = c.loop-spent.invariant in
+    let e = c.next_of-right.ensures in
+    let r = holds_right h (omega arith) e.next e.below in
+    (omega arith, h.stack, r.0, r.1, omega (arith, r.1, c.next_of-rest.ensures.below))
+
+pub step-requires-clause-whole : goal.step-requires-clause-whole
+step-requires-clause-whole c =
+    let h = c.loop-spent.invariant in
+    let e = c.next_of-right.ensures in
+    let t = holds_top h (omega arith) e.next e.below c.next_of-rest.ensures.next in
     let f = top_fit t h.fit in
-    record { arena = h.arena; left_nonzero = (omega arith, h.stack, r.0, r.1, omega (arith, r.1, c.next_of-rest.ensures.1)); whole = (top_whole t, f.0, f.1); room = step_room h t (omega arith); differing = step_differs h t (omega arith) }
+    (top_whole t, f.0, f.1)
 
-pub overflow_sub-left : goal.overflow_sub-left
-overflow_sub-left c = omega arith
+pub step-requires-clause-room : goal.step-requires-clause-room
+step-requires-clause-room c =
+    let h = c.loop-spent.invariant in
+    let e = c.next_of-right.ensures in
+    step_room h (holds_top h (omega arith) e.next e.below c.next_of-rest.ensures.next) c.loop-spent-test.true
 
-pub loop-left-smaller-in-Next : goal.loop-left-smaller-in-Next
-loop-left-smaller-in-Next c = omega arith
+pub step-requires-clause-differing : goal.step-requires-clause-differing
+step-requires-clause-differing c =
+    let h = c.loop-spent.invariant in
+    let e = c.next_of-right.ensures in
+    step_apart h (holds_top h (omega arith) e.next e.below c.next_of-rest.ensures.next) c.loop-spent-test.true
 
-pub loop-left-preserved-in-Next : goal.loop-left-preserved-in-Next
-loop-left-preserved-in-Next c =
-    let h = c.loop-left.invariant in
-    let t = holds_top h (omega arith) c.next_of-right.ensures c.next_of-rest.ensures in
-    holds_next h t (omega arith) _ _ _ _ (rw c.in-Next.is at c.step-taken.ensures)
+pub push_pair-made-requires-clause-cells : goal.push_pair-made-requires-clause-cells
+push_pair-made-requires-clause-cells c =
+    let h = c.loop-spent.invariant in
+    let e = c.next_of-right.ensures in
+    bind_cells h (holds_top h (omega arith) e.next e.below c.next_of-rest.ensures.next) c.loop-spent-test.true c.in-Bind.ensures
 
-pub push_pair-pushed-requires : goal.push_pair-pushed-requires
-push_pair-pushed-requires c =
-    let h = c.loop-left.invariant in
-    let t = holds_top h (omega arith) c.next_of-right.ensures c.next_of-rest.ensures in
-    let d = rw c.in-Bind.is at c.step-taken.ensures in
-    let k = d.waits in
-    record { arena = k.arena; left_nonzero = (d.cells.0, d.cells.1, d.cells.2, d.cells.3, omega (arith, h.list, k.grew)); free_in_bounds = bind_room h t (omega arith) _ d }
-
-pub loop-left-smaller : goal.loop-left-smaller
-loop-left-smaller c = omega arith
-
-pub loop-left-preserved : goal.loop-left-preserved
-loop-left-preserved c =
-    let h = c.loop-left.invariant in
-    let t = holds_top h (omega arith) c.next_of-right.ensures c.next_of-rest.ensures in
-    holds_bind h t (omega arith) _ _ _ (rw c.in-Bind.is at c.step-taken.ensures) c.push_pair-pushed.ensures
-
-pub overflow_sub-result-in-Fails : goal.overflow_sub-result-in-Fails
-overflow_sub-result-in-Fails c = omega (arith, c.loop-left.invariant.within)
+pub push_pair-made-requires-clause-room : goal.push_pair-made-requires-clause-room
+push_pair-made-requires-clause-room c =
+    let h = c.loop-spent.invariant in
+    let e = c.next_of-right.ensures in
+    bind_room h (holds_top h (omega arith) e.next e.below c.next_of-rest.ensures.next) c.loop-spent-test.true c.in-Bind.ensures
 
 pub returns-in-Fails : goal.returns-in-Fails
 returns-in-Fails c =
-    let h = c.loop-left.invariant in
-    let t = holds_top h (omega arith) c.next_of-right.ensures c.next_of-rest.ensures in
-    holds_fails h t (omega arith) _ (rw c.in-Fails.is at c.step-taken.ensures)
-
-pub overflow_sub-result-in-Unknown : goal.overflow_sub-result-in-Unknown
-overflow_sub-result-in-Unknown c = omega (arith, c.loop-left.invariant.within)
+    let h = c.loop-spent.invariant in
+    let e = c.next_of-right.ensures in
+    holds_fails h (holds_top h (omega arith) e.next e.below c.next_of-rest.ensures.next) c.loop-spent-test.true c.in-Fails.ensures
 
 pub returns-in-Unknown : goal.returns-in-Unknown
 returns-in-Unknown c =
-    let h = c.loop-left.invariant in
-    let t = holds_top h (omega arith) c.next_of-right.ensures c.next_of-rest.ensures in
-    holds_unknown h t (omega arith) _ (rw c.in-Unknown.is at c.step-taken.ensures)
+    let h = c.loop-spent.invariant in
+    let e = c.next_of-right.ensures in
+    holds_unknown h (holds_top h (omega arith) e.next e.below c.next_of-rest.ensures.next) c.loop-spent-test.true c.in-Unknown.ensures
+
+pub loop-spent-preserved : goal.loop-spent-preserved
+loop-spent-preserved c =
+    let h = c.loop-spent.invariant in
+    let e = c.next_of-right.ensures in
+    let t = holds_top h (omega arith) e.next e.below c.next_of-rest.ensures.next in
+    elim c.match-step.branch [
+      | in-Next w ↦ rw (w.area-is, w.waiting-is, w.made-is, w.apart-is) (holds_next h t c.loop-spent-test.true w.in-Next.ensures)
+      | in-Bind w ↦ rw (w.area-is, w.waiting-is, w.made-is, w.apart-is) (holds_bind h t c.loop-spent-test.true w.in-Bind.ensures w.push_pair-made.ensures.lists w.push_pair-made.ensures.end)
+    ]
 
 pub returns : goal.returns
-returns c = holds_spent c.loop-left.invariant c.loop-left-test.false
+returns c = holds_spent c.loop-spent.invariant (omega (arith, c.loop-spent-test.false))

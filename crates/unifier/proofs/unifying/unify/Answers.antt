@@ -1,24 +1,20 @@
-use Rattle.unifier.proofs.Finishing.{finished, finished_solved, finished_over}
 use native.Mathlib.Omega.{arith}
+use Rattle.unifier.specs.Areas.{stack_in}
+use Rattle.unifier.proofs.Taking.{composed_solved, composed_over, answered_other}
 use Rattle.unifier.proofs.unifying.unify.Goals as goal
 
-pub compose-composed-requires : goal.compose-composed-requires
-compose-composed-requires c =
-    let r = rw c.in-Solved.is at c.run-ran.ensures in
-    record { arena = r.list.arena; made_lt_free = (r.list.inside, r.list.chain); made_in_bounds = (omega (arith, r.room), r.fits) }
-
 pub returns-in_default : goal.returns-in_default
-returns-in_default c = finished_over _ _ (rw c.in-Solved.is at c.run-ran.ensures) (rw c.in_default.is at c.compose-composed.ensures)
+returns-in_default c =
+    answered_other c.args.fuel (stack_in c.args.area.now c.args.stack) _ _ c.run-ran.ensures c.in_default.not-Solved
 
-pub returns-in-Failed : goal.returns-in-Failed
-returns-in-Failed c =
-    let r = rw c.in-Failed.is at c.run-ran.ensures in
-    (finished _ _ _ r.0, r.1)
+pub compose-requires-clause-chain : goal.compose-requires-clause-chain
+compose-requires-clause-chain c = let r = rw c.in-Solved.is at c.run-ran.ensures.made in (r.inside, r.chain)
 
-pub returns-in-Unsupported : goal.returns-in-Unsupported
-returns-in-Unsupported c =
-    let r = rw c.in-Unsupported.is at c.run-ran.ensures in
-    (finished _ _ _ r.0, r.1)
+pub compose-requires-clause-room : goal.compose-requires-clause-room
+compose-requires-clause-room c = let r = rw c.in-Solved.is at c.run-ran.ensures.made in (omega (arith, r.room), r.fits)
 
-pub returns-in-Composed : goal.returns-in-Composed
-returns-in-Composed c = finished_solved _ _ (rw c.in-Solved.is at c.run-ran.ensures) (rw c.in-Composed.is at c.compose-composed.ensures)
+pub returns-in-Some : goal.returns-in-Some
+returns-in-Some c = composed_solved c.args.fuel (stack_in c.args.area.now c.args.stack) (rw c.in-Solved.is at c.run-ran.ensures) c.in-Some.ensures
+
+pub returns-in-None : goal.returns-in-None
+returns-in-None c = composed_over c.args.fuel (stack_in c.args.area.now c.args.stack) (rw c.in-Solved.is at c.run-ran.ensures) c.in-None.ensures

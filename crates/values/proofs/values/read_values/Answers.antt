@@ -1,34 +1,32 @@
 use native.Mathlib.Omega.{arith}
-use Rattle.values.proofs.Entries.{walking_starts, placed, names_there, walking_ends, walking_room, walking_unread, walking_turn}
+use Rattle.values.proofs.ValueLaws.{walk_starts, walk_names, walk_variables, walk_ends, walk_placed, walk_inside, walk_room, walk_unread, walk_turn}
 use Rattle.values.proofs.values.read_values.Goals as goal
 
 pub loop-entry-init : goal.loop-entry-init
-loop-entry-init c =
-    let a = c.args in
-    walking_starts a.sheet.now a.work.now a.free a.names a.start.at c.requires.arena c.requires.at_in_bounds.0
+loop-entry-init c = walk_starts c.args.area.now c.args.names c.args.start c.requires.start.0
 
-pub read_value-read-requires : goal.read_value-read-requires
-read_value-read-requires c =
-    let h = c.loop-entry.invariant in
-    let e = c.in-Some.ensures in
-    let x = placed c.args.sheet.now c.loop-entry.cursor.at c.in-Some.entry e in
-    let k = walking_room c.requires.arena c.requires.names_lt_free.0 h c.in-Some.entry e in
-    let m = h.len in
-    record { arena = h.arena; names_lt_free = (omega (arith, h.grew, c.requires.names_lt_free.0), h.inside, names_there c.requires.arena c.requires.names_lt_free.0 h c.requires.names_lt_free.1); inside = (x.key, x.value, c.requires.at_in_bounds.1); to_in_bounds = (omega (arith, k.0, c.requires.sheet_in_bounds.0), omega (arith, k.1, c.requires.sheet_in_bounds.1)) }
+pub read_value-requires-clause-links : goal.read_value-requires-clause-links
+read_value-requires-clause-links c = walk_names c.requires.names.0 c.loop-entry.invariant
 
-pub returns-in_default-read : goal.returns-in_default-read
-returns-in_default-read c = walking_unread c.requires.arena c.requires.names_lt_free.0 c.loop-entry.invariant c.in-Some.entry c.in-Some.ensures (rw c.in_default-read.is at c.read_value-read.ensures)
+pub read_value-requires-clause-of_variables : goal.read_value-requires-clause-of_variables
+read_value-requires-clause-of_variables c = walk_variables c.requires.names.0 c.loop-entry.invariant c.requires.names.1
+
+pub read_value-requires-clause-inside : goal.read_value-requires-clause-inside
+read_value-requires-clause-inside c = walk_inside c.requires.names.0 c.loop-entry.invariant c.in-Some.entry c.in-Some.ensures c.requires.start.1
+
+pub read_value-requires-clause-room : goal.read_value-requires-clause-room
+read_value-requires-clause-room c = walk_room c.requires.names.0 c.loop-entry.invariant c.in-Some.entry c.in-Some.ensures c.requires.room
+
+pub returns-in_err-bindings : goal.returns-in_err-bindings
+returns-in_err-bindings c = rw c.from_residual.ensures (walk_unread c.requires.names.0 c.loop-entry.invariant c.in-Some.entry c.in-Some.ensures c.in_err-bindings.ensures)
 
 pub loop-entry-smaller : goal.loop-entry-smaller
 loop-entry-smaller c =
-    let x = placed c.args.sheet.now c.loop-entry.cursor.at c.in-Some.entry c.in-Some.ensures in
+    let x = walk_placed c.requires.names.0 c.loop-entry.invariant c.in-Some.entry c.in-Some.ensures in
     omega (arith, x.next, x.within)
 
 pub loop-entry-preserved : goal.loop-entry-preserved
-loop-entry-preserved c = walking_turn c.requires.arena c.requires.names_lt_free.0 c.loop-entry.invariant c.in-Some.entry c.in-Some.ensures (rw c.in-Bound.is at c.read_value-read.ensures)
-
-pub shape_of-work : goal.shape_of-work
-shape_of-work c = c.loop-entry.invariant.len
+loop-entry-preserved c = walk_turn c.requires.names.0 c.loop-entry.invariant c.in-Some.entry c.in-Some.ensures c.in_ok-bindings.ensures
 
 pub returns : goal.returns
-returns c = walking_ends c.requires.arena c.requires.names_lt_free.0 c.loop-entry.invariant c.in_default.ensures
+returns c = walk_ends c.requires.names.0 c.loop-entry.invariant c.in_default.ensures

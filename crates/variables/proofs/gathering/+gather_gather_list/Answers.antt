@@ -1,93 +1,48 @@
-use native.Mathlib.Omega.{arith}
-use mathlib.Core.Path.{refl, sym, ◌∙◌}
-use Prim.Native.Nat.{◌+◌}
-use Rattle.tree.specs.Cells.{tree_at}
-use Rattle.tree.proofs.Decoding.{children_fall, head_falls, size_pos, size_apply, sizes_more, sizes_is}
-use Rattle.variables.proofs.Naming.{arena_kept, named_variable, named_atom, named_none, named_list, list_spelled, parts_spelled, rest_sizes, rest_spelled, named_more}
 use Prim.Native.Nat.{◌<◌}
+use mathlib.Core.Path.{sym, ◌∙◌}
+use native.Mathlib.Omega.{arith}
+use Rattle.tree.specs.Areas.{tree_in}
+use Rattle.tree.proofs.Decoding.{size_pos}
+use Rattle.variables.proofs.Collecting.{collect_variable, collect_atom, children_readable, children_sizes, collect_children, collecting_starts, collected, collecting_inside, collecting_readable, collecting_room, collecting_turn}
 use Rattle.variables.proofs.gathering.+gather_gather_list.Goals as goal
-
-pub gather-kind_of-kind-requires : goal.gather-kind_of-kind-requires
-gather-kind_of-kind-requires t c = omega (arith, c.requires.arena.links.room, c.requires.i_nonzero.1)
-
-pub gather-first_of-first-requires : goal.gather-first_of-first-requires
-gather-first_of-first-requires t c = record { links = c.requires.arena.links; k_nonzero = (c.requires.i_nonzero.0, c.requires.i_nonzero.1) }
 
 pub gather-gather_list-requires : goal.gather-gather_list-requires
 gather-gather_list-requires t c =
-    let a = c.args in
-    let k = sym c.kind_of-kind.ensures ∙ c.if-kind-eq-APPLICATION.true in
+    let a = c.args.area.now in
+    let e = sym c.kind.ensures ∙ c.in-Application.is in
     let f = c.first_of-first.ensures in (
-      omega (arith, c.decreases, children_fall a.sheet.now a.work.now a.i c.first_of-first.result k f.0),
-      (c.requires.arena, ((omega (arith, f.1, c.requires.i_nonzero.1), list_spelled a.sheet.now a.work.now a.i c.first_of-first.result k f.0 c.requires.i_nonzero.2), (c.requires.free_bound.0, omega (arith, c.requires.free_bound.1, size_apply a.sheet.now a.work.now a.i k, sizes_is a.sheet.now a.work.now f.0)))),
+      omega (arith, c.decreases, f.below),
+      ((omega (arith, f.below, c.requires.cell.1), children_readable a c.args.i c.first_of-first.result e f.first c.requires.cell.2), (c.requires.room.0, omega (arith, c.requires.room.1, children_sizes a c.args.i c.first_of-first.result e f.first))),
     )
 
-pub gather-returns-then-kind-eq-APPLICATION : goal.gather-returns-then-kind-eq-APPLICATION
-gather-returns-then-kind-eq-APPLICATION t c =
-    let a = c.args in
-    named_list a.sheet.now a.work.now a.i c.first_of-first.result (sym c.kind_of-kind.ensures ∙ c.if-kind-eq-APPLICATION.true) c.first_of-first.ensures.0 c.gather_list.ensures
+pub gather-set_word-requires-clause-above : goal.gather-set_word-requires-clause-above
+gather-set_word-requires-clause-above t c = (c.requires.room.0, omega (arith, c.requires.room.1, size_pos (tree_in c.args.area.now c.args.i)))
 
-pub gather-overflow_mul-work : goal.gather-overflow_mul-work
-gather-overflow_mul-work t c = omega (arith, c.requires.arena.links.room, c.requires.i_nonzero.1)
+pub gather-returns-in-Application : goal.gather-returns-in-Application
+gather-returns-in-Application t c = collect_children c.args.area.now c.args.i c.first_of-first.result (sym c.kind.ensures ∙ c.in-Application.is) c.first_of-first.ensures.first c.gather_list.ensures
 
-pub gather-bounds-work-i : goal.gather-bounds-work-i
-gather-bounds-work-i t c = omega (arith, c.requires.arena.links.room, c.requires.i_nonzero.1)
+pub gather-returns-in-Variable : goal.gather-returns-in-Variable
+gather-returns-in-Variable t c =
+    let i = c.requires.cell in
+    collect_variable c.in-Variable.field-0 (sym c.kind.ensures ∙ c.in-Variable.is) i.0 i.1 i.2 c.requires.room.0 (omega (arith, c.requires.room.1, size_pos (tree_in c.args.area.now c.args.i))) c.word-place.ensures.0 c.set_word.ensures
 
-pub gather-bounds-work-at : goal.gather-bounds-work-at
-gather-bounds-work-at t c =
-    let a = c.args in
-    omega (arith, c.requires.free_bound.1, size_pos (tree_at a.sheet.now a.work.now a.i))
+pub gather-returns-in-Atom : goal.gather-returns-in-Atom
+gather-returns-in-Atom t c = collect_atom c.args.area.now c.args.i c.args.at c.in-Atom.field-0 (sym c.kind.ensures ∙ c.in-Atom.is)
 
-pub gather-overflow_add-result : goal.gather-overflow_add-result
-gather-overflow_add-result t c =
-    let a = c.args in
-    omega (arith, c.requires.free_bound.1, size_pos (tree_at a.sheet.now a.work.now a.i))
+pub gather_list-loop-i-init : goal.gather_list-loop-i-init
+gather_list-loop-i-init t c = collecting_starts c.args.area.now c.args.list c.args.at c.requires.list.0 c.requires.list.1
 
-pub gather-returns-then-kind-lt-ATOMS : goal.gather-returns-then-kind-lt-ATOMS
-gather-returns-then-kind-lt-ATOMS t c =
-    let a = c.args in
-    let k = c.kind_of-kind.ensures in
-    named_variable a.sheet.now a.work.now a.i a.at (a.at + 1) c.requires.arena c.requires.i_nonzero.0 c.requires.i_nonzero.1 (omega (arith, k, c.if-kind-eq-APPLICATION.false)) (omega (arith, k, c.if-kind-lt-ATOMS.true)) c.requires.i_nonzero.2 (omega (arith, c.requires.free_bound.1, size_pos (tree_at a.sheet.now a.work.now a.i))) refl
+pub gather_list-gather-end-requires : goal.gather_list-gather-end-requires
+gather_list-gather-end-requires t c =
+    let h = c.loop-i.invariant in
+    let p : 0 < c.loop-i.i = omega (arith, c.loop-i-test.true) in
+    let r = collecting_room c.requires.room.0 h p in
+    (omega (arith, c.decreases, h.later), ((p, collecting_inside c.requires.room.0 h, collecting_readable c.requires.room.0 h p), (r.0, omega (arith, r.1, c.requires.room.1, h.keeps.below.len))))
 
-pub gather-returns : goal.gather-returns
-gather-returns t c =
-    let a = c.args in
-    named_atom a.sheet.now a.work.now a.i a.at a.at (omega (arith, c.kind_of-kind.ensures, c.if-kind-lt-ATOMS.false)) refl
-
-pub gather_list-returns-then-i-eq0 : goal.gather_list-returns-then-i-eq0
-gather_list-returns-then-i-eq0 t c =
-    let a = c.args in
-    named_none a.sheet.now a.work.now a.i a.at a.at c.if-i-eq0.true refl
-
-pub gather_list-gather-mid-requires : goal.gather_list-gather-mid-requires
-gather_list-gather-mid-requires t c =
-    let a = c.args in
-    let s = a.sheet.now in
-    let q : 0 < a.i = omega (arith, c.if-i-eq0.false) in
-    let n = sizes_more s c.requires.arena.links a.i q c.requires.i_lt_free.0 in
-    (omega (arith, c.decreases, head_falls s c.requires.arena.links a.i q c.requires.i_lt_free.0), (c.requires.arena, ((q, c.requires.i_lt_free.0, (parts_spelled s c.requires.arena a.i q c.requires.i_lt_free.0 c.requires.i_lt_free.1).0), (c.requires.free_bound.0, omega (arith, c.requires.free_bound.1, n)))))
-
-pub gather_list-next_of-next-requires : goal.gather_list-next_of-next-requires
-gather_list-next_of-next-requires t c =
-    let a = c.args in
-    record { links = (arena_kept a.sheet.now c.requires.arena c.requires.free_bound.0 c.gather-mid.ensures.kept).links; k_nonzero = (omega (arith, c.if-i-eq0.false), c.requires.i_lt_free.0) }
-
-pub gather_list-gather_list-requires : goal.gather_list-gather_list-requires
-gather_list-gather_list-requires t c =
-    let a = c.args in
-    let s = a.sheet.now in
-    let g = c.gather-mid.ensures in
-    let q : 0 < a.i = omega (arith, c.if-i-eq0.false) in
-    let r = rest_sizes s a.work.now c.gather-mid.new.work a.free a.i c.next_of-next.result a.at c.gather-mid.result c.requires.arena q c.requires.i_lt_free.0 c.requires.free_bound.0 c.next_of-next.ensures.0 g.kept in
-    let o = size_pos (tree_at s a.work.now a.i) in
-    let m = g.kept.len in (
-      omega (arith, c.decreases, r, o),
-      (arena_kept s c.requires.arena c.requires.free_bound.0 g.kept, ((omega (arith, c.next_of-next.ensures.1, c.requires.i_lt_free.0), rest_spelled s a.work.now c.gather-mid.new.work a.free a.i c.next_of-next.result a.at c.gather-mid.result c.requires.arena q c.requires.i_lt_free.0 c.requires.free_bound.0 c.next_of-next.ensures.0 g.kept c.requires.i_lt_free.1), (omega (arith, c.requires.free_bound.0, g.grew), omega (arith, c.requires.free_bound.1, r, g.most_is, m)))),
-    )
+pub gather_list-loop-i-preserved : goal.gather_list-loop-i-preserved
+gather_list-loop-i-preserved t c =
+    let p : 0 < c.loop-i.i = omega (arith, c.loop-i-test.true) in
+    collecting_turn c.requires.room.0 c.loop-i.invariant p c.requires.room.1 c.gather-end.ensures c.next_of-i.ensures.next c.next_of-i.ensures.below
 
 pub gather_list-returns : goal.gather_list-returns
-gather_list-returns t c =
-    let a = c.args in
-    let s = a.sheet.now in
-    let g = c.gather-mid.ensures in
-    named_more s a.work.now c.gather-mid.new.work a.free a.i c.next_of-next.result a.at c.gather-mid.result c.requires.arena (omega (arith, c.if-i-eq0.false)) c.requires.i_lt_free.0 c.requires.free_bound.0 c.next_of-next.ensures.0 g.kept c.gather_list.new.work c.gather_list.result c.requires.free_bound.1 g c.gather_list.ensures
+gather_list-returns t c = collected c.requires.room.0 c.loop-i.invariant (omega (arith, c.loop-i-test.false))

@@ -1,56 +1,35 @@
-use native.Mathlib.Omega.{arith}
 use Prim.Native.Nat.{◌<◌}
-use Rattle.variables.proofs.Pairings.{pairing_starts, pairing_ends, now_variable, now_room, pairing_turn}
+use native.Mathlib.Omega.{arith}
+use Rattle.variables.proofs.Pairs.{pairs_starts, pairs_ends, pairs_variable, pairs_room, pairs_turn}
 use Rattle.variables.proofs.pairing.pair_variables.Goals as goal
 
 pub loop-k-init : goal.loop-k-init
 loop-k-init c =
     let a = c.args in
-    pairing_starts a.sheet.now a.work.now a.free a.names a.values a.bindings a.rest c.requires.arena c.requires.names_lt_free.1 c.requires.names_lt_free.2 c.requires.names_lt_free.0 c.requires.names_lt_free.3 c.requires.names_lt_free.4
+    pairs_starts a.area.now a.names a.values a.bindings a.rest c.requires.links.0 c.requires.of_variables c.requires.links.3
 
-pub value_at-left-requires : goal.value_at-left-requires
-value_at-left-requires c =
-    let a = c.args in
+pub value_at-left-requires-clause-x_cell : goal.value_at-left-requires-clause-x_cell
+value_at-left-requires-clause-x_cell c =
     let h = c.loop-k.invariant in
-    let q : 0 < c.loop-k.k = omega (arith, c.loop-k-test.true) in
-    record { arena = h.made.arena; b_lt_free = omega (arith, h.made.grew, c.requires.names_lt_free.1, c.requires.names_lt_free.2); x_nonzero = (q, omega (arith, h.left, h.made.grew), now_variable a.sheet.now a.work.now a.free a.names a.values a.bindings a.rest c.requires.arena c.requires.names_lt_free.1 c.requires.names_lt_free.2 h q) }
+    let p : 0 < c.loop-k.k = omega (arith, c.loop-k-test.true) in
+    (p, omega (arith, h.left, h.lists.adds.grew), pairs_variable h p)
 
-pub value_at-right-requires : goal.value_at-right-requires
-value_at-right-requires c =
-    let a = c.args in
+pub value_at-right-requires-clause-x_cell : goal.value_at-right-requires-clause-x_cell
+value_at-right-requires-clause-x_cell c =
     let h = c.loop-k.invariant in
-    let q : 0 < c.loop-k.k = omega (arith, c.loop-k-test.true) in
-    record { arena = h.made.arena; b_lt_free = omega (arith, h.made.grew, c.requires.names_lt_free.1, c.requires.names_lt_free.2); x_nonzero = (q, omega (arith, h.left, h.made.grew), now_variable a.sheet.now a.work.now a.free a.names a.values a.bindings a.rest c.requires.arena c.requires.names_lt_free.1 c.requires.names_lt_free.2 h q) }
+    let p : 0 < c.loop-k.k = omega (arith, c.loop-k-test.true) in
+    (p, omega (arith, h.left, h.lists.adds.grew), pairs_variable h p)
 
-pub next_of-next-requires : goal.next_of-next-requires
-next_of-next-requires c =
+pub push_pair-list-requires-clause-room : goal.push_pair-list-requires-clause-room
+push_pair-list-requires-clause-room c =
     let h = c.loop-k.invariant in
-    record { links = h.made.arena.links; k_nonzero = (omega (arith, c.loop-k-test.true), omega (arith, h.left, h.made.grew)) }
-
-pub push_pair-pushed-requires : goal.push_pair-pushed-requires
-push_pair-pushed-requires c =
-    let a = c.args in
-    let h = c.loop-k.invariant in
-    let q : 0 < c.loop-k.k = omega (arith, c.loop-k-test.true) in
-    let l = c.value_at-left.ensures in
-    let r = c.value_at-right.ensures in
-    let room = now_room a.sheet.now a.work.now a.free a.names a.values a.bindings a.rest c.requires.arena c.requires.names_lt_free.1 c.requires.names_lt_free.2 h q in
-    record { arena = h.made.arena; left_nonzero = (l.0, l.1, r.0, r.1, h.made.inside); free_in_bounds = (omega (arith, room, h.made.grown.len, c.requires.names_in_bounds.0), omega (arith, room, c.requires.names_in_bounds.1)) }
-
-pub loop-k-smaller : goal.loop-k-smaller
-loop-k-smaller c = omega (arith, c.next_of-next.ensures.1)
+    let r = pairs_room h (omega (arith, c.loop-k-test.true)) in
+    (omega (arith, r, h.lists.adds.grown.len, c.requires.room.0), omega (arith, r, c.requires.room.1))
 
 pub loop-k-preserved : goal.loop-k-preserved
 loop-k-preserved c =
-    let a = c.args in
-    let h = c.loop-k.invariant in
-    let q : 0 < c.loop-k.k = omega (arith, c.loop-k-test.true) in
-    pairing_turn a.sheet.now a.work.now a.free a.names a.values a.bindings a.rest c.requires.arena c.requires.names_lt_free.1 c.requires.names_lt_free.2 h q c.value_at-left.result c.value_at-right.result c.next_of-next.result c.push_pair-pushed.result.index c.push_pair-pushed.result.free c.next_of-next.ensures.0 c.value_at-left.ensures.2 c.value_at-right.ensures.2 c.push_pair-pushed.ensures.0 c.push_pair-pushed.ensures.1
-
-pub shape_of-work : goal.shape_of-work
-shape_of-work c = c.loop-k.invariant.made.grown.len
+    let p : 0 < c.loop-k.k = omega (arith, c.loop-k-test.true) in
+    pairs_turn c.loop-k.invariant p c.value_at-left.result c.value_at-right.result c.requires.links.1 c.requires.links.2 c.value_at-left.ensures.value c.value_at-right.ensures.value c.push_pair-list.ensures.lists c.push_pair-list.ensures.end c.next_of-k.ensures.next
 
 pub returns : goal.returns
-returns c =
-    let a = c.args in
-    pairing_ends a.sheet.now a.work.now a.free a.names a.values a.bindings a.rest c.requires.arena c.requires.names_lt_free.1 c.requires.names_lt_free.2 c.loop-k.invariant (omega (arith, c.loop-k-test.false))
+returns c = pairs_ends c.loop-k.invariant (omega (arith, c.loop-k-test.false))

@@ -1,24 +1,20 @@
 use mathlib.Core.Path.{sym, ap, ◌∙◌}
-use native.Mathlib.Omega.{arith}
-use Rattle.forms.specs.Form.{text_of}
-use Rattle.tree.specs.Cells.{tree_at}
+use Rattle.rules.specs.Sorts.{variable_sort}
+use Rattle.tree.proofs.Spelling.{text_lent, spelled_lent}
 use Rattle.variants.specs.Members.{nameable}
-use Rattle.variants.proofs.Entering.{key_out, key_in}
+use Rattle.variants.proofs.ReadingMembers.{key_spelled, key_out, key_in}
 use Rattle.variants.proofs.members.push_entry.Goals as goal
 
-pub returns-then-not-is_nameable : goal.returns-then-not-is_nameable
-returns-then-not-is_nameable c =
-    let a = c.args in
-    key_out c.requires.arena c.requires.inside.3 (text_of a.sheet.now a.key) (tree_at a.sheet.now a.work.now a.value) (sym (c.is_nameable.ensures ∙ ap nameable c.part.ensures) ∙ c.if-not-is_nameable.true)
+pub returns-then-not-is_nameable-clause-lists : goal.returns-then-not-is_nameable-clause-lists
+returns-then-not-is_nameable-clause-lists c = key_out c.args.key c.args.value c.requires.cells.2 (sym (c.is_nameable.ensures ∙ ap nameable c.part-name.ensures) ∙ c.if-not-is_nameable.true)
 
-pub push_key-end-requires : goal.push_key-end-requires
-push_key-end-requires c =
-    let m = c.share-middle.ensures in
-    record { arena = rw m.0 m.1.arena; inside = (c.requires.inside.0, sym (c.is_nameable.ensures ∙ ap nameable c.part.ensures) ∙ c.if-not-is_nameable.false, omega (arith, m.0)); sheet_len_bound = (c.requires.sheet_len_bound.0, omega (arith, m.0, m.1.grown.len, c.requires.sheet_len_bound), omega (arith, m.0, c.requires.sheet_len_bound)) }
+pub push_variable-requires-clause-name : goal.push_variable-requires-clause-name
+push_variable-requires-clause-name c =
+    spelled_lent c.args.key c.share-rest.ensures.lent
+    (key_spelled c.args.area.now c.args.key c.requires.key.0 c.requires.key.1 (sym (c.is_nameable.ensures ∙ ap nameable c.part-name.ensures) ∙ c.if-not-is_nameable.false))
 
-pub returns : goal.returns
-returns c =
-    let a = c.args in
-    let m = c.share-middle.ensures in
-    let k = c.push_key-end.ensures in
-    key_in c.requires.arena c.requires.inside.3 (text_of a.sheet.now a.key) c.share-middle.result c.push_key-end.result (sym (c.is_nameable.ensures ∙ ap nameable c.part.ensures) ∙ c.if-not-is_nameable.false) m.1 m.0 k.1 k.0
+pub push_variable-requires-clause-sort : goal.push_variable-requires-clause-sort
+push_variable-requires-clause-sort c = c.variable_sort-sort.ensures ∙ ap variable_sort (c.part-name.ensures ∙ sym (text_lent c.args.key c.share-rest.ensures.lent))
+
+pub returns-clause-lists : goal.returns-clause-lists
+returns-clause-lists c = key_in c.args.key c.args.value c.requires.cells.2 (sym (c.is_nameable.ensures ∙ ap nameable c.part-name.ensures) ∙ c.if-not-is_nameable.false) c.share-rest.ensures c.push_variable.ensures

@@ -1,31 +1,33 @@
 use native.Mathlib.Omega.{arith}
-use Rattle.variants.proofs.Entering.{entering_starts, entering_ends, located, entering_room, entering_unread, entering_turn}
+use Rattle.reading.proofs.Keeping.{sheet_length}
+use Rattle.variants.proofs.EntryLaws.{located}
+use Rattle.variants.proofs.ReadingMembers.{entering_starts, entering_ends, entering_room, entering_unread, entering_turn}
 use Rattle.variants.proofs.members.read_entries.Goals as goal
 
 pub loop-entry-init : goal.loop-entry-init
-loop-entry-init c =
-    let a = c.args in
-    entering_starts a.sheet.now a.work.now a.free a.start.at c.requires.arena c.requires.at_in_bounds.0
+loop-entry-init c = entering_starts c.args.area.now c.args.start.at c.requires.room.0
 
-pub read_entry-read-requires : goal.read_entry-read-requires
-read_entry-read-requires c =
-    let h = c.loop-entry.invariant in
-    let e = c.in-Some.ensures in
-    let x = located c.args.sheet.now c.loop-entry.cursor.at c.in-Some.entry e in
-    let q = entering_room h c.in-Some.entry e in
-    record { arena = h.arena; inside = (x.key, x.value, h.inside); sheet_len_bound = (c.requires.at_in_bounds.1.0, omega (arith, c.requires.at_in_bounds.1, h.kept.len, q), omega (arith, c.requires.at_in_bounds.1, q)) }
+pub read_entry-requires-clause-inside : goal.read_entry-requires-clause-inside
+read_entry-requires-clause-inside c =
+    let x = located c.loop-entry.area.sheet.now c.loop-entry.next.at c.in-Some.entry c.in-Some.ensures in
+    (x.key, x.value, c.loop-entry.invariant.inside)
 
-pub returns-in_default-read : goal.returns-in_default-read
-returns-in_default-read c = entering_unread c.loop-entry.invariant c.in-Some.entry c.in-Some.ensures c.read_entry-read.new.work (rw c.in_default-read.is at c.read_entry-read.ensures)
+pub read_entry-requires-clause-room : goal.read_entry-requires-clause-room
+read_entry-requires-clause-room c =
+    let r = entering_room c.loop-entry.invariant c.in-Some.entry c.in-Some.ensures in
+    let q = c.requires.room in
+    (omega (arith, r.1, q.1), omega (arith, r, q), omega (arith, r.0, q))
+
+pub returns-in_err-bindings : goal.returns-in_err-bindings
+returns-in_err-bindings c = rw c.from_residual.ensures (entering_unread c.loop-entry.invariant c.in-Some.entry c.in-Some.ensures c.in_err-bindings.ensures)
 
 pub loop-entry-smaller : goal.loop-entry-smaller
-loop-entry-smaller c = omega (arith, entering_room c.loop-entry.invariant c.in-Some.entry c.in-Some.ensures)
+loop-entry-smaller c =
+    let x = located c.loop-entry.area.sheet.now c.loop-entry.next.at c.in-Some.entry c.in-Some.ensures in
+    omega (arith, x.next, x.within, sheet_length c.in_ok-bindings.ensures.grows.lent)
 
 pub loop-entry-preserved : goal.loop-entry-preserved
-loop-entry-preserved c = entering_turn c.loop-entry.invariant c.in-Some.entry c.in-Some.ensures (rw c.in-Stack.is at c.read_entry-read.ensures)
-
-pub shape_of-work : goal.shape_of-work
-shape_of-work c = c.loop-entry.invariant.kept.len
+loop-entry-preserved c = entering_turn c.loop-entry.invariant c.in-Some.entry c.in-Some.ensures c.in_ok-bindings.ensures
 
 pub returns : goal.returns
 returns c = entering_ends c.loop-entry.invariant c.in_default.ensures

@@ -1,0 +1,5 @@
+use Rattle.std.proofs.Common.{sym, rules}
+use Rattle.printing.proofs.output.Output.name.Goals as goal
+
+pub returns : goal.returns
+returns c = c.put.ensures _ (sym c.name_len.ensures.len) (λ p q l h. search rules)

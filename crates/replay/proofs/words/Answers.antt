@@ -1,6 +1,0 @@
-use Rattle.std.proofs.Common.{ℕ, sym}
-use lib.ListN.{length-replicate}
-use Rattle.replay.proofs.words.Goals as goal
-
-pub returns : goal.returns
-returns c = sym {0} (length-replicate {0} {A = ℕ} 1441792 0)

@@ -1,0 +1,87 @@
+// The cells of two sums whose trees cancel are struck out: they become 0.
+ghost use Rattle.std.specs.Prelude.{◌≡◌, ◌||◌, ◌+◌, ◌*◌, ◌<◌, ◌≤◌, length, get_or};
+ghost use Rattle.rules.specs.Tree.{ground};
+ghost use Rattle.tree.specs.Areas.{tree_in};
+ghost use Rattle.sums.specs.Summands.{AreCells, heft_in, TextsIn, every_cancels, StrikesOne, Strikes, StrikesCells};
+
+use crate::texts::{Texts, describe, find};
+use substitution::ground::ground;
+use text::places::wide;
+use tree::area::Area;
+
+// Which summands of the left sum cancel: every one, or those without variables.
+#[derive(Clone, Copy, Debug, PartialEq, Eq)]
+pub enum Cancelling {
+    Every,
+    Ground,
+}
+
+impl Cancelling {
+    // Whether the tree of cell i may cancel.
+    fn admits(self, area: &Area, i: usize) -> bool
+        requires { (0 < i) × (i < area.now.free) }
+        ensures { result ≡ every_cancels self || ground (tree_in area.now i) }
+    {
+        match self {
+            Cancelling::Every => true,
+            Cancelling::Ground => ground(area, i),
+        }
+    }
+}
+
+// Strikes out the left cell p and the first right cell whose tree is equal to its own, if it may cancel and there is one.
+fn strike_one(
+    area: &Area,
+    texts: Texts,
+    lefts: &mut [u32],
+    p: usize,
+    rights: &mut [u32],
+    cancelling: Cancelling,
+)
+    requires cell { (p < length lefts.old) × (0 < get_or lefts.old p 0) × (get_or lefts.old p 0 < area.now.free) }
+    requires texts { TextsIn area.now lefts.old 0 texts.starts.now texts.words.now × TextsIn area.now rights.old (length lefts.old) texts.starts.now texts.words.now }
+    ensures { StrikesOne area.now lefts.old rights.old lefts.new rights.new p cancelling }
+{
+    if cancelling.admits(area, wide(lefts[p])) {
+        if let Some(k) = find(area, texts, lefts, p, rights) {
+            lefts[p] = 0;
+            rights[k] = 0;
+        }
+    }
+}
+
+// The same of each left cell.
+fn strike_each(
+    area: &Area,
+    texts: Texts,
+    lefts: &mut [u32],
+    rights: &mut [u32],
+    cancelling: Cancelling,
+)
+    requires cells { AreCells area.now lefts.old }
+    requires texts { TextsIn area.now lefts.old 0 texts.starts.now texts.words.now × TextsIn area.now rights.old (length lefts.old) texts.starts.now texts.words.now }
+    ensures { Strikes area.now lefts.old rights.old lefts.new rights.new cancelling }
+{
+    for p in 0..lefts.len() {
+        strike_one(area, texts, lefts, p, rights, cancelling);
+    }
+}
+
+// Strikes out the cells of summands that cancel: the left ones are the first mid. Sixteen words for each node, and two, are scratch.
+pub(crate) fn strike(
+    area: &Area,
+    cells: &mut [u32],
+    mid: usize,
+    scratch: &mut [u32],
+    cancelling: Cancelling,
+)
+    requires cells { AreCells area.now cells.old × (mid ≤ length cells.old) }
+    requires small { 5 * heft_in area.now cells.old < 65536 }
+    requires room { length cells.old + 15 * heft_in area.now cells.old + 2 ≤ length scratch.old }
+    ensures { StrikesCells area.now cells.old cells.new mid cancelling }
+{
+    let (starts, words) = scratch.split_at_mut(cells.len() + 1);
+    describe(area, cells, starts, words);
+    let (lefts, rights) = cells.split_at_mut(mid);
+    strike_each(area, Texts { starts, words }, lefts, rights, cancelling);
+}

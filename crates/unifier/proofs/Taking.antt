@@ -1,0 +1,240 @@
+-- The loop of `unify` over an area: the run is that of the waiting pairs, after the bindings made so far.
+use Prim.Native.Nat.{ℕ, ◌+◌, ◌-◌, ◌*◌, ◌<◌, ◌≤◌, ◌^◌}
+use mathlib.Core.Path.{◌≡◌, refl, sym, ap, ap₂, subst, ◌∙◌}
+use mathlib.Core.List.{List, [], ◌∷◌, reverse}
+use lib.ListN.{length}
+use native.Mathlib.Omega.{arith}
+use Rattle.std.specs.Prelude.{Option, None}
+use Rattle.rules.specs.Bytes.{Text}
+use Rattle.rules.specs.Tree.{Tree, variable, Trees, more}
+use Rattle.rules.specs.Substitution.{Binding, Pair, flatten}
+use Rattle.rules.specs.Solving.{Step, goes_on, bind, fails, unknown, step, Verdict, solved, unsupported, Answer, after, compose, composed, run, unify}
+use Rattle.laws.specs.Memory.{OverPairs, load, weight, without}
+use Rattle.laws.proofs.Solving.Names.{StepOver, step_over}
+use Rattle.laws.proofs.Solving.Weights.{weight_size}
+use Rattle.tree.specs.declared.area.Area.{Area}
+use Rattle.tree.specs.Areas.{next_in, tree_in, trees_in, Grows}
+use Rattle.tree.proofs.Decoding.{trees_none}
+use Rattle.tree.proofs.Areas.{below_grown}
+use Rattle.tree.proofs.Keeping.{grows_same, grows_then, grows_trees, adds_grows}
+use Rattle.substitution.specs.Bindings.{bindings_of, flatten_bindings, Chain}
+use Rattle.substitution.specs.Areas.{bindings_in, Lists, ComposedIn, WithinArea}
+use Rattle.substitution.proofs.Chains.{bindings_flatten, chain_flatten}
+use Rattle.elimination.specs.Stack.{Whole, FitPairs}
+use Rattle.elimination.specs.Area.{Room}
+use Rattle.elimination.specs.Areas.{ApartIn, GoesOnIn, BindsIn}
+use Rattle.unifier.specs.Running.{Roomy}
+use Rattle.unifier.specs.Areas.{stack_in, RunsIn, AnswersIn}
+use Rattle.unifier.specs.declared.unifying.Verdict.{Verdict as Verdicts}
+use Rattle.unifier.specs.declared.unifying.Verdict.TheVariants.{Solved, Failed, Unsupported}
+use Rattle.steps.proofs.Fitting.{FitStep, step_fit}
+use Rattle.unifier.proofs.Tops.{stack_empty, Top, right_some, top, top_pairs, top_weight, top_fit}
+use Rattle.unifier.proofs.Resuming.{with_bindings, resumed, with_none, with_more, run_end, run_step, run_spent, finished}
+
+-- at the head of the loop: the pairs ps wait from cell waiting on, the bindings bs are from cell made on, over the names ns
+pub record HoldsIn (a b : Area) (start : List Pair) (fuel spent waiting made : ℕ) (apart : Option ℕ) : Type 0 where
+  pub grows : Grows a b
+  pub stack : waiting < b.free
+  pub list : made < b.free
+  pub within : spent ≤ fuel
+  pub ps : List Pair
+  pub bs : List Binding
+  pub ns : List Text
+  pub waits : trees_in b waiting ≡ flatten ps
+  pub binds : trees_in b made ≡ flatten_bindings bs
+  pub over : OverPairs ns ps
+  pub fit : FitPairs ps
+  pub differs : ApartIn apart ps
+  pub room : Room b.work.now (b.free + weight ps + 2 * (fuel - spent) + 8196 * length ns + 4097 * (length ns + length bs))
+  pub ran : run fuel start ≡ resumed bs spent (run (fuel - spent) ps)
+
+pub holds_start : {a : Area} {stack fuel : ℕ} → stack < a.free → Whole (trees_in a stack) → FitPairs (stack_in a stack) → Roomy a.work.now a.free fuel (stack_in a stack)
+    → HoldsIn a a (stack_in a stack) fuel 0 stack 0 None
+unfolding flatten_bindings
+holds_start {a} {stack} {fuel} q whole fit r =
+    let x = run fuel (stack_in a stack) in
+    let y : fuel ≡ fuel - 0 = omega arith in
+    let z : x.1 ≡ 0 + x.1 = omega arith in
+    let room = r.room in
+    record {
+      grows = grows_same a;
+      stack = q;
+      list = a.arena.links.some;
+      within = omega arith;
+      ps = stack_in a stack;
+      bs = [];
+      ns = r.names;
+      waits = sym whole;
+      binds = trees_none a.sheet.now a.work.now 0 refl;
+      over = r.over;
+      fit = fit;
+      differs = tt;
+      room = (omega (arith, room.0), omega (arith, room.1));
+      ran = ap₂ (λ (v : Verdict) (k : ℕ). (v, k)) (sym (with_none x.0)) z ∙ ap (λ (k : ℕ). resumed [] 0 (run k (stack_in a stack))) y;
+    }
+
+module _ {a b : Area} {start : List Pair} {fuel spent waiting made : ℕ} {apart : Option ℕ} (h : HoldsIn a b start fuel spent waiting made apart) where
+  -- the bindings, as the cells have them
+  made_are : bindings_in b made ≡ h.bs
+  made_are = ap bindings_of h.binds ∙ bindings_flatten h.bs
+
+  -- The ends
+
+  pub holds_solved : spent < fuel → waiting ≡ 0 → RunsIn a b (run fuel start) (record { verdict = Solved made; spent = spent })
+  holds_solved p e =
+      let empty = stack_empty b.sheet.now b.work.now waiting h.ps h.waits e in
+      let z : spent + 0 ≡ spent = omega arith in
+      let room = h.room in
+      let len = ap length made_are in
+      record {
+        grows = h.grows;
+        is = h.ran ∙ ap (λ (qs : List Pair). resumed h.bs spent (run (fuel - spent) qs)) empty ∙ ap (λ (x : Answer). resumed h.bs spent x) (run_end (fuel - spent) (omega arith))
+            ∙ ap₂ (λ (cs : List Binding) (k : ℕ). (solved (reverse cs), k)) (sym made_are) z;
+        made = record { inside = h.list; chain = subst Chain (sym h.binds) (chain_flatten h.bs); room = omega (arith, room.0); fits = omega (arith, room.1) };
+      }
+
+  pub holds_spent : fuel ≤ spent → RunsIn a b (run fuel start) (record { verdict = Unsupported; spent = fuel })
+  holds_spent e =
+      let z : spent + 0 ≡ fuel = omega (arith, h.within) in
+      record {
+        grows = h.grows;
+        is = h.ran ∙ ap (λ (x : Answer). resumed h.bs spent x) (run_spent (fuel - spent) h.ps (omega arith)) ∙ ap (λ (k : ℕ). (unsupported, k)) z;
+        made = tt;
+      }
+
+  -- The pair on top
+
+  pub holds_right : {r : ℕ} → 0 < waiting → r ≡ next_in b waiting → r < waiting → (0 < r) × (r < b.free)
+  holds_right {r} p e f = (right_some b.sheet.now b.arena.links h.ps waiting r p h.stack e h.waits, omega (arith, h.stack, f))
+
+  pub holds_top : {r rest : ℕ} → 0 < waiting → r ≡ next_in b waiting → r < waiting → rest ≡ next_in b r → Top b.sheet.now b.work.now h.ps waiting r rest
+  holds_top {r} {rest} p e f g = top b.sheet.now b.arena.links h.ps waiting r p h.stack e h.waits rest (holds_right p e f).1 g
+
+  module _ {r rest : ℕ} (t : Top b.sheet.now b.work.now h.ps waiting r rest) (p : spent < fuel) where
+    -- what the step takes and makes of it
+    abbrev pub taken_step : Step
+    taken_step = step (tree_in b waiting) (tree_in b r) (stack_in b rest)
+
+    pub step_apart : ApartIn apart ((tree_in b waiting, tree_in b r) ∷ stack_in b rest)
+    step_apart = subst (ApartIn apart) (top_pairs t) h.differs
+
+    pub step_room : Room b.work.now (b.free + load (tree_in b waiting) (tree_in b r) + 2)
+    step_room = let room = h.room in let weighs = top_weight t in (omega (arith, room.0), omega (arith, room.1))
+
+    step_names : StepOver h.ns (step (tree_in b waiting) (tree_in b r) (stack_in b rest))
+    step_names =
+        let o = subst (OverPairs h.ns) (top_pairs t) h.over in
+        step_over h.ns (tree_in b waiting) (tree_in b r) (stack_in b rest) o.0 o.1 o.2
+
+    step_fits : FitStep (step (tree_in b waiting) (tree_in b r) (stack_in b rest))
+    step_fits = let f = top_fit t h.fit in step_fit (tree_in b waiting) (tree_in b r) (stack_in b rest) f.0 f.1 f.2
+
+    taken_run : (d : Step) → step (tree_in b waiting) (tree_in b r) (stack_in b rest) ≡ d → run fuel start ≡ resumed h.bs spent (after d (λ qs. run (fuel - spent - 1) qs))
+    taken_run d e =
+        h.ran ∙ ap (λ (qs : List Pair). resumed h.bs spent (run (fuel - spent) qs)) (top_pairs t)
+        ∙ ap (λ (x : Answer). resumed h.bs spent x) (run_step (fuel - spent) (tree_in b waiting) (tree_in b r) (stack_in b rest) (omega arith))
+        ∙ ap (λ (d : Step). resumed h.bs spent (after d (λ qs. run (fuel - spent - 1) qs))) e
+
+    left_is : fuel - spent - 1 ≡ fuel - (spent + 1)
+    left_is = omega arith
+
+    counted : (k : ℕ) → spent + (1 + k) ≡ spent + 1 + k
+    counted k = omega arith
+
+    module _ {d : Area} where
+      pub holds_fails : (step (tree_in b waiting) (tree_in b r) (stack_in b rest) ≡ fails) × Grows b d → RunsIn a d (run fuel start) (record { verdict = Failed; spent = spent + 1 })
+      holds_fails g = record { grows = grows_then h.grows g.1; is = taken_run fails g.0; made = tt }
+
+      pub holds_unknown : (step (tree_in b waiting) (tree_in b r) (stack_in b rest) ≡ unknown) × Grows b d → RunsIn a d (run fuel start) (record { verdict = Unsupported; spent = spent + 1 })
+      holds_unknown g = record { grows = grows_then h.grows g.1; is = taken_run unknown g.0; made = tt }
+
+      pub holds_next : {st : ℕ} {j : Option ℕ} → GoesOnIn b d (load (tree_in b waiting) (tree_in b r) + weight (stack_in b rest)) (step (tree_in b waiting) (tree_in b r) (stack_in b rest)) st j
+          → HoldsIn a d start fuel (spent + 1) st made j
+      holds_next {st} {j} g =
+          let k = g.waits in
+          let x = run (fuel - spent - 1) g.pairs in
+          let room = h.room in
+          let weighs = top_weight t in
+          let used = g.used in
+          let len = k.grows.below.len in
+          record {
+            grows = grows_then h.grows k.grows;
+            stack = k.inside;
+            list = omega (arith, h.list, k.grows.grew);
+            within = omega arith;
+            ps = g.pairs;
+            bs = h.bs;
+            ns = h.ns;
+            waits = k.trees;
+            binds = grows_trees k.grows made h.list ∙ h.binds;
+            over = subst (StepOver h.ns) g.is step_names;
+            fit = subst FitStep g.is step_fits;
+            differs = g.apart;
+            room = (omega (arith, room.0), omega (arith, room.1));
+            ran = taken_run (goes_on g.pairs) g.is ∙ ap (λ (j : ℕ). (with_bindings h.bs x.0, j)) (counted x.1)
+                ∙ ap (λ (k : ℕ). resumed h.bs (spent + 1) (run k g.pairs)) left_is;
+          }
+
+      module _ {key value st : ℕ} (g : BindsIn b d (step (tree_in b waiting) (tree_in b r) (stack_in b rest)) key value st) where
+        pub bind_room : (4 * (d.free + 2) ≤ length d.work.now) × (d.free + 2 < 2 ^ 32)
+        bind_room = let room = h.room in let used = g.used in let len = g.waits.grows.below.len in (omega (arith, room.0), omega (arith, room.1))
+
+        pub bind_cells : (0 < key) × (key < d.free) × (0 < value) × (value < d.free) × (made < d.free)
+        bind_cells = (g.cells.0, g.cells.1, g.cells.2, g.cells.3, omega (arith, h.list, g.waits.grows.grew))
+
+        pub holds_bind : {x : Area} {k : ℕ} → Lists d x k (more (tree_in d key) (more (tree_in d value) (trees_in d made))) → x.free ≡ d.free + 2 → HoldsIn a x start fuel (spent + 1) st k None
+        unfolding flatten_bindings
+        holds_bind {x} j e =
+            let k = g.waits in
+            let l = adds_grows j.adds in
+            let y = run (fuel - spent - 1) g.pairs in
+            let o = subst (StepOver h.ns) g.is step_names in
+            let old = grows_trees k.grows made h.list ∙ h.binds in
+            let room = h.room in
+            let small = g.small in
+            let used = g.used in
+            let fewer = o.fewer in
+            let weighs = weight_size g.pairs in
+            let len = l.below.len ∙ k.grows.below.len in
+            record {
+              grows = grows_then (grows_then h.grows k.grows) l;
+              stack = omega (arith, k.inside, l.grew);
+              list = j.inside;
+              within = omega arith;
+              ps = g.pairs;
+              bs = (g.name, g.tree) ∷ h.bs;
+              ns = without g.name h.ns;
+              waits = grows_trees l st k.inside ∙ k.trees;
+              binds = j.trees ∙ ap₂ (λ (y z : Tree). more y (more z (trees_in d made))) g.key_is g.value_is ∙ ap (λ (ts : Trees). more (variable g.name) (more g.tree ts)) old;
+              over = o.waiting;
+              fit = subst FitStep g.is step_fits;
+              differs = tt;
+              room = (omega (arith, room.0), omega (arith, room.1));
+              ran = taken_run (bind g.name g.tree g.pairs) g.is
+                  ∙ ap₂ (λ (y : Verdict) (i : ℕ). (y, i)) (with_more g.name g.tree h.bs y.0) (counted y.1)
+                  ∙ ap (λ (k : ℕ). resumed ((g.name, g.tree) ∷ h.bs) (spent + 1) (run k g.pairs)) left_is;
+            }
+
+-- ---- the bindings composed
+
+module _ {a b d : Area} {made spent : ℕ} (fuel : ℕ) (ps : List Pair) (r : RunsIn a b (run fuel ps) (record { verdict = Solved made; spent = spent })) where
+  pub composed_solved : {k : ℕ} → ComposedIn b d (bindings_in b made) k → AnswersIn a d (unify fuel ps) (record { verdict = Solved k; spent = spent })
+  composed_solved j = record {
+    grows = grows_then r.grows (adds_grows j.adds);
+    is = finished fuel ps _ r.is ∙ ap (λ (o : Option (List Binding)). (composed o, spent)) j.composed;
+    bound = record { inside = j.inside; chain = j.chain; room = omega (arith, r.made.room, j.used, j.adds.grown.len) };
+  }
+
+  pub composed_over : (compose (reverse (bindings_in b made)) ≡ None) × WithinArea b d (4097 * length (bindings_in b made)) → AnswersIn a d (unify fuel ps) (record { verdict = Unsupported; spent = spent })
+  composed_over j = record {
+    grows = grows_then r.grows (record { lent = j.1.lent; grew = j.1.grew; below = below_grown j.1.grown });
+    is = finished fuel ps _ r.is ∙ ap (λ (o : Option (List Binding)). (composed o, spent)) j.0;
+    bound = tt;
+  }
+
+-- a run that does not end solved
+pub answered_other : {a b : Area} (fuel : ℕ) (ps : List Pair) (v : Verdicts) (spent : ℕ) → RunsIn a b (run fuel ps) (record { verdict = v; spent = spent }) → ((k : ℕ) → v ≡ Solved k → ⊥)
+    → AnswersIn a b (unify fuel ps) (record { verdict = v; spent = spent })
+answered_other fuel ps (Solved k) spent r n = absurd (n k refl)
+answered_other fuel ps Failed spent r n = record { grows = r.grows; is = finished fuel ps _ r.is; bound = tt }
+answered_other fuel ps Unsupported spent r n = record { grows = r.grows; is = finished fuel ps _ r.is; bound = tt }
