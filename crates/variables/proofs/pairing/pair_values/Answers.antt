@@ -1,24 +1,23 @@
 use Prim.Native.Nat.{◌<◌}
 use native.Mathlib.Omega.{arith}
 use Rattle.variables.proofs.Pairs.{pairs_starts, pairs_ends, pairs_variable, pairs_room, pairs_turn}
-use Rattle.variables.proofs.pairing.pair_variables.Goals as goal
+use Rattle.variables.proofs.pairing.pair_values.Goals as goal
 
 pub loop-k-init : goal.loop-k-init
 loop-k-init c =
-    let a = c.args in
-    pairs_starts a.area.now a.names a.values a.bindings a.rest c.requires.links.0 c.requires.of_variables c.requires.links.3
+    pairs_starts c.args.area.now c.args.values c.args.solution c.args.rest c.requires.solution c.requires.links.1
 
-pub value_at-left-requires-clause-x_cell : goal.value_at-left-requires-clause-x_cell
-value_at-left-requires-clause-x_cell c =
+pub image-left-requires-clause-x_cell : goal.image-left-requires-clause-x_cell
+image-left-requires-clause-x_cell c =
     let h = c.loop-k.invariant in
     let p : 0 < c.loop-k.k = omega (arith, c.loop-k-test.true) in
-    (p, omega (arith, h.left, h.lists.adds.grew), pairs_variable h p)
+    ((p, omega (arith, h.left, h.lists.adds.grew)), pairs_variable h p)
 
-pub value_at-right-requires-clause-x_cell : goal.value_at-right-requires-clause-x_cell
-value_at-right-requires-clause-x_cell c =
+pub image-right-requires-clause-x_cell : goal.image-right-requires-clause-x_cell
+image-right-requires-clause-x_cell c =
     let h = c.loop-k.invariant in
     let p : 0 < c.loop-k.k = omega (arith, c.loop-k-test.true) in
-    (p, omega (arith, h.left, h.lists.adds.grew), pairs_variable h p)
+    ((p, omega (arith, h.left, h.lists.adds.grew)), pairs_variable h p)
 
 pub push_pair-list-requires-clause-room : goal.push_pair-list-requires-clause-room
 push_pair-list-requires-clause-room c =
@@ -29,7 +28,7 @@ push_pair-list-requires-clause-room c =
 pub loop-k-preserved : goal.loop-k-preserved
 loop-k-preserved c =
     let p : 0 < c.loop-k.k = omega (arith, c.loop-k-test.true) in
-    pairs_turn c.loop-k.invariant p c.value_at-left.result c.value_at-right.result c.requires.links.1 c.requires.links.2 c.value_at-left.ensures.value c.value_at-right.ensures.value c.push_pair-list.ensures.lists c.push_pair-list.ensures.end c.next_of-k.ensures.next
+    pairs_turn c.loop-k.invariant p c.image-left.result c.image-right.result c.requires.links.0 c.requires.solution.bindings c.image-left.ensures.value c.image-right.ensures.value c.push_pair-list.ensures.lists c.push_pair-list.ensures.end c.next_of-k.ensures.next
 
 pub returns : goal.returns
 returns c = pairs_ends c.loop-k.invariant (omega (arith, c.loop-k-test.false))
