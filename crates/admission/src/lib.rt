@@ -1,8 +1,6 @@
 // What is refused before any term is read: 1, 2, 3, 11.
 #![tactic(auto)]
 
-pub mod clearing; // clearing.rt: the work area set to zero
-
 ghost use Rattle.admission.specs.Admission.{Admits};
 
 use forms::form::{Form, read_sheet, words_needed};

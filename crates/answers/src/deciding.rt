@@ -3,6 +3,7 @@ ghost use Rattle.std.specs.Prelude.{◌≡◌};
 ghost use Rattle.answers.specs.Deciding.{key_text};
 
 use rules::Refusal;
+use substitution::answer::Answer;
 
 // The key of a line.
 #[derive(Clone, Copy, Debug, PartialEq, Eq)]
@@ -15,7 +16,7 @@ pub enum Key {
 }
 
 impl Key {
-    // The line up to its value.
+    // The line up to its value. A Display would write twice through fmt.
     pub(crate) fn text(self) -> &'static [u8]
         ensures { result.now ≡ key_text self }
     {
@@ -29,14 +30,12 @@ impl Key {
     }
 }
 
-// The lines of an answer: a key and what is claimed, a key and the term of a cell, or a verdict, `solved` with the bindings from a cell on.
+// The lines of an answer: a key and what is claimed, a key and the term of a cell, or those of a run of `unify` or `match`.
 #[derive(Clone, Copy, Debug, PartialEq, Eq)]
 pub enum Lines {
     Claim { key: Key, claim: Option<bool> },
     Term { key: Key, index: usize },
-    Solved { bindings: usize, spent: usize },
-    Failed { spent: usize },
-    Unsupported { spent: usize },
+    Verdict(Answer),
 }
 
 // An answer, or a refusal.

@@ -1,5 +1,5 @@
 // A decision in the output: measured, then written where it fits.
-ghost use Rattle.std.specs.Prelude.{◌≡◌, length};
+ghost use Rattle.std.specs.Prelude.{length};
 ghost use Rattle.printing.specs.Putting.{PutInto};
 ghost use Rattle.answers.specs.Deciding.{lines_text, LinesHeld, reply_of, Standing};
 ghost use Rattle.answers.specs.Settling.{within_room, Settles};
@@ -9,7 +9,7 @@ use crate::lines::put_claim;
 use printing::output::{Output, Pass};
 use rules::Refusal;
 use tree::area::Area;
-use verdicts::{put_head, put_solved};
+use verdicts::put_answer;
 
 // What the call gives: the count of bytes written, or a refusal.
 pub type Reply = Result<usize, Refusal>;
@@ -22,9 +22,7 @@ fn put_lines(out: &mut Output, area: &Area, lines: Lines) -> Option<()>
     match lines {
         Lines::Claim { key, claim } => put_claim(out, key, claim),
         Lines::Term { key, index } => out.line(key.text(), area, index),
-        Lines::Solved { bindings, spent } => put_solved(out, area, bindings, spent),
-        Lines::Failed { spent } => put_head(out, b"verdict=failed\n", spent),
-        Lines::Unsupported { spent } => put_head(out, b"verdict=unsupported\n", spent),
+        Lines::Verdict(answer) => put_answer(out, area, answer),
     }
 }
 

@@ -7,7 +7,7 @@ ghost use Rattle.answers.specs.Deciding.{key_text};
 use crate::deciding::Key;
 use printing::output::Output;
 
-// What is claimed, in a word.
+// What is claimed, in a word. No Display: it would write twice through fmt.
 fn word_of(claim: Option<bool>) -> &'static [u8]
     ensures { result.now ≡ word_of claim }
 {

@@ -12,14 +12,14 @@ use Rattle.rules.specs.Reading.{as_written, read_term, read_text, wholly, canoni
 use Rattle.rules.specs.Sums.{canonical}
 use Rattle.runs.specs.declared.TheConstants.{PLUS}
 use Rattle.runs.specs.Texts.{texts}
-use Rattle.settling.specs.Settle.{sums_sorted}
+use Rattle.settling.specs.Orders.{sums_ordered}
 use Rattle.flattening.specs.Terms.{Term, words}
 use Rattle.flattening.specs.Items.{Item, begin, shut, comma, name, wanting, write, writes, items_at, text_words}
 use Rattle.flattening.proofs.ItemTokens.{item_text, Proper, tokens_items, items_proper}
 use Rattle.flattening.proofs.ItemTerms.{Read, item_term, tree_of, term_read, good_term, GoodTerm, NamedTerm}
 use Rattle.flattening.specs.Spelling.{flatten}
 use Rattle.flattening.proofs.Flattening.{named_spells}
-use Rattle.settling.proofs.NameWords.{spelled_settled}
+use Rattle.settling.proofs.NameWords.{spelled_ordered}
 use Rattle.flattening.proofs.ItemWords.{term_written, after_term}
 
 module _ (s : Text) where
@@ -63,21 +63,21 @@ module _ (s : Text) where
         go (Some is) h = agree_items is (h is refl)
 
     -- the words, sorted, have the canonical text; no words, no canonical text
-    canonical_of : (o : Option Tree) (p : Option (List ℕ)) → Agree o p → (ws : List ℕ) → p ≡ Some ws → length ws < 65536 → (base : ℕ)
-        → (o >>= λ t. Some (canonical t)) ≡ Some (texts s (sums_sorted s PLUS base (length ws) ws))
+    canonical_of : (o : Option Tree) (p : Option (List ℕ)) → Agree o p → (ws : List ℕ) → p ≡ Some ws → length ws < 65536
+        → (o >>= λ t. Some (canonical t)) ≡ Some (texts s (sums_ordered s PLUS (length ws) ws))
     unfolding canonical
-    canonical_of None None a ws e l base = let z : ◌≡◌ {A = ℕ} 0 1 = cc in absurd (omega arith)
-    canonical_of None (Some vs) a ws e l base = absurd a
-    canonical_of (Some t) None a ws e l base = absurd a
-    canonical_of (Some t) (Some vs) (u, h, f, g) ws e l base =
+    canonical_of None None a ws e l = let z : ◌≡◌ {A = ℕ} 0 1 = cc in absurd (omega arith)
+    canonical_of None (Some vs) a ws e l = absurd a
+    canonical_of (Some t) None a ws e l = absurd a
+    canonical_of (Some t) (Some vs) (u, h, f, g) ws e l =
         let z : words (flatten s u) ≡ ws = cc in
         let k : length (words (flatten s u)) < 65536 = rw z l in
-        ap Some (ap canonical (sym f) ∙ sym (spelled_settled s (named_spells s h) k base) ∙ rw z)
+        ap Some (ap canonical (sym f) ∙ sym (spelled_ordered s (named_spells s h) k) ∙ rw z)
 
-    pub readable : (ws : List ℕ) → text_words s (take to s) at ≡ Some ws → length ws < 65536 → (base : ℕ)
-        → canonical_text (drop at (take to s)) ≡ Some (texts s (sums_sorted s PLUS base (length ws) ws))
+    pub readable : (ws : List ℕ) → text_words s (take to s) at ≡ Some ws → length ws < 65536
+        → canonical_text (drop at (take to s)) ≡ Some (texts s (sums_ordered s PLUS (length ws) ws))
     unfolding canonical_text
-    readable ws e l base = canonical_of (read_text as_written (drop at (take to s))) (text_words s (take to s) at) agree ws e l base
+    readable ws e l = canonical_of (read_text as_written (drop at (take to s))) (text_words s (take to s) at) agree ws e l
 
     none_of : (o : Option Tree) (p : Option (List ℕ)) → Agree o p → p ≡ None → (o >>= λ t. Some (canonical t)) ≡ None
     none_of None p a e = refl

@@ -5,7 +5,8 @@ use mathlib.Core.Path.{◌≡◌, refl, sym, ap, ◌∙◌, subst}
 use mathlib.Core.List.{[], ◌∷◌}
 use mathlib.Core.Bool.{Bool, true, false}
 use lib.ListN.{get_or}
-use Rattle.std.specs.Prelude.{Some, None}
+use Rattle.std.specs.Prelude.{Option, Some, None, MatchOption}
+use denote.Ref.{Bor}
 use Rattle.rules.specs.Bytes.{Text}
 use Rattle.rules.specs.Maybe.{◌>>=◌, guard}
 use Rattle.rules.specs.Names.{digit, all}
@@ -26,6 +27,10 @@ use Rattle.closing.proofs.AtomTrees.{around, atom_back, no_atom, no_digits}
 pub alone_none : (a : Area) (k : ℕ) → k ≡ 0 → AloneIn a k false
 unfolding atom_of
 alone_none a k e n = rw (list_none a k e)
+
+-- what the test says, once it is known
+pub alone_is : (a : Area) (k : ℕ) {b q : Bool} → b ≡ q → AloneIn a k b → AloneIn a k q
+alone_is a k e h = subst (AloneIn a k) e h
 
 module _ (a : Area) (k : ℕ) (p : 0 < k) (q : k < a.free) where
   pub alone_several : {j : ℕ} → j ≡ next_in a k → 0 < j → j < k → AloneIn a k false
@@ -77,9 +82,10 @@ module _ (a : Area) (k : ℕ) (p : 0 < k) (q : k < a.free) where
             go true e = (p, one_tree ∙ ap (λ (t : Tree). more t none) constant, sym e)
             go false e = λ n. atom_name n ∙ ap (λ (b : Bool). guard b >>= λ _. Some (atom (get_or n 0 0) (name_in a k))) (sym e)
 
--- what the test says, once it is known
-pub alone_is : (a : Area) (k : ℕ) {b q : Bool} → b ≡ q → AloneIn a k b → AloneIn a k q
-alone_is a k e h = subst (AloneIn a k) e h
+        -- by the name, where it is spelled
+        pub alone_spelled : {b : Bool} (o : Option (Bor Text)) (Q : Bor Text → Type 0) → MatchOption o (length_of a.work.now k ≡ 0) (λ m. m.now ≡ name_in a k) → MatchOption o (b ≡ false) Q → ((m : Bor Text) → Q m → b ≡ all digit m.now) → AloneIn a k b
+        alone_spelled None Q z r d = alone_is a k (sym r) (alone_fixed z)
+        alone_spelled (Some m) Q s r d = alone_by s (d m r)
 
 module _ (a : Area) (chain : ℕ) where
   pub atom_closes_not : (n : Text) (next : ℕ) → AloneIn a chain false → ClosesIn a a (room_for a chain) next (atom_of n (back (trees_in a chain) none)) None

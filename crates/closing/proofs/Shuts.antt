@@ -4,12 +4,13 @@ use native.Mathlib.Omega.{arith}
 use mathlib.Core.Path.{◌≡◌, refl, sym, ap, ap₂, subst, ◌∙◌}
 use mathlib.Core.List.{[], ◌∷◌}
 use mathlib.Core.Bool.{Bool, true, false}
-use lib.ListN.{get_or}
 use Rattle.std.specs.Prelude.{Option, Some, None}
 use Rattle.laws.proofs.Basics.Somes.{some_injective}
 use Rattle.laws.proofs.Basics.Tests.{same_eq}
 use Rattle.rules.specs.Bytes.{Text, same}
 use Rattle.rules.specs.Names.{letter_name}
+use Rattle.leaves.specs.Leaves.{name_letter}
+use Rattle.leaves.proofs.LeafLaws.{letter_found, no_letter_found}
 use Rattle.rules.specs.Reading.{close, atom_of, sum_of}
 use Rattle.rules.specs.Tree.{Tree, Trees, apply, none, more, size, sizes, tamtplus}
 use Rattle.sheet.specs.declared.Place.{Place}
@@ -68,15 +69,16 @@ close_by : (n : Text) (ts : Trees) {b c : Bool} → letter_name n ≡ b → same
 unfolding close
 close_by n ts e f = ap₂ (λ (x y : Bool). elim x [ true ↦ atom_of n ts | false ↦ elim y [ true ↦ sum_of ts | false ↦ Some (apply n ts) ] ]) e f
 
-module _ {n m : Text} (p : m ≡ n) (ts : Trees) {r : Bool} (e : r ≡ letter_name m) where
-  pub close_atom : r ≡ true → (7 ≤ get_or m 0 0) × (atom_of (get_or m 0 0 ∷ []) ts ≡ close n ts)
-  close_atom f =
-      let h = letter_only m (sym e ∙ f) in
-      (h.1, ap (λ (x : Text). atom_of x ts) (sym h.0) ∙ sym (close_by m ts (sym e ∙ f) refl) ∙ ap (λ (x : Text). close x ts) p)
+module _ {n m : Text} (p : m ≡ n) (ts : Trees) where
+  pub close_atom : {b : ℕ} → name_letter m ≡ Some b → (7 ≤ b) × (atom_of (b ∷ []) ts ≡ close n ts)
+  close_atom {b} e =
+      let (f, g) = letter_found m b e in
+      let h = letter_only m f in
+      (omega (arith, h.1, g), ap (λ (k : ℕ). atom_of (k ∷ []) ts) (sym g) ∙ ap (λ (x : Text). atom_of x ts) (sym h.0) ∙ sym (close_by m ts f refl) ∙ ap (λ (x : Text). close x ts) p)
 
-  module _ {t : Bool} (f : t ≡ same m tamtplus) (g : r ≡ false) where
+  module _ {t : Bool} (f : t ≡ same m tamtplus) (e : name_letter m ≡ None) where
     pub close_sum : t ≡ true → (n ≡ tamtplus) × (sum_of ts ≡ close n ts)
-    close_sum h = (sym p ∙ same_eq m tamtplus (sym f ∙ h), sym (close_by m ts (sym e ∙ g) (sym f ∙ h)) ∙ ap (λ (x : Text). close x ts) p)
+    close_sum h = (sym p ∙ same_eq m tamtplus (sym f ∙ h), sym (close_by m ts (no_letter_found m e) (sym f ∙ h)) ∙ ap (λ (x : Text). close x ts) p)
 
     pub close_list : t ≡ false → Some (apply n ts) ≡ close n ts
-    close_list h = ap (λ (x : Text). Some (apply x ts)) (sym p) ∙ sym (close_by m ts (sym e ∙ g) (sym f ∙ h)) ∙ ap (λ (x : Text). close x ts) p
+    close_list h = ap (λ (x : Text). Some (apply x ts)) (sym p) ∙ sym (close_by m ts (no_letter_found m e) (sym f ∙ h)) ∙ ap (λ (x : Text). close x ts) p

@@ -1,24 +1,23 @@
 -- A sum of trees of an area that stand last first: the loop's invariant and its turns.
-use Prim.Native.Nat.{ℕ, ◌+◌, ◌*◌, ◌^◌, ◌<◌, ◌≤◌}
+use Prim.Native.Nat.{ℕ, ◌+◌, ◌*◌, ◌<◌, ◌≤◌}
 use native.Mathlib.Omega.{arith}
 use mathlib.Core.Path.{◌≡◌, refl, sym, ap, ap₂, ◌∙◌}
-use mathlib.Core.Logic.{◌⊎◌, inl, inr, ⊎_elim}
-use lib.ListN.{length}
+use mathlib.Core.Logic.{◌⊎◌, inr, ⊎_elim}
 use Rattle.std.specs.Prelude.{Some, None}
 use Rattle.laws.proofs.Basics.Somes.{some_injective}
 use Rattle.rules.specs.Tree.{Tree, Trees, apply, none, more, size, sizes, count, tamtplus, plus}
 use Rattle.rules.specs.Reading.{sum_of}
 use Rattle.sheet.specs.declared.Place.{Place}
 use Rattle.tree.specs.declared.area.Area.{Area}
-use Rattle.tree.specs.Areas.{count_in, next_in, tree_in, trees_in, Adds, Pushes}
+use Rattle.tree.specs.Areas.{count_in, next_in, tree_in, trees_in, Adds, Pushes, CellIn, HasRoom}
 use Rattle.tree.specs.Spelled.{text_in}
 use Rattle.tree.proofs.Keeping.{adds_same, adds_grows, adds_then, adds_push, grows_length, grows_next, grows_tree, grows_trees, pushed_some, pushed_inside, pushed_tree, pushed_trees}
-use Rattle.tree.proofs.Lists.{list_none, list_more, count_size}
+use Rattle.tree.proofs.Lists.{list_none, list_more, list_count, count_size}
+use Rattle.tree.proofs.Rooms.{room_after}
 use Rattle.tree.proofs.Spelling.{text_lent}
 use Rattle.closing.specs.Machine.{back}
 use Rattle.closing.specs.Closing.{summed}
 use Rattle.closing.specs.Areas.{room_for, Shuts, ClosesIn}
-use Rattle.closing.proofs.Orders.{list_count}
 use Rattle.closing.proofs.SumTrees.{summed_size, sum_is, no_sum, no_second}
 
 -- the only tree of a cell's list
@@ -72,11 +71,11 @@ module _ {a₀ a : Area} {tail chain last k : ℕ} (h : Summing a₀ tail chain 
     summand_count e = count_size a k p summing_inside e ∙ ap size same_summand
 
     -- room for two cells
-    pub summing_room : 4 * (a₀.free + 2 * count (trees_in a₀ chain)) ≤ length a₀.work.now → a₀.free + 2 * count (trees_in a₀ chain) < 2 ^ 32 → (4 * (a.free + 2) ≤ length a.work.now) × (a.free + 2 < 2 ^ 32)
-    summing_room l m =
+    pub summing_room : HasRoom a₀ (2 * count (trees_in a₀ chain)) → HasRoom a 2
+    summing_room m =
         let r = h.room in
         let c = list_count a₀ k p h.at refl in
-        (omega (arith, grows_length (adds_grows h.adds)), omega arith)
+        (omega (arith, m.0, grows_length (adds_grows h.adds)), omega (arith, m.1))
 
     -- too many nodes
     pub summing_over : {x y : ℕ} → x ≡ count_in a k → y ≡ count_in a last → 4096 < 1 + x + y → ClosesIn a₀ a (2 * count (trees_in a₀ chain)) 0 (Some (summed (tree_in a₀ tail) (trees_in a₀ chain))) None
@@ -130,8 +129,8 @@ module _ {a : Area} {chain k : ℕ} (c : 0 < chain) (at : chain < a.free) (e : k
   sum_of_one next f = (no_second (trees_in a chain) (tree_in a chain) (list_more a chain c at e ∙ ap (more (tree_in a chain)) (list_none a k f)), adds_same a, omega arith)
 
   module _ {b : Area} {tail : ℕ} (x : Pushes a b tail 0 (tree_in a chain)) (q : k < chain) (p : 0 < k) where
-    pub tail_only : (0 < tail) × (tail < b.free) × (trees_in b tail ≡ more (tree_in b tail) none)
-    tail_only = (pushed_some x, pushed_inside x, pushed_trees x ∙ ap₂ more (sym (pushed_tree x)) (list_none a 0 refl))
+    pub tail_only : CellIn b tail × (trees_in b tail ≡ more (tree_in b tail) none)
+    tail_only = ((pushed_some x, pushed_inside x), pushed_trees x ∙ ap₂ more (sym (pushed_tree x)) (list_none a 0 refl))
 
     front : trees_in b k ≡ trees_in a k
     front = grows_trees (adds_grows (adds_push x)) k (omega arith)
@@ -139,8 +138,8 @@ module _ {a : Area} {chain k : ℕ} (c : 0 < chain) (at : chain < a.free) (e : k
     front_count : 1 + count (trees_in b k) ≡ count (trees_in a chain)
     front_count = omega (arith, ap count front, list_count a chain c at e)
 
-    pub front_room : 4 * (a.free + room_for a chain) ≤ length a.work.now → a.free + room_for a chain < 2 ^ 32 → (4 * (b.free + 2 * count (trees_in b k)) ≤ length b.work.now) × (b.free + 2 * count (trees_in b k) < 2 ^ 32)
-    front_room l m = let f = front_count in (omega (arith, x.end, grows_length (adds_grows (adds_push x))), omega (arith, x.end))
+    pub front_room : HasRoom a (room_for a chain) → HasRoom b (2 * count (trees_in b k))
+    front_room m = room_after a (room_for a chain) m (2 * count (trees_in b k)) (adds_grows (adds_push x)) (let f = front_count in omega (arith, x.end))
 
     whole : sum_of (back (trees_in a chain) none) ≡ Some (summed (tree_in b tail) (trees_in b k))
     whole =
@@ -157,8 +156,8 @@ module _ {a : Area} {chain k : ℕ} (c : 0 < chain) (at : chain < a.free) (e : k
         pub sum_links : (0 < j) × (j < d.free) × (next < d.free)
         sum_links = (h.some_cell, h.inside, omega (arith, h.adds.grew, x.end))
 
-        pub sum_room : 4 * (a.free + room_for a chain) ≤ length a.work.now → a.free + room_for a chain < 2 ^ 32 → (4 * d.free + 4 ≤ length d.work.now) × (d.free < 2 ^ 32)
-        sum_room l m = let f = front_count in (omega (arith, h.used, x.end, grows_length (adds_grows (adds_push x)), grows_length (adds_grows h.adds)), omega (arith, h.used, x.end))
+        pub sum_room : HasRoom a (room_for a chain) → HasRoom d 1
+        sum_room m = room_after a (room_for a chain) m 1 (adds_grows (adds_then (adds_push x) h.adds)) (let f = front_count in omega (arith, h.used, x.end))
 
         pub sum_shut : {u : Area} {i : ℕ} → Pushes d u i next (tree_in d j) → Shuts a u (room_for a chain) next (sum_of (back (trees_in a chain) none)) i
         sum_shut {u} {i} y =

@@ -19,11 +19,12 @@ use Rattle.rules.specs.Reading.{leaf, close, single, constant_name, atom_of, nes
 use Rattle.laws.proofs.Basics.Tests.{true_leb, false_leb, neither_left, neither_right, differ_of_ne, ne_of_differ}
 use Rattle.laws.proofs.Basics.Options.{bound}
 use Rattle.laws.proofs.Reading.SameText.{the_only, the_name}
-use Rattle.syntax.specs.Symbols.{symbol_at}
-use Rattle.syntax.specs.declared.Symbol.{Symbol}
-use Rattle.syntax.specs.declared.Symbol.TheVariants.{Begin, Shut, Comma, Name, Stop, Bad}
+use Rattle.sheet.specs.declared.Place.{Place}
+use Rattle.syntax.specs.Next.{next_symbol}
+use Rattle.syntax.specs.declared.symbols.Symbol.{Symbol}
+use Rattle.syntax.specs.declared.symbols.Symbol.TheVariants.{Begin, Shut, Comma, Name, Stop}
 use Rattle.syntax.proofs.TokenList.{joined}
-use Rattle.syntax.proofs.SymbolLaws.{means_is}
+use Rattle.syntax.proofs.Meanings.{means_is}
 use Rattle.closing.specs.Machine.{Stack, bottom, level, add, back, State, wants, named, has, machine_after, machine_step, finished_stack, machine_end, machine, machine_reading, total}
 
 -- One token
@@ -80,66 +81,64 @@ not_given (level m ts k) n a b = rw (a, b)
 
 -- The next symbol
 
-module _ (s : Text) (at : ℕ) {r : Symbol} (e : r ≡ symbol_at s at) where
-  pub name_turn : (f t : ℕ) (k : Stack) → r ≡ Name f t → machine_reading s at (wants k) ≡ machine_reading s t (named (take (t - f) (drop f s)) k)
-  name_turn f t k q =
-      let m = means_is s at e (Name f t) q in
-      turn s at t (take (t - f) (drop f s)) m.first (wants k) (named (take (t - f) (drop f s)) k) (rw m.no_mark)
+module _ (s : Text) (at : ℕ) {r : Symbol} (e : Some r ≡ next_symbol s at) where
+  pub name_turn : (p : Place) (k : Stack) → r ≡ Name p → machine_reading s at (wants k) ≡ machine_reading s p.to (named (take (p.to - p.from) (drop p.from s)) k)
+  name_turn p k q =
+      let m = means_is s at e (Some (Name p)) (ap Some q) in
+      turn s at p.to (take (p.to - p.from) (drop p.from s)) m.first (wants k) (named (take (p.to - p.from) (drop p.from s)) k) (rw m.no_mark)
 
   pub open_turn : (t : ℕ) (n : Text) (k : Stack) → r ≡ Begin t → machine_reading s at (named n k) ≡ machine_reading s t (wants (level n none k))
   unfolding same
-  open_turn t n k q = turn s at t (bytes "(") (means_is s at e (Begin t) q).first (named n k) (wants (level n none k)) refl
+  open_turn t n k q = turn s at t (bytes "(") (means_is s at e (Some (Begin t)) (ap Some q)).first (named n k) (wants (level n none k)) refl
 
   pub comma_turn : (t : ℕ) (n : Text) (ts : Trees) (k : Stack) → r ≡ Comma t → machine_reading s at (has (level n ts k)) ≡ machine_reading s t (wants (level n ts k))
   unfolding same
-  comma_turn t n ts k q = turn s at t (bytes ",") (means_is s at e (Comma t) q).first (has (level n ts k)) (wants (level n ts k)) refl
+  comma_turn t n ts k q = turn s at t (bytes ",") (means_is s at e (Some (Comma t)) (ap Some q)).first (has (level n ts k)) (wants (level n ts k)) refl
 
   pub shut_turn : (t : ℕ) (n : Text) (ts : Trees) (k : Stack) (u : Tree) → r ≡ Shut t → close n (back ts none) ≡ Some u → machine_reading s at (has (level n ts k)) ≡ machine_reading s t (has (add u k))
   unfolding same
   shut_turn t n ts k u q c =
-      turn s at t (bytes ")") (means_is s at e (Shut t) q).first (has (level n ts k)) (has (add u k)) (ap (λ (o : Option Tree). o >>= λ t. Some (has (add t k))) c)
+      turn s at t (bytes ")") (means_is s at e (Some (Shut t)) (ap Some q)).first (has (level n ts k)) (has (add u k)) (ap (λ (o : Option Tree). o >>= λ t. Some (has (add t k))) c)
 
   pub shut_none : (t : ℕ) (n : Text) (ts : Trees) (k : Stack) → r ≡ Shut t → close n (back ts none) ≡ None → machine_reading s at (has (level n ts k)) ≡ None
   unfolding same
-  shut_none t n ts k q c = refused s at t (bytes ")") (means_is s at e (Shut t) q).first (has (level n ts k)) (ap (λ (o : Option Tree). o >>= λ t. Some (has (add t k))) c)
+  shut_none t n ts k q c = refused s at t (bytes ")") (means_is s at e (Some (Shut t)) (ap Some q)).first (has (level n ts k)) (ap (λ (o : Option Tree). o >>= λ t. Some (has (add t k))) c)
 
   pub comma_bare : (t : ℕ) (ts : Trees) → r ≡ Comma t → machine_reading s at (has (bottom ts)) ≡ None
-  comma_bare t ts q = refused s at t (bytes ",") (means_is s at e (Comma t) q).first (has (bottom ts)) refl
+  comma_bare t ts q = refused s at t (bytes ",") (means_is s at e (Some (Comma t)) (ap Some q)).first (has (bottom ts)) refl
 
   pub shut_bare : (t : ℕ) (ts : Trees) → r ≡ Shut t → machine_reading s at (has (bottom ts)) ≡ None
-  shut_bare t ts q = refused s at t (bytes ")") (means_is s at e (Shut t) q).first (has (bottom ts)) refl
+  shut_bare t ts q = refused s at t (bytes ")") (means_is s at e (Some (Shut t)) (ap Some q)).first (has (bottom ts)) refl
 
   pub stop_turn : (st : State) → r ≡ Stop → machine_reading s at st ≡ machine_end st
   unfolding machine
-  stop_turn st q = ap (λ (o : Option (List Text)). o >>= λ ts. machine ts st) (means_is s at e Stop q)
+  stop_turn st q = ap (λ (o : Option (List Text)). o >>= λ ts. machine ts st) (means_is s at e (Some Stop) (ap Some q))
 
   -- where a branch is left to several variants
-  pub not_name : (k : Stack) → ((f t : ℕ) → r ≡ Name f t → ⊥) → machine_reading s at (wants k) ≡ None
+  pub not_name : (k : Stack) → ((p : Place) → r ≡ Name p → ⊥) → machine_reading s at (wants k) ≡ None
   unfolding is_one_of same machine
   not_name k o = go r refl
     where
       go : (q : Symbol) → r ≡ q → machine_reading s at (wants k) ≡ None
-      go (Begin t) q = refused s at t (bytes "(") (means_is s at e (Begin t) q).first (wants k) refl
-      go (Shut t) q = refused s at t (bytes ")") (means_is s at e (Shut t) q).first (wants k) refl
-      go (Comma t) q = refused s at t (bytes ",") (means_is s at e (Comma t) q).first (wants k) refl
-      go (Name f t) q = absurd (o f t q)
+      go (Begin t) q = refused s at t (bytes "(") (means_is s at e (Some (Begin t)) (ap Some q)).first (wants k) refl
+      go (Shut t) q = refused s at t (bytes ")") (means_is s at e (Some (Shut t)) (ap Some q)).first (wants k) refl
+      go (Comma t) q = refused s at t (bytes ",") (means_is s at e (Some (Comma t)) (ap Some q)).first (wants k) refl
+      go (Name p) q = absurd (o p q)
       go Stop q = stop_turn (wants k) q
-      go Bad q = ap (λ (o : Option (List Text)). o >>= λ ts. machine ts (wants k)) (means_is s at e Bad q)
 
   pub no_delimiter : (k : Stack) → (r ≡ Stop → ⊥) → ((t : ℕ) → r ≡ Comma t → ⊥) → ((t : ℕ) → r ≡ Shut t → ⊥) → machine_reading s at (has k) ≡ None
   unfolding machine same
   no_delimiter k no_stop no_comma no_shut = go r refl
     where
       go : (q : Symbol) → r ≡ q → machine_reading s at (has k) ≡ None
-      go (Begin t) q = refused s at t (bytes "(") (means_is s at e (Begin t) q).first (has k) (not_given k (bytes "(") refl refl)
+      go (Begin t) q = refused s at t (bytes "(") (means_is s at e (Some (Begin t)) (ap Some q)).first (has k) (not_given k (bytes "(") refl refl)
       go (Shut t) q = absurd (no_shut t q)
       go (Comma t) q = absurd (no_comma t q)
-      go (Name f t) q =
-          let m = means_is s at e (Name f t) q in
-          let h = no_mark (take (t - f) (drop f s)) m.no_mark in
-          refused s at t (take (t - f) (drop f s)) m.first (has k) (not_given k (take (t - f) (drop f s)) h.comma h.shut)
+      go (Name p) q =
+          let m = means_is s at e (Some (Name p)) (ap Some q) in
+          let h = no_mark (take (p.to - p.from) (drop p.from s)) m.no_mark in
+          refused s at p.to (take (p.to - p.from) (drop p.from s)) m.first (has k) (not_given k (take (p.to - p.from) (drop p.from s)) h.comma h.shut)
       go Stop q = absurd (no_stop q)
-      go Bad q = ap (λ (o : Option (List Text)). o >>= λ ts. machine ts (has k)) (means_is s at e Bad q)
 
   -- a name that no bracket follows is a leaf
   pub leaf_turn : (n : Text) (k : Stack) → ((t : ℕ) → r ≡ Begin t → ⊥) → machine_reading s at (named n k) ≡ machine_reading s at (has (add (leaf n) k))
@@ -148,15 +147,17 @@ module _ (s : Text) (at : ℕ) {r : Symbol} (e : r ≡ symbol_at s at) where
     where
       go : (q : Symbol) → r ≡ q → machine_reading s at (named n k) ≡ machine_reading s at (has (add (leaf n) k))
       go (Begin t) q = absurd (o t q)
-      go (Shut t) q = alike s at t (bytes ")") (means_is s at e (Shut t) q).first (named n k) (has (add (leaf n) k)) refl
-      go (Comma t) q = alike s at t (bytes ",") (means_is s at e (Comma t) q).first (named n k) (has (add (leaf n) k)) refl
-      go (Name f t) q =
-          let m = means_is s at e (Name f t) q in
-          alike s at t (take (t - f) (drop f s)) m.first (named n k) (has (add (leaf n) k)) (rw (no_mark (take (t - f) (drop f s)) m.no_mark).begin)
+      go (Shut t) q = alike s at t (bytes ")") (means_is s at e (Some (Shut t)) (ap Some q)).first (named n k) (has (add (leaf n) k)) refl
+      go (Comma t) q = alike s at t (bytes ",") (means_is s at e (Some (Comma t)) (ap Some q)).first (named n k) (has (add (leaf n) k)) refl
+      go (Name p) q =
+          let m = means_is s at e (Some (Name p)) (ap Some q) in
+          alike s at p.to (take (p.to - p.from) (drop p.from s)) m.first (named n k) (has (add (leaf n) k)) (rw (no_mark (take (p.to - p.from) (drop p.from s)) m.no_mark).begin)
       go Stop q = stop_turn (named n k) q ∙ sym (stop_turn (has (add (leaf n) k)) q)
-      go Bad q =
-          ap (λ (o : Option (List Text)). o >>= λ ts. machine ts (named n k)) (means_is s at e Bad q)
-          ∙ sym (ap (λ (o : Option (List Text)). o >>= λ ts. machine ts (has (add (leaf n) k))) (means_is s at e Bad q))
+
+-- no symbol
+pub no_symbol : (s : Text) (at : ℕ) (st : State) → None ≡ next_symbol s at → machine_reading s at st ≡ None
+unfolding machine
+no_symbol s at st e = ap (λ (o : Option (List Text)). o >>= λ ts. machine ts st) (means_is s at e None refl)
 
 -- The nodes of a stack are in the term that is read
 
@@ -271,7 +272,7 @@ pub small_enough : (t : Tree) → size t ≤ 4096 → limited (Some t) ≡ Some 
 small_enough t h = ap (λ (b : Bool). guard b >>= λ _. Some t) (true_leb (size t) 4096 h)
 
 -- a list that closes as nothing, or as too large a tree
-pub shut_out : (s : Text) (at : ℕ) {r : Symbol} → r ≡ symbol_at s at → (t : ℕ) (n : Text) (ts : Trees) (k : Stack) → r ≡ Shut t
+pub shut_out : (s : Text) (at : ℕ) {r : Symbol} → Some r ≡ next_symbol s at → (t : ℕ) (n : Text) (ts : Trees) (k : Stack) → r ≡ Shut t
     → ((u : Tree) → close n (back ts none) ≡ Some u → 4096 < size u) → limited (machine_reading s at (has (level n ts k))) ≡ None
 shut_out s at e t n ts k q h = go (close n (back ts none)) refl
   where

@@ -8,6 +8,7 @@ use Rattle.rules.specs.Maybe.{◌>>=◌, guard}
 use Rattle.rules.specs.Tree.{Tree, Trees, none, more, size, sizes, count}
 use Rattle.rules.specs.Tokens.{tokens}
 use Rattle.rules.specs.Reading.{leaf, close, single}
+unfoldable pub use Rattle.tree.specs.Lists.{back}
 
 pub data Stack : Type 0 where
   bottom : Trees → Stack
@@ -17,11 +18,6 @@ pub data Stack : Type 0 where
 abbrev pub add : Tree → Stack → Stack
 add t (bottom ts) = bottom (more t ts)
 add t (level n ts k) = level n (more t ts) k
-
--- the trees of a level in their order, before others
-unfoldable pub back : Trees → Trees → Trees
-back none us = us
-back (more t ts) us = back ts (more t us)
 
 -- a term is wanted; a name is there, that a bracket may follow; a term is there, on the stack
 pub data State : Type 0 where

@@ -1,18 +1,18 @@
 // Closing a list of an area: its trees in their order, and the application, the sum or the atom that they make.
 #![tactic(auto)]
 
-ghost use Rattle.std.specs.Prelude.{◌≡◌, [], ◌∷◌, ◌+◌, ◌*◌, ◌<◌, ◌≤◌, ◌^◌, length};
+ghost use Rattle.std.specs.Prelude.{◌≡◌, [], ◌∷◌, ◌*◌, ◌<◌, ◌≤◌};
 ghost use Rattle.rules.specs.Tree.{apply, none, more, count, tamtplus};
 ghost use Rattle.rules.specs.Reading.{close, atom_of, sum_of};
-ghost use Rattle.tree.specs.Areas.{tree_in, trees_in};
+ghost use Rattle.tree.specs.Areas.{tree_in, trees_in, CellIn, HasRoom};
 ghost use Rattle.tree.specs.Spelled.{text_in, Spelled};
 ghost use Rattle.closing.specs.Machine.{back};
 ghost use Rattle.closing.specs.Closing.{summed};
 ghost use Rattle.closing.specs.Areas.{room_for, PutsInOrder, ClosesIn, AloneIn};
 
-use leaves::{all_digits, is_letter_name};
-use sheet::{Place, part};
-use text::same;
+use leaves::{all_digits, letter_of};
+use rules::SUM;
+use sheet::Place;
 use tree::area::Area;
 use tree::kinds::Kind;
 
@@ -26,28 +26,21 @@ struct Ordered {
 // The trees of a chain once more, in their order, unless they have more than 4,095 nodes.
 fn in_order(area: &mut Area, chain: usize) -> Option<Ordered>
     requires chain { chain < area.old.free }
-    requires room { (4 * (area.old.free + count (trees_in area.old chain)) ≤ length area.old.work.now) × (area.old.free + count (trees_in area.old chain) < 2 ^ 32) }
+    requires room { HasRoom area.old (count (trees_in area.old chain)) }
     ensures { PutsInOrder area.old area.new chain result }
 {
-    let mut k = chain;
-    let mut first = 0;
-    let mut nodes = 0;
-    while 0 < k {
-        nodes += area.count_of(k);
-        if 4095 < nodes {
-            return None;
-        }
-        let next = area.next_of(k);
-        first = area.share(k, first);
-        k = next;
+    let nodes = area.nodes_in(chain);
+    if 4095 < nodes {
+        return None;
     }
+    let first = area.reversed(chain);
     Some(Ordered { first, nodes })
 }
 
 // An application.
 fn list(area: &mut Area, name: Place, chain: usize, next: usize) -> Option<usize>
     requires links { (chain < area.old.free) × (next < area.old.free) }
-    requires room { (4 * (area.old.free + room_for area.old chain) ≤ length area.old.work.now) × (area.old.free + room_for area.old chain < 2 ^ 32) }
+    requires room { HasRoom area.old (room_for area.old chain) }
     requires name { Spelled area.old.sheet.now name }
     ensures { ClosesIn area.old area.new (room_for area.old chain) next (Some (apply (text_in area.old name) (back (trees_in area.old chain) none))) result }
 {
@@ -55,11 +48,12 @@ fn list(area: &mut Area, name: Place, chain: usize, next: usize) -> Option<usize
     Some(area.push_application(name, children.first, next, children.nodes + 1))
 }
 
-// Summands put in front of the tree of cell tail, which has no link, one after another.
+// Summands put in front of the tree of cell tail, which has no link, one after another. The cells are pushed into the area that is
+// walked: an iterator would hold it.
 fn nest(area: &mut Area, plus: Place, tail: usize, chain: usize) -> Option<usize>
-    requires tail { (0 < tail) × (tail < area.old.free) × (trees_in area.old tail ≡ more (tree_in area.old tail) none) }
-    requires chain { (0 < chain) × (chain < area.old.free) }
-    requires room { (4 * (area.old.free + 2 * count (trees_in area.old chain)) ≤ length area.old.work.now) × (area.old.free + 2 * count (trees_in area.old chain) < 2 ^ 32) }
+    requires tail { CellIn area.old tail × (trees_in area.old tail ≡ more (tree_in area.old tail) none) }
+    requires chain { CellIn area.old chain }
+    requires room { HasRoom area.old (2 * count (trees_in area.old chain)) }
     requires name { Spelled area.old.sheet.now plus × (text_in area.old plus ≡ tamtplus) }
     ensures { ClosesIn area.old area.new (2 * count (trees_in area.old chain)) 0 (Some (summed (tree_in area.old tail) (trees_in area.old chain))) result }
 {
@@ -81,7 +75,7 @@ fn nest(area: &mut Area, plus: Place, tail: usize, chain: usize) -> Option<usize
 // A sum of two trees or more, nested to the right.
 fn sum(area: &mut Area, plus: Place, chain: usize, next: usize) -> Option<usize>
     requires links { (chain < area.old.free) × (next < area.old.free) }
-    requires room { (4 * (area.old.free + room_for area.old chain) ≤ length area.old.work.now) × (area.old.free + room_for area.old chain < 2 ^ 32) }
+    requires room { HasRoom area.old (room_for area.old chain) }
     requires name { Spelled area.old.sheet.now plus × (text_in area.old plus ≡ tamtplus) }
     ensures { ClosesIn area.old area.new (room_for area.old chain) next (sum_of (back (trees_in area.old chain) none)) result }
 {
@@ -102,28 +96,17 @@ fn is_number(area: &Area, k: usize) -> bool
     requires { k < area.now.free }
     ensures { AloneIn area.now k result }
 {
-    if k == 0 {
-        return false;
-    }
-    if 0 < area.next_of(k) {
-        return false;
-    }
-    let Kind::Application = area.kind(k) else {
-        return false;
-    };
-    if 0 < area.first_of(k) {
-        return false;
-    }
-    let Some(name) = area.spelled(k) else {
-        return false;
-    };
-    all_digits(name)
+    k != 0
+        && area.next_of(k) == 0
+        && matches!(area.kind(k), Kind::Application)
+        && area.first_of(k) == 0
+        && area.spelled(k).is_some_and(|name| all_digits(name))
 }
 
 // An atom: a letter around digits.
 fn atom(area: &mut Area, letter: u8, chain: usize, next: usize) -> Option<usize>
     requires links { (chain < area.old.free) × (next < area.old.free) }
-    requires room { (4 * (area.old.free + room_for area.old chain) ≤ length area.old.work.now) × (area.old.free + room_for area.old chain < 2 ^ 32) }
+    requires room { HasRoom area.old (room_for area.old chain) }
     requires letter { 7 ≤ letter }
     ensures { ClosesIn area.old area.new (room_for area.old chain) next (atom_of (letter ∷ []) (back (trees_in area.old chain) none)) result }
 {
@@ -136,15 +119,15 @@ fn atom(area: &mut Area, letter: u8, chain: usize, next: usize) -> Option<usize>
 // What a name and its list are (unifier.rs, `close`), before the list at a link.
 pub fn shut(area: &mut Area, name: Place, chain: usize, next: usize) -> Option<usize>
     requires links { (chain < area.old.free) × (next < area.old.free) }
-    requires room { (4 * (area.old.free + room_for area.old chain) ≤ length area.old.work.now) × (area.old.free + room_for area.old chain < 2 ^ 32) }
+    requires room { HasRoom area.old (room_for area.old chain) }
     requires name { Spelled area.old.sheet.now name }
     ensures { ClosesIn area.old area.new (room_for area.old chain) next (close (text_in area.old name) (back (trees_in area.old chain) none)) result }
 {
-    let text = part(area.sheet, name.from, name.to);
-    if is_letter_name(text) {
-        return atom(area, text[0], chain, next);
+    let text = name.text(area.sheet);
+    if let Some(letter) = letter_of(text) {
+        return atom(area, letter, chain, next);
     }
-    if same(text, b"tamtplus") {
+    if text == SUM {
         return sum(area, name, chain, next);
     }
     list(area, name, chain, next)

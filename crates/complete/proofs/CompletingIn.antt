@@ -22,7 +22,7 @@ use Rattle.laws.proofs.Sheets.SheetParts.{sheet_parts}
 use Rattle.laws.proofs.Variants.OnePass.{complete_unread, complete_unindexed, complete_over}
 use Rattle.laws.proofs.Renaming.AnyNames.{chosen_tokens, complete_chosen}
 use Rattle.tree.specs.declared.area.Area.{Area}
-use Rattle.tree.specs.Areas.{tree_in, trees_in, Grows}
+use Rattle.tree.specs.Areas.{tree_in, trees_in, Grows, HasRoom}
 use Rattle.tree.proofs.Keeping.{adds_grows, grows_then, grows_length, grows_tree, grows_trees}
 use Rattle.forms.specs.Members.{members_at}
 use Rattle.forms.proofs.WordLaws.{count_bound}
@@ -30,7 +30,7 @@ use Rattle.variants.specs.Members.{TextsRoom}
 use Rattle.schemes.specs.Areas.{counted_in, FreshIn}
 use Rattle.variables.specs.Variables.{Readable}
 use Rattle.variables.specs.Areas.{names_in}
-use Rattle.variables.specs.Pairing.{OfVariables}
+use Rattle.variables.proofs.Listed.{variables_grown}
 use Rattle.variables.proofs.Shortness.{short_read}
 use Rattle.families.specs.Families.{ReadAll}
 use Rattle.families.specs.Areas.{variants_in, ReadMembersIn, ReadsMembersIn}
@@ -94,7 +94,7 @@ module _ (a : Area) {term named at : ℕ} (k : CompleteInputIn a term named at) 
     pub count_now : (c : ℕ) → Some c ≡ counted_in (scheme_count (tree_in b term)) → (c ≡ scheme_count tree) × (c ≤ 4096)
     count_now c e = let r = counted_some (scheme_count (tree_in b term)) c e in (r.0 ∙ ap scheme_count term_now, r.1)
 
-    pub fresh_room : (4 * (b.free + 24) ≤ length b.work.now) × (b.free + 24 < 4294967296)
+    pub fresh_room : HasRoom b 24
     fresh_room =
         let x = asked_names k in
         let c = asked_colons k in
@@ -123,7 +123,7 @@ module _ (a : Area) {term named at : ℕ} (k : CompleteInputIn a term named at) 
 
       module _ {e : Area} {list : ℕ} (m : ReadMembersIn d e at list) (count : ℕ) (c : (count ≡ scheme_count tree) × (count ≤ 4096)) where
         abbrev asked : Question
-        asked = record { term = term; fresh = fresh; count = count; named = named; names = t.names; members = list }
+        asked = record { schemes = record { term = term; fresh = fresh; count = count }; named = named; names = t.names; members = list }
 
         to_members : Grows a e
         to_members = grows_then to_fresh m.grows
@@ -135,7 +135,7 @@ module _ (a : Area) {term named at : ℕ} (k : CompleteInputIn a term named at) 
         term_kept = grows_tree to_members term tb tp
 
         list_kept : trees_in e t.names ≡ trees_in b t.names
-        list_kept = grows_trees from_names t.names n.inside
+        list_kept = grows_trees from_names t.names n.names.inside
 
         names_are : names_in e t.names ≡ variables tree []
         names_are = rw list_kept n.are
@@ -143,11 +143,9 @@ module _ (a : Area) {term named at : ℕ} (k : CompleteInputIn a term named at) 
         pub question_asks : Asks e asked
         question_asks = record {
           short = omega (arith, ap (λ s. length s.now) to_members.lent.sheet, k.short);
-          some_cell = tp;
-          term = omega (arith, tb, to_members.grew);
-          names = omega (arith, n.inside, from_names.grew);
+          term = (tp, omega (arith, tb, to_members.grew));
+          names = variables_grown from_names n.names;
           members = m.inside;
-          variables = subst OfVariables (sym list_kept) n.of_variables;
           small = omega (arith, asked_small k, ap size term_kept);
           count = c.0 ∙ sym (ap scheme_count term_kept);
           few = c.1;

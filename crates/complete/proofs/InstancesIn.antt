@@ -17,8 +17,8 @@ use Rattle.tree.proofs.Keeping.{adds_grows, grows_then, grows_keeps, grows_lengt
 use Rattle.reduction.specs.Areas.{Becomes}
 use Rattle.substitution.specs.Areas.{bindings_in, instance_in, Places, BuildsTreeIn}
 use Rattle.substitution.specs.declared.instances.Built.{Built}
-use Rattle.variables.specs.Areas.{names_in}
-use Rattle.variables.specs.Pairing.{OfVariables}
+use Rattle.variables.specs.Areas.{names_in, SolutionIn}
+use Rattle.variables.specs.declared.pairing.Solution.{Solution}
 use Rattle.variables.proofs.Listed.{names_count}
 use Rattle.families.specs.Generalizing.{AllMatched}
 use Rattle.families.specs.Areas.{variants_in, AllMatchedIn}
@@ -81,12 +81,15 @@ module _ {a b : Area} (q : Question) (value bindings : ℕ) {built : Built} (k :
       instance_now : tree_in f built.index ≡ made
       instance_now = grows_tree (grows_keeps keeps) built.index one.puts.inside one.puts.some_cell ∙ one.puts.tree
 
-      pub search_variables : OfVariables (trees_in f q.names)
-      search_variables = (asks_kept all q k).variables
+      abbrev solution : Solution
+      solution = record { names = q.names; bindings = bindings }
 
-      pub search_matched : InstanceMatched a q value bindings → AllMatchedIn f q.members q.names bindings built.index
+      pub search_solution : SolutionIn f solution
+      search_solution = record { names = (asks_kept all q k).names; bindings = omega (arith, bb, all.grew) }
+
+      pub search_matched : InstanceMatched a q value bindings → AllMatchedIn f q.members solution built.index
       search_matched h =
-          let c = names_count a.sheet.now a.work.now q.names k.variables in
+          let c = names_count a.sheet.now a.work.now q.names k.names.variables in
           let m : AllMatched a.sheet.now f.work.now (f.free + 2 + 2 * count (trees_in a q.names)) (names_in a q.names) (bindings_in a bindings) made (trees_in a q.members) =
           all_matched_same a.sheet.now a.work.now f.work.now (a.free + 4098 + 2 * length (names_in a q.names)) (f.free + 2 + 2 * count (trees_in a q.names)) (names_in a q.names) (bindings_in a bindings) made (trees_in a q.members)
           (grows_length all) (omega (arith, one.used, keeps.end, c)) h

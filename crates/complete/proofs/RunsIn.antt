@@ -1,9 +1,9 @@
 -- The run over the system of a scheme in an area, and what the scheme decides.
-use Prim.Native.Nat.{ℕ, ◌+◌, ◌*◌, ◌<◌, ◌≤◌}
+use Prim.Native.Nat.{ℕ, ◌+◌, ◌*◌, ◌<◌, ◌≤◌, ◌^◌}
 use mathlib.Core.Path.{◌≡◌, refl, sym, ap, ap₂, subst, ◌∙◌}
 use mathlib.Core.Logic.{◌⊎◌, inl, inr}
 use mathlib.Core.List.{List}
-use Rattle.std.specs.Prelude.{Option, Some, None}
+use Rattle.std.specs.Prelude.{Option, Some, None, Ok, Err}
 use lib.ListN.{length}
 use native.Mathlib.Omega.{arith}
 use Rattle.rules.specs.Bytes.{Text}
@@ -21,10 +21,11 @@ use Rattle.schemes.specs.Areas.{FreshIn, SystemIn}
 use Rattle.schemes.specs.declared.systems.System.{System}
 use Rattle.elimination.specs.Stack.{Whole, FitPairs}
 use Rattle.elimination.specs.Area.{Room}
-use Rattle.unifier.specs.Areas.{stack_in, NamesFew, spared_end, verdict_in, AnswersIn, EndsIn}
-use Rattle.unifier.specs.declared.unifying.Answer.{Answer as Answered}
-use Rattle.unifier.specs.declared.unifying.Verdict.TheVariants.{Solved, Failed, Unsupported}
-use Rattle.unifier.proofs.Tops.{pairs_are, whole_are}
+use Rattle.elimination.proofs.Tops.{pairs_are, whole_are}
+use Rattle.rules.specs.declared.Ending.TheVariants.{Failed, Unsupported}
+use Rattle.substitution.specs.Answers.{verdict_in}
+use Rattle.substitution.specs.declared.answer.Answer.{Answer as Answered}
+use Rattle.unifier.specs.Areas.{stack_in, NamesFew, spared_end, AnswersIn, EndsIn}
 use Rattle.variables.specs.Areas.{names_in}
 use Rattle.families.specs.Generalizing.{AllMatched}
 use Rattle.families.specs.Areas.{variants_in}
@@ -38,12 +39,12 @@ use Rattle.complete.proofs.Rooms.{fuel_few}
 use Rattle.complete.proofs.Judgements.{fit_built, enough_unify}
 use Rattle.complete.proofs.JudgingIn.{names_kept, members_kept, asks_kept}
 
-module _ {a b : Area} {q : Question} {i : ℕ} (asks : Asks a q) (k : CanJudgeIn a q i) {c : System} (y : (name : ℕ → Text) → FreshIn a q.fresh name → SystemIn a b name i (tree_in a q.term) c) where
-  its : SystemIn a b k.name i (tree_in a q.term) c
+module _ {a b : Area} {q : Question} {i : ℕ} (asks : Asks a q) (k : CanJudgeIn a q i) {c : System} (y : (name : ℕ → Text) → FreshIn a q.schemes.fresh name → SystemIn a b name i (tree_in a q.schemes.term) c) where
+  its : SystemIn a b k.name i (tree_in a q.schemes.term) c
   its = y k.name k.cells
 
   abbrev ps : List Pair
-  ps = system_of k.name (tree_in a q.term) i
+  ps = system_of k.name (tree_in a q.schemes.term) i
 
   pairs : stack_in b c.stack ≡ ps
   pairs = pairs_are ps its.stack.trees
@@ -51,7 +52,7 @@ module _ {a b : Area} {q : Question} {i : ℕ} (asks : Asks a q) (k : CanJudgeIn
   system_nodes : sizes (trees_in b c.stack) ≡ size_pairs ps
   system_nodes = ap sizes its.stack.trees ∙ flatten_size ps
 
-  pub stack_inside : (c.stack < b.free) × (sizes (trees_in b c.stack) < 4294967296)
+  pub stack_inside : (c.stack < b.free) × (sizes (trees_in b c.stack) < 2 ^ 64)
   stack_inside = let r = k.scheme.room in (its.stack.inside, omega (arith, r.1, system_nodes))
 
   pub run_stack : (c.stack < b.free) × Whole (trees_in b c.stack) × FitPairs (stack_in b c.stack)
@@ -74,7 +75,7 @@ module _ {a b : Area} {q : Question} {i : ℕ} (asks : Asks a q) (k : CanJudgeIn
       pub run_counts : (nodes ≡ sizes (trees_in b c.stack)) × NamesFew q.named (stack_in b c.stack)
       run_counts = (n, record { names = k.scheme.names; over = subst (OverPairs k.scheme.names) (sym pairs) k.scheme.over; few = k.scheme.few })
 
-      end_few : spared_end b.free nodes fuel q.named ≤ solved_end k.name a.free (tree_in a q.term) q.named i
+      end_few : spared_end b.free nodes fuel q.named ≤ solved_end k.name a.free (tree_in a q.schemes.term) q.named i
       end_few = omega (arith, nodes_are, fuel_is, its.used)
 
       pub run_room : Room b.work.now (spared_end b.free nodes fuel q.named)
@@ -91,24 +92,24 @@ module _ {a b : Area} {q : Question} {i : ℕ} (asks : Asks a q) (k : CanJudgeIn
 
         module _ (before : Judged) where
           -- a scheme decides the same by all names that its cells have
-          by_names : (o : Option Judged) → DecidesIn a q k.name i before o → (other : ℕ → Text) → FreshIn a q.fresh other → DecidesIn a q other i before o
+          by_names : (o : Option Judged) → DecidesIn a q k.name i before o → (other : ℕ → Text) → FreshIn a q.schemes.fresh other → DecidesIn a q other i before o
           by_names o h other f =
               let z = y other f in
               h ∙ ap₂ (λ (t : Tree) (xs : List Pair). judge_verdict (names_in a q.names) (variants_in a q.members) t (unify 65536 xs).0 (judged_as before)) (sym its.value.tree ∙ z.value.tree)
-              (sym pairs ∙ pairs_are (system_of other (tree_in a q.term) i) z.stack.trees)
+              (sym pairs ∙ pairs_are (system_of other (tree_in a q.schemes.term) i) z.stack.trees)
 
-          decides_by : (o : Option Judged) {v : Verdict} → verdict_in e r.verdict ≡ v → judgement_in o ≡ judge_verdict (names_in a q.names) (variants_in a q.members) (scheme_at k.name (tree_in a q.term) 0 i).value v (judged_as before)
+          decides_by : (o : Option Judged) {v : Verdict} → verdict_in e r.verdict ≡ v → judgement_in o ≡ judge_verdict (names_in a q.names) (variants_in a q.members) (scheme_at k.name (tree_in a q.schemes.term) 0 i).value v (judged_as before)
               → DecidesIn a q k.name i before o
-          decides_by o f h = h ∙ ap (λ (v : Verdict). judge_verdict (names_in a q.names) (variants_in a q.members) (scheme_at k.name (tree_in a q.term) 0 i).value v (judged_as before)) (sym (verdict_is ∙ f))
+          decides_by o f h = h ∙ ap (λ (v : Verdict). judge_verdict (names_in a q.names) (variants_in a q.members) (scheme_at k.name (tree_in a q.schemes.term) 0 i).value v (judged_as before)) (sym (verdict_is ∙ f))
 
-          pub judged_unsupported : r.verdict ≡ Unsupported → JudgesIn a e q i before None
+          pub judged_unsupported : r.verdict ≡ Err Unsupported → JudgesIn a e q i before None
           judged_unsupported v = record { grows = all_grows; decides = by_names None (decides_by None (ap (verdict_in e) v) refl) }
 
-          pub judged_failed : r.verdict ≡ Failed → JudgesIn a e q i before (Some before)
+          pub judged_failed : r.verdict ≡ Err Failed → JudgesIn a e q i before (Some before)
           judged_failed v = record { grows = all_grows; decides = by_names (Some before) (decides_by (Some before) (ap (verdict_in e) v) refl) }
 
-          module _ (bindings : ℕ) (v : r.verdict ≡ Solved bindings) where
-            settled_stays : (j : Judged) → (j ≡ Missing) ⊎ (j ≡ Over) → judged_as j ≡ judge (names_in a q.names) (variants_in a q.members) (bindings_in e bindings) (scheme_at k.name (tree_in a q.term) 0 i).value (judged_as j)
+          module _ (bindings : ℕ) (v : r.verdict ≡ Ok bindings) where
+            settled_stays : (j : Judged) → (j ≡ Missing) ⊎ (j ≡ Over) → judged_as j ≡ judge (names_in a q.names) (variants_in a q.members) (bindings_in e bindings) (scheme_at k.name (tree_in a q.schemes.term) 0 i).value (judged_as j)
             unfolding judge
             settled_stays j (inl f) = rw f refl
             settled_stays j (inr f) = rw f refl
@@ -119,20 +120,20 @@ module _ {a b : Area} {q : Question} {i : ℕ} (asks : Asks a q) (k : CanJudgeIn
             pub solved_asks : Asks e q
             solved_asks = asks_kept all_grows q asks
 
-            value_now : tree_in e c.value ≡ (scheme_at k.name (tree_in a q.term) 0 i).value
+            value_now : tree_in e c.value ≡ (scheme_at k.name (tree_in a q.schemes.term) 0 i).value
             value_now = grows_tree g.grows c.value its.value.inside its.value.some_cell ∙ its.value.tree
 
             -- what the solved scheme decides
             pub judged_solved : {f : Area} {o : Judged} → before ≡ Pending
                 → judged_as o ≡ judge (names_in e q.names) (variants_in e q.members) (bindings_in e bindings) (tree_in e c.value) pending → Grows e f → JudgesIn a f q i before (Some o)
             judged_solved {f} {o} p h z =
-                let x : judged_as o ≡ judge (names_in a q.names) (variants_in a q.members) (bindings_in e bindings) (scheme_at k.name (tree_in a q.term) 0 i).value (judged_as before) =
+                let x : judged_as o ≡ judge (names_in a q.names) (variants_in a q.members) (bindings_in e bindings) (scheme_at k.name (tree_in a q.schemes.term) 0 i).value (judged_as before) =
                 h ∙ rw (names_kept all_grows q asks, members_kept all_grows q asks, value_now, p) refl
                 in
                 record { grows = grows_then all_grows z; decides = by_names (Some o) (decides_by (Some o) (ap (verdict_in e) v) (ap Some x)) }
 
             module _ (z : EndsIn e r.verdict (spared_end b.free nodes fuel q.named)) where
-              solved_few : e.free ≤ solved_end k.name a.free (tree_in a q.term) q.named i
+              solved_few : e.free ≤ solved_end k.name a.free (tree_in a q.schemes.term) q.named i
               solved_few = let f : e.free ≤ spared_end b.free nodes fuel q.named = subst (λ w. EndsIn e w (spared_end b.free nodes fuel q.named)) v z in omega (arith, f, end_few)
 
               pub solved_room : (4 * e.free + 155648 ≤ length e.work.now) × (e.free < 4294959104)
@@ -140,8 +141,8 @@ module _ {a b : Area} {q : Question} {i : ℕ} (asks : Asks a q) (k : CanJudgeIn
 
               pub solved_matched : InstanceMatched e q c.value bindings
               solved_matched =
-                  let n = solved_end k.name a.free (tree_in a q.term) q.named i + 4098 + 2 * length (names_in a q.names) in
-                  let t = instantiate (bindings_in e bindings) (scheme_at k.name (tree_in a q.term) 0 i).value in
+                  let n = solved_end k.name a.free (tree_in a q.schemes.term) q.named i + 4098 + 2 * length (names_in a q.names) in
+                  let t = instantiate (bindings_in e bindings) (scheme_at k.name (tree_in a q.schemes.term) 0 i).value in
                   let m : AllMatched a.sheet.now e.work.now (e.free + 4098 + 2 * length (names_in a q.names)) (names_in a q.names) (bindings_in e bindings) t (trees_in a q.members) =
                   all_matched_same a.sheet.now a.work.now e.work.now n (e.free + 4098 + 2 * length (names_in a q.names)) (names_in a q.names) (bindings_in e bindings) t (trees_in a q.members) (grows_length all_grows) (omega (arith, solved_few))
                   (k.scheme.matched (bindings_in e bindings) (verdict_is ∙ ap (verdict_in e) v))

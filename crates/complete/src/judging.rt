@@ -2,7 +2,7 @@
 // and value.
 ghost use Rattle.std.specs.Prelude.{◌≡◌, ◌+◌, ◌*◌, ◌<◌, ◌≤◌, length};
 ghost use Rattle.laws.specs.Schemes.{pending, answered, judge};
-ghost use Rattle.tree.specs.Areas.{tree_in, Grows};
+ghost use Rattle.tree.specs.Areas.{tree_in, CellIn, Grows};
 ghost use Rattle.substitution.specs.Areas.{bindings_in};
 ghost use Rattle.variables.specs.Areas.{names_in};
 ghost use Rattle.families.specs.Areas.{variants_in};
@@ -11,19 +11,19 @@ ghost use Rattle.complete.specs.Areas.{judged_as, Asks, InstanceMatched, CanJudg
 
 use equivalence::equivalent;
 use families::generalizing::generalized;
-use reduction::normalizing::{nodes_in, normalize};
-use schemes::systems::system_at;
+use reduction::normalizing::normalize;
+use rules::Ending;
+use schemes::systems::{Schemes, system_at};
 use substitution::instances::substitute;
 use tree::area::Area;
-use unifier::unifying::{Verdict, unify_sparing};
+use unifier::unifying::unify_sparing;
+use variables::pairing::Solution;
 
-// The schemes of the tree of cell `term`, `count` of them, with at most `named` names each: their fresh variables are the cells from
-// `fresh` on. The term's variables and the members are the lists from cells `names` and `members` on.
+// The schemes of a term, with at most `named` names each. The term's variables and the members are the lists from cells `names` and
+// `members` on.
 #[derive(Clone, Copy, Debug, PartialEq, Eq)]
 pub(crate) struct Question {
-    pub term: usize,
-    pub fresh: usize,
-    pub count: usize,
+    pub schemes: Schemes,
     pub named: usize,
     pub names: usize,
     pub members: usize,
@@ -54,12 +54,13 @@ impl Judged {
 // A scheme with the value of cell value that is solved by the bindings, while nothing is decided.
 fn judge_solved(area: &mut Area, asked: Question, value: usize, bindings: usize) -> Judged
     requires asks { Asks area.old asked }
-    requires cells { (0 < value) × (value < area.old.free) × (bindings < area.old.free) }
+    requires cells { CellIn area.old value × (bindings < area.old.free) }
     requires room { (4 * area.old.free + 155648 ≤ length area.old.work.now) × (area.old.free < 4294959104) }
     requires matched { InstanceMatched area.old asked value bindings }
     ensures value { judged_as result ≡ judge (names_in area.old asked.names) (variants_in area.old asked.members) (bindings_in area.old bindings) (tree_in area.old value) pending }
     ensures grows { Grows area.old area.new }
 {
+    // No `?`: without an instance the scheme is over, which is an answer.
     let Some(built) = substitute(area, value, bindings, 0, 4096) else {
         return Judged::Over;
     };
@@ -69,7 +70,13 @@ fn judge_solved(area: &mut Area, asked: Question, value: usize, bindings: usize)
         return Judged::Pending;
     }
     area.truncate(end);
-    if generalized(area, asked.members, asked.names, bindings, built.index) {
+    let names = asked.names;
+    if generalized(
+        area,
+        asked.members,
+        Solution { names, bindings },
+        built.index,
+    ) {
         return Judged::Pending;
     }
     Judged::Missing
@@ -87,18 +94,18 @@ fn enough(nodes: usize, named: usize) -> usize
 // left for the matches.
 fn judge_scheme(area: &mut Area, asked: Question, index: usize, before: Judged) -> Option<Judged>
     requires asks { Asks area.old asked }
-    requires index { index < asked.count }
+    requires index { index < asked.schemes.count }
     requires can_judge { CanJudgeIn area.old asked index }
     ensures { JudgesIn area.old area.new asked index before result }
 {
-    let system = system_at(area, asked.term, asked.fresh, asked.count, index);
-    let nodes = nodes_in(area, system.stack);
+    let system = system_at(area, asked.schemes, index);
+    let nodes = area.nodes_in(system.stack);
     let fuel = enough(nodes, asked.named);
     let answer = unify_sparing(area, system.stack, fuel, nodes, asked.named);
     match answer.verdict {
-        Verdict::Unsupported => None,
-        Verdict::Failed => Some(before),
-        Verdict::Solved(bindings) => match before {
+        Err(Ending::Unsupported) => None,
+        Err(Ending::Failed) => Some(before),
+        Ok(bindings) => match before {
             Judged::Pending => Some(judge_solved(area, asked, system.value, bindings)),
             Judged::Missing | Judged::Over => Some(before),
         },
@@ -113,7 +120,8 @@ pub(crate) fn judge(area: &mut Area, asked: Question) -> Option<bool>
 {
     let free = area.free;
     let mut state = Judged::Pending;
-    for i in 0..asked.count {
+    // The schemes are numbers, and each pushes cells into the area.
+    for i in 0..asked.schemes.count {
         state = judge_scheme(area, asked, i, state)?;
         area.truncate(free);
     }

@@ -1,26 +1,22 @@
 -- The variables of the pairs as a list of an area's cells.
 use Prim.Native.Nat.{ℕ, ◌+◌, ◌*◌, ◌-◌, ◌≤◌}
-use mathlib.Core.Path.{◌≡◌, sym, ap, subst, ◌∙◌}
-use mathlib.Core.List.{List, [], map}
+use mathlib.Core.Path.{sym, ap, ◌∙◌}
+use mathlib.Core.List.{map}
 use lib.ListN.{length}
-use lib.Seq.{slice, length-slice}
+use lib.Seq.{slice}
 use native.Mathlib.Omega.{arith}
-use Rattle.rules.specs.Bytes.{Text}
 use Rattle.rules.specs.Tree.{Trees, sizes, variable_names_in}
 use Rattle.text.specs.Places.{text_at}
 use Rattle.tree.specs.declared.area.Area.{Area}
 use Rattle.tree.specs.Areas.{trees_in}
-use Rattle.tree.proofs.Keeping.{grows_keeps, grows_then, adds_grows}
 use Rattle.elimination.specs.Stack.{Whole}
 use Rattle.unifier.specs.Areas.{stack_in}
 use Rattle.variables.specs.Ordered.{ordered_once}
-use Rattle.variables.specs.Listing.{backwards}
-use Rattle.variables.specs.Pairing.{names_of, OfVariables}
 use Rattle.variables.proofs.Gathered.{gathered_variables, gathered_grows, gathered_names, gathered_used}
-use Rattle.variables.specs.Areas.{names_in, GathersIn, ListsVariablesIn}
+use Rattle.variables.specs.Areas.{GathersIn, ListsVariablesIn}
 use Rattle.variables.specs.declared.gathering.Places.{Places}
 use Rattle.variables.proofs.Ordering.{variables_ordered}
-use Rattle.variables.proofs.Listed.{names_list, variables_list, length_map, names_count}
+use Rattle.variables.proofs.Listed.{names_count}
 use Rattle.cover.specs.Areas.{NamesIn}
 
 pub names_made : {a d b : Area} {stack i : ℕ} {p : Places} (o : GathersIn a d stack p) → sizes (trees_in a stack) ≤ length a.sheet.now → 4 * (a.free + length a.sheet.now) + 2 * length a.sheet.now ≤ length a.work.now → Whole (trees_in a stack)
@@ -29,8 +25,7 @@ names_made {a} {d} {b} {stack} {i} o few room whole h =
     let v = gathered_variables o few room h in
     record {
       grows = gathered_grows o few room h;
-      inside = h.lists.inside;
-      variables = v;
+      names = record { inside = h.lists.inside; variables = v };
       are = gathered_names o few room h ∙ ap (λ (ts : Trees). ordered_once (variable_names_in ts)) (sym whole) ∙ sym (variables_ordered (stack_in a stack));
       used = omega (arith, gathered_used o few room h, names_count b.sheet.now b.work.now i v);
     }

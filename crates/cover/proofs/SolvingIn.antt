@@ -1,10 +1,9 @@
 -- The pairs of a sheet unified in an area, and the members matched after that.
-use Prim.Native.Nat.{ℕ, ◌+◌, ◌*◌, ◌-◌, ◌<◌, ◌≤◌}
-use mathlib.Core.Path.{◌≡◌, sym, ap, subst, ◌∙◌}
+use Prim.Native.Nat.{ℕ, ◌+◌, ◌*◌, ◌-◌, ◌<◌, ◌≤◌, ◌^◌}
+use mathlib.Core.Path.{◌≡◌, refl, sym, ap, subst, ◌∙◌}
 use mathlib.Core.Bool.{Bool}
 use mathlib.Core.List.{List, map}
-use mathlib.Core.Logic.{◌⊎◌, inl, inr}
-use Rattle.std.specs.Prelude.{Some, None}
+use Rattle.std.specs.Prelude.{Option, Some, None, Ok, Err}
 use lib.ListN.{length}
 use native.Mathlib.Omega.{arith}
 use Rattle.rules.specs.Bytes.{Text}
@@ -12,9 +11,10 @@ use Rattle.rules.specs.Text.{count_of}
 use Rattle.rules.specs.Maybe.{every}
 use Rattle.rules.specs.Tree.{Trees, count, sizes}
 use Rattle.rules.specs.Substitution.{Pair, size_pairs}
-use Rattle.rules.specs.Solving.{solved, Answer, unify}
+use Rattle.rules.specs.Solving.{solved, failed, unsupported, Answer, unify}
 use Rattle.laws.specs.Memory.{OverPairs}
 use Rattle.rules.specs.Cover.{variables_of, pair_at, any_covers}
+use Rattle.rules.specs.Sheet.{Member}
 use Rattle.tree.specs.declared.area.Area.{Area}
 use Rattle.tree.specs.Areas.{trees_in, Grows}
 use Rattle.tree.proofs.Keeping.{grows_then, grows_length, grows_trees}
@@ -24,15 +24,16 @@ use Rattle.elimination.specs.Stack.{pairs_of, Whole, FitPairs}
 use Rattle.elimination.specs.Area.{Room}
 use Rattle.steps.proofs.Fitting.{pairs_fit}
 use Rattle.unifier.specs.Matched.{Matched}
-use Rattle.unifier.specs.Areas.{stack_in, NamesFew, spared_end, verdict_in, AnswersIn, EndsIn}
-use Rattle.unifier.specs.declared.unifying.Answer.{Answer as Answered}
-use Rattle.unifier.specs.declared.unifying.Verdict.TheVariants.{Solved, Failed, Unsupported}
-use Rattle.variables.specs.Pairing.{OfVariables}
-use Rattle.variables.specs.Areas.{names_in}
+use Rattle.unifier.specs.Areas.{stack_in, NamesFew, spared_end, AnswersIn, HoldsBound, EndsIn}
+use Rattle.rules.specs.declared.Ending.{Ending}
+use Rattle.rules.specs.declared.Ending.TheVariants.{Failed, Unsupported}
+use Rattle.substitution.specs.Answers.{verdict_in, stopped}
+use Rattle.substitution.specs.declared.answer.Answer.{Answer as Answered}
+use Rattle.variables.specs.Areas.{names_in, SolutionIn}
 use Rattle.cover.specs.Areas.{CoverInputIn, NamesIn, AllMatchableIn, CoversAnyIn, ClaimsCoveredIn}
 use Rattle.cover.proofs.Rooms.{run_end, asked_nodes, asked_few, asked_names, asked_colons, asked_over, asked_matched}
 use Rattle.cover.proofs.Solutions.{covered_by}
-use Rattle.variables.proofs.Listed.{names_count}
+use Rattle.variables.proofs.Listed.{names_count, variables_grown}
 
 module _ {a b : Area} {stack at names : ℕ} (p : stack < a.free) (k : CoverInputIn a stack at) (h : NamesIn a b stack names) where
   abbrev ps : List Pair
@@ -42,12 +43,12 @@ module _ {a b : Area} {stack at names : ℕ} (p : stack < a.free) (k : CoverInpu
   stack_kept = grows_trees h.grows stack p
 
   many : count (trees_in b names) ≡ length (variables_of ps)
-  many = names_count b.sheet.now b.work.now names h.variables ∙ ap (λ (l : List Text). length l) h.are
+  many = names_count b.sheet.now b.work.now names h.names.variables ∙ ap (λ (l : List Text). length l) h.are
 
   colons : count_of 58 b.sheet.now ≡ count_of 58 a.sheet.now
   colons = ap (λ s. count_of 58 s.now) h.grows.lent.sheet
 
-  pub nodes_inside : (stack < b.free) × (sizes (trees_in b stack) < 4294967296)
+  pub nodes_inside : (stack < b.free) × (sizes (trees_in b stack) < 2 ^ 64)
   nodes_inside = (omega (arith, h.used), omega (arith, ap sizes stack_kept, asked_nodes k, asked_few k, k.short))
 
   pub run_stack : (stack < b.free) × Whole (trees_in b stack) × FitPairs (stack_in b stack)
@@ -80,11 +81,15 @@ module _ {a b : Area} {stack at names : ℕ} (p : stack < a.free) (k : CoverInpu
       verdict_is = ap (λ (ts : Trees). (unify 65536 (pairs_of ts)).0) (sym stack_kept) ∙ ap (λ (x : Answer). x.0) y.is
 
       -- the pairs are not solved
-      pub unsolved : (r.verdict ≡ Failed) ⊎ (r.verdict ≡ Unsupported) → ClaimsCoveredIn a e stack at None
-      unsolved o = record { grows = all_grows; claim = λ ms f. elim o [ inl v ↦ sym (covered_by ps ms (verdict_is ∙ ap (verdict_in e) v)) | inr v ↦ sym (covered_by ps ms (verdict_is ∙ ap (verdict_in e) v)) ] }
+      pub unsolved : (x : Ending) → r.verdict ≡ Err x → ClaimsCoveredIn a e stack at None
+      unsolved x v = record { grows = all_grows; claim = λ ms f. sym (covered_by ps ms (verdict_is ∙ ap (verdict_in e) v) ∙ none x ms) }
+        where
+          none : (x : Ending) (ms : List Member) → ◌≡◌ {A = Option Bool} (elim (stopped x) [ solved bs ↦ Some (any_covers (variables_of ps) bs ms) | failed ↦ None | unsupported ↦ None ]) None
+          none Failed ms = refl
+          none Unsupported ms = refl
 
       -- they are solved
-      module _ (bindings : ℕ) (v : r.verdict ≡ Solved bindings) (z : EndsIn e r.verdict (spared_end b.free nodes 65536 c)) where
+      module _ (bindings : ℕ) (v : r.verdict ≡ Ok bindings) (z : EndsIn e r.verdict (spared_end b.free nodes 65536 c)) where
         is_solved : (unify 65536 ps).0 ≡ solved (bindings_in e bindings)
         is_solved = verdict_is ∙ ap (verdict_in e) v
 
@@ -92,7 +97,7 @@ module _ {a b : Area} {stack at names : ℕ} (p : stack < a.free) (k : CoverInpu
         top_few = let f : e.free ≤ spared_end b.free nodes 65536 c = subst (λ w. EndsIn e w (spared_end b.free nodes 65536 c)) v z in omega (arith, f, nodes_are, colons_are, h.used, many, k.used)
 
         names_there : trees_in e names ≡ trees_in b names
-        names_there = grows_trees y.grows names h.inside
+        names_there = grows_trees y.grows names h.names.inside
 
         names_are : names_in e names ≡ variables_of ps
         names_are = rw names_there h.are
@@ -100,8 +105,11 @@ module _ {a b : Area} {stack at names : ℕ} (p : stack < a.free) (k : CoverInpu
         names_many : count (trees_in e names) ≡ length (variables_of ps)
         names_many = ap count names_there ∙ many
 
-        pub names_variables : OfVariables (trees_in e names)
-        names_variables = subst OfVariables (sym names_there) h.variables
+        pub solution_there : SolutionIn e (record { names = names; bindings = bindings })
+        solution_there = record {
+          names = variables_grown y.grows h.names;
+          bindings = (subst (λ w. HoldsBound e w) v y.bound).inside;
+        }
 
         same_length : length e.sheet.now ≡ length a.sheet.now
         same_length = ap (λ s. length s.now) all_grows.lent.sheet
@@ -117,7 +125,7 @@ module _ {a b : Area} {stack at names : ℕ} (p : stack < a.free) (k : CoverInpu
             let z = grows_length all_grows in
             (omega (arith, k.words, k.short, k.inside), omega (arith, k.short, k.inside))
 
-        pub all_matchable : AllMatchableIn e names bindings at
+        pub all_matchable : AllMatchableIn e (record { names = names; bindings = bindings }) at
         all_matchable =
             let w = grows_length all_grows in
             record {
@@ -132,7 +140,7 @@ module _ {a b : Area} {stack at names : ℕ} (p : stack < a.free) (k : CoverInpu
                   );
             }
 
-        pub claimed : {g : Area} (q : Bool) → CoversAnyIn e g names bindings at q → ClaimsCoveredIn a g stack at (Some q)
+        pub claimed : {g : Area} (q : Bool) → CoversAnyIn e g (record { names = names; bindings = bindings }) at q → ClaimsCoveredIn a g stack at (Some q)
         claimed q x = record {
           grows = grows_then all_grows x.1;
           claim = λ ms f. ap Some (x.0 ms (ap (λ s. members_at s.now at) all_grows.lent.sheet ∙ f) ∙ ap (λ (xs : List Text). any_covers xs (bindings_in e bindings) ms) names_are) ∙ sym (covered_by ps ms is_solved);

@@ -1,5 +1,5 @@
 -- What kind `cover` is asked, whether members cover, and what it claims, in an area. Definitions only.
-use Rattle.std.specs.Prelude.{ℕ, ◌+◌, ◌*◌, ◌-◌, ◌<◌, ◌≡◌, List, length, Bool, true, Option, Some, None}
+use Rattle.std.specs.Prelude.{ℕ, ◌+◌, ◌*◌, ◌-◌, ◌≡◌, List, length, Bool, true, Option, Some, None}
 use Rattle.rules.specs.Bytes.{Text}
 use Rattle.rules.specs.Tree.{count}
 use Rattle.rules.specs.Sheet.{Entry, Member}
@@ -10,8 +10,8 @@ use Rattle.substitution.specs.Areas.{bindings_in}
 use Rattle.sheet.specs.declared.Cursor.{Cursor}
 use Rattle.forms.specs.Members.{members_at}
 use Rattle.unifier.specs.Areas.{stack_in}
-use Rattle.variables.specs.Areas.{names_in}
-use Rattle.variables.specs.Pairing.{OfVariables}
+use Rattle.variables.specs.Areas.{names_in, VariablesIn}
+use Rattle.variables.specs.declared.pairing.Solution.{Solution}
 use Rattle.values.specs.Values.{EntriesFrom}
 use Rattle.cover.specs.Covering.{Matchable, AllMatchable, Uncovered}
 use Rattle.cover.specs.Covered.{CoverInput}
@@ -21,28 +21,27 @@ abbrev pub member_end_in : Area → ℕ → ℕ → ℕ
 member_end_in a names at = a.free + 2 * (length a.sheet.now - at) + 2 * count (trees_in a names)
 
 -- the pairs of the member with the entries from a position on can be matched
-abbrev pub MatchableIn : Area → ℕ → ℕ → ℕ → Type 0
-MatchableIn a names bindings at = Matchable a.sheet.now a.work.now (member_end_in a names at) names bindings at
+abbrev pub MatchableIn : Area → Solution → ℕ → Type 0
+MatchableIn a s at = Matchable a.sheet.now a.work.now (member_end_in a s.names at) s.names s.bindings at
 
 -- those of all members from a position on can
-abbrev pub AllMatchableIn : Area → ℕ → ℕ → ℕ → Type 0
-AllMatchableIn a names bindings at = AllMatchable a.sheet.now a.work.now (member_end_in a names at) names bindings at
+abbrev pub AllMatchableIn : Area → Solution → ℕ → Type 0
+AllMatchableIn a s at = AllMatchable a.sheet.now a.work.now (member_end_in a s.names at) s.names s.bindings at
 
 -- the member with the entries from `at` on covers; or it does not, and its entries end at a cursor
-abbrev pub PassesMemberIn : Area → Area → ℕ → ℕ → ℕ → Option Cursor → Type 0
-PassesMemberIn a b names bindings at None =
-    ((x : Text) (es : List Entry) → EntriesFrom a.sheet.now at es → covers (names_in a names) (bindings_in a bindings) (x, es) ≡ true) × Grows a b
-PassesMemberIn a b names bindings at (Some c) = Uncovered a.sheet.now a.work.now names bindings at c.at × Grows a b
+abbrev pub PassesMemberIn : Area → Area → Solution → ℕ → Option Cursor → Type 0
+PassesMemberIn a b s at None =
+    ((x : Text) (es : List Entry) → EntriesFrom a.sheet.now at es → covers (names_in a s.names) (bindings_in a s.bindings) (x, es) ≡ true) × Grows a b
+PassesMemberIn a b s at (Some c) = Uncovered a.sheet.now a.work.now s.names s.bindings at c.at × Grows a b
 
 -- whether one of the members from `at` on covers
-abbrev pub CoversAnyIn : Area → Area → ℕ → ℕ → ℕ → Bool → Type 0
-CoversAnyIn a b names bindings at r = ((ms : List Member) → members_at a.sheet.now at ≡ Some ms → r ≡ any_covers (names_in a names) (bindings_in a bindings) ms) × Grows a b
+abbrev pub CoversAnyIn : Area → Area → Solution → ℕ → Bool → Type 0
+CoversAnyIn a b s at r = ((ms : List Member) → members_at a.sheet.now at ≡ Some ms → r ≡ any_covers (names_in a s.names) (bindings_in a s.bindings) ms) × Grows a b
 
 -- b is a with more cells: the list from cell i on is that of the variables of the pairs, the last first
 pub record NamesIn (a b : Area) (stack i : ℕ) : Type 0 where
   pub grows : Grows a b
-  pub inside : i < b.free
-  pub variables : OfVariables (trees_in b i)
+  pub names : VariablesIn b i
   pub are : names_in b i ≡ variables_of (stack_in a stack)
   pub used : b.free ≡ a.free + count (trees_in b i)
 

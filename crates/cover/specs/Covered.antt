@@ -1,6 +1,6 @@
 -- What kind `cover` is asked: the pairs and the members of a sheet, and the words lent for them. Definitions only.
-use Rattle.std.specs.Prelude.{ℕ, ◌+◌, ◌*◌, ◌<◌, ◌≤◌, ◌≡◌, List, length}
-use Rattle.std.specs.Prelude.{Bool, Option, Some}
+use Rattle.std.specs.Prelude.{ℕ, ◌+◌, ◌*◌, ◌≤◌, ◌≡◌, List, length}
+use Rattle.std.specs.Prelude.{Some}
 use Rattle.rules.specs.Bytes.{Text}
 use Rattle.rules.specs.Text.{count_of}
 use Rattle.rules.specs.Sheet.{Entry, Member, asks_cover, read_sheet}

@@ -1,5 +1,5 @@
 -- Whether members cover: the pairs of each can be matched with the fuel and the room there are. Definitions only.
-use Rattle.std.specs.Prelude.{ℕ, ◌≤◌, ◌≡◌, Bool, true, false, length}
+use Rattle.std.specs.Prelude.{ℕ, ◌≤◌, ◌≡◌, false, length}
 use mathlib.Core.List.{List, map, Memᴰ}
 use Rattle.std.specs.Prelude.{Some}
 use Rattle.rules.specs.Bytes.{Text}

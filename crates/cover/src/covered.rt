@@ -7,13 +7,13 @@ ghost use Rattle.variables.specs.Variables.{ReadableAll};
 ghost use Rattle.cover.specs.Areas.{NamesIn, CoverInputIn, ClaimsCoveredIn};
 
 use crate::covering::any_covers;
-use reduction::normalizing::nodes_in;
 use sheet::Cursor;
 use text::count_of;
 use tree::area::Area;
-use unifier::unifying::{Verdict, unify_sparing};
+use unifier::unifying::unify_sparing;
 use variables::gathering::variables_of;
 use variables::listing::list_variables;
+use variables::pairing::Solution;
 
 // The variables of the pairs from cell stack on as a list of cells. Their places are written above as many cells as the sheet has bytes.
 fn names_of(area: &mut Area, stack: usize) -> usize
@@ -22,6 +22,7 @@ fn names_of(area: &mut Area, stack: usize) -> usize
     requires room { (4 * (area.old.free + length area.old.sheet.now) + 2 * length area.old.sheet.now ≤ length area.old.work.now) × (area.old.free + length area.old.sheet.now < 2 ^ 32) }
     ensures { NamesIn area.old area.new stack result }
 {
+    // For one term, in fresh, the base is found between the two calls.
     let places = variables_of(area, stack);
     list_variables(area, places)
 }
@@ -33,11 +34,12 @@ pub fn covered(area: &mut Area, stack: usize, members: Cursor) -> Option<bool>
     ensures { ClaimsCoveredIn area.old area.new stack members.at result }
 {
     let names = names_of(area, stack);
-    let nodes = nodes_in(area, stack);
+    let nodes = area.nodes_in(stack);
     let colons = count_of(area.sheet, b':');
     let answer = unify_sparing(area, stack, 65536, nodes, colons);
+    // Tried with ok()?: the search gives up on the two goals that are left.
     match answer.verdict {
-        Verdict::Solved(bindings) => Some(any_covers(area, names, bindings, members)),
-        Verdict::Failed | Verdict::Unsupported => None,
+        Ok(bindings) => Some(any_covers(area, Solution { names, bindings }, members)),
+        Err(_) => None,
     }
 }

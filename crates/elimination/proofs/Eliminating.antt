@@ -14,7 +14,8 @@ use Rattle.rules.specs.Solving.{bind_into, unknown, swap_at, swap_for, swap_key,
 use Rattle.tree.specs.declared.area.Area.{Area}
 use Rattle.tree.specs.Areas.{name_in, tree_in, trees_in, sort_of, Grows}
 use Rattle.tree.proofs.Keeping.{adds_grows, grows_tree, grows_trees}
-use Rattle.substitution.specs.Areas.{Lists, PutsInto}
+use Rattle.tree.specs.Lists.{Lists}
+use Rattle.substitution.specs.Areas.{PutsInto}
 use Rattle.elimination.specs.Stack.{Whole}
 use Rattle.elimination.specs.Areas.{pairs_in, WaitsIn, BindsIn}
 
@@ -37,7 +38,7 @@ binds_put {a} key value p q p₁ q₁ e d =
       pairs = _;
       is = d.step;
       waits = waits_listed d.lists refl;
-      cells = (p, omega (arith, g.grew), p₁, omega (arith, g.grew));
+      cells = ((p, omega (arith, g.grew)), (p₁, omega (arith, g.grew)));
       key_is = grows_tree g key q p ∙ e;
       value_is = grows_tree g value q₁ p₁;
       small = d.small;

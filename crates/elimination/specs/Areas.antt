@@ -1,12 +1,14 @@
 -- What taking a pair does to the stack of an area. Definitions only.
-use Rattle.std.specs.Prelude.{ℕ, ◌+◌, ◌<◌, ◌≤◌, ◌≡◌, false, List, Option, Some, None}
+use Rattle.std.specs.Prelude.{ℕ, ◌+◌, ◌<◌, ◌≤◌, ◌≡◌, false, List, Option, Some, None, Result, Ok, Err}
 use Rattle.rules.specs.Bytes.{Text}
 use Rattle.rules.specs.Tree.{Tree, variable}
 use Rattle.rules.specs.Substitution.{Pair, flatten, size_pairs}
+use Rattle.rules.specs.declared.Ending.{Ending}
+use Rattle.rules.specs.declared.Ending.TheVariants as ending
 use Rattle.rules.specs.Solving.{Step, goes_on, bind, fails, unknown}
 use Rattle.laws.specs.Memory.{weight}
 use Rattle.tree.specs.declared.area.Area.{Area}
-use Rattle.tree.specs.Areas.{tree_in, trees_in, Grows}
+use Rattle.tree.specs.Areas.{tree_in, trees_in, CellIn, Grows}
 use Rattle.elimination.specs.Stack.{pairs_of}
 use Rattle.elimination.specs.Differing.{all_same}
 use Rattle.elimination.specs.declared.Taken.{Taken}
@@ -42,14 +44,18 @@ pub record BindsIn (a b : Area) (d : Step) (key value st : ℕ) : Type 0 where
   pub pairs : List Pair
   pub is : d ≡ bind name tree pairs
   pub waits : WaitsIn a b st pairs
-  pub cells : (0 < key) × (key < b.free) × (0 < value) × (value < b.free)
+  pub cells : CellIn b key × CellIn b value
   pub key_is : tree_in b key ≡ variable name
   pub value_is : tree_in b value ≡ tree
   pub small : size_pairs pairs ≤ 4096
   pub used : b.free ≤ a.free + 4098
 
-abbrev pub TakenIn : Area → Area → ℕ → Step → Taken → Type 0
-TakenIn a b h d (taken.Next st k) = GoesOnIn a b h d st k
-TakenIn a b h d (taken.Bind key value st) = BindsIn a b d key value st
-TakenIn a b h d taken.Fails = (d ≡ fails) × Grows a b
-TakenIn a b h d taken.Unknown = (d ≡ unknown) × Grows a b
+-- the step that ends a run
+abbrev pub last_step : Ending → Step
+last_step ending.Failed = fails
+last_step ending.Unsupported = unknown
+
+abbrev pub TakenIn : Area → Area → ℕ → Step → Result Taken Ending → Type 0
+TakenIn a b h d (Ok (taken.Next n)) = GoesOnIn a b h d n.stack n.apart
+TakenIn a b h d (Ok (taken.Bind key value st)) = BindsIn a b d key value st
+TakenIn a b h d (Err e) = (d ≡ last_step e) × Grows a b

@@ -2,3 +2,4 @@ pub mod Stack
 pub mod Differing
 pub mod Area
 pub mod Areas
+pub mod Fronts

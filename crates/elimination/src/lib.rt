@@ -1,86 +1,89 @@
 // A variable against a tree of an area: bound, turned round, or refused.
 #![tactic(auto)]
 
-ghost use Rattle.std.specs.Prelude.{◌≡◌, ◌<◌};
-ghost use Rattle.rules.specs.Tree.{variable};
+pub mod front; // front.rt: the pair on top of the stack
+
 ghost use Rattle.rules.specs.Solving.{bind_into, swap_key, eliminate};
-ghost use Rattle.tree.specs.Areas.{name_in, tree_in, trees_in};
-ghost use Rattle.elimination.specs.Stack.{Whole};
+ghost use Rattle.tree.specs.Areas.{name_in, tree_in};
 ghost use Rattle.elimination.specs.Area.{Room};
 ghost use Rattle.elimination.specs.Areas.{pairs_in, TakenIn};
+ghost use Rattle.elimination.specs.Fronts.{FrontIn, KeyIn};
 
-use rules::Sort;
+use crate::front::Front;
+use rules::{Ending, Sort};
 use sorts::{refinable, sorted};
 use substitution::occurrence::occurs;
 use substitution::solving::bind_into;
 use tree::area::Area;
 
-// What a step makes of a pair: the next stack, a binding and the next stack, or the end of the run.
+// The next stack.
+#[derive(Clone, Copy, Debug, PartialEq, Eq)]
+pub struct Next {
+    pub stack: usize,
+    // One of the first so many pairs of the stack has two different trees, if that is known.
+    pub apart: Option<usize>,
+}
+
+// What a step makes of a pair: the next stack, or a binding and the next stack.
 #[derive(Clone, Copy, Debug, PartialEq, Eq)]
 pub enum Taken {
-    Next {
-        stack: usize,
-        // One of the first so many pairs of the stack has two different trees, if that is known.
-        apart: Option<usize>,
-    },
+    Next(Next),
     Bind {
         key: usize,
         value: usize,
         stack: usize,
     },
-    Fails,
-    Unknown,
 }
 
-// Binds the variable of cell key to the tree of cell value.
-fn bind(area: &mut Area, key: usize, value: usize, rest: usize) -> Taken
-    requires cells { (0 < key) × (key < area.old.free) × (0 < value) × (value < area.old.free) × (rest < area.old.free) }
-    requires key_variable { tree_in area.old key ≡ variable (name_in area.old key) }
-    requires whole { Whole (trees_in area.old rest) }
+// Binds the left tree, a variable, to the right one.
+fn bind(area: &mut Area, front: Front) -> Result<Taken, Ending>
+    requires front { FrontIn area.old front }
+    requires key { KeyIn area.old front }
     requires room { Room area.old.work.now area.old.free }
-    ensures { TakenIn area.old area.new 0 (bind_into (name_in area.old key) (tree_in area.old value) (pairs_in area.old rest)) result }
+    ensures { TakenIn area.old area.new 0 (bind_into (name_in area.old front.left) (tree_in area.old front.right) (pairs_in area.old front.rest)) result }
 {
-    match bind_into(area, key, value, rest) {
-        Some(stack) => Taken::Bind { key, value, stack },
-        None => Taken::Unknown,
-    }
+    let Front { left, right, rest } = front;
+    let stack = bind_into(area, left, right, rest).ok_or(Ending::Unsupported)?;
+    Ok(Taken::Bind {
+        key: left,
+        value: right,
+        stack,
+    })
 }
 
-// Where the value does not have the key's sort: a variable value is bound to the key, if that has its sort.
-fn swap(area: &mut Area, key: usize, value: usize, rest: usize, sort: Sort) -> Taken
-    requires cells { (0 < key) × (key < area.old.free) × (0 < value) × (value < area.old.free) × (rest < area.old.free) }
-    requires key_variable { tree_in area.old key ≡ variable (name_in area.old key) }
-    requires whole { Whole (trees_in area.old rest) }
+// Where the right tree does not have the sort of the left one, a variable: a variable on the right is bound to the left tree, if that has
+// its sort.
+fn swap(area: &mut Area, front: Front, sort: Sort) -> Result<Taken, Ending>
+    requires front { FrontIn area.old front }
+    requires key { KeyIn area.old front }
     requires room { Room area.old.work.now area.old.free }
-    ensures { TakenIn area.old area.new 0 (swap_key sort (name_in area.old key) (tree_in area.old value) (pairs_in area.old rest)) result }
+    ensures { TakenIn area.old area.new 0 (swap_key sort (name_in area.old front.left) (tree_in area.old front.right) (pairs_in area.old front.rest)) result }
 {
-    if let Some(own) = area.sort_of(value) {
-        if sorted(area, own, key) {
-            return bind(area, value, key, rest);
+    // Nested: the proof cites the sort by its name, which `is_some_and` does not give.
+    if let Some(own) = area.sort_of(front.right) {
+        if sorted(area, own, front.left) {
+            return bind(area, front.turned());
         }
     }
-    if refinable(area, sort, value) {
-        return Taken::Unknown;
+    if refinable(area, sort, front.right) {
+        return Err(Ending::Unsupported);
     }
-    Taken::Fails
+    Err(Ending::Failed)
 }
 
-// Eliminates the variable of cell key by the tree of cell value.
-pub fn eliminate(area: &mut Area, key: usize, value: usize, rest: usize) -> Taken
-    requires cells { (0 < key) × (key < area.old.free) × (0 < value) × (value < area.old.free) × (rest < area.old.free) }
-    requires key_variable { tree_in area.old key ≡ variable (name_in area.old key) }
-    requires whole { Whole (trees_in area.old rest) }
+// Eliminates the left tree, a variable, by the right one.
+pub fn eliminate(area: &mut Area, front: Front) -> Result<Taken, Ending>
+    requires front { FrontIn area.old front }
+    requires key { KeyIn area.old front }
     requires room { Room area.old.work.now area.old.free }
-    ensures { TakenIn area.old area.new 0 (eliminate (name_in area.old key) (tree_in area.old value) (pairs_in area.old rest)) result }
+    ensures { TakenIn area.old area.new 0 (eliminate (name_in area.old front.left) (tree_in area.old front.right) (pairs_in area.old front.rest)) result }
 {
-    let Some(sort) = area.sort_of(key) else {
-        return Taken::Unknown;
-    };
-    if occurs(area, key, value) {
-        return Taken::Fails;
+    let sort = area.sort_of(front.left).ok_or(Ending::Unsupported)?;
+    if occurs(area, front.left, front.right) {
+        return Err(Ending::Failed);
     }
-    if sorted(area, sort, value) {
-        return bind(area, key, value, rest);
+    if sorted(area, sort, front.right) {
+        return bind(area, front);
     }
-    swap(area, key, value, rest, sort)
+    swap(area, front, sort)
 }

@@ -1,4 +1,3 @@
-pub mod Scratch
 pub mod Wording
 pub mod Canons
 pub mod Comparing

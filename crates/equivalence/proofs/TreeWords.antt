@@ -3,47 +3,46 @@ use Prim.Native.Nat.{ℕ, ◌+◌, ◌*◌, ◌<◌, ◌≤◌}
 use mathlib.Core.Path.{◌≡◌, refl, sym, ap, subst, ◌∙◌}
 use mathlib.Core.Bool.{Bool, false}
 use mathlib.Core.List.{List, [], ◌∷◌, ◌++◌, append_assoc}
-use lib.ListN.{length, set, length-append, length-set}
+use lib.ListN.{length, length-append}
 use native.Mathlib.Omega.{arith}
 use Rattle.rules.specs.Bytes.{Text, same}
 use Rattle.rules.specs.Tree.{Tree, atom, apply, Trees, children, size, sizes, tamtplus}
 use Rattle.rules.specs.Tree as T
-use Rattle.text.specs.Sorting.{Wrote}
 use Rattle.tree.specs.declared.area.Area.{Area}
 use Rattle.tree.specs.declared.kinds.Kind.TheVariants.{Atom}
 use Rattle.tree.specs.Cells.{kind_of}
-use Rattle.tree.specs.Areas.{cell_kind, next_in, name_in, tree_in, trees_in}
+use Rattle.tree.specs.Areas.{cell_kind, next_in, name_in, tree_in, trees_in, sum_in}
 use Rattle.tree.proofs.ByKind.{number_atom, atom_kind, tree_an_atom}
 use Rattle.tree.proofs.Decoding.{Kind, application, a_variable, an_atom, kind, trees_none, trees_more, tree_variable, tree_apply, size_pos}
 use Rattle.tree.proofs.Lists.{list_size}
 use Rattle.runs.specs.Texts.{word_text}
 use Rattle.flattening.specs.Terms.{node, none, more}
-use Rattle.flattening.specs.declared.Bracket.{Bracket}
-use Rattle.flattening.specs.Items.{adds, opening, bracket, closing}
+use Rattle.flattening.specs.declared.brackets.Bracket.{Bracket}
+use Rattle.flattening.specs.Items.{adds, of_sum, opening, bracket, closing}
+use Rattle.flattening.specs.declared.writer.Writer.{Writer}
+use Rattle.flattening.specs.Writers.{Appended}
 use Rattle.flattening.specs.Spelling.{Word, Spells, as_variable, as_atom, as_apply, spell_none, spell_more, term_words, list_words}
 use Rattle.flattening.proofs.Flattening.{atom_adds}
 use Rattle.flattening.proofs.ItemWords.{leaf_words, one_words, more_words, node_words}
-use Rattle.flattening.proofs.WriterSteps.{opening_short, closing_short, wrote_one}
+use Rattle.flattening.proofs.WriterSteps.{opening_short, closing_short, appended_more}
 use Rattle.equivalence.specs.Words.{TermWritten, TermsWritten}
-use Rattle.equivalence.proofs.Scratch.{wrote_append}
-use Rattle.equivalence.proofs.Wording.{letter_word, letter_text, in_list}
+use Rattle.equivalence.proofs.Wording.{letter_word, letter_text}
 
 -- ---- a name alone, and an atom
 
-alone_written : {s : Text} {w : List ℕ} {out x : ℕ} {t : Tree} (b : Bool) → Spells s (node x none) t → out < length w → TermWritten s w (set w out x) b t out (out + 1)
-alone_written {s} {w} {out} {x} {t} b y room =
-    let z = leaf_words s b x in
-    let k : length (term_words s b (node x none)) ≡ 1 = ap length z in
+alone_written : {s : Text} {y z : Writer} {x : ℕ} {t : Tree} (b : Bool) → Spells s (node x none) t → Appended y z (x ∷ []) → TermWritten s b t y z
+alone_written {s} {y} {z} {x} {t} b h g =
+    let e = leaf_words s b x in
+    let k : length (term_words s b (node x none)) ≡ 1 = ap length e in
     record {
       term = node x none;
-      spells = y;
-      wrote = subst (Wrote w (set w out x) out) (sym z) (wrote_one w out x room);
-      end = omega arith;
+      spells = h;
+      words = subst (Appended y z) (sym e) g;
       short = omega (arith, size_pos t);
     }
 
-letters_written : {s : Text} {w v : List ℕ} {out l x : ℕ} {d : Text} (b : Bool) → l < 256 → Word s x → word_text s x ≡ d → Wrote w v out ((512 + l) * 65536 ∷ 2621440 ∷ x ∷ 2686976 ∷ []) → TermWritten s w v b (atom l d) out (out + 4)
-letters_written {s} {w} {v} {out} {l} {x} {d} b m h e g =
+letters_written : {s : Text} {a c : Writer} {l x : ℕ} {d : Text} (b : Bool) → l < 256 → Word s x → word_text s x ≡ d → Appended a c ((512 + l) * 65536 ∷ 2621440 ∷ x ∷ 2686976 ∷ []) → TermWritten s b (atom l d) a c
+letters_written {s} {a} {c} {l} {x} {d} b m h e g =
     let y = (512 + l) * 65536 in
     let lw = letter_word s l y refl m in
     let lt = letter_text s l y refl m in
@@ -54,8 +53,7 @@ letters_written {s} {w} {v} {out} {l} {x} {d} b m h e g =
     record {
       term = t;
       spells = as_atom lw h lt e;
-      wrote = subst (Wrote w v out) z g;
-      end = omega arith;
+      words = subst (Appended a c) z g;
       short = omega (arith, size_pos (atom l d));
     }
 
@@ -73,12 +71,12 @@ module _ (a : Area) (i : ℕ) {x : ℕ} (h : Word a.sheet.now x) (e : word_text 
       go (a_variable p q) = subst (Spells a.sheet.now (node x none)) (sym (tree_variable a.sheet.now a.work.now i p q)) (as_variable h e)
       go (an_atom p) = absurd (n (kind_of a.work.now i) (atom_kind (kind_of a.work.now i) p))
 
-  pub leaf_written : {w : List ℕ} {out first : ℕ} {b : Bool} → first ≡ 0 → trees_in a first ≡ children (tree_in a i) → ((l : ℕ) → cell_kind a i ≡ Atom l → ⊥) → out < length w
-      → TermWritten a.sheet.now w (set w out x) b (tree_in a i) out (out + 1)
-  leaf_written {first = first} {b = b} z f n room = alone_written b (name_spells first z f n) room
+  pub leaf_written : {y z : Writer} {first : ℕ} {b : Bool} → first ≡ 0 → trees_in a first ≡ children (tree_in a i) → ((l : ℕ) → cell_kind a i ≡ Atom l → ⊥) → Appended y z (x ∷ [])
+      → TermWritten a.sheet.now b (tree_in a i) y z
+  leaf_written {first = first} {b = b} z f n g = alone_written b (name_spells first z f n) g
 
-  pub atom_written : {w v : List ℕ} {out l : ℕ} {b : Bool} → 0 < i → i < a.free → cell_kind a i ≡ Atom l → Wrote w v out ((512 + l) * 65536 ∷ 2621440 ∷ x ∷ 2686976 ∷ [])
-      → TermWritten a.sheet.now w v b (tree_in a i) out (out + 4)
+  pub atom_written : {y z : Writer} {l : ℕ} {b : Bool} → 0 < i → i < a.free → cell_kind a i ≡ Atom l → Appended y z ((512 + l) * 65536 ∷ 2621440 ∷ x ∷ 2686976 ∷ [])
+      → TermWritten a.sheet.now b (tree_in a i) y z
   atom_written {l = l} {b = b} p q k g =
       let m : l < 256 = omega (arith, (number_atom (kind_of a.work.now i) l k).1, (a.arena.cell i p q).small) in
       rw (tree_an_atom a i l k) (letters_written b m h e g)
@@ -103,85 +101,80 @@ pub branch_size : (a : Area) (i : ℕ) {first : ℕ} → 0 < first → first < a
 unfolding size
 branch_size a i p q f = ap size (branch a i p q f)
 
-pub list_room : {w v : List ℕ} {out start : ℕ} (m k x : ℕ) (br : Bracket) → Wrote w v out (opening br x) → start ≡ out + length (opening br x) → out + 5 * m ≤ length w → m ≡ 1 + k
-    → start + 5 * k ≤ length v
-list_room m k x br g e room f = omega (arith, opening_short br x, g.len)
+-- whether it is a sum
+pub branch_sum : (a : Area) (i : ℕ) {first : ℕ} → 0 < first → first < a.free → trees_in a first ≡ children (tree_in a i) → sum_in (tree_in a i) ≡ same (name_in a i) tamtplus
+branch_sum a i p q f = ap sum_in (branch a i p q f)
 
-pub close_room : {s w v : List ℕ} {ts : Trees} {b : Bool} {start end : ℕ} → TermsWritten s w v b ts start end → start + 5 * sizes ts ≤ length w → end + 1 ≤ length v
-close_room g room = omega (arith, g.end, g.short, g.wrote.len)
+module _ {x y : Writer} (br : Bracket) (l m k : ℕ) (g : Appended x y (opening br l)) (room : x.end + 5 * m ≤ length x.words.now) (f : m ≡ 1 + k) where
+  pub list_room : y.end + 5 * k ≤ length y.words.now
+  list_room = omega (arith, opening_short br l, g.end, g.wrote.len)
 
-pub node_written : {s w v u y : List ℕ} {out start end r x : ℕ} {br : Bracket} {sum inside : Bool} {n : Text} {ts : Trees} → Word s x → word_text s x ≡ n → sum ≡ same n tamtplus
-    → Wrote w v out (opening br x) → start ≡ out + length (opening br x) → start + 5 * sizes ts ≤ length v
-    → TermsWritten s v u sum ts start end → br ≡ bracket sum inside → Wrote u y end (closing br) → r ≡ end + length (closing br)
-    → TermWritten s w y inside (apply n ts) out r
-unfolding adds size
-node_written {s} {w} {v} {u} {y} {out} {start} {end} {r} {x} {br} {sum} {inside} {n} h e is op st room g ec cl er =
-    let t = g.term in
-    let ts = g.terms in
-    let o = opening br x in
-    let m = list_words s sum t ts in
-    let ad : adds s x ≡ sum = ap (λ (m : Text). same m tamtplus) e ∙ sym is in
-    let z : o ++ (m ++ closing br) ≡ term_words s inside (node x (more t ts)) =
-    rw ec (ap (λ (b : Bool). opening (bracket sum inside) x ++ (list_words s b t ts ++ closing (bracket sum inside))) (sym (in_list sum inside)) ∙ node_words s sum inside x t ts ad) in
-    let lz : length (o ++ (m ++ closing br)) ≡ length (term_words s inside (node x (more t ts))) = ap length z in
-    let l₁ = length-append o (m ++ closing br) in
-    let l₂ = length-append m (closing br) in
-    let e₁ = g.end in
-    let e₂ = g.short in
-    let e₃ = g.wrote.len in
-    let e₄ = op.len in
-    let e₅ = opening_short br x in
-    let e₆ = closing_short br in
-    record {
-      term = node x (more t ts);
-      spells = as_apply h e g.spells;
-      wrote = subst (Wrote w y out) z (wrote_append op (wrote_append g.wrote cl e₁ (omega arith)) st (omega arith));
-      end = omega arith;
-      short = omega arith;
-    }
+  pub close_room : {s : Text} {z : Writer} {ts : Trees} {b : Bool} → k ≡ sizes ts → TermsWritten s b ts y z → z.end < length z.words.now
+  close_room e h = omega (arith, list_room, h.words.end, h.short, h.words.wrote.len)
+
+  pub node_written : {s : Text} {z u : Writer} (outer : Bracket) {sum : Bool} {n : Text} {ts : Trees} → k ≡ sizes ts → Word s l → word_text s l ≡ n → sum ≡ same n tamtplus
+      → TermsWritten s (of_sum br) ts y z → br ≡ bracket sum (of_sum outer) → Appended z u (closing br) → TermWritten s (of_sum outer) (apply n ts) x u
+  unfolding adds size
+  node_written {s} {z} {u} outer {sum} {n} {ts} kt h e is w ec cl =
+      let t = w.term in
+      let us = w.terms in
+      let o = opening br l in
+      let m = list_words s (of_sum br) t us in
+      let ad : adds s l ≡ sum = ap (λ (m : Text). same m tamtplus) e ∙ sym is in
+      let i : o ++ (m ++ closing br) ≡ term_words s (of_sum outer) (node l (more t us)) =
+      rw ec (node_words s sum (of_sum outer) l t us ad) in
+      let li : length (o ++ (m ++ closing br)) ≡ length (term_words s (of_sum outer) (node l (more t us))) = ap length i in
+      let l₁ = length-append o (m ++ closing br) in
+      let l₂ = length-append m (closing br) in
+      let e₁ = w.words.end in
+      let e₂ = w.short in
+      let e₃ = w.words.wrote.len in
+      let e₄ = g.wrote.len in
+      let e₅ = opening_short br l in
+      let e₆ = closing_short br in
+      let e₇ = g.end in
+      record {
+        term = node l (more t us);
+        spells = as_apply h e w.spells;
+        words = subst (Appended x u) i (appended_more g (appended_more w.words cl (omega arith)) (omega arith));
+        short = omega arith;
+      }
 
 -- ---- a list
 
-pub one_written : {s w v : List ℕ} {t : Tree} {b : Bool} {out end : ℕ} → TermWritten s w v b t out end → TermsWritten s w v b (T.more t T.none) out end
+pub one_written : {s : Text} {x y : Writer} {t : Tree} {b : Bool} → TermWritten s b t x y → TermsWritten s b (T.more t T.none) x y
 unfolding size
-one_written {s} {w} {v} {t} {b} {out} g =
+one_written {s} {x} {y} {t} {b} g =
     let o = one_words s b g.term in
     let lo = ap length o in
-    let e₁ = g.end in
-    let e₂ = g.short in
+    let e = g.short in
     record {
       term = g.term;
       terms = none;
       spells = spell_more g.spells spell_none;
-      wrote = subst (Wrote w v out) (sym o) g.wrote;
-      end = omega arith;
+      words = subst (Appended x y) (sym o) g.words;
       short = omega arith;
     }
 
-pub more_written : {s w v u : List ℕ} {t : Tree} {ts : Trees} {b : Bool} {out end r : ℕ} → TermWritten s w v b t out end → TermsWritten s (set v end 2883584) u b ts (end + 1) r → out + 5 * sizes (T.more t ts) ≤ length w
-    → TermsWritten s w u b (T.more t ts) out r
+pub more_written : {s : Text} {x y z u : Writer} {t : Tree} {ts : Trees} {b : Bool} → TermWritten s b t x y → Appended y z (2883584 ∷ []) → TermsWritten s b ts z u → x.end + 5 * sizes (T.more t ts) ≤ length x.words.now
+    → TermsWritten s b (T.more t ts) x u
 unfolding size
-more_written {s} {w} {v} {u} {t} {ts} {b} {out} {end} {r} g d room =
+more_written {s} {x} {y} {z} {u} {t} {ts} {b} g c d room =
     let o = term_words s b g.term in
     let m = list_words s b d.term d.terms in
-    let z : (o ++ (2883584 ∷ [])) ++ m ≡ list_words s b g.term (more d.term d.terms) = append_assoc o (2883584 ∷ []) m ∙ sym (more_words s b g.term d.term d.terms) in
-    let lz : length ((o ++ (2883584 ∷ [])) ++ m) ≡ length (list_words s b g.term (more d.term d.terms)) = ap length z in
+    let i : (o ++ (2883584 ∷ [])) ++ m ≡ list_words s b g.term (more d.term d.terms) = append_assoc o (2883584 ∷ []) m ∙ sym (more_words s b g.term d.term d.terms) in
+    let li : length ((o ++ (2883584 ∷ [])) ++ m) ≡ length (list_words s b g.term (more d.term d.terms)) = ap length i in
     let l₁ = length-append (o ++ (2883584 ∷ [])) m in
     let l₂ = length-append o (2883584 ∷ []) in
-    let l₃ = length-set v end 2883584 in
-    let e₁ = g.end in
+    let e₁ = g.words.end in
     let e₂ = g.short in
-    let e₃ = g.wrote.len in
-    let e₄ = d.end in
-    let e₅ = d.short in
-    let k : end < length v = omega arith in
-    let comma = wrote_append g.wrote (wrote_one v end 2883584 k) e₁ (omega arith) in
+    let e₃ = c.end in
+    let e₄ = d.short in
     record {
       term = g.term;
       terms = more d.term d.terms;
       spells = spell_more g.spells d.spells;
-      wrote = subst (Wrote w u out) z (wrote_append comma d.wrote (omega arith) (omega arith));
-      end = omega arith;
+      words = subst (Appended x u) i (appended_more (appended_more g.words c (omega arith)) d.words (omega arith));
       short = omega arith;
     }
 

@@ -1,16 +1,14 @@
 -- The words of a tree by its cells.
-use Prim.Native.Nat.{ℕ, ◌+◌, ◌-◌, ◌*◌, ◌<◌, ◌≤◌, ◌/◌, ◌%◌}
-use mathlib.Core.Path.{◌≡◌, refl, sym, ap, subst, ◌∙◌}
-use mathlib.Core.Bool.{Bool, true, false}
-use mathlib.Core.List.{List, [], ◌∷◌, ◌++◌, append_assoc}
-use lib.ListN.{length, get_or, set, length-append, length-set}
+use Prim.Native.Nat.{ℕ, ◌+◌, ◌-◌, ◌*◌, ◌<◌, ◌/◌, ◌%◌}
+use mathlib.Core.Path.{◌≡◌, sym, ap, ◌∙◌}
+use mathlib.Core.List.{List, [], ◌∷◌}
+use lib.ListN.{get_or}
 use native.Mathlib.Omega.{arith}
 use borrow.Author.Tests.{eq-eqb, ne_eqb}
 use Rattle.rules.specs.Bytes.{Text}
 use Rattle.tree.specs.Cells.{start_of, length_of, fixed_name, named, name_at}
 use Rattle.tree.specs.Arena.{Cell}
 use Rattle.runs.specs.Texts.{word_text}
-use Rattle.flattening.specs.Items.{of_sum, bracket}
 use Rattle.flattening.specs.Spelling.{Word}
 use Rattle.runs.proofs.Pieces.{name_fixed}
 use Rattle.runs.proofs.WordTexts.{code_named, code_byte, text_mark, text_place}
@@ -67,14 +65,3 @@ module _ (s : Text) (k x : ℕ) (e : x ≡ (512 + k) * 65536) (h : k < 256) wher
       let d : x / 65536 ≡ 512 + k = omega arith in
       let b : (512 + k) % 256 ≡ k = omega arith in
       text_mark s x m ∙ rw d ((code_byte (512 + k) (omega arith)).0 ∙ rw b)
-
--- ---- leaves
-
--- ---- a name with its list
-
-pub in_list : (a b : Bool) → of_sum (bracket a b) ≡ a
-in_list true true = refl
-in_list true false = refl
-in_list false b = refl
-
--- ---- a list

@@ -6,29 +6,33 @@ pub mod words; // words.rt: the words of a tree
 ghost use Rattle.std.specs.Prelude.{◌≡◌, ◌+◌, ◌*◌, ◌<◌, ◌≤◌, length};
 ghost use Rattle.rules.specs.Tree.{size};
 ghost use Rattle.rules.specs.Sums.{equivalent};
-ghost use Rattle.tree.specs.Areas.{tree_in, KeepsCells};
+ghost use Rattle.tree.specs.Areas.{tree_in, KeepsCells, CellIn};
 ghost use Rattle.text.specs.Frames.{Outside};
 
-use crate::words::{same_text, tree_words};
+use crate::words::{one_text, tree_words};
+use flattening::writer::Writer;
 use tree::area::Area;
 
 // Whether the canonical texts of the trees of cells i and j are one. The words, fifteen for each node of the two, are scratch.
 fn same_canonical(area: &Area, i: usize, j: usize, words: &mut [u32]) -> bool
-    requires cells { (0 < i) × (i < area.now.free) × (0 < j) × (j < area.now.free) }
+    requires cells { CellIn area.now i × CellIn area.now j }
     requires small { (5 * size (tree_in area.now i) < 65536) × (5 * size (tree_in area.now j) < 65536) }
     requires room { 15 * (size (tree_in area.now i) + size (tree_in area.now j)) ≤ length words.old }
     ensures value { result ≡ equivalent (tree_in area.now i) (tree_in area.now j) }
     ensures outside { Outside words.old words.new 0 (15 * (size (tree_in area.now i) + size (tree_in area.now j))) }
 {
-    let mid = tree_words(area, i, words, 0);
-    let end = tree_words(area, j, words, mid);
-    same_text(area.sheet, words, 0, mid, mid, end)
+    let mut out = Writer { words, end: 0 };
+    tree_words(area, i, &mut out);
+    let mid = out.end;
+    tree_words(area, j, &mut out);
+    let (left, right) = out.since(0).split_at(mid);
+    one_text(area.sheet, left, right)
 }
 
 // Whether the trees of cells i and j are equal up to order and grouping of sums. The words above the cells, fifteen for each node of the
 // two, are scratch.
 pub fn equivalent(area: &mut Area, i: usize, j: usize) -> bool
-    requires cells { (0 < i) × (i < area.old.free) × (0 < j) × (j < area.old.free) }
+    requires cells { CellIn area.old i × CellIn area.old j }
     requires small { (5 * size (tree_in area.old i) < 65536) × (5 * size (tree_in area.old j) < 65536) }
     requires room { 4 * area.old.free + 15 * (size (tree_in area.old i) + size (tree_in area.old j)) ≤ length area.old.work.now }
     ensures value { result ≡ equivalent (tree_in area.old i) (tree_in area.old j) }
@@ -38,8 +42,8 @@ pub fn equivalent(area: &mut Area, i: usize, j: usize) -> bool
     if area.same_tree(i, j) {
         return true;
     }
-    let sheet = area.sheet;
-    let free = area.free;
+    let Area { sheet, free, .. } = *area;
+    // Lent to a variable first: the words that come back of a field have no name that a proof can cite.
     let work = &mut *area.work;
     let (cells, words) = work.split_at_mut(4 * free);
     let trees = Area {

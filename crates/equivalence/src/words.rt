@@ -1,112 +1,107 @@
 // The words of a tree of an area, in words of their own: the tokens of its text, in which a sum inside a sum loses its name and brackets,
 // and its canonical words.
-ghost use Rattle.std.specs.Prelude.{◌≡◌, Bool, ◌+◌, ◌*◌, ◌<◌, ◌≤◌, [], ◌∷◌, length};
-ghost use Rattle.std.proofs.Math.Seq.{slice};
+ghost use Rattle.std.specs.Prelude.{◌≡◌, ◌+◌, ◌*◌, ◌<◌, ◌≤◌, [], ◌∷◌, length};
 ghost use Rattle.rules.specs.Bytes.{same};
-ghost use Rattle.rules.specs.Tree.{size, sizes, atom};
-ghost use Rattle.tree.specs.Areas.{name_in, tree_in, trees_in};
-ghost use Rattle.text.specs.Sorting.{Wrote};
+ghost use Rattle.rules.specs.Tree.{size, sizes};
+ghost use Rattle.tree.specs.Areas.{CellIn, name_in, tree_in, trees_in};
 ghost use Rattle.runs.specs.Texts.{word_text, texts, Tokens};
+ghost use Rattle.flattening.specs.Items.{of_sum};
 ghost use Rattle.flattening.specs.Spelling.{Word};
-ghost use Rattle.equivalence.specs.Words.{TermWritten, TermsWritten, Canon};
+ghost use Rattle.flattening.specs.Writers.{Appended};
+ghost use Rattle.equivalence.specs.Words.{TermWritten, TermsWritten, TreeWritten};
 
-use flattening::Bracket;
+use flattening::brackets::Bracket;
+use flattening::writer::Writer;
 use runs::order::{BYTES, compare};
-use runs::{COMMA, OPEN, PLUS, SHUT};
-use settling::settle;
+use runs::{COMMA, OPEN, PLUS, SHUT, SPAN};
+use settling::sort_sums;
 use tree::area::Area;
 use tree::kinds::Kind;
 
-// The word of the name of cell k: its place, or the code of a fixed name.
+// The word of the name of cell k: its place, or after that of sums the code of a fixed name. The name itself would not tell its place.
 fn word_of(area: &Area, k: usize) -> u32
-    requires { (0 < k) × (k < area.now.free) }
+    requires { CellIn area.now k }
     ensures { Word area.now.sheet.now result × (word_text area.now.sheet.now result ≡ name_in area.now k) }
 {
     let place = area.work[4 * k];
-    if place % 65536 == 0 {
+    if place % SPAN == 0 {
         return place + PLUS;
     }
     place
 }
 
 // Writes the words of an atom: its letter, and the word of its digits in brackets.
-fn put_atom(letter: u8, digits: u32, words: &mut [u32], out: usize) -> usize
-    requires { out + 4 ≤ length words.old }
-    ensures { Wrote words.old words.new out ((512 + letter) * 65536 ∷ 2621440 ∷ digits ∷ 2686976 ∷ []) × (result ≡ out + 4) }
+fn put_atom(letter: u8, digits: u32, out: &mut Writer)
+    requires { out.old.end + 4 ≤ length out.old.words.now }
+    ensures { Appended out.old out.new ((512 + letter) * 65536 ∷ 2621440 ∷ digits ∷ 2686976 ∷ []) }
 {
-    words[out] = (BYTES as u32 + u32::from(letter)) * 65536;
-    words[out + 1] = OPEN;
-    words[out + 2] = digits;
-    words[out + 3] = SHUT;
-    out + 4
+    out.push((BYTES as u32 + u32::from(letter)) * SPAN);
+    out.push(OPEN);
+    out.push(digits);
+    out.push(SHUT);
 }
 
-// Writes the words of the tree of cell i, in a sum or not, and answers where they end.
+// Writes the words of the tree of cell i, which stands in the list of the bracket `outer`. A tree and its list call one another, as in
+// the definitions: the depth of the stack is measured with one frame for each.
 #[cycle(put_list_put_term)]
-fn put_term(area: &Area, i: usize, inside: bool, words: &mut [u32], out: usize) -> usize
-    requires cell { (0 < i) × (i < area.now.free) }
-    requires room { out + 5 * size (tree_in area.now i) ≤ length words.old }
-    ensures { TermWritten area.now.sheet.now words.old words.new inside (tree_in area.now i) out result }
+fn put_term(area: &Area, i: usize, outer: Bracket, out: &mut Writer)
+    requires cell { CellIn area.now i }
+    requires room { out.old.end + 5 * size (tree_in area.now i) ≤ length out.old.words.now }
+    ensures { TermWritten area.now.sheet.now (of_sum outer) (tree_in area.now i) out.old out.new }
 {
     let word = word_of(area, i);
     if let Kind::Atom(letter) = area.kind(i) {
-        return put_atom(letter, word, words, out);
+        put_atom(letter, word, out);
+        return;
     }
     let first = area.child_of(i);
     if first == 0 {
-        words[out] = word;
-        return out + 1;
+        out.push(word);
+        return;
     }
-    let sum = area.name_is(i, b"tamtplus");
-    let bracket = Bracket::of(sum, inside);
-    let start = bracket.open(words, out, word);
-    let end = put_list(area, first, sum, words, start);
-    bracket.close(words, end)
+    let bracket = outer.within(area.is_sum(i));
+    bracket.open(word, out);
+    put_list(area, first, bracket, out);
+    bracket.close(out);
 }
 
 // Writes the words of the trees of the list from cell i on, with commas between them.
 #[cycle(put_list_put_term)]
-fn put_list(area: &Area, i: usize, inside: bool, words: &mut [u32], out: usize) -> usize
-    requires cell { (0 < i) × (i < area.now.free) }
-    requires room { out + 5 * sizes (trees_in area.now i) ≤ length words.old }
-    ensures { TermsWritten area.now.sheet.now words.old words.new inside (trees_in area.now i) out result }
+fn put_list(area: &Area, i: usize, outer: Bracket, out: &mut Writer)
+    requires cell { CellIn area.now i }
+    requires room { out.old.end + 5 * sizes (trees_in area.now i) ≤ length out.old.words.now }
+    ensures { TermsWritten area.now.sheet.now (of_sum outer) (trees_in area.now i) out.old out.new }
 {
-    let end = put_term(area, i, inside, words, out);
+    put_term(area, i, outer, out);
     let next = area.next_of(i);
     if next == 0 {
-        return end;
+        return;
     }
-    words[end] = COMMA;
-    put_list(area, next, inside, words, end + 1)
+    out.push(COMMA);
+    put_list(area, next, outer, out);
 }
 
-// Writes the canonical words of the tree of cell i from `base` on, and answers where they end. Fifteen words for each node, from `base`
-// on, may change.
-pub fn tree_words(area: &Area, i: usize, words: &mut [u32], base: usize) -> usize
-    requires cell { (0 < i) × (i < area.now.free) }
+// Writes the canonical words of the tree of cell i. Fifteen words for each node may change.
+pub fn tree_words(area: &Area, i: usize, out: &mut Writer)
+    requires cell { CellIn area.now i }
     requires small { 5 * size (tree_in area.now i) < 65536 }
-    requires room { base + 15 * size (tree_in area.now i) ≤ length words.old }
-    ensures { Canon area.now.sheet.now words.old words.new (tree_in area.now i) base result }
+    requires room { out.old.end + 15 * size (tree_in area.now i) ≤ length out.old.words.now }
+    ensures { TreeWritten area.now.sheet.now (tree_in area.now i) out.old out.new }
 {
-    let end = put_term(area, i, false, words, base);
-    settle(area.sheet, words, PLUS, base, end, end);
-    end
+    let base = out.end;
+    put_term(area, i, Bracket::Plain, out);
+    // Lent to a variable first: the words that come back of a field have no name that a proof can cite.
+    let words = &mut *out.words;
+    let (written, scratch) = words.split_at_mut(out.end);
+    let (_, words) = written.split_at_mut(base);
+    sort_sums(area.sheet, PLUS, words, scratch);
 }
 
-// Whether the words from `from` to `to` have the text of the words from `start` to `end`.
-pub fn same_text(
-    sheet: &[u8],
-    work: &[u32],
-    from: usize,
-    to: usize,
-    start: usize,
-    end: usize,
-) -> bool
-    requires from_le_to { (from ≤ to) × (to ≤ length work.now) }
-    requires start_le_end { (start ≤ end) × (end ≤ length work.now) }
-    requires tokens { Tokens sheet.now work.now from to }
-    requires tokens_2 { Tokens sheet.now work.now start end }
-    ensures { result ≡ same (texts sheet.now (slice from to work.now)) (texts sheet.now (slice start end work.now)) }
+// Whether two lists of words have one text.
+pub fn one_text(sheet: &[u8], left: &[u32], right: &[u32]) -> bool
+    requires left_tokens { Tokens sheet.now left.now 0 (length left.now) }
+    requires right_tokens { Tokens sheet.now right.now 0 (length right.now) }
+    ensures { result ≡ same (texts sheet.now left.now) (texts sheet.now right.now) }
 {
-    compare(sheet, &work[from..to], &work[start..end]).is_eq()
+    compare(sheet, left, right).is_eq()
 }

@@ -1,10 +1,8 @@
 -- Members read into cells, one before the other: one member as a tree, and the walk over all of them.
-use Prim.Native.Nat.{ℕ, ◌+◌, ◌*◌, ◌-◌, ◌<◌, ◌≤◌}
-use native.Mathlib.Omega.{arith}
-use mathlib.Core.Path.{◌≡◌, refl, sym, ap, ap₂, ◌∙◌}
+use Prim.Native.Nat.{ℕ}
+use mathlib.Core.Path.{◌≡◌, refl, ap}
 use mathlib.Core.List.{List, [], ◌∷◌, map, reverse_aux}
 use Rattle.std.specs.Prelude.{Option, Some, None}
-use lib.ListN.{length}
 use Rattle.rules.specs.Bytes.{Text}
 use Rattle.rules.specs.Maybe.{◌>>=◌, every}
 use Rattle.rules.specs.Tree.{size, sizes}

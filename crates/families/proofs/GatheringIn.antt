@@ -1,7 +1,7 @@
 -- The members of a sheet read into an area, one before the other.
 use Prim.Native.Nat.{ℕ, ◌+◌, ◌-◌, ◌<◌, ◌≤◌}
 use native.Mathlib.Omega.{arith}
-use mathlib.Core.Path.{◌≡◌, refl, sym, ap, ap₂, subst, ◌∙◌}
+use mathlib.Core.Path.{◌≡◌, refl, sym, ap, subst, ◌∙◌}
 use mathlib.Core.Bool.{true, false, false≢true}
 use mathlib.Core.List.{List, [], ◌∷◌}
 use Rattle.std.specs.Prelude.{Option, Some, None}
@@ -10,17 +10,17 @@ use lib.ListN.{length}
 use Rattle.rules.specs.Bytes.{Text}
 use Rattle.rules.specs.Text.{bytes}
 use Rattle.rules.specs.Maybe.{every}
-use Rattle.rules.specs.Tree.{Trees, apply, more, size, sizes}
+use Rattle.rules.specs.Tree.{Trees, more, size, sizes}
 use Rattle.rules.specs.Sheet.{Member}
 use Rattle.rules.specs.Variants.{Variant}
-use Rattle.tree.specs.Cells.{fixed_name}
 use Rattle.tree.specs.declared.area.Area.{Area}
-use Rattle.tree.specs.Areas.{tree_in, trees_in, Grows, Pushes}
+use Rattle.tree.specs.Areas.{tree_in, trees_in, Grows}
 use Rattle.tree.proofs.Decoding.{trees_none}
-use Rattle.tree.proofs.Keeping.{grows_same, grows_then, grows_trees, adds_grows, adds_then, adds_push, pushed_inside, pushed_trees}
-use Rattle.substitution.specs.Areas.{Lists}
+use Rattle.tree.proofs.Keeping.{grows_same, grows_then, grows_trees, adds_grows}
+use Rattle.tree.specs.Lists.{Lists}
 use Rattle.sheet.specs.Lines.{value_at}
-use Rattle.sheet.specs.declared.Line.{Line}
+use Rattle.sheet.specs.declared.Place.{Place}
+use Rattle.sheet.specs.declared.Read.{Read as Taken}
 use Rattle.forms.specs.Members.{members_at}
 use Rattle.forms.proofs.WalkLaws.{member_end, member_next}
 use Rattle.variants.specs.Members.{texts_end, MemberThere}
@@ -29,19 +29,6 @@ use Rattle.variants.specs.declared.members.Variant.{Variant as Read}
 use Rattle.families.specs.Families.{member_tree, Family, nil, next, ReadAll, MembersThere}
 use Rattle.families.specs.Areas.{ReadMembersIn, ReadsMembersIn}
 use Rattle.families.proofs.Gathering.{read_all, after, after_more, read_first, self, no_sizes}
-
--- one member as a tree
-module _ {a b : Area} (value : ℕ) {bindings k : ℕ} (one : Pushes a b k bindings (tree_in a value)) where
-  pub shared_sizes : sizes (trees_in b k) ≡ size (tree_in a value) + sizes (trees_in a bindings)
-  unfolding size
-  shared_sizes = ap sizes (pushed_trees one)
-
-  pub member_made : {d : Area} {i list : ℕ} → Pushes b d i list (apply (fixed_name 3) (trees_in b k)) → list < a.free → Lists a d i (more (member_tree (tree_in a value) (trees_in a bindings)) (trees_in a list))
-  member_made {list = list} two p = record {
-    adds = adds_then (adds_push one) (adds_push two);
-    inside = pushed_inside two;
-    trees = pushed_trees two ∙ ap₂ (λ (ts us : Trees). more (apply (fixed_name 3) ts) us) (pushed_trees one) (grows_trees (adds_grows (adds_push one)) list p);
-  }
 
 -- the members before position c stand as the trees ts, the last first
 pub record SeenIn (s : Text) (c : ℕ) (ts : Trees) (ms : List Member) : Type 0 where
@@ -69,15 +56,15 @@ gathering_starts a at =
       inside = a.arena.links.some;
     }
 
-a_line : (o : Option Line) → is_some o ≡ true → (l : Line) × (Some l ≡ o)
+a_line : (o : Option (Taken Place)) → is_some o ≡ true → (l : Taken Place) × (Some l ≡ o)
 a_line None e = absurd (false≢true e)
 a_line (Some l) e = (l, refl)
 
-no_line : (o : Option Line) → is_some o ≡ false → None ≡ o
+no_line : (o : Option (Taken Place)) → is_some o ≡ false → None ≡ o
 no_line None e = refl
 no_line (Some l) e = absurd (false≢true (sym e))
 
-module _ {a b : Area} {at c list : ℕ} (h : GatheringIn a b at c list) {o : Option Line} (found : o ≡ value_at b.sheet.now (bytes "member=") c) where
+module _ {a b : Area} {at c list : ℕ} (h : GatheringIn a b at c list) {o : Option (Taken Place)} (found : o ≡ value_at b.sheet.now (bytes "member=") c) where
   same_sheet : b.sheet.now ≡ a.sheet.now
   same_sheet = ap (λ t. t.now) h.grows.lent.sheet
 
@@ -95,7 +82,7 @@ module _ {a b : Area} {at c list : ℕ} (h : GatheringIn a b at c list) {o : Opt
           record { vs = x.vs; read = x.read ∙ ap (λ (l : List Member). after x.vs (read_all l)) z; family = x.family }
 
   module _ (some : is_some o ≡ true) where
-    line : Line
+    line : Taken Place
     line = (a_line o some).0
 
     e : Some line ≡ value_at a.sheet.now (bytes "member=") c

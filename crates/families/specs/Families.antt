@@ -1,19 +1,21 @@
 -- The members of a sheet as one list of trees, the last first. Definitions only.
-use Rattle.std.specs.Prelude.{ℕ, ◌-◌, ◌<◌, ◌≤◌, ◌≡◌, List, [], ◌∷◌, map, reverse, length}
-use Rattle.std.specs.Prelude.{Some, None}
+use Rattle.std.specs.Prelude.{ℕ, ◌≡◌, List, [], ◌∷◌, map, reverse}
+use Rattle.std.specs.Prelude.{Some}
 use Rattle.rules.specs.Bytes.{Text}
 use Rattle.rules.specs.Maybe.{every}
 use Rattle.rules.specs.Tree.{Tree, apply, Trees, none, more}
 use Rattle.rules.specs.Sheet.{Member}
 use Rattle.rules.specs.Variants.{Variant, read_member}
-use Rattle.tree.specs.Cells.{fixed_name, trees_at}
+use Rattle.tree.specs.Cells.{trees_at}
+use Rattle.tree.specs.Names.{fixed_text}
+use Rattle.tree.specs.declared.fixed.Fixed.TheVariants.{Pair as pair_name}
 use Rattle.substitution.specs.Bindings.{bindings_of, Chain}
 use Rattle.forms.specs.Members.{members_at}
 use Rattle.variants.specs.Members.{Alike}
 
 -- a member as one tree: a fixed name over the member's own tree and then its keys and values in turn
 abbrev pub member_tree : Tree → Trees → Tree
-member_tree t bindings = apply (fixed_name 3) (more t bindings)
+member_tree t bindings = apply (fixed_text pair_name) (more t bindings)
 
 -- t stands for the member that reads as v: the same tree, and bindings that give every variable the same value
 pub record StandsFor (t : Tree) (v : Variant) : Type 0 where

@@ -2,8 +2,7 @@
 use Prim.Native.Nat.{ℕ, zero, suc, ◌+◌, ◌*◌, ◌<◌, ◌%◌}
 use mathlib.Core.Path.{◌≡◌, refl, sym, ap, ◌∙◌}
 use mathlib.Core.List.{List, [], ◌∷◌, ◌++◌, append_assoc, append-nil}
-use lib.ListN.{length, get_or, take, set}
-use lib.Seq.{slice}
+use lib.ListN.{length, get_or, take}
 use native.Mathlib.Omega.{arith}
 use borrow.Author.Tests.{eq-eqb, ne_eqb}
 use Rattle.std.proofs.lemmas.List.{take_more}
@@ -18,9 +17,9 @@ unfolding mixed
 mixed_append h [] b = refl
 mixed_append h (x ∷ a) b = mixed_append (mixed_byte h x) a b
 
-pub mixed_more : (h : ℕ) (t : List ℕ) (i : ℕ) → i < length t → mixed h (take (i + 1) t) ≡ mixed_byte (mixed h (take i t)) (get_or t i 0)
+pub mixed_push : (h : ℕ) (t : List ℕ) (b : ℕ) → mixed h (t ++ (b ∷ [])) ≡ mixed_byte (mixed h t) b
 unfolding mixed
-mixed_more h t i l = ap (mixed h) (take_more t i 0 l) ∙ mixed_append h (take i t) (get_or t i 0 ∷ [])
+mixed_push h t b = mixed_append h t (b ∷ [])
 
 -- through no byte
 pub mixed_none : (h : ℕ) → h ≡ mixed h []

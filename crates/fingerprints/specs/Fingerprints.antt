@@ -1,9 +1,6 @@
 -- Fingerprints of texts, those of Fowler, Noll and Vo with a sum in place of the exclusive or, and with a sum alone for each zero, so
 -- that a run of zeros is one step. Definitions only.
-use Rattle.std.specs.Prelude.{ℕ, ◌+◌, ◌*◌, ◌%◌, ◌≡◌, cond, List, [], ◌∷◌, eqb, set}
-use Rattle.rules.specs.Tree.{Tree}
-use Rattle.rules.specs.Sums.{canonical}
-use Rattle.equivalence.specs.Words.{Canon}
+use Rattle.std.specs.Prelude.{ℕ, ◌+◌, ◌*◌, ◌%◌, cond, List, [], ◌∷◌, eqb}
 
 -- a fingerprint, carried on through a byte
 unfoldable pub mixed_byte : ℕ → ℕ → ℕ
@@ -16,9 +13,3 @@ mixed h (b ∷ bs) = mixed (mixed_byte h b) bs
 
 abbrev pub fingerprint : List ℕ → ℕ
 fingerprint text = mixed 2166136261 text
-
--- the words of v from base to r have the canonical text of t, and the word at k is its fingerprint
-pub record Marked (s w v : List ℕ) (t : Tree) (base r k : ℕ) : Type 0 where
-  pub area : List ℕ
-  pub canon : Canon s w area t base r
-  pub is : v ≡ set area k (fingerprint (canonical t))

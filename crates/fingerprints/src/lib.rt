@@ -3,13 +3,17 @@
 
 ghost use Rattle.std.specs.Prelude.{◌≡◌, ◌+◌, ◌*◌, ◌<◌, ◌≤◌, length};
 ghost use Rattle.rules.specs.Tree.{size};
+ghost use Rattle.rules.specs.Sums.{canonical};
 ghost use Rattle.laws.specs.Unspelled.{zeros_name};
-ghost use Rattle.tree.specs.Areas.{tree_in};
+ghost use Rattle.tree.specs.Areas.{CellIn, tree_in};
 ghost use Rattle.runs.specs.Texts.{word_text, texts, Token, Tokens};
-ghost use Rattle.fingerprints.specs.Fingerprints.{mixed_byte, mixed, fingerprint, Marked};
+ghost use Rattle.equivalence.specs.Words.{TreeWritten};
+ghost use Rattle.fingerprints.specs.Fingerprints.{mixed_byte, mixed, fingerprint};
 
 use equivalence::words::tree_words;
-use runs::order::{byte_of, width_of, zeros_of};
+use flattening::writer::Writer;
+use rules::SUM;
+use runs::order::{Piece, ZEROS, piece_of};
 use tree::area::Area;
 
 // The fingerprint of no bytes, what it is multiplied by at each byte, and what a zero adds to it.
@@ -33,11 +37,7 @@ fn mix_byte(h: u32, b: u8) -> u32
 fn mix_bytes(h: u32, text: &[u8]) -> u32
     ensures { result ≡ mixed h text.now }
 {
-    let mut mixed = h;
-    for b in text {
-        mixed = mix_byte(mixed, *b);
-    }
-    mixed
+    text.iter().fold(h, |mixed, b| mix_byte(mixed, *b))
 }
 
 // The same through an x, n zeros, a colon and Msg.
@@ -50,21 +50,22 @@ fn mix_zeros(h: u32, n: usize) -> u32
 }
 
 // The same through the text of the word x.
+#[tactic(auto, using(runs::proofs::Pieces::text_piece))]
 fn mix(sheet: &[u8], h: u32, x: u32) -> u32
     requires { Token sheet.now x }
     ensures { result ≡ mixed h (word_text sheet.now x) }
 {
-    if let Some(zeros) = zeros_of(x) {
-        return mix_zeros(h, zeros);
+    match piece_of(x) {
+        Piece::Place { start, length } => mix_bytes(h, &sheet[start..start + length]),
+        Piece::Byte(b) => mix_byte(h, b),
+        Piece::Sum => mix_bytes(h, SUM),
+        Piece::Fixed(name) => mix_bytes(h, name.text()),
+        Piece::Unspelled(more) => mix_zeros(h, ZEROS + more as usize),
     }
-    let mut mixed = h;
-    for i in 0..width_of(x) {
-        mixed = mix_byte(mixed, byte_of(sheet, x, i));
-    }
-    mixed
 }
 
 // The fingerprint of the text of the words.
+// A loop: a fold's closure would need a clause of its own for each word.
 fn fingerprint(sheet: &[u8], words: &[u32]) -> u32
     requires { Tokens sheet.now words.now 0 (length words.now) }
     ensures { result ≡ fingerprint (texts sheet.now words.now) }
@@ -76,14 +77,15 @@ fn fingerprint(sheet: &[u8], words: &[u32]) -> u32
     mixed
 }
 
-// Writes the canonical words of the tree of cell i from `base` on and their fingerprint into the word at k, and answers where they end.
-pub fn marked_words(area: &Area, i: usize, words: &mut [u32], base: usize, k: usize) -> usize
-    requires cell { (0 < i) × (i < area.now.free) }
+// Writes the canonical words of the tree of cell i, and answers their fingerprint. Fifteen words for each node may change.
+pub fn tree_fingerprint(area: &Area, i: usize, out: &mut Writer) -> u32
+    requires cell { CellIn area.now i }
     requires small { 5 * size (tree_in area.now i) < 65536 }
-    requires room { (k < base) × (base + 15 * size (tree_in area.now i) ≤ length words.old) }
-    ensures { Marked area.now.sheet.now words.old words.new (tree_in area.now i) base result k }
+    requires room { out.old.end + 15 * size (tree_in area.now i) ≤ length out.old.words.now }
+    ensures written { TreeWritten area.now.sheet.now (tree_in area.now i) out.old out.new }
+    ensures value { result ≡ fingerprint (canonical (tree_in area.now i)) }
 {
-    let end = tree_words(area, i, words, base);
-    words[k] = fingerprint(area.sheet, &words[base..end]);
-    end
+    let base = out.end;
+    tree_words(area, i, out);
+    fingerprint(area.sheet, out.since(base))
 }

@@ -9,7 +9,7 @@ use native.Mathlib.Omega.{arith}
 use Rattle.rules.specs.Bytes.{Text}
 use Rattle.rules.specs.Maybe.{◌>>=◌}
 use Rattle.runs.specs.declared.TheConstants.{OPEN, SHUT, COMMA, PLUS}
-use Rattle.flattening.specs.declared.Bracket.{Bracket}
+use Rattle.flattening.specs.declared.brackets.Bracket.{Bracket}
 use Rattle.flattening.specs.Terms.{Term, node, Terms, none, more, inner, headed, words, words_each}
 use Rattle.flattening.specs.Items.{Item, begin, shut, comma, name, wanting, naming, having, emits, adds, of_sum, in_sum, opening, bracket, closing, all_closed, write}
 use Rattle.flattening.proofs.ItemTokens.{Proper, begins, commas, names}

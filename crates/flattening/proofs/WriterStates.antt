@@ -1,51 +1,51 @@
 -- The state of the writer of words, and what each turn makes of it.
 use Prim.Native.Nat.{ℕ, ◌+◌, ◌-◌, ◌<◌, ◌≤◌}
-use mathlib.Core.Path.{◌≡◌, refl, sym, ap, ap₂, subst, ◌∙◌}
+use mathlib.Core.Path.{◌≡◌, refl, sym, ap, ap₂, ◌∙◌}
 use mathlib.Core.List.{List, [], ◌∷◌, ◌++◌, append-nil}
 use Rattle.std.specs.Prelude.{Option, Some, None}
-use lib.ListN.{length, get_or, take, set}
-use lib.Seq.{slice, length-slice, length-take-le}
+use lib.ListN.{length, get_or, take}
+use lib.Seq.{slice, length-take-le}
 use native.Mathlib.Omega.{arith}
-use native.Mathlib.Numerals.{add-one}
 use native.Mathlib.Decide.{dec_lt}
 use Rattle.rules.specs.Bytes.{Text}
-use Rattle.syntax.specs.Symbols.{symbol_at}
-use Rattle.syntax.specs.declared.Symbol.{Symbol}
-use Rattle.syntax.specs.declared.Symbol.TheVariants.{Begin, Shut, Comma, Name, Stop, Bad}
-use Rattle.syntax.proofs.SymbolLaws.{Marks, means_is}
-use Rattle.text.proofs.Slices.{slice_same, slice_join, slice_none}
+use Rattle.sheet.specs.declared.Place.{Place}
+use Rattle.sheet.specs.Places.{word_of}
+use Rattle.syntax.specs.Next.{next_symbol}
+use Rattle.syntax.specs.declared.symbols.Symbol.{Symbol}
+use Rattle.syntax.specs.declared.symbols.Symbol.TheVariants.{Begin, Shut, Comma, Name, Stop}
+use Rattle.syntax.proofs.Meanings.{Marks, means_is}
+use Rattle.text.specs.Frames.{Outside}
+use Rattle.text.proofs.Slices.{slice_same, slice_join}
 use Rattle.runs.specs.Texts.{Token, Tokens}
 use Rattle.runs.specs.declared.TheConstants.{OPEN, SHUT, COMMA, PLUS}
-use Rattle.flattening.specs.Items.{Item, begin, shut, comma, name, place_word, items_by, items_at, Mode, wanting, naming, having, emits, adds, in_sum, opening, bracket, bracket_at, closing, write, writes, brackets, text_words}
-use Rattle.sheet.specs.declared.Place.{Place}
-use Rattle.flattening.specs.Writer.{TextRoom, ListOpened, ListClosed, TextWritten, finished}
-use Rattle.text.specs.Frames.{Outside}
-use Rattle.flattening.specs.declared.Bracket.{Bracket}
-use Rattle.flattening.specs.declared.Bracket.TheVariants.{Plain, Sum, Inner}
-use Rattle.runs.proofs.Each.{code_token}
-use Rattle.runs.proofs.Each.{Each, none as no_words, more as more_words, each_at, slice_at}
+use Rattle.runs.proofs.Each.{code_token, Each, none as no_words, more as more_words, each_at, slice_at}
+use Rattle.flattening.specs.Items.{Item, begin, shut, comma, name, items_by, items_at, Mode, wanting, naming, having, emits, adds, in_sum, opening, bracket, bracket_at, closing, write, writes, text_words}
+use Rattle.flattening.specs.Writer.{TextRoom, TextWords, finished}
+use Rattle.flattening.specs.Writers.{Appended, open_brackets, open_in, Closes, BracketOpened}
+use Rattle.flattening.specs.declared.writer.Writer.{Writer}
+use Rattle.flattening.specs.declared.brackets.Bracket.{Bracket}
+use Rattle.flattening.specs.declared.brackets.Bracket.TheVariants.{Plain, Sum, Inner}
+use Rattle.flattening.specs.declared.brackets.Stack.{Stack}
 use Rattle.flattening.proofs.ItemTokens.{items_is}
 use Rattle.flattening.proofs.ItemWords.{emits_emits}
-use Rattle.flattening.proofs.WriterSteps.{no_bracket, last_bracket, brackets_kept, wrote_one, opening_short, closing_short}
+use Rattle.flattening.proofs.WriterSteps.{opening_short, closing_short, popped}
 use Rattle.flattening.proofs.WriterTurns.{name_on, begin_on, shut_on, comma_on, off, wanting_off, having_off, naming_on}
 
--- the words from base to `out` are written, and what follows is the rest of the whole
-pub record Writing (s w : List ℕ) (from to base stack : ℕ) (v : List ℕ) (at depth out : ℕ) (m : Mode) : Type 0 where
-  pub len : length v ≡ length w
-  pub below : (p : ℕ) → p < base → get_or v p 0 ≡ get_or w p 0
-  pub above : (p : ℕ) → stack + (to - from) ≤ p → get_or v p 0 ≡ get_or w p 0
-  pub since : from ≤ at
-  pub inside : at ≤ to
-  pub low : base ≤ out
-  pub room : out + from ≤ base + at
-  pub deep : depth + from ≤ at
-  pub tokens : Tokens s v base out
-  pub whole : emits (slice base out v) (writes s (items_at (take to s) at) m (brackets v stack depth)) ≡ text_words s (take to s) from
+-- the words of `out` are written, and what follows is the rest of the whole; v and k are what was lent for the words and the stack
+pub record Writing (s : Text) (text : Place) (v k : List ℕ) (out : Writer) (stack : Stack) (at : ℕ) (m : Mode) : Type 0 where
+  pub kept : Outside v out.words.now 0 (text.to - text.from)
+  pub stack_kept : Outside k stack.words.now 0 (text.to - text.from)
+  pub since : text.from ≤ at
+  pub inside : at ≤ text.to
+  pub room : out.end + text.from ≤ at
+  pub deep : stack.depth + text.from ≤ at
+  pub tokens : Tokens s out.words.now 0 out.end
+  pub whole : emits (take out.end out.words.now) (writes s (items_at (take text.to s) at) m (open_in stack)) ≡ text_words s (take text.to s) text.from
 
 -- ---- the words of a turn are tokens
 
-place_token : (s : List ℕ) (f t : ℕ) → f ≤ t → t ≤ length s → t < 65536 → Token s (place_word f t)
-place_token s f t a b c = record { placed = λ p. omega arith }
+place_token : (s : List ℕ) (p : Place) → p.from ≤ p.to → p.to ≤ length s → p.to < 65536 → Token s (word_of p)
+place_token s p a b c = record { placed = λ p. omega arith }
 
 opening_tokens : (s : List ℕ) (b : Bracket) (x : ℕ) → Token s x → Each (Token s) (opening b x)
 opening_tokens s Plain x h = more_words h (more_words (code_token s OPEN (omega arith)) no_words)
@@ -57,212 +57,249 @@ closing_tokens s Plain = more_words (code_token s SHUT (omega arith)) no_words
 closing_tokens s Sum = more_words (code_token s SHUT (omega arith)) no_words
 closing_tokens s Inner = no_words
 
-module _ {s w : List ℕ} {text : Place} {base stack : ℕ} (area : TextRoom s w text base stack) where
-  abbrev from : ℕ
-  from = text.from
-
-  abbrev to : ℕ
-  to = text.to
-
-  abbrev State : List ℕ → ℕ → ℕ → ℕ → Mode → Type 0
-  State = Writing s w from to base stack
+module _ {s : Text} {text : Place} {v k : List ℕ} (area : TextRoom s text v k) where
+  abbrev State : Writer → Stack → ℕ → Mode → Type 0
+  State = Writing s text v k
 
   -- the text's end, and the items and the symbol there
   abbrev read : Text
-  read = take to s
+  read = take text.to s
 
   abbrev ahead : ℕ → Option (List Item)
   ahead = items_at read
 
-  read_length : length read ≡ to
-  read_length = length-take-le to s area.placed.fits
+  read_length : length read ≡ text.to
+  read_length = length-take-le text.to s area.placed.fits
 
   -- the start
-  pub writing_starts : State w from 0 base wanting
-  unfolding text_words brackets
-  writing_starts =
-      let a = area.placed.start in
+  pub writing_starts : (out : Writer) (stack : Stack) → out.words.now ≡ v → out.end ≡ 0 → stack.words.now ≡ k → stack.depth ≡ 0 → State out stack text.from wanting
+  unfolding text_words open_brackets
+  writing_starts out stack e z f d =
       record {
-        len = refl;
-        below = λ p q. refl;
-        above = λ p q. refl;
+        kept = record { len = ap length e; below = λ p q. ap (λ (w : List ℕ). get_or w p 0) e; above = λ p q. ap (λ (w : List ℕ). get_or w p 0) e };
+        stack_kept = record { len = ap length f; below = λ p q. ap (λ (w : List ℕ). get_or w p 0) f; above = λ p q. ap (λ (w : List ℕ). get_or w p 0) f };
         since = omega arith;
-        inside = a;
-        low = omega arith;
+        inside = area.placed.start;
         room = omega arith;
         deep = omega arith;
         tokens = λ p q r. absurd (omega arith);
-        whole = ap (λ (l : List ℕ). emits l (writes s (ahead from) wanting [])) (slice_none base base w (omega arith)) ∙ emits_none (writes s (ahead from) wanting []);
+        whole = ap₂ (λ (n d : ℕ). emits (take n out.words.now) (writes s (ahead text.from) wanting (open_brackets stack.words.now d))) z d ∙ emits_none (writes s (ahead text.from) wanting []);
       }
     where
       emits_none : (o : Option (List ℕ)) → emits [] o ≡ o
       emits_none None = refl
       emits_none (Some l) = refl
 
-  module _ {v : List ℕ} {at depth out : ℕ} where
+  module _ {out : Writer} {stack : Stack} {at : ℕ} where
     -- a turn writes l
-    moved : {m : Mode} → State v at depth out m → (v₁ : List ℕ) (at₁ depth₁ out₁ : ℕ) (m₁ : Mode) (l : List ℕ) → length v₁ ≡ length v → ((p : ℕ) → p < out → get_or v₁ p 0 ≡ get_or v p 0) → ((p : ℕ) → stack + (to - from) ≤ p → get_or v₁ p 0 ≡ get_or v p 0)
-        → slice out out₁ v₁ ≡ l → Each (Token s) l → out₁ ≡ out + length l → from ≤ at₁ → at₁ ≤ to → out₁ + from ≤ base + at₁ → depth₁ + from ≤ at₁
-        → writes s (ahead at) m (brackets v stack depth) ≡ emits l (writes s (ahead at₁) m₁ (brackets v₁ stack depth₁))
-        → State v₁ at₁ depth₁ out₁ m₁
-    moved h v₁ at₁ depth₁ out₁ m₁ l e b a wl tl ol s₁ i₁ r₁ d₁ ws =
-        let n : length (slice base out v) ≡ out - base = length-slice base out v (omega (arith, area.words, area.brackets, area.placed.start)) in
-        let sj : slice base out₁ v₁ ≡ slice base out v ++ l =
-        sym (slice_join base out out₁ v₁ h.low (omega arith) (omega (arith, area.words, area.brackets, area.placed.start)))
-        ∙ ap₂ (λ (x y : List ℕ). x ++ y) (slice_same base out v₁ v (omega (arith, area.words, area.brackets, area.placed.start)) (omega (arith, area.words, area.brackets, area.placed.start)) (λ p q r. b p r)) wl in
+    moved : {m : Mode} → State out stack at m → {out₁ : Writer} (stack₁ : Stack) (at₁ : ℕ) (m₁ : Mode) (l : List ℕ) → Appended out out₁ l → Each (Token s) l
+        → Outside k stack₁.words.now 0 (text.to - text.from)
+        → at ≤ at₁ → at₁ ≤ text.to → out₁.end + text.from ≤ at₁ → stack₁.depth + text.from ≤ at₁
+        → writes s (ahead at) m (open_in stack) ≡ emits l (writes s (ahead at₁) m₁ (open_in stack₁))
+        → State out₁ stack₁ at₁ m₁
+    moved h {out₁} stack₁ at₁ m₁ l g tl b a₁ i₁ r₁ d₁ ws =
+        let n = g.end in
+        let f = g.wrote.len in
+        let hf = h.kept.len in
+        let hs = h.since in
+        let sj : take out₁.end out₁.words.now ≡ take out.end out.words.now ++ l =
+        ap (λ (t : ℕ). slice 0 t out₁.words.now) n ∙ sym (slice_join 0 out.end (out.end + length l) out₁.words.now (omega arith) (omega arith) (omega arith))
+        ∙ ap₂ (λ (x y : List ℕ). x ++ y) (slice_same 0 out.end out₁.words.now out.words.now (omega arith) (omega arith) (λ p q r. g.wrote.below p r)) g.wrote.words in
         record {
-          len = e ∙ h.len;
-          below = λ p q. b p (omega arith) ∙ h.below p q;
-          above = λ p q. a p q ∙ h.above p q;
-          since = s₁;
+          kept = record { len = f ∙ hf; below = λ p q. absurd (omega arith); above = λ p q. g.wrote.above p (omega arith) ∙ h.kept.above p q };
+          stack_kept = b;
+          since = omega arith;
           inside = i₁;
-          low = omega arith;
           room = r₁;
           deep = d₁;
-          tokens = λ p q r. token p q r;
-          whole = ap (λ (k : List ℕ). emits k (writes s (ahead at₁) m₁ (brackets v₁ stack depth₁))) sj
-              ∙ sym (emits_emits (slice base out v) l (writes s (ahead at₁) m₁ (brackets v₁ stack depth₁)))
-              ∙ ap (emits (slice base out v)) (sym ws) ∙ h.whole;
+          tokens = λ p q r. token p r;
+          whole = ap (λ (k : List ℕ). emits k (writes s (ahead at₁) m₁ (open_in stack₁))) sj
+              ∙ sym (emits_emits (take out.end out.words.now) l (writes s (ahead at₁) m₁ (open_in stack₁)))
+              ∙ ap (emits (take out.end out.words.now)) (sym ws) ∙ h.whole;
         }
       where
-        token : (p : ℕ) → base ≤ p → p < out₁ → Token s (get_or v₁ p 0)
-        token p q r = elim (dec_lt p out) [
-          | yes k ↦ (let z = b p k in rw z (h.tokens p q k))
-          | no k ↦ (
-              let x : get_or (slice out out₁ v₁) (p - out) 0 ≡ get_or v₁ p 0 = slice_at out out₁ (p - out) v₁ (omega arith) ∙ (let z : out + (p - out) ≡ p = omega arith in ap (λ (i : ℕ). get_or v₁ i 0) z) in
-              let g : Each (Token s) (slice out out₁ v₁) = rw wl tl in
-              let ll : length (slice out out₁ v₁) ≡ length l = ap length wl in
-              rw x at (each_at (Token s) (p - out) g (omega arith)))
+        token : (p : ℕ) → p < out₁.end → Token s (get_or out₁.words.now p 0)
+        token p r = elim (dec_lt p out.end) [
+          | yes i ↦ (let z = g.wrote.below p i in rw z (h.tokens p (omega arith) i))
+          | no i ↦ (
+              let n = g.end in
+              let z : out.end + (p - out.end) ≡ p = omega arith in
+              let x : get_or (slice out.end (out.end + length l) out₁.words.now) (p - out.end) 0 ≡ get_or out₁.words.now p 0 =
+              slice_at out.end (out.end + length l) (p - out.end) out₁.words.now (omega arith) ∙ ap (λ (i : ℕ). get_or out₁.words.now i 0) z in
+              let w = g.wrote.words in
+              let t : Each (Token s) (slice out.end (out.end + length l) out₁.words.now) = rw w tl in
+              let ll : length (slice out.end (out.end + length l) out₁.words.now) ≡ length l = ap length w in
+              rw x at (each_at (Token s) (p - out.end) t (omega arith)))
         ]
 
     -- ---- what is read is there, and there is room for what is written
 
-    pub name_room : State v at depth out wanting → {f t : ℕ} → Name f t ≡ symbol_at read at → (f < t) × (at < t) × (t ≤ to) × (out + 1 ≤ stack) × (out < length v) × (out + 1 + from ≤ base + t) × (depth + from < t)
-    name_room h {f} {t} e =
-        let n = means_is read at e (Name f t) refl in
+    pub name_room : State out stack at wanting → {p : Place} → Some (Name p) ≡ next_symbol read at
+        → (p.from < p.to) × (at < p.to) × (p.to ≤ text.to) × (out.end < length out.words.now) × (out.end + 1 + text.from ≤ p.to) × (stack.depth + text.from < p.to) × (stack.depth < length stack.words.now)
+    name_room h {p} e =
+        let n = means_is read at e (Some (Name p)) refl in
         let l = read_length in
+        let a = h.kept.len in
+        let b = h.stack_kept.len in
+        let c = h.since in
+        let d = h.room in
+        let f = h.deep in
+        let g = n.past in
+        let i = n.some_bytes in
+        let j = n.within in
         (omega arith, omega arith, omega arith, omega arith, omega arith, omega arith, omega arith)
 
-    pub mark_room : {m : Mode} → State v at depth out m → {t : ℕ} {c : Text} → Marks read at t c → (at < t) × (t ≤ to) × (out + 1 ≤ stack) × (out < length v) × (stack + depth ≤ length v)
+    pub mark_room : {m : Mode} → State out stack at m → {t : ℕ} {c : Text} → Marks read at t c → (at < t) × (t ≤ text.to) × (out.end < length out.words.now) × (stack.depth ≤ length stack.words.now)
     mark_room h n =
         let l = read_length in
-        (omega arith, omega arith, omega arith, omega arith, omega arith)
+        let a = h.kept.len in
+        let b = h.stack_kept.len in
+        let c = h.since in
+        let d = h.room in
+        let f = h.deep in
+        let g = n.past in
+        let j = n.within in
+        (omega arith, omega arith, omega arith, omega arith)
 
-    pub open_room : State v at depth out wanting → {f t u : ℕ} → Name f t ≡ symbol_at read at → Begin u ≡ symbol_at read t → (at < u) × (u ≤ to) × (out + 2 ≤ stack)
-    open_room h {f} {t} {u} e₁ e₂ =
+    pub open_room : State out stack at wanting → {p : Place} {u : ℕ} → Some (Name p) ≡ next_symbol read at → Some (Begin u) ≡ next_symbol read p.to → (p.to < u) × (u ≤ text.to) × (out.end + 2 ≤ length out.words.now)
+    open_room h {p} {u} e₁ e₂ =
         let n = name_room h e₁ in
-        let k = means_is read t e₂ (Begin u) refl in
+        let k = means_is read p.to e₂ (Some (Begin u)) refl in
         let l = read_length in
+        let a = h.kept.len in
+        let c = h.since in
+        let d = h.room in
+        let g = k.past in
+        let j = k.within in
         (omega arith, omega arith, omega arith)
 
     -- ---- the turns
 
+    word_token : {m : Mode} → State out stack at m → {p : Place} → p.from < p.to → p.to ≤ text.to → Token s (word_of p)
+    word_token h {p} a b = place_token s p (omega arith) (omega (arith, area.placed.fits)) (omega (arith, area.placed.small))
+
     -- a name and a bracket
-    pub open_turn : State v at depth out wanting → {f t u : ℕ} → Name f t ≡ symbol_at read at → Begin u ≡ symbol_at read t → {v₁ : List ℕ} {out₁ : ℕ} → ListOpened s v v₁ stack depth out (place_word f t) out₁ → State v₁ u (depth + 1) out₁ wanting
-    unfolding brackets
-    open_turn h {f} {t} {u} e₁ e₂ {v₁} {out₁} o =
+    pub open_turn : State out stack at wanting → {p : Place} {u : ℕ} → Some (Name p) ≡ next_symbol read at → Some (Begin u) ≡ next_symbol read p.to → {out₁ : Writer} {stack₁ : Stack} → BracketOpened s (word_of p) stack stack₁ out out₁ → State out₁ stack₁ u wanting
+    open_turn h {p} {u} e₁ e₂ {out₁} {stack₁} o =
         let n = name_room h e₁ in
-        let k = means_is read t e₂ (Begin u) refl in
-        let l = read_length in
-        let x = place_word f t in
-        let cs = brackets v stack depth in
+        let r = open_room h e₁ e₂ in
+        let x = word_of p in
+        let cs = open_in stack in
         let b = bracket (adds s x) (in_sum cs) in
         let y = opening_short b x in
-        moved h v₁ u (depth + 1) out₁ wanting (opening b x) o.len o.below (λ p q. o.above p (omega arith)) o.words
-        (opening_tokens s b x (place_token s f t (omega arith) (omega (arith, area.placed.fits)) (omega (arith, area.placed.small)))) o.ends (omega arith) (omega arith) (omega arith) (omega arith)
-        (ap (λ (o : Option (List Item)). writes s o wanting cs) (items_is read at e₁ (Name f t) refl)
-        ∙ name_on s x (ahead t) cs
-        ∙ ap (λ (o : Option (List Item)). writes s o (naming x) cs) (items_is read t e₂ (Begin u) refl)
+        let w = o.words.end in
+        let d = o.opens.deeper in
+        let hd = h.deep in
+        let hs = h.since in
+        let hr = h.room in
+        moved h stack₁ u wanting (opening b x) o.words (opening_tokens s b x (word_token h n.0 n.2))
+        (record { len = o.opens.len ∙ h.stack_kept.len; below = λ p q. absurd (omega arith); above = λ p q. o.opens.above p (omega arith) ∙ h.stack_kept.above p q })
+        (omega arith) (omega arith) (omega arith) (omega arith)
+        (ap (λ (o : Option (List Item)). writes s o wanting cs) (items_is read at e₁ (Some (Name p)) refl)
+        ∙ name_on s x (ahead p.to) cs
+        ∙ ap (λ (o : Option (List Item)). writes s o (naming x) cs) (items_is read p.to e₂ (Some (Begin u)) refl)
         ∙ begin_on s x (ahead u) cs
-        ∙ ap (λ (ds : List Bracket). emits (opening b x) (writes s (ahead u) wanting ds)) (sym pushed))
-      where
-        pushed : brackets v₁ stack (depth + 1) ≡ bracket (adds s (place_word f t)) (in_sum (brackets v stack depth)) ∷ brackets v stack depth
-        pushed = rw (add-one depth) (ap₂ (λ (c : Bracket) (cs : List Bracket). c ∷ cs) o.top (brackets_kept v v₁ stack depth o.between))
+        ∙ ap (λ (ds : List Bracket). emits (opening b x) (writes s (ahead u) wanting ds)) (sym o.opens.held))
 
     -- one word more; the brackets stay
-    one_more : {m : Mode} → State v at depth out m → (at₁ : ℕ) (m₁ : Mode) (x : ℕ) → Token s x → at < at₁ → at₁ ≤ to
-        → writes s (ahead at) m (brackets v stack depth) ≡ emits (x ∷ []) (writes s (ahead at₁) m₁ (brackets v stack depth))
-        → State (set v out x) at₁ depth (out + 1) m₁
-    one_more h at₁ m₁ x tx a b e =
-        let o = wrote_one v out x (omega arith) in
-        let z : brackets (set v out x) stack depth ≡ brackets v stack depth = brackets_kept v (set v out x) stack depth (λ p q r. o.above p (omega arith)) in
-        moved h (set v out x) at₁ depth (out + 1) m₁ (x ∷ []) o.len o.below (λ p q. o.above p (omega arith)) o.words (more_words tx no_words) refl
-        (omega arith) b (omega arith) (omega arith)
-        (e ∙ ap (λ (ds : List Bracket). emits (x ∷ []) (writes s (ahead at₁) m₁ ds)) (sym z))
+    one_more : {m : Mode} → State out stack at m → {out₁ : Writer} (at₁ : ℕ) (m₁ : Mode) (x : ℕ) → Appended out out₁ (x ∷ []) → Token s x → at < at₁ → at₁ ≤ text.to
+        → writes s (ahead at) m (open_in stack) ≡ emits (x ∷ []) (writes s (ahead at₁) m₁ (open_in stack))
+        → State out₁ stack at₁ m₁
+    one_more h at₁ m₁ x g tx a b e =
+        let w = g.end in
+        let hd = h.deep in
+        let hr = h.room in
+        moved h stack at₁ m₁ (x ∷ []) g (more_words tx no_words) h.stack_kept (omega arith) b (omega arith) (omega arith) e
 
     -- a name that no bracket follows
-    pub name_turn : State v at depth out wanting → {f t : ℕ} → Name f t ≡ symbol_at read at → {q : Symbol} → q ≡ symbol_at read t → ((u : ℕ) → q ≡ Begin u → ⊥) → {x : ℕ} → x ≡ place_word f t → State (set v out x) t depth (out + 1) having
-    name_turn h {f} {t} e₁ {q} e₂ k {x} ex =
+    pub name_turn : State out stack at wanting → {p : Place} → Some (Name p) ≡ next_symbol read at → {q : Option Symbol} → q ≡ next_symbol read p.to → ((u : ℕ) → q ≡ Some (Begin u) → ⊥) → {x : ℕ} → x ≡ word_of p → {out₁ : Writer} → Appended out out₁ (x ∷ []) → State out₁ stack p.to having
+    name_turn h {p} e₁ {q} e₂ k {x} ex g =
         let n = name_room h e₁ in
-        let cs = brackets v stack depth in
-        let y = place_word f t in
-        let it = items_is read t e₂ q refl in
-        one_more h t having x (rw ex (place_token s f t (omega arith) (omega (arith, area.placed.fits)) (omega (arith, area.placed.small)))) (omega arith) (omega arith)
-        (ap (λ (o : Option (List Item)). writes s o wanting cs) (items_is read at e₁ (Name f t) refl)
-        ∙ name_on s y (ahead t) cs
+        let cs = open_in stack in
+        let y = word_of p in
+        let it = items_is read p.to e₂ q refl in
+        one_more h p.to having x g (rw ex (word_token h n.0 n.2)) n.1 n.2
+        (ap (λ (o : Option (List Item)). writes s o wanting cs) (items_is read at e₁ (Some (Name p)) refl)
+        ∙ name_on s y (ahead p.to) cs
         ∙ ap (λ (o : Option (List Item)). writes s o (naming y) cs) it
         ∙ naming_on s ahead y cs q k
         ∙ ap₂ (λ (y : ℕ) (o : Option (List Item)). emits (y ∷ []) (writes s o having cs)) (sym ex) (sym it))
 
-    pub comma_turn : State v at depth out having → {t : ℕ} → Comma t ≡ symbol_at read at → (depth ≡ 0 → ⊥) → State (set v out COMMA) t depth (out + 1) wanting
-    comma_turn h {t} e d =
-        let n = mark_room h (means_is read at e (Comma t) refl) in
-        let lb = last_bracket v stack depth d in
-        one_more h t wanting COMMA (code_token s COMMA (omega arith)) (omega arith) (omega arith)
-        (ap₂ (λ (o : Option (List Item)) (cs : List Bracket). writes s o having cs) (items_is read at e (Comma t) refl) lb
-        ∙ comma_on s (ahead t) (bracket_at (get_or v (stack + (depth - 1)) 0)) (brackets v stack (depth - 1))
+    pub comma_turn : State out stack at having → {t : ℕ} → Some (Comma t) ≡ next_symbol read at → (stack.depth ≡ 0 → ⊥) → {out₁ : Writer} → Appended out out₁ (COMMA ∷ []) → State out₁ stack t wanting
+    comma_turn h {t} e d g =
+        let n = mark_room h (means_is read at e (Some (Comma t)) refl) in
+        let lb = popped stack.words.now stack.depth d in
+        one_more h t wanting COMMA g (code_token s COMMA (omega arith)) n.0 n.1
+        (ap₂ (λ (o : Option (List Item)) (cs : List Bracket). writes s o having cs) (items_is read at e (Some (Comma t)) refl) lb
+        ∙ comma_on s (ahead t) (bracket_at (get_or stack.words.now (stack.depth - 1) 0)) (open_brackets stack.words.now (stack.depth - 1))
         ∙ ap (λ (cs : List Bracket). emits (COMMA ∷ []) (writes s (ahead t) wanting cs)) (sym lb))
 
-    pub shut_turn : State v at depth out having → {t : ℕ} → Shut t ≡ symbol_at read at → (depth ≡ 0 → ⊥) → {v₁ : List ℕ} {out₁ : ℕ} → ListClosed v v₁ stack (depth - 1) out out₁ → State v₁ t (depth - 1) out₁ having
-    shut_turn h {t} e d {v₁} {out₁} o =
-        let n = mark_room h (means_is read at e (Shut t) refl) in
-        let c = bracket_at (get_or v (stack + (depth - 1)) 0) in
-        let cs = brackets v stack (depth - 1) in
-        let k = closing_short c in
-        let ow = o.wrote in
-        let oe = o.ends in
-        let z : brackets v₁ stack (depth - 1) ≡ cs = brackets_kept v v₁ stack (depth - 1) (λ p q r. ow.above p (omega arith)) in
-        moved h v₁ t (depth - 1) out₁ having (closing c) ow.len ow.below (λ p q. ow.above p (omega arith))
-        (ap (λ (k : ℕ). slice out k v₁) oe ∙ ow.words) (closing_tokens s c) oe (omega arith) (omega arith) (omega arith) (omega arith)
-        (ap₂ (λ (o : Option (List Item)) (cs : List Bracket). writes s o having cs) (items_is read at e (Shut t) refl) (last_bracket v stack depth d)
-        ∙ shut_on s (ahead t) c cs
-        ∙ ap (λ (ds : List Bracket). emits (closing c) (writes s (ahead t) having ds)) (sym z))
+    pub shut_turn : State out stack at having → {t : ℕ} → Some (Shut t) ≡ next_symbol read at → {stack₁ : Stack} {c : Bracket} → Closes stack stack₁ c → {out₁ : Writer} → Appended out out₁ (closing c) → State out₁ stack₁ t having
+    shut_turn h {t} e {stack₁} {c} k g =
+        let n = mark_room h (means_is read at e (Some (Shut t)) refl) in
+        let cs = open_in stack₁ in
+        let y = closing_short c in
+        let w = g.end in
+        let hd = h.deep in
+        let hr = h.room in
+        let d = k.higher in
+        moved h stack₁ t having (closing c) g (closing_tokens s c)
+        (rw (ap (λ x. x.now) k.words) h.stack_kept)
+        (omega arith) n.1 (omega arith) (omega arith)
+        (ap₂ (λ (o : Option (List Item)) (cs : List Bracket). writes s o having cs) (items_is read at e (Some (Shut t)) refl) k.held
+        ∙ shut_on s (ahead t) c cs)
 
     -- ---- the ends
 
-    pub kept : {m : Mode} → State v at depth out m → Outside w v base (stack + (to - from))
-    kept h = record { len = h.len; below = h.below; above = h.above }
+    pub kept_as : {m : Mode} → State out stack at m → {w : List ℕ} → w ≡ out.words.now → Outside v w 0 (text.to - text.from)
+    kept_as h e = rw e h.kept
 
-    none_ahead : {m : Mode} → State v at depth out m → writes s (ahead at) m (brackets v stack depth) ≡ None → text_words s read from ≡ None
-    none_ahead h e = sym h.whole ∙ ap (emits (slice base out v)) e
+    pub stack_kept_as : {m : Mode} → State out stack at m → {w : List ℕ} → w ≡ stack.words.now → Outside k w 0 (text.to - text.from)
+    stack_kept_as h e = rw e h.stack_kept
 
-    pub no_name : State v at depth out wanting → {q : Symbol} → q ≡ symbol_at read at → ((f t : ℕ) → q ≡ Name f t → ⊥) → text_words s read from ≡ None
+    none_ahead : {m : Mode} → State out stack at m → writes s (ahead at) m (open_in stack) ≡ None → text_words s read text.from ≡ None
+    none_ahead h e = sym h.whole ∙ ap (emits (take out.end out.words.now)) e
+
+    pub no_symbol : {m : Mode} → State out stack at m → None ≡ next_symbol read at → text_words s read text.from ≡ None
+    no_symbol {m} h e = none_ahead h (ap (λ (o : Option (List Item)). writes s o m (open_in stack)) (items_is read at e None refl))
+
+    pub no_name : State out stack at wanting → {q : Option Symbol} → q ≡ next_symbol read at → ((p : Place) → q ≡ Some (Name p) → ⊥) → text_words s read text.from ≡ None
     no_name h {q} e k =
-        let cs = brackets v stack depth in
+        let cs = open_in stack in
         none_ahead h (ap (λ (o : Option (List Item)). writes s o wanting cs) (items_is read at e q refl) ∙ wanting_off s ahead cs q k)
 
-    pub no_delimiter : State v at depth out having → {q : Symbol} → q ≡ symbol_at read at → ((t : ℕ) → q ≡ Comma t → ⊥) → ((t : ℕ) → q ≡ Shut t → ⊥) → (depth ≡ 0 → ⊥) → text_words s read from ≡ None
-    no_delimiter h {q} e k l d =
-        let c = bracket_at (get_or v (stack + (depth - 1)) 0) in
-        let cs = brackets v stack (depth - 1) in
+    -- a name after which no token stands
+    pub no_next : State out stack at wanting → {p : Place} → Some (Name p) ≡ next_symbol read at → None ≡ next_symbol read p.to → text_words s read text.from ≡ None
+    no_next h {p} e₁ e₂ =
+        let cs = open_in stack in
         none_ahead h
-        (ap₂ (λ (o : Option (List Item)) (cs : List Bracket). writes s o having cs) (items_is read at e q refl) (last_bracket v stack depth d) ∙ having_off s ahead c cs q k l)
+        (ap (λ (o : Option (List Item)). writes s o wanting cs) (items_is read at e₁ (Some (Name p)) refl)
+        ∙ name_on s (word_of p) (ahead p.to) cs
+        ∙ ap (λ (o : Option (List Item)). writes s o (naming (word_of p)) cs) (items_is read p.to e₂ None refl))
+
+    pub no_delimiter : State out stack at having → {q : Option Symbol} → q ≡ next_symbol read at → ((t : ℕ) → q ≡ Some (Comma t) → ⊥) → ((t : ℕ) → q ≡ Some (Shut t) → ⊥) → (stack.depth ≡ 0 → ⊥) → text_words s read text.from ≡ None
+    no_delimiter h {q} e k l d =
+        let c = bracket_at (get_or stack.words.now (stack.depth - 1) 0) in
+        let cs = open_brackets stack.words.now (stack.depth - 1) in
+        none_ahead h
+        (ap₂ (λ (o : Option (List Item)) (cs : List Bracket). writes s o having cs) (items_is read at e q refl) (popped stack.words.now stack.depth d) ∙ having_off s ahead c cs q k l)
 
     -- no bracket is open
-    pub finish_turn : State v at depth out having → {q : Symbol} → q ≡ symbol_at read at → depth ≡ 0 → {r : Option ℕ} → r ≡ finished q out → TextWritten s v from to base r
-    unfolding write
-    finish_turn h {q} e d {r} g = subst (TextWritten s v from to base) (sym g) (by q (ap₂ (λ (o : Option (List Item)) (cs : List Bracket). writes s o having cs) (items_is read at e q refl) (no_bracket v stack depth d)))
+    pub finish_turn : State out stack at having → {q : Symbol} → Some q ≡ next_symbol read at → stack.depth ≡ 0 → {r : Option ℕ} → r ≡ finished q out.end → {w : List ℕ} → w ≡ out.words.now → TextWords s w text r
+    unfolding write open_brackets
+    finish_turn h {q} e d {r} g f = rw (f, g) (by q (ap₂ (λ (o : Option (List Item)) (cs : List Bracket). writes s o having cs) (items_is read at e (Some q) refl) (none_open d)))
       where
-        by : (q : Symbol) → writes s (ahead at) having (brackets v stack depth) ≡ writes s (items_by q ahead) having [] → TextWritten s v from to base (finished q out)
+        none_open : stack.depth ≡ 0 → open_in stack ≡ []
+        none_open d = rw d refl
+
+        by : (q : Symbol) → writes s (ahead at) having (open_in stack) ≡ writes s (items_by (Some q) ahead) having [] → TextWords s out.words.now text (finished q out.end)
         by (Begin t) a = none_ahead h (a ∙ off s begin having (ahead t) [] (λ is. refl))
         by (Shut t) a = none_ahead h (a ∙ off s shut having (ahead t) [] (λ is. refl))
         by (Comma t) a = none_ahead h (a ∙ off s comma having (ahead t) [] (λ is. refl))
-        by (Name f t) a = none_ahead h (a ∙ off s (name (place_word f t)) having (ahead t) [] (λ is. refl))
+        by (Name p) a = none_ahead h (a ∙ off s (name (word_of p)) having (ahead p.to) [] (λ is. refl))
         by Stop a =
             record {
-              low = h.low;
-              room = omega arith;
-              words = sym h.whole ∙ ap (emits (slice base out v)) a ∙ ap Some (append-nil (slice base out v));
+              room = (let x = h.room in let y = h.inside in omega arith);
+              words = sym h.whole ∙ ap (emits (take out.end out.words.now)) a ∙ ap Some (append-nil (take out.end out.words.now));
               tokens = h.tokens;
             }
-        by Bad a = none_ahead h a

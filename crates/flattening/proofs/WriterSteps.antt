@@ -1,45 +1,26 @@
--- The steps of the writer of words: one or two words written, a bracket looked up, a name tested.
+-- The steps of the writer of words: words one after the other, the open brackets, the name of sums.
 use Prim.Native.Nat.{ℕ, zero, suc, ◌+◌, ◌-◌, ◌<◌, ◌≤◌}
 use mathlib.Core.Path.{◌≡◌, refl, sym, ap, ap₂, ◌∙◌}
-use mathlib.Core.List.{List, [], ◌∷◌, ◌++◌}
-use lib.ListN.{length, get_or, take, drop, set, length-set}
+use mathlib.Core.List.{List, ◌∷◌, ◌++◌}
+use lib.ListN.{length, get_or, take, drop, set, length-append, length-set}
 use lib.Seq.{slice, get_or-set_same, get_or-set_other}
 use native.Mathlib.Omega.{arith}
+use native.Mathlib.Numerals.{add-one}
 use Rattle.rules.specs.Bytes.{Text, same}
+use Rattle.sheet.specs.declared.Place.{Place}
+use Rattle.sheet.specs.Places.{word_of}
 use Rattle.rules.specs.Tree.{tamtplus}
 use Rattle.text.specs.Sorting.{Wrote}
-use Rattle.text.proofs.Slices.{slice_none, slice_set, slice_same}
-use Rattle.flattening.specs.Items.{place_word, adds, in_sum, opening, bracket, bracket_at, closing, brackets}
-use Rattle.flattening.specs.declared.Bracket.{Bracket}
-use Rattle.flattening.specs.declared.Bracket.TheVariants.{Plain, Sum, Inner}
-use Rattle.flattening.specs.Writer.{ListOpened}
+use Rattle.text.proofs.Slices.{slice_same, slice_join}
+use Rattle.flattening.specs.Items.{adds, opening, bracket_at, closing, last_open}
+use Rattle.flattening.specs.declared.brackets.Bracket.{Bracket}
+use Rattle.flattening.specs.declared.brackets.Bracket.TheVariants.{Plain, Sum, Inner}
+use Rattle.flattening.specs.Writers.{Appended, open_brackets, open_in, Opens, Closes}
+use Rattle.flattening.specs.declared.brackets.Stack.{Stack}
+use Rattle.flattening.specs.declared.writer.Writer.{Writer}
 use Rattle.flattening.proofs.ItemTokens.{place_text}
 
 -- ---- words written
-
-pub wrote_nothing : (w : List ℕ) (out : ℕ) → Wrote w w out []
-wrote_nothing w out = record { len = refl; below = λ p q. refl; above = λ p q. refl; words = slice_none out (out + 0) w (omega arith) }
-
-pub wrote_one : (w : List ℕ) (out x : ℕ) → out < length w → Wrote w (set w out x) out (x ∷ [])
-wrote_one w out x h = record {
-  len = length-set w out x;
-  below = λ p q. get_or-set_other w out p x 0 (λ e. omega arith);
-  above = λ p q. get_or-set_other w out p x 0 (λ e. omega arith);
-  words = slice_set out out w x (omega arith) h ∙ ap (λ (l : List ℕ). l ++ (x ∷ [])) (slice_none out out w (omega arith));
-}
-
-pub wrote_two : (w : List ℕ) (out x y : ℕ) → out + 2 ≤ length w → Wrote w (set (set w out x) (out + 1) y) out (x ∷ y ∷ [])
-wrote_two w out x y h =
-    let v = set w out x in
-    let l : length v ≡ length w = length-set w out x in
-    let o = wrote_one w out x (omega arith) in
-    let e : out + 2 ≡ out + 1 + 1 = omega arith in
-    record {
-      len = length-set v (out + 1) y ∙ l;
-      below = λ p q. get_or-set_other v (out + 1) p y 0 (λ e. omega arith) ∙ get_or-set_other w out p x 0 (λ e. omega arith);
-      above = λ p q. get_or-set_other v (out + 1) p y 0 (λ e. omega arith) ∙ get_or-set_other w out p x 0 (λ e. omega arith);
-      words = ap (λ (k : ℕ). slice out k (set v (out + 1) y)) e ∙ slice_set out (out + 1) v y (omega arith) (omega arith) ∙ ap (λ (k : List ℕ). k ++ (y ∷ [])) o.words;
-    }
 
 pub opening_short : (b : Bracket) (x : ℕ) → length (opening b x) ≤ 2
 opening_short Plain x = omega arith
@@ -51,46 +32,72 @@ closing_short Plain = omega arith
 closing_short Sum = omega arith
 closing_short Inner = omega arith
 
+-- ---- one after the other
+
+pub wrote_append : {w v u l m : List ℕ} {to at : ℕ} → Wrote w v to l → Wrote v u at m → at ≡ to + length l → at + length m ≤ length w → Wrote w u to (l ++ m)
+wrote_append {w} {v} {u} {l} {m} {to} {at} g h e room =
+    let n = length-append l m in
+    let a = g.len in
+    let b = h.len in
+    let z : slice to at u ≡ l = slice_same to at u v (omega arith) (omega arith) (λ p x y. h.below p y) ∙ ap (λ (t : ℕ). slice to t v) e ∙ g.words in
+    let f : to + length (l ++ m) ≡ at + length m = omega arith in
+    record {
+      len = b ∙ a;
+      below = λ p q. h.below p (omega arith) ∙ g.below p q;
+      above = λ p q. h.above p (omega arith) ∙ g.above p (omega arith);
+      words = ap (λ (t : ℕ). slice to t u) f ∙ sym (slice_join to at (at + length m) u (omega arith) (omega arith) (omega arith)) ∙ ap₂ (λ (x y : List ℕ). x ++ y) z h.words;
+    }
+
+pub appended_more : {a b c : Writer} {l m : List ℕ} → Appended a b l → Appended b c m → b.end + length m ≤ length a.words.now → Appended a c (l ++ m)
+appended_more {a} {b} {c} {l} {m} g h room =
+    let e = g.end in
+    let f = h.end in
+    record { lent = h.lent ∙ g.lent; wrote = wrote_append g.wrote h.wrote e room; end = omega (arith, length-append l m) }
+
 -- ---- brackets
 
-pub no_bracket : (w : List ℕ) (stack depth : ℕ) → depth ≡ 0 → brackets w stack depth ≡ []
-unfolding brackets
-no_bracket w stack depth e = rw e
+pub brackets_kept : (w v : List ℕ) (depth : ℕ) → ((p : ℕ) → p < depth → get_or v p 0 ≡ get_or w p 0) → open_brackets v depth ≡ open_brackets w depth
+unfolding open_brackets
+brackets_kept w v zero h = refl
+brackets_kept w v (suc d) h = ap₂ (λ (c : ℕ) (cs : List Bracket). bracket_at c ∷ cs) (h d (omega arith)) (brackets_kept w v d (λ p q. h p (omega arith)))
 
-pub last_bracket : (w : List ℕ) (stack depth : ℕ) → (depth ≡ 0 → ⊥) → brackets w stack depth ≡ bracket_at (get_or w (stack + (depth - 1)) 0) ∷ brackets w stack (depth - 1)
-unfolding brackets
-last_bracket w stack zero h = absurd (h refl)
-last_bracket w stack (suc d) h = let e : suc d - 1 ≡ d = omega arith in rw e
+pub last_none : (k : Stack) → k.depth ≡ 0 → Plain ≡ last_open (open_in k)
+unfolding open_brackets
+last_none k e = rw e refl
 
-pub brackets_kept : (w v : List ℕ) (stack depth : ℕ) → ((p : ℕ) → stack ≤ p → p < stack + depth → get_or v p 0 ≡ get_or w p 0) → brackets v stack depth ≡ brackets w stack depth
-unfolding brackets
-brackets_kept w v stack zero h = refl
-brackets_kept w v stack (suc d) h = ap₂ (λ (c : ℕ) (cs : List Bracket). bracket_at c ∷ cs) (h (stack + d) (omega arith) (omega arith)) (brackets_kept w v stack d (λ p q r. h p q (omega arith)))
+pub popped : (w : List ℕ) (depth : ℕ) → (depth ≡ 0 → ⊥) → open_brackets w depth ≡ bracket_at (get_or w (depth - 1) 0) ∷ open_brackets w (depth - 1)
+unfolding open_brackets
+popped w zero h = absurd (h refl)
+popped w (suc d) h = let e : suc d - 1 ≡ d = omega arith in rw e
+
+pub last_some : (k : Stack) → (k.depth ≡ 0 → ⊥) → bracket_at (get_or k.words.now (k.depth - 1) 0) ≡ last_open (open_in k)
+last_some k h = sym (ap last_open (popped k.words.now k.depth h))
+
+-- k with one bracket more, whose number is n, is m
+pub pushed : (k m : Stack) (n : ℕ) (c : Bracket) → k.depth < length k.words.now → m.words.ghost_name ≡ k.words.ghost_name → m.words.now ≡ set k.words.now k.depth n → m.depth ≡ k.depth + 1 → bracket_at n ≡ c → Opens k m c
+unfolding open_brackets
+pushed k m n c room l e d f =
+    let w = k.words.now in
+    let x = set w k.depth n in
+    record {
+      lent = l;
+      len = ap length e ∙ length-set w k.depth n;
+      above = λ p q. ap (λ (y : List ℕ). get_or y p 0) e ∙ get_or-set_other w k.depth p n 0 (λ z. omega arith);
+      deeper = d;
+      held = ap₂ open_brackets e (d ∙ add-one k.depth)
+          ∙ ap₂ (λ (c : Bracket) (cs : List Bracket). c ∷ cs) (ap bracket_at (get_or-set_same w k.depth n 0 room) ∙ f) (brackets_kept w x k.depth (λ p q. get_or-set_other w k.depth p n 0 (λ z. omega arith)));
+    }
+
+-- without its last one
+pub pops : (k m : Stack) → 0 < k.depth → m.words ≡ k.words → m.depth ≡ k.depth - 1 → Closes k m (bracket_at (get_or k.words.now (k.depth - 1) 0))
+pops k m h e d = record {
+  words = e;
+  higher = omega arith;
+  held = popped k.words.now k.depth (λ z. omega arith) ∙ ap₂ (λ (w : List ℕ) (n : ℕ). bracket_at (get_or k.words.now (k.depth - 1) 0) ∷ open_brackets w n) (sym (ap (λ x. x.now) e)) (sym d);
+}
 
 -- ---- names
 
-pub adds_is : (s : Text) (f t : ℕ) → f < t → t < 65536 → same (take (t - f) (drop f s)) tamtplus ≡ adds s (place_word f t)
+pub adds_is : (s : Text) (p : Place) → p.from < p.to → p.to < 65536 → same (take (p.to - p.from) (drop p.from s)) tamtplus ≡ adds s (word_of p)
 unfolding adds
-adds_is s f t a b = sym (ap (λ (n : Text). same n tamtplus) (place_text s f t a b))
-
--- ---- a name and its bracket
-
-module _ (s : Text) (w v : List ℕ) (stack depth out x r : ℕ) (room : out + 2 ≤ stack) (fits : stack + depth < length w) where
-  abbrev opened : Bracket
-  opened = bracket (adds s x) (in_sum (brackets w stack depth))
-
-  pub opened_is : Wrote w v out (opening opened x) → r ≡ out + length (opening opened x) → (c : ℕ) → bracket_at c ≡ opened → ListOpened s w (set v (stack + depth) c) stack depth out x r
-  opened_is h e c f =
-      let n = opening_short opened x in
-      let lv = h.len in
-      let k : out + length (opening opened x) ≤ out + 2 = omega arith in
-      let lc = length-set v (stack + depth) c in
-      record {
-        len = lc ∙ lv;
-        below = λ p q. get_or-set_other v (stack + depth) p c 0 (λ z. omega arith) ∙ h.below p q;
-        between = λ p q m. get_or-set_other v (stack + depth) p c 0 (λ z. omega arith) ∙ h.above p (omega arith);
-        above = λ p q. get_or-set_other v (stack + depth) p c 0 (λ z. omega arith) ∙ h.above p (omega arith);
-        words = slice_same out r (set v (stack + depth) c) v (omega arith) (omega arith) (λ p q m. get_or-set_other v (stack + depth) p c 0 (λ z. omega arith)) ∙ ap (λ (k : ℕ). slice out k v) e ∙ h.words;
-        ends = e;
-        top = ap bracket_at (get_or-set_same v (stack + depth) c 0 (omega arith)) ∙ f;
-      }
+adds_is s p a b = sym (ap (λ (n : Text). same n tamtplus) (place_text s p a b))

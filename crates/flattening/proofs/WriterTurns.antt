@@ -4,11 +4,13 @@ use mathlib.Core.Path.{◌≡◌, refl}
 use mathlib.Core.List.{List, [], ◌∷◌}
 use Rattle.std.specs.Prelude.{Option, Some, None}
 use Rattle.rules.specs.Bytes.{Text}
-use Rattle.syntax.specs.declared.Symbol.{Symbol}
-use Rattle.syntax.specs.declared.Symbol.TheVariants.{Begin, Shut, Comma, Name, Stop, Bad}
+use Rattle.sheet.specs.declared.Place.{Place}
+use Rattle.sheet.specs.Places.{word_of}
+use Rattle.syntax.specs.declared.symbols.Symbol.{Symbol}
+use Rattle.syntax.specs.declared.symbols.Symbol.TheVariants.{Begin, Shut, Comma, Name, Stop}
 use Rattle.runs.specs.declared.TheConstants.{COMMA}
-use Rattle.flattening.specs.Items.{Item, begin, shut, comma, name, place_word, item_before, items_by, Mode, wanting, naming, having, emits, adds, in_sum, opening, bracket, closing, write, writes}
-use Rattle.flattening.specs.declared.Bracket.{Bracket}
+use Rattle.flattening.specs.Items.{Item, begin, shut, comma, name, item_before, items_by, Mode, wanting, naming, having, emits, adds, in_sum, opening, bracket, closing, write, writes}
+use Rattle.flattening.specs.declared.brackets.Bracket.{Bracket}
 
 -- ---- what is written from an item on
 
@@ -40,24 +42,24 @@ module _ (s : Text) where
   off i m (Some is) cs h = h is
 
   -- a symbol other than a name, where a term is wanted
-  pub wanting_off : (f : ℕ → Option (List Item)) (cs : List Bracket) (q : Symbol) → ((a t : ℕ) → q ≡ Name a t → ⊥) → writes s (items_by q f) wanting cs ≡ None
+  pub wanting_off : (f : ℕ → Option (List Item)) (cs : List Bracket) (q : Option Symbol) → ((p : Place) → q ≡ Some (Name p) → ⊥) → writes s (items_by q f) wanting cs ≡ None
   unfolding write
-  wanting_off f cs (Begin t) h = off begin wanting (f t) cs (λ is. refl)
-  wanting_off f cs (Shut t) h = off shut wanting (f t) cs (λ is. refl)
-  wanting_off f cs (Comma t) h = off comma wanting (f t) cs (λ is. refl)
-  wanting_off f cs (Name a t) h = absurd (h a t refl)
-  wanting_off f cs Stop h = refl
-  wanting_off f cs Bad h = refl
+  wanting_off f cs (Some (Begin t)) h = off begin wanting (f t) cs (λ is. refl)
+  wanting_off f cs (Some (Shut t)) h = off shut wanting (f t) cs (λ is. refl)
+  wanting_off f cs (Some (Comma t)) h = off comma wanting (f t) cs (λ is. refl)
+  wanting_off f cs (Some (Name p)) h = absurd (h p refl)
+  wanting_off f cs (Some Stop) h = refl
+  wanting_off f cs None h = refl
 
   -- a symbol other than a comma and a closing bracket, inside a list
-  pub having_off : (f : ℕ → Option (List Item)) (c : Bracket) (cs : List Bracket) (q : Symbol) → ((t : ℕ) → q ≡ Comma t → ⊥) → ((t : ℕ) → q ≡ Shut t → ⊥) → writes s (items_by q f) having (c ∷ cs) ≡ None
+  pub having_off : (f : ℕ → Option (List Item)) (c : Bracket) (cs : List Bracket) (q : Option Symbol) → ((t : ℕ) → q ≡ Some (Comma t) → ⊥) → ((t : ℕ) → q ≡ Some (Shut t) → ⊥) → writes s (items_by q f) having (c ∷ cs) ≡ None
   unfolding write
-  having_off f c cs (Begin t) h k = off begin having (f t) (c ∷ cs) (λ is. refl)
-  having_off f c cs (Shut t) h k = absurd (k t refl)
-  having_off f c cs (Comma t) h k = absurd (h t refl)
-  having_off f c cs (Name a t) h k = off (name (place_word a t)) having (f t) (c ∷ cs) (λ is. refl)
-  having_off f c cs Stop h k = refl
-  having_off f c cs Bad h k = refl
+  having_off f c cs (Some (Begin t)) h k = off begin having (f t) (c ∷ cs) (λ is. refl)
+  having_off f c cs (Some (Shut t)) h k = absurd (k t refl)
+  having_off f c cs (Some (Comma t)) h k = absurd (h t refl)
+  having_off f c cs (Some (Name p)) h k = off (name (word_of p)) having (f p.to) (c ∷ cs) (λ is. refl)
+  having_off f c cs (Some Stop) h k = refl
+  having_off f c cs None h k = refl
 
   -- a name that no bracket follows is a term
   alone : (i : Item) (x : ℕ) (o : Option (List Item)) (cs : List Bracket) → ((is : List Item) → write s (i ∷ is) (naming x) cs ≡ emits (x ∷ []) (write s (i ∷ is) having cs))
@@ -75,11 +77,11 @@ module _ (s : Text) where
   comma_alone x [] is = refl
   comma_alone x (c ∷ cs) is = refl
 
-  pub naming_on : (f : ℕ → Option (List Item)) (x : ℕ) (cs : List Bracket) (q : Symbol) → ((t : ℕ) → q ≡ Begin t → ⊥) → writes s (items_by q f) (naming x) cs ≡ emits (x ∷ []) (writes s (items_by q f) having cs)
+  pub naming_on : (f : ℕ → Option (List Item)) (x : ℕ) (cs : List Bracket) (q : Option Symbol) → ((t : ℕ) → q ≡ Some (Begin t) → ⊥) → writes s (items_by q f) (naming x) cs ≡ emits (x ∷ []) (writes s (items_by q f) having cs)
   unfolding write
-  naming_on f x cs (Begin t) h = absurd (h t refl)
-  naming_on f x cs (Shut t) h = alone shut x (f t) cs (shut_alone x cs)
-  naming_on f x cs (Comma t) h = alone comma x (f t) cs (comma_alone x cs)
-  naming_on f x cs (Name a t) h = alone (name (place_word a t)) x (f t) cs (λ is. refl)
-  naming_on f x cs Stop h = refl
-  naming_on f x cs Bad h = refl
+  naming_on f x cs (Some (Begin t)) h = absurd (h t refl)
+  naming_on f x cs (Some (Shut t)) h = alone shut x (f t) cs (shut_alone x cs)
+  naming_on f x cs (Some (Comma t)) h = alone comma x (f t) cs (comma_alone x cs)
+  naming_on f x cs (Some (Name p)) h = alone (name (word_of p)) x (f p.to) cs (λ is. refl)
+  naming_on f x cs (Some Stop) h = refl
+  naming_on f x cs None h = refl

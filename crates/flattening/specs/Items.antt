@@ -1,43 +1,40 @@
 -- The words of a text: names, brackets and commas as they come, in which a sum inside a sum loses its name and brackets.
 -- Definitions only.
-use Rattle.std.specs.Prelude.{ℕ, zero, suc, ◌+◌, ◌-◌, ◌*◌, Bool, true, false, cond, List, [], ◌∷◌, ◌++◌, eqb, length, get_or}
+use Rattle.std.specs.Prelude.{ℕ, zero, suc, ◌-◌, Bool, true, false, cond, List, [], ◌∷◌, ◌++◌, eqb, length}
 use Rattle.std.specs.Prelude.{Option, Some, None}
 use Rattle.rules.specs.Bytes.{Text, same}
 use Rattle.rules.specs.Maybe.{◌>>=◌}
 use Rattle.rules.specs.Tree.{tamtplus}
-use Rattle.syntax.specs.Symbols.{symbol_at}
-use Rattle.syntax.specs.declared.Symbol.{Symbol}
-use Rattle.syntax.specs.declared.Symbol.TheVariants.{Begin, Shut, Comma, Name, Stop, Bad}
+use Rattle.sheet.specs.Places.{word_of}
+use Rattle.syntax.specs.Next.{next_symbol}
+use Rattle.syntax.specs.declared.symbols.Symbol.{Symbol}
+use Rattle.syntax.specs.declared.symbols.Symbol.TheVariants.{Begin, Shut, Comma, Name, Stop}
 use Rattle.runs.specs.declared.TheConstants.{OPEN, SHUT, COMMA, PLUS}
 use Rattle.runs.specs.Texts.{word_text}
-use Rattle.flattening.specs.declared.Bracket.{Bracket}
-use Rattle.flattening.specs.declared.Bracket.TheVariants.{Plain, Sum, Inner}
+use Rattle.flattening.specs.declared.brackets.Bracket.{Bracket}
+use Rattle.flattening.specs.declared.brackets.Bracket.TheVariants.{Plain, Sum, Inner}
 
 -- a token of a text; a name by its word
 pub data Item : Type 0 where
   begin shut comma : Item
   name : ℕ → Item
 
--- the word of a place
-abbrev pub place_word : ℕ → ℕ → ℕ
-place_word from to = from * 65536 + (to - from)
-
 abbrev pub item_before : Item → Option (List Item) → Option (List Item)
 item_before i o = o >>= λ is. Some (i ∷ is)
 
 -- the items from a symbol on, where `from` gives those from a position on
-abbrev pub items_by : Symbol → (ℕ → Option (List Item)) → Option (List Item)
-items_by (Begin to) from = item_before begin (from to)
-items_by (Shut to) from = item_before shut (from to)
-items_by (Comma to) from = item_before comma (from to)
-items_by (Name start to) from = item_before (name (place_word start to)) (from to)
-items_by Stop from = Some []
-items_by Bad from = None
+abbrev pub items_by : Option Symbol → (ℕ → Option (List Item)) → Option (List Item)
+items_by (Some (Begin to)) from = item_before begin (from to)
+items_by (Some (Shut to)) from = item_before shut (from to)
+items_by (Some (Comma to)) from = item_before comma (from to)
+items_by (Some (Name place)) from = item_before (name (word_of place)) (from place.to)
+items_by (Some Stop) from = Some []
+items_by None from = None
 
 -- the items from a position on, at most so many
 unfoldable pub items : ℕ → Text → ℕ → Option (List Item)
 items zero s at = None
-items (suc k) s at = items_by (symbol_at s at) (items k s)
+items (suc k) s at = items_by (next_symbol s at) (items k s)
 
 -- all of them
 unfoldable pub items_at : Text → ℕ → Option (List Item)
@@ -69,10 +66,13 @@ of_sum Plain = false
 of_sum Sum = true
 of_sum Inner = true
 
--- so is that of the last bracket that was opened, which comes first
+-- the last bracket that was opened, which comes first, and whether its list is a sum's
+abbrev pub last_open : List Bracket → Bracket
+last_open [] = Plain
+last_open (c ∷ cs) = c
+
 abbrev pub in_sum : List Bracket → Bool
-in_sum [] = false
-in_sum (c ∷ cs) = of_sum c
+in_sum cs = of_sum (last_open cs)
 
 -- what is written for a name and its bracket, and for the bracket that closes it
 abbrev pub opening : Bracket → ℕ → List ℕ
@@ -121,10 +121,6 @@ unfoldable pub text_words : Text → Text → ℕ → Option (List ℕ)
 unfolding items_at write
 text_words s t at = writes s (items_at t at) wanting []
 
--- the bracket that a word of the stack stands for, and the open brackets, in the words from `stack` on
+-- the bracket that a number stands for
 abbrev pub bracket_at : ℕ → Bracket
 bracket_at c = cond (eqb c 0) Plain (cond (eqb c 2) Inner Sum)
-
-unfoldable pub brackets : List ℕ → ℕ → ℕ → List Bracket
-brackets w stack zero = []
-brackets w stack (suc d) = bracket_at (get_or w (stack + d) 0) ∷ brackets w stack d

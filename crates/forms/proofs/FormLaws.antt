@@ -13,16 +13,19 @@ use Rattle.rules.specs.Text.{bytes}
 use Rattle.rules.specs.Maybe.{◌>>=◌}
 use Rattle.rules.specs.Decimal.{value_from, proper, number_up_to}
 use Rattle.rules.specs.Lines.{value}
-use Rattle.rules.specs.Sheet.{Entry, Member, Sheet, asks_equal, asks_unify, asks_match, asks_reduce, asks_sound, asks_complete, pairs, members_from, none_waiting, at_end, one_member, Equal, Reduce, Sound, Complete, read_kind}
+use Rattle.rules.specs.Sheet.{Entry, Member, Sheet, asks_equal, asks_reduce, asks_sound, asks_complete, pairs, members_from, none_waiting, at_end, one_member, Equal, Reduce, Sound, Complete, read_kind}
 use Rattle.laws.proofs.Basics.Tests.{leb_true}
 use Rattle.laws.proofs.Basics.Somes.{some_injective, none_ne_some}
 use Rattle.sheet.specs.Lines.{lines_at, value_at}
 use Rattle.sheet.specs.Pairs.{sides_of, two_lines_at, entries_by}
 use Rattle.forms.specs.Members.{members_at, counted}
-use Rattle.forms.specs.Form.{solving, read_kind_at, text_of, sheet_of, Within, FormStands, Walked, term_members}
-use Rattle.sheet.specs.declared.Line.{Line}
+use Rattle.forms.specs.Form.{solving, asks_by, read_kind_at, text_of, sheet_of, Within, FormStands, Walked, term_members}
+use Rattle.sheet.specs.declared.Place.{Place}
+use Rattle.sheet.specs.declared.Read.{Read}
 use Rattle.sheet.specs.declared.Sides.{Sides}
 use Rattle.forms.specs.declared.form.Form.{Form}
+use Rattle.forms.specs.declared.form.Solver.{Solver}
+use Rattle.forms.specs.declared.form.Solver.TheVariants as solver
 use Rattle.sheet.proofs.LineLaws.{Keyed, Unkeyed, keyed, unkeyed, then, then_none, lines_end, lines_more}
 use Rattle.forms.proofs.PairLaws.{paired, Stops, stops, pairs_are, then_rest, then_half, then_end}
 
@@ -54,25 +57,25 @@ module _ (s : Text) (at : ℕ) where
   unfolding read_kind_at read_kind
   equal_is = refl
 
-  pub equal_there : (p : Sides) → Some p ≡ two_lines_at (bytes "left=") (bytes "right=") s at
-      → read_kind_at Equal s at ≡ (lines_at s p.next.at >>= λ ls. at_end ls (asks_equal (text_of s p.left) (text_of s p.right)))
+  pub equal_there : (p : Read Sides) → Some p ≡ two_lines_at (bytes "left=") (bytes "right=") s at
+      → read_kind_at Equal s at ≡ (lines_at s p.next.at >>= λ ls. at_end ls (asks_equal (text_of s p.value.left) (text_of s p.value.right)))
   equal_there p e =
       let h = paired (bytes "left=") (bytes "right=") s at p e in
       equal_is ∙ then s (bytes "left=") at left_then _ h.one
-      ∙ then s (bytes "right=") h.middle.at (λ q. at_end q.1 (asks_equal (text_of s p.left) q.0)) _ h.two
+      ∙ then s (bytes "right=") h.middle.at (λ q. at_end q.1 (asks_equal (text_of s p.value.left) q.0)) _ h.two
 
   pub equal_missing : None ≡ two_lines_at (bytes "left=") (bytes "right=") s at → read_kind_at Equal s at ≡ None
   unfolding two_lines_at
   equal_missing e = equal_is ∙ one (value_at s (bytes "left=") at) refl e
     where
-      two : (l : Line) (o : Option Line) → Some l ≡ value_at s (bytes "left=") at → o ≡ value_at s (bytes "right=") l.next.at
+      two : (l : Read Place) (o : Option (Read Place)) → Some l ≡ value_at s (bytes "left=") at → o ≡ value_at s (bytes "right=") l.next.at
           → None ≡ (o >>= λ r. Some (sides_of l r)) → (lines_at s at >>= λ ls. value (bytes "left=") ls >>= left_then) ≡ None
       two l (Some r) h k e = absurd (none_ne_some _ e)
       two l None h k e =
           then s (bytes "left=") at left_then l (keyed s (bytes "left=") at l h)
           ∙ then_none s (bytes "right=") l.next.at (λ q. at_end q.1 (asks_equal (text_of s l.value) q.0)) (unkeyed s (bytes "right=") l.next.at k)
 
-      one : (o : Option Line) → o ≡ value_at s (bytes "left=") at → None ≡ (o >>= λ l. value_at s (bytes "right=") l.next.at >>= λ r. Some (sides_of l r))
+      one : (o : Option (Read Place)) → o ≡ value_at s (bytes "left=") at → None ≡ (o >>= λ l. value_at s (bytes "right=") l.next.at >>= λ r. Some (sides_of l r))
           → (lines_at s at >>= λ ls. value (bytes "left=") ls >>= left_then) ≡ None
       one None h e = then_none s (bytes "left=") at left_then (unkeyed s (bytes "left=") at h)
       one (Some l) h e = two l (value_at s (bytes "right=") l.next.at) h refl e
@@ -87,7 +90,7 @@ module _ (s : Text) (at : ℕ) where
   unfolding read_kind_at read_kind
   reduce_is = refl
 
-  pub reduce_there : (l : Line) → Keyed s (bytes "term=") at l → read_kind_at Reduce s at ≡ (lines_at s l.next.at >>= λ ls. at_end ls (asks_reduce (text_of s l.value)))
+  pub reduce_there : (l : Read Place) → Keyed s (bytes "term=") at l → read_kind_at Reduce s at ≡ (lines_at s l.next.at >>= λ ls. at_end ls (asks_reduce (text_of s l.value)))
   reduce_there l h = reduce_is ∙ then s (bytes "term=") at term_then l h
 
   pub reduce_missing : Unkeyed (bytes "term=") (lines_at s at) → read_kind_at Reduce s at ≡ None
@@ -123,7 +126,7 @@ module _ (s : Text) (at : ℕ) where
   pub term_missing : Unkeyed (bytes "term=") (lines_at s at) → term_members s at ≡ None
   term_missing h = parts_are ∙ then_none s (bytes "term=") at then_some h
 
-  pub term_there : (l : Line) → Keyed s (bytes "term=") at l → term_members s at ≡ (members_at s l.next.at >>= λ ms. Some (text_of s l.value, ms))
+  pub term_there : (l : Read Place) → Keyed s (bytes "term=") at l → term_members s at ≡ (members_at s l.next.at >>= λ ms. Some (text_of s l.value, ms))
   term_there l h = parts_are ∙ then s (bytes "term=") at then_some l h ∙ members_then s l.next.at (λ ms. Some (text_of s l.value, ms))
 
   parts_then : (make : Text × List Member → Option Sheet)
@@ -185,13 +188,9 @@ module _ {A : Type 0} (s : Text) (at c : ℕ) (w : Walked s at c) (go_on : List 
 
 -- ---- `unify` and `match`
 
-abbrev pub asks : Bool → ℕ → List Entry → Sheet
-asks true fuel ps = asks_match fuel ps
-asks false fuel ps = asks_unify fuel ps
-
-module _ (m : Bool) (s : Text) (at : ℕ) where
+module _ (m : Solver) (s : Text) (at : ℕ) where
   abbrev pairs_then : ℕ → List Entry × List Text → Option Sheet
-  pairs_then fuel q = at_end q.1 (asks m fuel q.0)
+  pairs_then fuel q = at_end q.1 (asks_by m fuel q.0)
 
   abbrev fuel_then : Text × List Text → Option Sheet
   fuel_then p = number_up_to 65536 p.0 >>= λ fuel. pairs p.1 >>= pairs_then fuel
@@ -200,14 +199,14 @@ module _ (m : Bool) (s : Text) (at : ℕ) where
   unfolding read_kind_at read_kind
   solving_is = go m
     where
-      go : (m : Bool) → (lines_at s at >>= read_kind (solving m)) ≡ (lines_at s at >>= λ ls. value (bytes "fuel=") ls >>= λ p. number_up_to 65536 p.0 >>= λ fuel. pairs p.1 >>= λ q. at_end q.1 (asks m fuel q.0))
-      go true = refl
-      go false = refl
+      go : (m : Solver) → (lines_at s at >>= read_kind (solving m)) ≡ (lines_at s at >>= λ ls. value (bytes "fuel=") ls >>= λ p. number_up_to 65536 p.0 >>= λ fuel. pairs p.1 >>= λ q. at_end q.1 (asks_by m fuel q.0))
+      go solver.Match = refl
+      go solver.Unify = refl
 
   pub solving_missing : Unkeyed (bytes "fuel=") (lines_at s at) → read_kind_at (solving m) s at ≡ None
   solving_missing h = solving_is ∙ then_none s (bytes "fuel=") at fuel_then h
 
-  module _ (l : Line) (h : Keyed s (bytes "fuel=") at l) where
+  module _ (l : Read Place) (h : Keyed s (bytes "fuel=") at l) where
     solving_there : read_kind_at (solving m) s at ≡ (lines_at s l.next.at >>= λ ls. number_up_to 65536 (text_of s l.value) >>= λ fuel. pairs ls >>= pairs_then fuel)
     solving_there = solving_is ∙ then s (bytes "fuel=") at fuel_then l h
 
@@ -229,9 +228,9 @@ module _ (m : Bool) (s : Text) (at : ℕ) where
         pub solving_more : c < length s → read_kind_at (solving m) s at ≡ None
         solving_more k =
             solving_fuel
-            ∙ ⊎_elim (λ u. pairs_rest s l.next.at c w (pairs_then fuel) u ∙ end_none s c (asks m fuel (w.walk.es ++ [])) k) (λ u. pairs_half s l.next.at c w (pairs_then fuel) u) (pairs_stop s l.next.at c w (pairs_then fuel))
+            ∙ ⊎_elim (λ u. pairs_rest s l.next.at c w (pairs_then fuel) u ∙ end_none s c (asks_by m fuel (w.walk.es ++ [])) k) (λ u. pairs_half s l.next.at c w (pairs_then fuel) u) (pairs_stop s l.next.at c w (pairs_then fuel))
 
-        pub solving_end : length s ≤ c → read_kind_at (solving m) s at ≡ Some (asks m fuel (w.walk.es ++ []))
+        pub solving_end : length s ≤ c → read_kind_at (solving m) s at ≡ Some (asks_by m fuel (w.walk.es ++ []))
         solving_end k = solving_fuel ∙ pairs_end s l.next.at c w (pairs_then fuel) k
 
 pub number_small : (bound : ℕ) (s : Text) (n : ℕ) → Some n ≡ number_up_to bound s → n ≤ bound

@@ -1,17 +1,20 @@
 -- The keys of a member as places: gathering them, and the test that none stands twice.
-use Prim.Native.Nat.{ℕ, zero, suc, ◌+◌, ◌-◌, ◌*◌, ◌/◌, ◌%◌, ◌<◌, ◌≤◌}
+use Prim.Native.Nat.{ℕ, zero, suc, ◌+◌, ◌*◌, ◌<◌, ◌≤◌}
 use mathlib.Core.Path.{◌≡◌, refl, ap, ap₂, sym, ◌∙◌}
 use mathlib.Core.Bool.{Bool, true, false, not}
 use mathlib.Core.List.{List, [], ◌∷◌, ◌++◌, map}
-use lib.ListN.{length, get_or, take, drop, set}
+use lib.ListN.{length, get_or, take, set}
 use lib.Seq.{take-suc-set}
 use native.Mathlib.Omega.{arith}
+use lib.Dec.{eqb}
+use Rattle.std.specs.Cmp.Lexicographic.{pointwise}
 use native.Mathlib.Numerals.{add-one}
 use Rattle.rules.specs.Bytes.{Text, same}
 use Rattle.rules.specs.Text.{bytes}
 use Rattle.rules.specs.Sheet.{Entry, distinct_keys}
 use Rattle.text.specs.Places.{text_at, places_upto}
 use Rattle.text.specs.Sorting.{sort_by}
+use Rattle.text.proofs.Library.{same_is}
 use Rattle.text.proofs.Merging.{sort_texts}
 use Rattle.std.specs.Prelude.{Option, Some, None, IsTrue, ◌↔◌}
 use Rattle.std.proofs.lemmas.List.{map-append}
@@ -20,9 +23,11 @@ use Rattle.sheet.specs.Lines.{value_at}
 use Rattle.sheet.specs.Pairs.{two_lines_at}
 use Rattle.forms.specs.Members.{members_at, counted, distinct, apart, Gathers, Gathered}
 use Rattle.forms.specs.Form.{text_of}
-use Rattle.sheet.specs.declared.Line.{Line}
+use Rattle.sheet.specs.declared.Read.{Read}
 use Rattle.sheet.specs.declared.Place.{Place}
 use Rattle.sheet.specs.declared.Sides.{Sides}
+use Rattle.sheet.specs.Places.{word_of}
+use Rattle.sheet.proofs.Words.{text_at_word}
 use Rattle.sheet.proofs.LineLaws.{keyed, unkeyed}
 use Rattle.forms.proofs.PairLaws.{Paired, paired, entry, stops, walk_starts, walk_turn}
 use Rattle.forms.proofs.Distinct.{apart_sort, distinct_keys_are}
@@ -34,15 +39,7 @@ pub gathers_none : (s : Text) (at : ℕ) (words : List ℕ) → Gathers s at wor
 unfolding walk_starts
 gathers_none s at words = record { walk = walk_starts (bytes "key=") (bytes "value=") s at; texts = refl; few = omega arith }
 
--- the word of a place names its text
-word_text : (s : Text) (p : Place) (x : ℕ) → x ≡ p.from * 65536 + (p.to - p.from) → p.to < p.from + 65536 → p.from ≤ p.to → text_at s x ≡ text_of s p
-unfolding text_at
-word_text s p x e h g =
-    let d : x / 65536 ≡ p.from = omega arith in
-    let r : x % 65536 ≡ p.to - p.from = omega arith in
-    ap₂ (λ (i j : ℕ). take i (drop j s)) r d
-
-module _ (s : Text) (at : ℕ) (words : List ℕ) (count : ℕ) {c : ℕ} {p : Sides} (g : Gathers s at words count c)
+module _ (s : Text) (at : ℕ) (words : List ℕ) (count : ℕ) {c : ℕ} {p : Read Sides} (g : Gathers s at words count c)
     (q : Some p ≡ two_lines_at (bytes "key=") (bytes "value=") s c) (k : length s ≤ 65536) where
   abbrev lines_there : Paired (bytes "key=") (bytes "value=") s c p
   lines_there = paired (bytes "key=") (bytes "value=") s c p q
@@ -50,14 +47,14 @@ module _ (s : Text) (at : ℕ) (words : List ℕ) (count : ℕ) {c : ℕ} {p : S
   pub gathers_room : (12 * (count + 1) + at ≤ p.next.at) × (p.next.at ≤ 65536) × (c < p.next.at) × (p.next.at ≤ length s)
   gathers_room = let h = lines_there in omega (arith, g.few, h.one.begins, h.one.ends, h.one.after, h.two.begins, h.two.ends, h.two.after)
 
-  pub word_fits : (p.left.from < 65536) × (p.left.from ≤ p.left.to) × (p.left.to < p.left.from + 65536)
+  pub word_fits : (p.value.left.from < 65536) × (p.value.left.from ≤ p.value.left.to) × (p.value.left.to < p.value.left.from + 65536)
   word_fits = omega (arith, (lines_there).one.ends)
 
-  pub gathers_more : (x : ℕ) → count < length words → x ≡ p.left.from * 65536 + (p.left.to - p.left.from) → Gathers s at (set words count x) (count + 1) p.next.at
+  pub gathers_more : (x : ℕ) → count < length words → x ≡ word_of p.value.left → Gathers s at (set words count x) (count + 1) p.next.at
   unfolding walk_turn
   gathers_more x m e =
       let fits = word_fits in
-      let one : text_at s x ≡ text_of s p.left = word_text s p.left x e fits.2 fits.1 in
+      let one : text_at s x ≡ text_of s p.value.left = ap (text_at s) e ∙ text_at_word s p.value.left fits.1 fits.2 in
       record {
         walk = walk_turn (bytes "key=") (bytes "value=") s at g.walk q;
         texts =
@@ -73,21 +70,21 @@ module _ (s : Text) (at : ℕ) (words : List ℕ) (count : ℕ) {c : ℕ} {p : S
 
 -- no word names the same text as the next
 abbrev Apart : Text → List ℕ → Type 0
-Apart s w = (k : ℕ) → k + 1 < length w → same (text_at s (get_or w k 0)) (text_at s (get_or w (k + 1) 0)) ≡ false
+Apart s w = (k : ℕ) → k + 1 < length w → pointwise eqb (text_at s (get_or w k 0)) (text_at s (get_or w (k + 1) 0)) ≡ false
 
 apart_from : (s : Text) (w : List ℕ) → Apart s w → apart (map (text_at s) w) ≡ true
 unfolding apart
 apart_from s [] h = refl
 apart_from s (x ∷ []) h = refl
 apart_from s (x ∷ y ∷ w) h =
-    and_both (not (same (text_at s x) (text_at s y))) (apart (map (text_at s) (y ∷ w))) (ap not (h 0 (omega arith)))
+    and_both (not (same (text_at s x) (text_at s y))) (apart (map (text_at s) (y ∷ w))) (ap not (sym (same_is (text_at s x) (text_at s y)) ∙ h 0 (omega arith)))
     (apart_from s (y ∷ w) (λ k l. rw (add-one k) (rw (add-one (suc k)) at (h (suc k) (omega arith)))))
 
 apart_to : (s : Text) (w : List ℕ) → apart (map (text_at s) w) ≡ true → Apart s w
 unfolding apart
 apart_to s [] e k h = absurd (omega arith)
 apart_to s (x ∷ []) e k h = absurd (omega arith)
-apart_to s (x ∷ y ∷ w) e zero h = go (same (text_at s x) (text_at s y)) (and_left (not (same (text_at s x) (text_at s y))) (apart (map (text_at s) (y ∷ w))) e)
+apart_to s (x ∷ y ∷ w) e zero h = same_is (text_at s x) (text_at s y) ∙ go (same (text_at s x) (text_at s y)) (and_left (not (same (text_at s x) (text_at s y))) (apart (map (text_at s) (y ∷ w))) e)
   where
     go : (b : Bool) → not b ≡ true → b ≡ false
     go true e = sym e
@@ -118,7 +115,7 @@ module _ (s : Text) (at n : ℕ) {g : Option ℕ} (inv : counted n (members_at s
   pub count_missing : at < length s → None ≡ value_at s (bytes "member=") at → None ≡ g
   count_missing h e = sym (ap (counted n) (members_missing s at h (unkeyed s (bytes "member=") at e))) ∙ inv
 
-  module _ (l : Line) (e : Some l ≡ value_at s (bytes "member=") at) {words : List ℕ} {count c : ℕ} (k : Gathered s l.next.at words count c)
+  module _ (l : Read Place) (e : Some l ≡ value_at s (bytes "member=") at) {words : List ℕ} {count c : ℕ} (k : Gathered s l.next.at words count c)
       {d : Bool} (q : d ≡ distinct (map (text_at s) (take count words))) where
     is_distinct : d ≡ distinct_keys k.all.walk.es []
     is_distinct = q ∙ ap distinct k.all.texts ∙ sym (distinct_keys_are k.all.walk.es)

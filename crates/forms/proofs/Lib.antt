@@ -1,3 +1,4 @@
+pub mod KindNames
 pub mod PairLaws
 pub mod Distinct
 pub mod MemberLaws
@@ -6,3 +7,4 @@ pub mod FormLaws
 pub mod SheetLaws
 pub mod WalkLaws
 pub mod WordLaws
+pub mod Located

@@ -18,7 +18,8 @@ use Rattle.sheet.specs.Lines.{lines_at}
 use Rattle.sheet.specs.Pairs.{entries_by}
 use Rattle.forms.specs.Members.{members_at, counted, Walks}
 use Rattle.forms.specs.Form.{text_of}
-use Rattle.sheet.specs.declared.Line.{Line}
+use Rattle.sheet.specs.declared.Place.{Place}
+use Rattle.sheet.specs.declared.Read.{Read}
 use Rattle.sheet.proofs.LineLaws.{Keyed, Unkeyed, lines_end, lines_more}
 use Rattle.forms.proofs.PairLaws.{Stops, none_first, then_rest, then_half}
 
@@ -216,7 +217,7 @@ half_members (l ∷ ls) e = go (after_key (bytes "key=") l) refl
     go None k = let z = none_first (bytes "key=") (bytes "value=") (l ∷ ls) k in cc
     go (Some v) k = key_first l v ls k
 
-module _ (s : Text) (at : ℕ) (l : Line) (h : Keyed s (bytes "member=") at l) where
+module _ (s : Text) (at : ℕ) (l : Read Place) (h : Keyed s (bytes "member=") at l) where
   abbrev text : Text
   text = text_of s l.value
 

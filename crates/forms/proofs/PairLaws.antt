@@ -18,7 +18,8 @@ use Rattle.sheet.specs.Pairs.{sides_of, two_lines_at, entries_by, entries_before
 use Rattle.forms.specs.Members.{Walks}
 use Rattle.forms.specs.Form.{text_of}
 use Rattle.sheet.specs.declared.Cursor.{Cursor}
-use Rattle.sheet.specs.declared.Line.{Line}
+use Rattle.sheet.specs.declared.Place.{Place}
+use Rattle.sheet.specs.declared.Read.{Read}
 use Rattle.sheet.specs.declared.Sides.{Sides}
 use Rattle.sheet.proofs.LineLaws.{Keyed, Unkeyed, keyed, unkeyed, lines_end}
 
@@ -77,13 +78,13 @@ module _ (first second : Text) where
 
 -- ---- two lines at a position
 
-pub record Paired (first second s : Text) (at : ℕ) (p : Sides) : Type 0 where
+pub record Paired (first second s : Text) (at : ℕ) (p : Read Sides) : Type 0 where
   pub middle : Cursor
-  pub one : Keyed s first at (record { value = p.left; next = middle })
-  pub two : Keyed s second middle.at (record { value = p.right; next = p.next })
+  pub one : Keyed s first at (record { value = p.value.left; next = middle })
+  pub two : Keyed s second middle.at (record { value = p.value.right; next = p.next })
 
 module _ (first second s : Text) (at : ℕ) where
-  pub paired : (p : Sides) → Some p ≡ two_lines_at first second s at → Paired first second s at p
+  pub paired : (p : Read Sides) → Some p ≡ two_lines_at first second s at → Paired first second s at p
   unfolding two_lines_at
   paired p q =
       let (l, a, b) = bound (value_at s first at) (λ l. value_at s second l.next.at >>= λ r. Some (sides_of l r)) p (sym q) in
@@ -99,13 +100,13 @@ module _ (first second s : Text) (at : ℕ) where
   abbrev pub Stops : Type 0
   Stops = Unkeyed first (lines_at s at) ⊎ ((lines_at s at >>= entries_by first second) ≡ None)
 
-  stops_two : (l : Line) (o : Option Line) → Some l ≡ value_at s first at → o ≡ value_at s second l.next.at → None ≡ (o >>= λ r. Some (sides_of l r)) → Stops
+  stops_two : (l : Read Place) (o : Option (Read Place)) → Some l ≡ value_at s first at → o ≡ value_at s second l.next.at → None ≡ (o >>= λ r. Some (sides_of l r)) → Stops
   stops_two l (Some r) e g q = absurd (none_ne_some _ q)
   stops_two l None e g q =
       let k = keyed s first at l e in
       inr (ap (λ (o : Option (List Text)). o >>= entries_by first second) k.first ∙ half_first first second k.line (text_of s l.value) (lines_at s l.next.at) k.has (unkeyed s second l.next.at g))
 
-  stops_one : (o : Option Line) → o ≡ value_at s first at → None ≡ (o >>= λ l. value_at s second l.next.at >>= λ r. Some (sides_of l r)) → Stops
+  stops_one : (o : Option (Read Place)) → o ≡ value_at s first at → None ≡ (o >>= λ l. value_at s second l.next.at >>= λ r. Some (sides_of l r)) → Stops
   stops_one None e q = inl (unkeyed s first at e)
   stops_one (Some l) e q = stops_two l (value_at s second l.next.at) e refl q
 
@@ -114,14 +115,14 @@ module _ (first second s : Text) (at : ℕ) where
   stops q = stops_one (value_at s first at) refl q
 
   -- a pair stands within the sheet
-  pub pair_past : (p : Sides) → Some p ≡ two_lines_at first second s at → (at < p.next.at) × (p.next.at ≤ length s)
+  pub pair_past : (p : Read Sides) → Some p ≡ two_lines_at first second s at → (at < p.next.at) × (p.next.at ≤ length s)
   pair_past p q = let h = paired p q in omega (arith, h.one.begins, h.one.ends, h.one.after, h.two.begins, h.two.ends, h.two.after)
 
   -- the entry of a pair
-  abbrev pub entry : Sides → Entry
-  entry p = (text_of s p.left, text_of s p.right)
+  abbrev pub entry : Read Sides → Entry
+  entry p = (text_of s p.value.left, text_of s p.value.right)
 
-  two_lines : {p : Sides} (h : Paired first second s at p)
+  two_lines : {p : Read Sides} (h : Paired first second s at p)
       → lines_at s at ≡ (lines_at s p.next.at >>= λ ls. Some (h.one.line ∷ h.two.line ∷ ls))
   two_lines {p} h =
       h.one.first ∙ ap (λ (o : Option (List Text)). o >>= λ ls. Some (h.one.line ∷ ls)) h.two.first ∙ go (lines_at s p.next.at)
@@ -131,11 +132,11 @@ module _ (first second s : Text) (at : ℕ) where
       go (Some ls) = refl
 
   -- the entries from a pair on
-  pub entries_then : {p : Sides} → Paired first second s at p
+  pub entries_then : {p : Read Sides} → Paired first second s at p
       → (lines_at s at >>= entries_by first second) ≡ ((lines_at s p.next.at >>= entries_by first second) >>= entries_before (entry p ∷ []))
   entries_then {p} h =
       ap (λ (o : Option (List Text)). o >>= entries_by first second) (two_lines h)
-      ∙ pair_first first second h.one.line h.two.line (text_of s p.left) (text_of s p.right) (lines_at s p.next.at) h.one.has h.two.has
+      ∙ pair_first first second h.one.line h.two.line (text_of s p.value.left) (text_of s p.value.right) (lines_at s p.next.at) h.one.has h.two.has
 
 -- ---- a walk over pairs
 
@@ -151,7 +152,7 @@ module _ (first second s : Text) (at : ℕ) where
   joins es fs None = refl
   joins es fs (Some (gs, ls)) = ap (λ (l : List Entry). Some (l, ls)) (sym (append_assoc es fs gs))
 
-  unfoldable pub walk_turn : {c : ℕ} {p : Sides} → Walks first second s at c → Some p ≡ two_lines_at first second s c → Walks first second s at p.next.at
+  unfoldable pub walk_turn : {c : ℕ} {p : Read Sides} → Walks first second s at c → Some p ≡ two_lines_at first second s c → Walks first second s at p.next.at
   walk_turn {c} {p} w q =
       let e = entry first second s c p in
       let h = paired first second s c p q in

@@ -1,7 +1,6 @@
 -- What the reading of each kind of sheet answers.
 use mathlib.Core.Path.{◌≡◌, refl, ap, sym, subst, ◌∙◌}
 use mathlib.Core.Logic.{⊎_elim}
-use mathlib.Core.Bool.{Bool, true, false}
 use mathlib.Core.List.{List, [], ◌∷◌, ◌++◌}
 use Rattle.std.specs.Prelude.{Option, Some, None}
 use Prim.Native.Nat.{ℕ, ◌<◌, ◌≤◌}
@@ -12,43 +11,44 @@ use Rattle.rules.specs.Text.{bytes}
 use Rattle.rules.specs.Maybe.{◌>>=◌}
 use Rattle.rules.specs.Decimal.{number_up_to}
 use Rattle.rules.specs.Lines.{after_key, value}
-use Rattle.rules.specs.Sheet.{Entry, Member, Sheet, asks_equal, asks_reduce, asks_cover, asks_sound, asks_complete, pairs, members_from, none_waiting, at_end, one_member, Kind, Equal, Reduce, Cover, Sound, Complete, kind_in, kinds, read_kind, read_sheet}
+use Rattle.rules.specs.Sheet.{Entry, Member, Sheet, asks_equal, asks_reduce, asks_cover, asks_sound, asks_complete, pairs, members_from, none_waiting, one_member, Kind, Equal, Reduce, Cover, Sound, Complete, kind_in, kinds, read_kind, read_sheet}
 use Rattle.laws.proofs.Basics.Somes.{none_ne_some}
 use Rattle.sheet.specs.Lines.{lines_at, value_at}
 use Rattle.sheet.specs.Pairs.{two_lines_at, entries_by}
 use Rattle.forms.specs.Members.{members_at, counted}
-use Rattle.forms.specs.Form.{solving, read_kind_at, text_of, sheet_of, Within, FormStands, Walked, term_members, TermThen}
+use Rattle.forms.specs.Form.{solving, asks_by, read_kind_at, read_named, text_of, sheet_of, Within, FormStands, Walked, term_members, TermThen}
 use Rattle.sheet.specs.declared.Cursor.{Cursor}
 use Rattle.sheet.specs.declared.Place.{Place}
-use Rattle.sheet.specs.declared.Line.{Line}
+use Rattle.sheet.specs.declared.Read.{Read}
 use Rattle.sheet.specs.declared.Sides.{Sides}
 use Rattle.forms.specs.declared.form.Form.TheVariants as form
+use Rattle.forms.specs.declared.form.Solver.{Solver}
 use Rattle.sheet.proofs.LineLaws.{Keyed, Unkeyed, keyed, keyed_inside, unkeyed, then, then_none}
 use Rattle.forms.proofs.PairLaws.{paired, none_first}
 use Rattle.forms.proofs.MemberLaws.{other_key, no_member}
-use Rattle.forms.proofs.FormLaws.{reads_form, end_some, end_none, equal_there, equal_missing, reduce_there, reduce_missing, counted_none, counted_some, term_missing, term_there, sound_is, complete_is, not_one, just_one, pairs_rest, pairs_half, pairs_stop, asks, solving_missing, solving_number, solving_fuel, solving_more, solving_end, number_small}
+use Rattle.forms.proofs.FormLaws.{reads_form, end_some, end_none, equal_there, equal_missing, reduce_there, reduce_missing, counted_none, counted_some, term_missing, term_there, sound_is, complete_is, not_one, just_one, pairs_rest, pairs_half, pairs_stop, solving_missing, solving_number, solving_fuel, solving_more, solving_end, number_small}
 
 -- ---- `equal`
 
 module _ (s : Text) (at : ℕ) where
-  module _ (p : Sides) (e : Some p ≡ two_lines_at (bytes "left=") (bytes "right=") s at) where
+  module _ (p : Read Sides) (e : Some p ≡ two_lines_at (bytes "left=") (bytes "right=") s at) where
     pub equal_more : p.next.at < length s → read_kind_at Equal s at ≡ None
-    equal_more h = equal_there s at p e ∙ end_none s p.next.at (asks_equal (text_of s p.left) (text_of s p.right)) h
+    equal_more h = equal_there s at p e ∙ end_none s p.next.at (asks_equal (text_of s p.value.left) (text_of s p.value.right)) h
 
-    pub equal_read : length s ≤ p.next.at → FormStands s (read_kind_at Equal s at) (form.Equal p.left p.right)
+    pub equal_read : length s ≤ p.next.at → FormStands s (read_kind_at Equal s at) (form.Equal p.value.left p.value.right)
     unfolding sheet_of
     equal_read h =
-        let d = equal_there s at p e ∙ end_some s p.next.at (asks_equal (text_of s p.left) (text_of s p.right)) h in
+        let d = equal_there s at p e ∙ end_some s p.next.at (asks_equal (text_of s p.value.left) (text_of s p.value.right)) h in
         let k = paired (bytes "left=") (bytes "right=") s at p e in
-        let w : Within s (form.Equal p.left p.right) = ((k.one.ends.0, omega (arith, k.one.ends)), (k.two.ends.0, omega (arith, k.two.ends))) in
-        reads_form {r = form.Equal p.left p.right} (sym d) (asks_equal (text_of s p.left) (text_of s p.right)) d w
+        let w : Within s (form.Equal p.value.left p.value.right) = ((k.one.ends.0, omega (arith, k.one.ends)), (k.two.ends.0, omega (arith, k.two.ends))) in
+        reads_form {r = form.Equal p.value.left p.value.right} (sym d) (asks_equal (text_of s p.value.left) (text_of s p.value.right)) d w
 
   -- ---- `reduce`
 
   pub reduce_unread : None ≡ value_at s (bytes "term=") at → read_kind_at Reduce s at ≡ None
   reduce_unread e = reduce_missing s at (unkeyed s (bytes "term=") at e)
 
-  module _ (l : Line) (e : Some l ≡ value_at s (bytes "term=") at) where
+  module _ (l : Read Place) (e : Some l ≡ value_at s (bytes "term=") at) where
     abbrev has_term : Keyed s (bytes "term=") at l
     has_term = keyed s (bytes "term=") at l e
 
@@ -120,11 +120,11 @@ module _ (s : Text) (at : ℕ) where
 
 -- ---- `unify` and `match`
 
-module _ (m : Bool) (s : Text) (at : ℕ) where
+module _ (m : Solver) (s : Text) (at : ℕ) where
   pub solving_unread : None ≡ value_at s (bytes "fuel=") at → read_kind_at (solving m) s at ≡ None
   solving_unread e = solving_missing m s at (unkeyed s (bytes "fuel=") at e)
 
-  module _ (l : Line) (e : Some l ≡ value_at s (bytes "fuel=") at) where
+  module _ (l : Read Place) (e : Some l ≡ value_at s (bytes "fuel=") at) where
     abbrev has_fuel : Keyed s (bytes "fuel=") at l
     has_fuel = keyed s (bytes "fuel=") at l e
 
@@ -138,19 +138,10 @@ module _ (m : Bool) (s : Text) (at : ℕ) where
       small : (fuel ≤ 65536) × (l.next.at ≤ length s)
       small = let k = has_fuel in (number_small 65536 (text_of s l.value) fuel q, omega (arith, k.ends, k.after))
 
-      pub match_read : length s ≤ c → m ≡ true → FormStands s (read_kind_at (solving m) s at) (form.Match fuel l.next)
+      pub solving_read : length s ≤ c → FormStands s (read_kind_at (solving m) s at) (form.Solve m fuel l.next)
       unfolding sheet_of
-      match_read k h =
-          let d = solving_fuel m s at l has_fuel fuel q in
-          let g : sheet_of s (form.Match fuel l.next) ≡ read_kind_at (solving m) s at = sym (d ∙ ap (λ (b : Bool). lines_at s l.next.at >>= λ ls. pairs ls >>= λ p. at_end p.1 (asks b fuel p.0)) h) in
-          reads_form {r = form.Match fuel l.next} g (asks m fuel (w.walk.es ++ [])) (solving_end m s at l has_fuel fuel q c w k) small
-
-      pub unify_read : length s ≤ c → m ≡ false → FormStands s (read_kind_at (solving m) s at) (form.Unify fuel l.next)
-      unfolding sheet_of
-      unify_read k h =
-          let d = solving_fuel m s at l has_fuel fuel q in
-          let g : sheet_of s (form.Unify fuel l.next) ≡ read_kind_at (solving m) s at = sym (d ∙ ap (λ (b : Bool). lines_at s l.next.at >>= λ ls. pairs ls >>= λ p. at_end p.1 (asks b fuel p.0)) h) in
-          reads_form {r = form.Unify fuel l.next} g (asks m fuel (w.walk.es ++ [])) (solving_end m s at l has_fuel fuel q c w k) small
+      solving_read k =
+          reads_form {r = form.Solve m fuel l.next} (sym (solving_fuel m s at l has_fuel fuel q)) (asks_by m fuel (w.walk.es ++ [])) (solving_end m s at l has_fuel fuel q c w k) small
 
 -- ---- `cover`
 
@@ -231,26 +222,23 @@ module _ (s : Text) where
   pub no_kind : None ≡ value_at s (bytes "kind=") 0 → read_sheet s ≡ None
   no_kind e = sheet_is ∙ then_none s (bytes "kind=") 0 kind_then (unkeyed s (bytes "kind=") 0 e)
 
-  module _ (l : Line) (e : Some l ≡ value_at s (bytes "kind=") 0) where
+  module _ (l : Read Place) (e : Some l ≡ value_at s (bytes "kind=") 0) where
     sheet_then : read_sheet s ≡ (lines_at s l.next.at >>= λ ls. kind_in kinds (text_of s l.value) >>= λ k. read_kind k ls)
     sheet_then = sheet_is ∙ then s (bytes "kind=") 0 kind_then l (keyed s (bytes "kind=") 0 l e)
 
     pub kind_bound : l.next.at ≤ length s
     kind_bound = let k = keyed s (bytes "kind=") 0 l e in omega (arith, k.ends, k.after)
 
-    pub other_kind : None ≡ kind_in kinds (text_of s l.value) → read_sheet s ≡ None
-    other_kind q = sheet_then ∙ ap (λ (o : Option Kind). lines_at s l.next.at >>= λ ls. o >>= λ k. read_kind k ls) (sym q) ∙ go (lines_at s l.next.at)
-      where
-        none : Option Kind
-        none = None
-
-        go : (x : Option (List Text)) → (x >>= λ ls. none >>= λ k. read_kind k ls) ≡ None
-        go None = refl
-        go (Some ls) = refl
-
-    pub that_kind : (k : Kind) → Some k ≡ kind_in kinds (text_of s l.value) → read_kind_at k s l.next.at ≡ read_sheet s
+    -- the lines after the kind's name
+    pub kind_lines : read_named (text_of s l.value) s l.next.at ≡ read_sheet s
     unfolding read_kind_at
-    that_kind k q = sym (sheet_then ∙ ap (λ (o : Option Kind). lines_at s l.next.at >>= λ ls. o >>= λ k. read_kind k ls) (sym q))
+    kind_lines = go (lines_at s l.next.at) (kind_in kinds (text_of s l.value)) ∙ sym sheet_then
+      where
+        go : (x : Option (List Text)) (o : Option Kind) → (o >>= λ k. x >>= read_kind k) ≡ (x >>= λ ls. o >>= λ k. read_kind k ls)
+        go None None = refl
+        go None (Some k) = refl
+        go (Some ls) None = refl
+        go (Some ls) (Some k) = refl
 
 -- ---- what each reading's proof uses
 
@@ -266,4 +254,4 @@ pub ruleset reads_sound = (sound_unread, sound_many, sound_read)
 
 pub ruleset reads_complete = (complete_unread, complete_read)
 
-pub ruleset reads_whole = (keyed_inside, no_kind, other_kind, that_kind, kind_bound)
+pub ruleset reads_whole = (keyed_inside, no_kind, kind_lines, kind_bound)

@@ -9,19 +9,20 @@ use Rattle.rules.specs.Bytes.{Text}
 use Rattle.rules.specs.Text.{bytes}
 use Rattle.rules.specs.Maybe.{◌>>=◌, guard}
 use Rattle.rules.specs.Lines.{after_key}
-use Rattle.rules.specs.Sheet.{Entry, Member, Sheet, asks_unify, asks_match, asks_cover, asks_sound, asks_complete, with_entry, pairs, distinct_keys, members_from, none_waiting, at_end, one_member}
+use Rattle.rules.specs.Sheet.{Entry, Member, Sheet, asks_cover, asks_sound, asks_complete, with_entry, pairs, distinct_keys, members_from, none_waiting, at_end, one_member}
 use Rattle.laws.proofs.Basics.Options.{bound, guarded}
 use Rattle.laws.proofs.Sheets.SheetTexts.{the_member}
 use Rattle.laws.proofs.Basics.Somes.{none_ne_some}
 use Rattle.sheet.specs.Lines.{lines_at, value_at}
 use Rattle.sheet.specs.Pairs.{two_lines_at, entries_by, entries_before}
 use Rattle.forms.specs.Members.{members_at}
-use Rattle.forms.specs.Form.{text_of, sheet_of, Walked}
+use Rattle.forms.specs.Form.{text_of, asks_by, sheet_of, Walked}
 use Rattle.sheet.specs.declared.Cursor.{Cursor}
 use Rattle.sheet.specs.declared.Place.{Place}
-use Rattle.sheet.specs.declared.Line.{Line}
+use Rattle.sheet.specs.declared.Read.{Read}
 use Rattle.sheet.specs.declared.Sides.{Sides}
 use Rattle.forms.specs.declared.form.Form.TheVariants as form
+use Rattle.forms.specs.declared.form.Solver.{Solver}
 use Rattle.sheet.proofs.LineLaws.{Unkeyed, keyed, unkeyed}
 use Rattle.forms.proofs.PairLaws.{paired, stops, pairs_are, none_first, entries_then}
 use Rattle.forms.proofs.MemberLaws.{no_member, member_then, onward, rest_of, from_member}
@@ -44,13 +45,13 @@ pairs_by s at = go (lines_at s at)
 
 module _ (first second s : Text) (at : ℕ) (es : List Entry) (rest : List Text) (h : (lines_at s at >>= entries_by first second) ≡ Some (es, rest)) where
   -- two lines that are found are the first pair
-  pub two_there : (p : Sides) → Some p ≡ two_lines_at first second s at
-      → (fs : List Entry) × (es ≡ (text_of s p.left, text_of s p.right) ∷ fs) × ((lines_at s p.next.at >>= entries_by first second) ≡ Some (fs, rest))
+  pub two_there : (p : Read Sides) → Some p ≡ two_lines_at first second s at
+      → (fs : List Entry) × (es ≡ (text_of s p.value.left, text_of s p.value.right) ∷ fs) × ((lines_at s p.next.at >>= entries_by first second) ≡ Some (fs, rest))
   two_there p e = go (lines_at s p.next.at >>= entries_by first second) refl (sym (entries_then first second s at (paired first second s at p e)) ∙ h)
     where
       go : (o : Option (List Entry × List Text)) → (lines_at s p.next.at >>= entries_by first second) ≡ o
-          → (o >>= entries_before ((text_of s p.left, text_of s p.right) ∷ [])) ≡ Some (es, rest)
-          → (fs : List Entry) × (es ≡ (text_of s p.left, text_of s p.right) ∷ fs) × ((lines_at s p.next.at >>= entries_by first second) ≡ Some (fs, rest))
+          → (o >>= entries_before ((text_of s p.value.left, text_of s p.value.right) ∷ [])) ≡ Some (es, rest)
+          → (fs : List Entry) × (es ≡ (text_of s p.value.left, text_of s p.value.right) ∷ fs) × ((lines_at s p.next.at >>= entries_by first second) ≡ Some (fs, rest))
       go None k g = cc
       go (Some (fs, ls)) k g = let b = same_both g in (fs, sym b.0, k ∙ ap (λ (ls : List Text). Some (fs, ls)) b.1)
 
@@ -124,7 +125,7 @@ module _ (s : Text) (at : ℕ) (ms : List Member) (h : members_at s at ≡ Some 
       go (Some []) u g = unfold members_from in cc
       go (Some (l ∷ ls)) u g = let y = no_member l ls u in cc
 
-  pub member_next : (l : Line) → Some l ≡ value_at s (bytes "member=") at → FirstMember s (text_of s l.value) l.next.at ms
+  pub member_next : (l : Read Place) → Some l ≡ value_at s (bytes "member=") at → FirstMember s (text_of s l.value) l.next.at ms
   member_next l e =
       let v = text_of s l.value in
       let q = sym (from_member s at l (keyed s (bytes "member=") at l e)) ∙ h in
@@ -167,15 +168,10 @@ solving_pairs s at ask sheet e =
     let (g, h) = ended_as p.1 (ask p.0) sheet d in
     (p.0, h, ap (λ (o : Option (List Text)). o >>= pairs) a ∙ c ∙ ap (λ (ls : List Text). Some (p.0, ls)) g)
 
-pub unify_pairs : (s : Text) (fuel : ℕ) (c : Cursor) (sheet : Sheet) → sheet_of s (form.Unify fuel c) ≡ Some sheet
-    → (ps : List Entry) × (sheet ≡ asks_unify fuel ps) × ((lines_at s c.at >>= pairs) ≡ Some (ps, []))
+pub solved_pairs : (s : Text) (v : Solver) (fuel : ℕ) (c : Cursor) (sheet : Sheet) → sheet_of s (form.Solve v fuel c) ≡ Some sheet
+    → (ps : List Entry) × (sheet ≡ asks_by v fuel ps) × ((lines_at s c.at >>= pairs) ≡ Some (ps, []))
 unfolding sheet_of
-unify_pairs s fuel c sheet e = solving_pairs s c.at (asks_unify fuel) sheet e
-
-pub match_pairs : (s : Text) (fuel : ℕ) (c : Cursor) (sheet : Sheet) → sheet_of s (form.Match fuel c) ≡ Some sheet
-    → (ps : List Entry) × (sheet ≡ asks_match fuel ps) × ((lines_at s c.at >>= pairs) ≡ Some (ps, []))
-unfolding sheet_of
-match_pairs s fuel c sheet e = solving_pairs s c.at (asks_match fuel) sheet e
+solved_pairs s v fuel c sheet e = solving_pairs s c.at (asks_by v fuel) sheet e
 
 pub cover_parts : (s : Text) (c d : Cursor) (sheet : Sheet) → sheet_of s (form.Cover c d) ≡ Some sheet
     → (ps : List Entry) × (rest : List Text) × (ms : List Member) × (sheet ≡ asks_cover ps ms) × ((lines_at s c.at >>= pairs) ≡ Some (ps, rest)) × (members_at s d.at ≡ Some ms)

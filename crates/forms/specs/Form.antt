@@ -1,11 +1,11 @@
 -- The kinds of sheet as the code reads them: what a form stands for, and the words that it needs. Definitions only.
-use Rattle.std.specs.Prelude.{ℕ, ◌≤◌, ◌<◌, ◌≡◌, Bool, true, false, List, length}
+use Rattle.std.specs.Prelude.{ℕ, ◌≤◌, ◌<◌, ◌≡◌, List, length}
 use Rattle.std.specs.Prelude.{Option, Some, None, Result, MatchResult}
 use Rattle.rules.specs.Bytes.{Text}
 use Rattle.rules.specs.Text.{bytes}
 use Rattle.rules.specs.Maybe.{◌>>=◌}
 use Rattle.rules.specs.Lines.{value}
-use Rattle.rules.specs.Sheet.{Sheet, Member, asks_equal, asks_unify, asks_match, asks_reduce, asks_cover, asks_sound, asks_complete, pairs, members_from, none_waiting, at_end, one_member, Kind, Equal, Unify, Match, Reduce, Cover, Sound, Complete, read_kind, raise, words_needed}
+use Rattle.rules.specs.Sheet.{Sheet, Entry, Member, asks_equal, asks_unify, asks_match, asks_reduce, asks_cover, asks_sound, asks_complete, pairs, members_from, none_waiting, at_end, one_member, Kind, Unify, Match, kind_in, kinds, read_kind, raise, words_needed}
 use Rattle.rules.specs.declared.Refusal.{Refusal}
 use Rattle.rules.specs.declared.Refusal.TheVariants.{LineOutOfPlace}
 use Rattle.sheet.specs.Lines.{part_of, lines_at}
@@ -15,28 +15,26 @@ use Rattle.sheet.specs.declared.Place.{Place}
 use Rattle.forms.specs.declared.form.Form.{Form}
 use Rattle.forms.specs.declared.form.Form.TheVariants as form
 use Rattle.forms.specs.declared.form.TermMembers.{TermMembers}
-use Rattle.forms.specs.declared.form.Kind as code
-use Rattle.forms.specs.declared.form.Kind.TheVariants as named
+use Rattle.forms.specs.declared.form.Solver.{Solver}
+use Rattle.forms.specs.declared.form.Solver.TheVariants as solver
 
--- the kind of the definitions
-abbrev pub kind_read : code.Kind → Kind
-kind_read named.Equal = Equal
-kind_read named.Unify = Unify
-kind_read named.Match = Match
-kind_read named.Reduce = Reduce
-kind_read named.Cover = Cover
-kind_read named.Sound = Sound
-kind_read named.Complete = Complete
+-- the kind of a solver, and what its sheet asks
+abbrev pub solving : Solver → Kind
+solving solver.Unify = Unify
+solving solver.Match = Match
 
--- `match` or `unify`
-abbrev pub solving : Bool → Kind
-solving true = Match
-solving false = Unify
+abbrev pub asks_by : Solver → ℕ → List Entry → Sheet
+asks_by solver.Unify fuel ps = asks_unify fuel ps
+asks_by solver.Match fuel ps = asks_match fuel ps
 
 -- the lines from a position on, read as those after `kind`
 unfoldable pub read_kind_at : Kind → Text → ℕ → Option Sheet
 unfolding read_kind
 read_kind_at kind s at = lines_at s at >>= read_kind kind
+
+-- the same by the kind's name
+abbrev pub read_named : Text → Text → ℕ → Option Sheet
+read_named name s at = kind_in kinds name >>= λ kind. read_kind_at kind s at
 
 abbrev pub text_of : Text → Place → Text
 text_of s p = part_of p.from p.to s
@@ -44,8 +42,7 @@ text_of s p = part_of p.from p.to s
 -- the sheet that a form stands for
 unfoldable pub sheet_of : Text → Form → Option Sheet
 sheet_of s (form.Equal l r) = Some (asks_equal (text_of s l) (text_of s r))
-sheet_of s (form.Unify fuel c) = lines_at s c.at >>= λ ls. pairs ls >>= λ p. at_end p.1 (asks_unify fuel p.0)
-sheet_of s (form.Match fuel c) = lines_at s c.at >>= λ ls. pairs ls >>= λ p. at_end p.1 (asks_match fuel p.0)
+sheet_of s (form.Solve v fuel c) = lines_at s c.at >>= λ ls. pairs ls >>= λ p. at_end p.1 (asks_by v fuel p.0)
 sheet_of s (form.Reduce t) = Some (asks_reduce (text_of s t))
 sheet_of s (form.Cover c d) = lines_at s c.at >>= λ ls. pairs ls >>= λ p. members_at s d.at >>= λ ms. Some (asks_cover p.0 ms)
 sheet_of s (form.Sound t c) = members_at s c.at >>= λ ms. one_member ms >>= λ m. Some (asks_sound (text_of s t) m)
@@ -62,8 +59,7 @@ pub record Walked (s : Text) (at c : ℕ) : Type 0 where
 -- places and cursors stand in the sheet, fuel is at most 65,536, the members of `cover` follow its pairs and those of `complete` its term
 abbrev pub Within : Text → Form → Type 0
 Within s (form.Equal l r) = Inside s l × Inside s r
-Within s (form.Unify fuel c) = (fuel ≤ 65536) × (c.at ≤ length s)
-Within s (form.Match fuel c) = (fuel ≤ 65536) × (c.at ≤ length s)
+Within s (form.Solve v fuel c) = (fuel ≤ 65536) × (c.at ≤ length s)
 Within s (form.Reduce t) = Inside s t
 Within s (form.Cover c d) = (c.at ≤ length s) × (d.at ≤ length s) × Walked s c.at d.at
 Within s (form.Sound t c) = Inside s t × (c.at ≤ length s)

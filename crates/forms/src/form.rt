@@ -1,68 +1,56 @@
 // The kinds of sheet: what a sheet asks, as places and cursors, and the words of the work area that it needs.
-ghost use Rattle.std.specs.Prelude.{◌≡◌, ◌≤◌, ◌<◌, length, OnOk, IfErr, option_map};
-ghost use Rattle.rules.specs.Sheet.{Equal, Reduce, Cover, Sound, Complete, read_sheet, kind_in, kinds};
-ghost use Rattle.forms.specs.Form.{kind_read, solving, Walked, read_kind_at, ReadsTermMembers, ReadsAs, Within, RaisesBy, NeedsWords};
+ghost use Rattle.std.specs.Prelude.{◌≡◌, ◌≤◌, ◌<◌, length, OnOk, IfErr};
+ghost use Rattle.rules.specs.Sheet.{Equal, Reduce, Cover, Sound, Complete, read_sheet};
+ghost use Rattle.forms.specs.Form.{solving, Walked, read_kind_at, read_named, ReadsTermMembers, ReadsAs, Within, RaisesBy, NeedsWords};
 
 use crate::members::members;
 use rules::Refusal;
-use sheet::{Cursor, Place, next_pair, part};
+use sheet::{Cursor, Place, Sides, next_pair};
+use text::count_of;
 use text::decimal::number_up_to;
-use text::{count_of, same};
 
 // The most fuel that a sheet may give.
 const MOST_FUEL: usize = 65536;
 // The words for each colon of a sheet, and for each of 16 more.
 const BLOCK: usize = 65536;
 
+// How the pairs of a sheet are solved: both sides unify, or the left sides match the right ones.
+#[derive(Clone, Copy, Debug, PartialEq, Eq)]
+pub enum Solver {
+    Unify,
+    Match,
+}
+
 // What a sheet asks.
 #[derive(Clone, Copy, Debug, PartialEq, Eq)]
 pub enum Form {
-    Equal { left: Place, right: Place },
-    Unify { fuel: usize, pairs: Cursor },
-    Match { fuel: usize, pairs: Cursor },
-    Reduce { term: Place },
-    Cover { pairs: Cursor, members: Cursor },
-    Sound { term: Place, member: Cursor },
-    Complete { term: Place, members: Cursor },
+    Equal {
+        left: Place,
+        right: Place,
+    },
+    Solve {
+        solver: Solver,
+        fuel: usize,
+        pairs: Cursor,
+    },
+    Reduce {
+        term: Place,
+    },
+    Cover {
+        pairs: Cursor,
+        members: Cursor,
+    },
+    Sound {
+        term: Place,
+        member: Cursor,
+    },
+    Complete {
+        term: Place,
+        members: Cursor,
+    },
 }
 
-// The kinds by their names.
-#[derive(Clone, Copy, Debug, PartialEq, Eq)]
-enum Kind {
-    Equal,
-    Unify,
-    Match,
-    Reduce,
-    Cover,
-    Sound,
-    Complete,
-}
-
-// The kind of a name.
-#[tactic(auto, unfolding(rules::specs::Sheet::kind_in))]
-fn kind_of(name: &[u8]) -> Option<Kind>
-    ensures { option_map kind_read result ≡ kind_in kinds name.now }
-{
-    if same(name, b"equal") {
-        Some(Kind::Equal)
-    } else if same(name, b"unify") {
-        Some(Kind::Unify)
-    } else if same(name, b"match") {
-        Some(Kind::Match)
-    } else if same(name, b"reduce") {
-        Some(Kind::Reduce)
-    } else if same(name, b"cover") {
-        Some(Kind::Cover)
-    } else if same(name, b"sound") {
-        Some(Kind::Sound)
-    } else if same(name, b"complete") {
-        Some(Kind::Complete)
-    } else {
-        None
-    }
-}
-
-// Where the pairs of lines `left`, `right` from a cursor on end.
+// Where the pairs of lines `left`, `right` from a cursor on end. The cursor is handed on by value: no iterator is plainer.
 #[tactic(auto, using(crate::proofs::PairLaws::walks))]
 fn after_pairs(sheet: &[u8], start: Cursor) -> Cursor
     ensures { Walked sheet.now start.at result.at }
@@ -91,26 +79,24 @@ fn read_equal(sheet: &[u8], start: Cursor) -> Result<Form, Refusal>
 {
     let pair = next_pair(sheet, start).ok_or(Refusal::LineOutOfPlace)?;
     at_end(sheet, pair.next)?;
-    Ok(Form::Equal {
-        left: pair.left,
-        right: pair.right,
-    })
+    let Sides { left, right } = pair.value;
+    Ok(Form::Equal { left, right })
 }
 
 // Kinds `unify` and `match`.
 #[tactic(auto, using(crate::proofs::SheetLaws::reads_solving))]
-fn read_solving(sheet: &[u8], start: Cursor, matching: bool) -> Result<Form, Refusal>
-    ensures { ReadsAs sheet.now (read_kind_at (solving matching) sheet.now start.at) result }
+fn read_solving(sheet: &[u8], start: Cursor, solver: Solver) -> Result<Form, Refusal>
+    ensures { ReadsAs sheet.now (read_kind_at (solving solver) sheet.now start.at) result }
 {
     let line = start.keyed(sheet, b"fuel=").ok_or(Refusal::LineOutOfPlace)?;
-    let Place { from, to } = line.value;
-    let fuel = number_up_to(part(sheet, from, to), MOST_FUEL).ok_or(Refusal::LineOutOfPlace)?;
+    let text = line.value.text(sheet);
+    let fuel = number_up_to(text, MOST_FUEL).ok_or(Refusal::LineOutOfPlace)?;
     let pairs = line.next;
     at_end(sheet, after_pairs(sheet, pairs))?;
-    Ok(if matching {
-        Form::Match { fuel, pairs }
-    } else {
-        Form::Unify { fuel, pairs }
+    Ok(Form::Solve {
+        solver,
+        fuel,
+        pairs,
     })
 }
 
@@ -187,7 +173,26 @@ fn read_complete(sheet: &[u8], start: Cursor) -> Result<Form, Refusal>
     Ok(Form::Complete { term, members })
 }
 
-// What a sheet asks.
+// What a sheet of a named kind asks, by the lines after its name. Each kind has its own lines: a function to a kind, and what they share
+// in functions above.
+#[tactic(auto, using(crate::proofs::KindNames::kind_names))]
+fn read_kind(sheet: &[u8], kind: &[u8], start: Cursor) -> Result<Form, Refusal>
+    requires { (length sheet.now ≤ 65536) × (start.at ≤ length sheet.now) }
+    ensures { ReadsAs sheet.now (read_named kind.now sheet.now start.at) result }
+{
+    match kind {
+        b"equal" => read_equal(sheet, start),
+        b"unify" => read_solving(sheet, start, Solver::Unify),
+        b"match" => read_solving(sheet, start, Solver::Match),
+        b"reduce" => read_reduce(sheet, start),
+        b"cover" => read_cover(sheet, start),
+        b"sound" => read_sound(sheet, start),
+        b"complete" => read_complete(sheet, start),
+        _ => Err(Refusal::LineOutOfPlace),
+    }
+}
+
+// What a sheet asks. Where its first line is missing a `let .. else` ends the reading: a form that document 01 names.
 #[tactic(auto, using(crate::proofs::SheetLaws::reads_whole))]
 pub fn read_sheet(sheet: &[u8]) -> Result<Form, Refusal>
     requires { length sheet.now ≤ 65536 }
@@ -197,18 +202,7 @@ pub fn read_sheet(sheet: &[u8]) -> Result<Form, Refusal>
     let Some(line) = start.keyed(sheet, b"kind=") else {
         return Err(Refusal::LineOutOfPlace);
     };
-    let Place { from, to } = line.value;
-    let next = line.next;
-    match kind_of(part(sheet, from, to)) {
-        Some(Kind::Equal) => read_equal(sheet, next),
-        Some(Kind::Unify) => read_solving(sheet, next, false),
-        Some(Kind::Match) => read_solving(sheet, next, true),
-        Some(Kind::Reduce) => read_reduce(sheet, next),
-        Some(Kind::Cover) => read_cover(sheet, next),
-        Some(Kind::Sound) => read_sound(sheet, next),
-        Some(Kind::Complete) => read_complete(sheet, next),
-        None => Err(Refusal::LineOutOfPlace),
-    }
+    read_kind(sheet, line.value.text(sheet), line.next)
 }
 
 // Twice the count of `(` in the `term` line, for `complete`.
@@ -221,7 +215,7 @@ fn raise_of(sheet: &[u8], form: Form) -> usize
     let Form::Complete { term, .. } = form else {
         return 0;
     };
-    2 * count_of(part(sheet, term.from, term.to), b'(')
+    2 * count_of(term.text(sheet), b'(')
 }
 
 // The words of the work area that a sheet needs.

@@ -1,56 +1,31 @@
 // The members of a sheet: their keys as sorted places, and how many members there are.
 ghost use Rattle.std.specs.Prelude.{◌≡◌, map, ◌+◌, ◌-◌, ◌*◌, ◌≤◌, ◌<◌, length, take};
-ghost use Rattle.rules.specs.Bytes.{same};
 ghost use Rattle.text.specs.Places.{text_at};
 ghost use Rattle.forms.specs.Members.{members_at, counted, distinct, apart, Gathered};
 
-use sheet::{Cursor, Place, next_entry, next_member};
-use text::places::{sort_places, text_at};
-use text::same;
+use sheet::{Cursor, Read, next_entry, next_member};
+use text::places::{sort_by_texts, text_at};
 
-// Stays one word for a place, its start times this and its length: the one merge sort, which runs share, sorts words of fixed memory.
-const START: usize = 65536;
 // A member has at most so many keys, since each takes 12 bytes or more.
 const MOST_KEYS: usize = 8192;
 
-// A place as one word.
-fn word_of(place: Place) -> u32
-    requires { (place.from < 65536) × (place.from ≤ place.to) × (place.to < place.from + 65536) }
-    ensures { result ≡ place.from * 65536 + (place.to - place.from) }
-{
-    (place.from * START + (place.to - place.from)) as u32
-}
-
-// How many keys one member has, and where its entries end.
-#[derive(Clone, Copy, Debug, PartialEq, Eq)]
-struct Keys {
-    count: usize,
-    next: Cursor,
-}
-
-// Writes the places of a member's keys into the first words.
-fn gather(sheet: &[u8], start: Cursor, words: &mut [u32]) -> Keys
+// Writes the places of a member's keys into the first words, and answers how many they are and where its entries end. The cursor is
+// handed on by value: no iterator is plainer.
+fn gather(sheet: &[u8], start: Cursor, words: &mut [u32]) -> Read<usize>
     requires { (length sheet.now ≤ 65536) × (8192 ≤ length words.old) }
-    ensures { Gathered sheet.now start.at words.new result.count result.next.at }
+    ensures { Gathered sheet.now start.at words.new result.value result.next.at }
 {
     let mut count: usize = 0;
     let mut cursor = start;
     while let Some(entry) = next_entry(sheet, cursor) {
-        words[count] = word_of(entry.left);
+        words[count] = entry.value.left.word();
         count += 1;
         cursor = entry.next;
     }
-    Keys {
-        count,
+    Read {
+        value: count,
         next: cursor,
     }
-}
-
-// Whether two keys, by their places, are the same: their bytes are.
-fn same_key(sheet: &[u8], x: u32, y: u32) -> bool
-    ensures { result ≡ same (text_at sheet.now x) (text_at sheet.now y) }
-{
-    same(text_at(sheet, x), text_at(sheet, y))
 }
 
 // Whether no word names the same key as the next.
@@ -59,16 +34,18 @@ fn all_apart(sheet: &[u8], words: &[u32]) -> bool
 {
     words
         .windows(2)
-        .all(|pair| !same_key(sheet, pair[0], pair[1]))
+        .all(|pair| text_at(sheet, pair[0]) != text_at(sheet, pair[1]))
 }
 
-// Whether the first words name each key once. They get sorted; the words from 8192 on are the buffer.
+// Whether the first words name each key once. They get sorted; the words after them are the buffer. A set would need a heap.
+#[tactic(auto, using(crate::proofs::KeyLaws::apart_places))]
 fn all_distinct(sheet: &[u8], words: &mut [u32], count: usize) -> bool
-    requires { (count ≤ 8192) × (16384 ≤ length words.old) }
+    requires { 2 * count ≤ length words.old }
     ensures { result ≡ distinct (map (text_at sheet.now) (take count words.old)) }
 {
-    sort_places(sheet, words, 0, count, MOST_KEYS);
-    all_apart(sheet, &words[..count])
+    let (keys, room) = words.split_at_mut(count);
+    sort_by_texts(sheet, keys, room);
+    all_apart(sheet, keys)
 }
 
 // How many members stand from a cursor to the sheet's end, if nothing else does and none repeats a key.
@@ -76,12 +53,13 @@ fn count_members(sheet: &[u8], start: Cursor, words: &mut [u32]) -> Option<usize
     requires { (length sheet.now ≤ 65536) × (16384 ≤ length words.old) }
     ensures { result ≡ counted 0 (members_at sheet.now start.at) }
 {
+    // Along the same cursor.
     let mut n = 0;
     let mut cursor = start;
     while cursor.at < sheet.len() {
         let member = next_member(sheet, cursor)?;
         let keys = gather(sheet, member.next, words);
-        if !all_distinct(sheet, words, keys.count) {
+        if !all_distinct(sheet, words, keys.value) {
             return None;
         }
         n += 1;
@@ -95,7 +73,7 @@ pub(crate) fn members(sheet: &[u8], start: Cursor) -> Option<usize>
     requires { length sheet.now ≤ 65536 }
     ensures { result ≡ counted 0 (members_at sheet.now start.at) }
 {
-    // the words that a member's keys and their sorting take
+    // The words that a member's keys and their sorting take: the work area may not be touched before its size is decided.
     let mut words = [0u32; 2 * MOST_KEYS];
     count_members(sheet, start, &mut words)
 }

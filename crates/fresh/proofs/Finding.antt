@@ -3,19 +3,17 @@ use Prim.Native.Nat.{ℕ, zero, suc, ◌+◌, ◌<◌, ◌≤◌}
 use mathlib.Core.Path.{◌≡◌, refl, sym, ap, ap₂, ◌∙◌}
 use mathlib.Core.Bool.{Bool, true, false, ◌||◌, false≢true}
 use mathlib.Core.List.{[], ◌∷◌}
+use Rattle.std.specs.Prelude.{Option, Some, None, IsSomeAnd}
 use lib.Dec.{eqb}
-use lib.ListN.{length, take, drop, drop_of_length-le, length-drop}
-use lib.Seq.{take-length, take-nil, drop-nil}
-use native.Mathlib.Decide.{dec_lt}
+use lib.ListN.{length, take, drop, length-drop}
+use lib.Seq.{take-nil, drop-nil}
 use native.Mathlib.Omega.{arith}
 use borrow.Author.Tests.{eq-eqb, eqb-true}
 use Rattle.rules.specs.Bytes.{Text}
 use Rattle.laws.specs.Parts.{PartOf}
 use Rattle.laws.proofs.Basics.Tests.{and_left, and_right, and_both, or_left, or_right}
 use Rattle.text.specs.Prefix.{begins_with}
-use Rattle.text.proofs.Loops.{drop_next}
-use Rattle.sheet.specs.Lines.{part_of}
-use Rattle.fresh.specs.Searching.{spells, SpelledAt}
+use Rattle.fresh.specs.Searching.{spells, FindsText}
 
 -- ---- a text that begins another
 
@@ -34,48 +32,25 @@ begins_take zero s = refl
 begins_take (suc n) [] = refl
 begins_take (suc n) (b ∷ s) = and_both (eqb b b) (begins_with (take n s) s) (eq-eqb b b refl) (begins_take n s)
 
--- ---- the loop
+-- ---- the search
 
-spells_next : (s x : Text) (i : ℕ) → i < length s → spells (drop i s) x ≡ begins_with x (drop i s) || spells (drop (i + 1) s) x
-unfolding spells
-spells_next s x i p = rw (drop_next s i p)
+-- the text stands in the sheet from a position on
+abbrev pub Stands : Text → Text → ℕ → Type 0
+Stands s x k = (k + length x ≤ length s) × (take (length x) (drop k s) ≡ x)
 
--- the text begins nowhere before a position
-abbrev pub NotBefore : Text → Text → ℕ → Type 0
-NotBefore s x i = (p : ℕ) → p < i → begins_with x (drop p s) ≡ false
-
-pub one_more_not : (s x : Text) (i : ℕ) → NotBefore s x i → begins_with x (drop i s) ≡ false → NotBefore s x (i + 1)
-one_more_not s x i h e p q = go (dec_lt p i)
+-- a text that does not stand from a position on does not begin there
+not_begun : (s x : Text) (k : ℕ) → 0 < length x → (Stands s x k → ⊥) → begins_with x (drop k s) ≡ false
+not_begun s x k some h = go (begins_with x (drop k s)) refl
   where
-    go : Dec (p < i) → begins_with x (drop p s) ≡ false
-    go (yes l) = h p l
-    go (no l) = let z : p ≡ i = omega arith in ap (λ (k : ℕ). begins_with x (drop k s)) z ∙ e
+    go : (b : Bool) → begins_with x (drop k s) ≡ b → b ≡ false
+    go false e = refl
+    go true e = let p = begins_part x (drop k s) e in absurd (h (omega (arith, p.0, length-drop k s, some), p.1))
 
-module _ (s x : Text) (i : ℕ) (some : 0 < length x) where
-  pub search_ends : length s ≤ i → {r : Bool} → spells (drop i s) x ≡ r → r ≡ false
-  search_ends p h = sym h ∙ ap (λ (l : Text). spells l x) (drop_of_length-le s p) ∙ at_none x some
-    where
-      at_none : (x : Text) → 0 < length x → spells [] x ≡ false
-      at_none [] h = absurd (omega arith)
-      at_none (b ∷ x) h = unfold spells begins_with in refl
-
-  module _ (p : i < length s) where
-    pub search_passes : {r : Bool} → begins_with x (drop i s) ≡ false → spells (drop i s) x ≡ r → spells (drop (i + 1) s) x ≡ r
-    search_passes e h = sym (spells_next s x i p ∙ ap (λ (b : Bool). b || spells (drop (i + 1) s) x) e) ∙ h
-
-    pub search_finds : begins_with x (drop i s) ≡ true → spells (drop i s) x ≡ spells s x → NotBefore s x i → SpelledAt s x i
-    search_finds e h n =
-        let k = begins_part x (drop i s) e in
-        record {
-          inside = omega (arith, k.0, length-drop i s);
-          part = k.1;
-          spelled = sym h ∙ spells_next s x i p ∙ or_left (begins_with x (drop i s)) (spells (drop (i + 1) s) x) e;
-          first = n;
-        }
-
--- the sheet from a position on, as the code cuts it
-pub part_rest : (s : Text) (i : ℕ) → part_of i (length s) s ≡ drop i s
-part_rest s i = ap (λ (n : ℕ). take n (drop i s)) (sym (length-drop i s)) ∙ take-length (drop i s)
+-- a text that begins nowhere is not spelled
+begun_nowhere : (s x : Text) → ((k : ℕ) → begins_with x (drop k s) ≡ false) → spells s x ≡ false
+unfolding spells
+begun_nowhere [] x h = h 0
+begun_nowhere (b ∷ s) x h = rw (h 0) (begun_nowhere s x (λ k. h (suc k)))
 
 -- ---- what is spelled is a part, and every part is spelled
 
@@ -88,3 +63,23 @@ every_part (b ∷ s) (suc a) n =
 
 pub part_is_spelled : (s x : Text) → PartOf s x → spells s x ≡ true
 part_is_spelled s x (a, n, e) = ap (spells s) (sym e) ∙ every_part s a n
+
+-- by the windows of the sheet, of which none is the text before the one that is found
+pub found : {A : Type 0} (s x : Text) (window : ℕ → Option A) (r : Option ℕ) → 0 < length x → ((i : ℕ) → r ≡ Some i → Stands s x i)
+    → ((i k : ℕ) → r ≡ Some i → k < i → Stands s x k → IsSomeAnd (window k) (λ w. ⊥)) → ((k : ℕ) → r ≡ None → Stands s x k → IsSomeAnd (window k) (λ w. ⊥)) → FindsText s x r
+found {A} s x window r some here before never = go r refl
+  where
+    empty : (o : Option A) → IsSomeAnd o (λ w. ⊥) → ⊥
+    empty None h = h
+    empty (Some w) h = h
+
+    go : (o : Option ℕ) → r ≡ o → FindsText s x o
+    go None e = begun_nowhere s x (λ k. not_begun s x k some (λ h. empty (window k) (never k e h)))
+    go (Some i) e =
+        let h = here i e in
+        record {
+          inside = h.0;
+          part = h.1;
+          spelled = part_is_spelled s x (i, length x, h.1);
+          first = λ k p. not_begun s x k some (λ h. empty (window k) (before i k e p h));
+        }

@@ -4,10 +4,10 @@ use mathlib.Core.Path.{◌≡◌, refl, sym, ap, ◌∙◌}
 use mathlib.Core.Bool.{Bool, true, false, cond, ◌&&◌}
 use mathlib.Core.List.{List, [], ◌∷◌, ◌++◌, map}
 use Rattle.std.specs.Prelude.{Option, Some, None}
-use Rattle.std.specs.List.{starts_with}
+use lib.Pointwise.{pointwise}
 use lib.Dec.{eqb, leb}
 use lib.ListN.{length, get_or, take, drop, drop_of_length-le}
-use lib.Seq.{slice}
+use lib.Seq.{slice, length-take-le}
 use native.Mathlib.Omega.{arith}
 use borrow.Author.Tests.{eq-eqb, ne_eqb, eqb-true, eqb-false}
 use Rattle.rules.specs.Bytes.{Text, same, upto}
@@ -43,23 +43,22 @@ unfolding index_of
 index_other [] e = refl
 index_other (b ∷ s) e = rw (ne_eqb b 120 e)
 
-pub unindexed : (x : Text) → starts_with eqb x (120 ∷ []) ≡ false → None ≡ index_of x
+pub unindexed : (x : Text) → pointwise eqb (take 1 x) (120 ∷ []) ≡ false → None ≡ index_of x
 unindexed [] e = sym (index_other [] (λ k. omega arith))
-unindexed (b ∷ x) e = sym (index_other (b ∷ x) (λ k. let f = eq-eqb 120 b (sym k) in cc))
+unindexed (b ∷ x) e = sym (index_other (b ∷ x) (λ k. let f = eq-eqb b 120 k in cc))
 
-pub led_by_x : (x : Text) → starts_with eqb x (120 ∷ []) ≡ true → get_or x 0 0 ≡ 120
+pub led_by_x : (x : Text) → pointwise eqb (take 1 x) (120 ∷ []) ≡ true → get_or x 0 0 ≡ 120
 led_by_x [] e = cc
-led_by_x (b ∷ x) e = sym (eqb-true 120 b (and_left (eqb 120 b) true e))
+led_by_x (b ∷ x) e = eqb-true b 120 (and_left (eqb b 120) true e)
 
 -- the digits after the first byte
-pub index_read : (x y : Text) (end : ℕ) → end ≡ 1 + run_length digit (drop 1 x) → y ≡ part_of 1 end x → get_or x 0 0 ≡ 120 → number_up_to largest y ≡ index_of x
-index_read x y end e d h =
-    let k : end - 1 ≡ run_length digit (drop 1 x) = omega arith in
-    ap (number_up_to largest) (d ∙ ap (λ (n : ℕ). take n (drop 1 x)) k) ∙ sym (index_digits x h)
+pub index_read : (x rest : Text) (end : ℕ) → end ≡ 0 + run_length digit (drop 0 rest) → rest ≡ drop 1 x → get_or x 0 0 ≡ 120 → number_up_to largest (take end rest) ≡ index_of x
+index_read x rest end e d h =
+    let k : end ≡ run_length digit rest = omega (arith, e) in
+    ap (λ (n : ℕ). number_up_to largest (take n rest)) k ∙ ap (λ (y : Text). number_up_to largest (take (run_length digit y) y)) d ∙ sym (index_digits x h)
 
-pub digits_inside : (x : Text) (end : ℕ) → 0 < length x → end ≡ 1 + run_length digit (drop 1 x) → (1 ≤ end) × (end ≤ length x)
-digits_inside [] end p e = absurd (omega arith)
-digits_inside (b ∷ x) end p e = omega (arith, run_le digit x)
+pub digits_inside : (rest : Text) (end : ℕ) → end ≡ 0 + run_length digit (drop 0 rest) → end ≡ length (take end rest)
+digits_inside rest end e = sym (length-take-le end rest (omega (arith, e, run_le digit rest)))
 
 -- an index is below 2^63
 number_bounded : (bound : ℕ) (s : Text) (n : ℕ) → number_up_to bound s ≡ Some n → n ≤ bound

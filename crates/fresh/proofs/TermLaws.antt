@@ -79,8 +79,7 @@ module _ {a b : Area} {k : ℕ} (term : ℕ) (g : Pushes a b k 0 (tree_in a term
         pub term_names : TermNamesIn a z term record { names = i; base = base }
         term_names = record {
           grows = grows_then (grows_push g) (gathered_grows o (one_small few) room_for h);
-          inside = h.lists.inside;
-          of_variables = gathered_variables o (one_small few) room_for h;
+          names = record { inside = h.lists.inside; variables = gathered_variables o (one_small few) room_for h };
           are = names_are;
           used = omega (arith, gathered_used o (one_small few) room_for h, g.end, ap (λ (xs : List Text). length xs) names_are);
           based = sym base_are ∙ sym e;

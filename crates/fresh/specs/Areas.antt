@@ -7,10 +7,9 @@ use Rattle.rules.specs.Cover.{variables}
 use Rattle.rules.specs.Variants.{fresh_base}
 use Rattle.text.specs.Places.{text_at}
 use Rattle.tree.specs.declared.area.Area.{Area}
-use Rattle.tree.specs.Areas.{tree_in, trees_in, Grows, Adds}
+use Rattle.tree.specs.Areas.{tree_in, Grows, Adds}
 use Rattle.variables.specs.declared.gathering.Places.{Places}
-use Rattle.variables.specs.Pairing.{OfVariables}
-use Rattle.variables.specs.Areas.{names_in}
+use Rattle.variables.specs.Areas.{names_in, VariablesIn}
 use Rattle.fresh.specs.Fresh.{chosen_in}
 use Rattle.fresh.specs.declared.naming.Named.{Named}
 
@@ -28,8 +27,7 @@ pub record WritesFreshIn (a b : Area) (base k : ℕ) : Type 0 where
 -- a list of b is that of the variables of a term of a, the last first, with one above their indices
 pub record TermNamesIn (a b : Area) (term : ℕ) (r : Named) : Type 0 where
   pub grows : Grows a b
-  pub inside : r.names < b.free
-  pub of_variables : OfVariables (trees_in b r.names)
+  pub names : VariablesIn b r.names
   pub are : names_in b r.names ≡ variables (tree_in a term) []
   pub used : b.free ≡ a.free + 1 + length (variables (tree_in a term) [])
   pub based : fresh_base (tree_in a term) 0 ≡ Some r.base

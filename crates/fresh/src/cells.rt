@@ -1,8 +1,8 @@
 // The fresh variables of `complete` as cells of an area: x, a number from the base on and :Msg where the sheet spells that, else a name
 // that no sheet spells.
-ghost use Rattle.std.specs.Prelude.{◌+◌, ◌*◌, ◌<◌, ◌≤◌, ◌^◌, length};
+ghost use Rattle.std.specs.Prelude.{◌<◌, ◌≤◌, ◌^◌, length};
 ghost use Rattle.rules.specs.Tree.{variable};
-ghost use Rattle.tree.specs.Areas.{Pushes};
+ghost use Rattle.tree.specs.Areas.{Pushes, HasRoom};
 ghost use Rattle.fresh.specs.Fresh.{chosen_in};
 ghost use Rattle.fresh.specs.Areas.{WritesFreshIn};
 
@@ -16,7 +16,7 @@ use tree::area::Area;
 fn push_fresh(area: &mut Area, base: usize, n: usize) -> usize
     requires short { length area.old.sheet.now ≤ 65536 }
     requires small { (n < 24) × (base ≤ 2 ^ 63) }
-    requires room { (4 * area.old.free + 4 ≤ length area.old.work.now) × (area.old.free < 2 ^ 32) }
+    requires room { HasRoom area.old 1 }
     ensures { Pushes area.old area.new result 0 (variable (chosen_in area.old.sheet.now base n)) }
 {
     let number = base + n;
@@ -30,7 +30,7 @@ fn push_fresh(area: &mut Area, base: usize, n: usize) -> usize
 // Writes the 24 fresh variables as new cells, and answers the first of them.
 pub fn fresh_cells(area: &mut Area, base: usize) -> usize
     requires short { (length area.old.sheet.now ≤ 65536) × (base ≤ 2 ^ 63) }
-    requires room { (4 * (area.old.free + 24) ≤ length area.old.work.now) × (area.old.free + 24 < 2 ^ 32) }
+    requires room { HasRoom area.old 24 }
     ensures { WritesFreshIn area.old area.new base result }
 {
     let first = area.free;

@@ -2,7 +2,6 @@
 ghost use Rattle.std.specs.Prelude.{◌≡◌};
 ghost use Rattle.rules.specs.Variants.{index_of};
 
-use sheet::part;
 use syntax::{Digit, run_end};
 use text::decimal::number_up_to;
 
@@ -13,9 +12,7 @@ const MOST: usize = 9223372036854775807;
 pub(crate) fn index_of(name: &[u8]) -> Option<usize>
     ensures { result ≡ index_of name.now }
 {
-    if !name.starts_with(b"x") {
-        return None;
-    }
-    let end = run_end::<Digit>(name, 1);
-    number_up_to(part(name, 1, end), MOST)
+    let rest = name.strip_prefix(b"x")?;
+    let end = run_end::<Digit>(rest, 0);
+    number_up_to(&rest[..end], MOST)
 }

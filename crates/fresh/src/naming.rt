@@ -1,7 +1,7 @@
 // The variables of a term of an area as a list of cells, with one above their indices.
 ghost use Rattle.std.specs.Prelude.{◌≡◌, ◌+◌, ◌*◌, ◌<◌, ◌≤◌, ◌^◌, length};
 ghost use Rattle.rules.specs.Tree.{size};
-ghost use Rattle.tree.specs.Areas.{tree_in};
+ghost use Rattle.tree.specs.Areas.{tree_in, CellIn};
 ghost use Rattle.variables.specs.Variables.{Readable};
 ghost use Rattle.fresh.specs.Indices.{names_base};
 ghost use Rattle.fresh.specs.Areas.{texts_in, NamesTermIn};
@@ -35,7 +35,7 @@ pub struct Named {
 // The variables of the tree of cell term, or None where one of them has no index. Their places are written above as many cells as the sheet
 // has bytes.
 pub fn name_variables(area: &mut Area, term: usize) -> Option<Named>
-    requires term { (0 < term) × (term < area.old.free) × Readable (tree_in area.old term) }
+    requires term { CellIn area.old term × Readable (tree_in area.old term) }
     requires few { (size (tree_in area.old term) ≤ length area.old.sheet.now) × (length area.old.sheet.now ≤ 65536) }
     requires room { (4 * (area.old.free + 1 + length area.old.sheet.now) + 2 * length area.old.sheet.now ≤ length area.old.work.now) × (area.old.free + 1 + length area.old.sheet.now < 2 ^ 32) }
     ensures { NamesTermIn area.old area.new term result }

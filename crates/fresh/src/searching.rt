@@ -1,11 +1,10 @@
 // The search for a text in the sheet, and for the name of a fresh variable.
-ghost use Rattle.std.specs.Prelude.{◌≡◌, ◌<◌, ◌≤◌, length};
+ghost use Rattle.std.specs.Prelude.{◌<◌, ◌≤◌, length};
 ghost use Rattle.rules.specs.Variants.{fresh_name};
 ghost use Rattle.text.specs.Printing.{Printed};
 ghost use Rattle.fresh.specs.Searching.{FindsText};
 
 use sheet::part;
-use text::begins;
 use text::decimal::print;
 use tree::names::print_text;
 
@@ -14,15 +13,10 @@ fn find_text(sheet: &[u8], text: &[u8]) -> Option<usize>
     requires { 0 < length text.now }
     ensures { FindsText sheet.now text.now result }
 {
-    for at in 0..sheet.len() {
-        if begins(part(sheet, at, sheet.len()), text) {
-            return Some(at);
-        }
-    }
-    None
+    sheet.windows(text.len()).position(|window| window == text)
 }
 
-// Writes the name x<n>:Msg from the front of out on, and returns where it ends.
+// Writes the name x<n>:Msg from the front of out on, and returns where it ends. Into lent bytes: there is no heap.
 fn print_fresh(n: usize, out: &mut [u8]) -> usize
     requires { 25 ≤ length out.old }
     ensures { Printed out.old out.new 0 (fresh_name n) result }
@@ -32,18 +26,11 @@ fn print_fresh(n: usize, out: &mut [u8]) -> usize
     print_text(out, end, b":Msg")
 }
 
-// The bytes that a name takes.
-fn name_bytes() -> [u8; 32]
-    ensures { 32 ≡ length result }
-{
-    [0u8; 32]
-}
-
-// Where the sheet spells x<n>:Msg.
+// Where the sheet spells x<n>:Msg. The start alone: where the name ends follows from its number.
 pub(crate) fn find_fresh(sheet: &[u8], n: usize) -> Option<usize>
     ensures { FindsText sheet.now (fresh_name n) result }
 {
-    let mut name = name_bytes();
+    let mut name = [0u8; 32];
     let end = print_fresh(n, &mut name);
     find_text(sheet, part(&name, 0, end))
 }

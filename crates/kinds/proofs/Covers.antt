@@ -25,8 +25,8 @@ use Rattle.tree.proofs.Keeping.{grows_then}
 use Rattle.cover.specs.Areas.{CoverInputIn, ClaimsCoveredIn}
 use Rattle.admission.specs.Admission.{Decoded}
 use Rattle.kinds.specs.Outcomes.{DecidesForm}
-use Rattle.pairs.specs.Areas.{ReadPairsIn}
-use Rattle.pairs.specs.declared.Pairs.{Pairs}
+use Rattle.pairs.specs.Areas.{InOrder}
+use Rattle.sheet.specs.declared.Read.{Read}
 use Rattle.kinds.specs.Outcomes.{CoverAsked}
 use Rattle.answers.specs.declared.deciding.Key.TheVariants as key
 use Rattle.answers.specs.declared.deciding.Lines.TheVariants.{Claim}
@@ -61,11 +61,11 @@ module _ {a b : Area} {at : ℕ} (k : CoverAsked a.sheet.now at) where
   pub cover_unread : read_pairs k.entries ≡ None → Lent a b → DecidesForm (read_sheet a.sheet.now) a b (Err UnreadableTerm)
   cover_unread e l = unread_decided k.reads (cover_answer k.entries k.members e) l
 
-  module _ {r : Pairs} (empty : a.free ≡ 1) (h : ReadPairsIn a b at k.entries k.rest r) where
+  module _ {r : Read ℕ} (empty : a.free ≡ 1) (h : InOrder a b at k.entries k.rest r) where
     members_there : members_at b.sheet.now r.next.at ≡ Some k.members
     members_there = members_later b.sheet.now r.next.at k.rest k.members h.lines k.later
 
-    pub cover_asks : 65536 * (count_of 58 a.sheet.now + 16) + 16 * length a.sheet.now ≤ length a.work.now → CoverInputIn b r.stack r.next.at
+    pub cover_asks : 65536 * (count_of 58 a.sheet.now + 16) + 16 * length a.sheet.now ≤ length a.work.now → CoverInputIn b r.value r.next.at
     cover_asks enough =
         let e = ap (λ x. x.now) h.grows.lent.sheet in
         record {
@@ -81,7 +81,7 @@ module _ {a b : Area} {at : ℕ} (k : CoverAsked a.sheet.now at) where
           words = rw e (omega (arith, h.grows.below.len));
         }
 
-    pub cover_decided : {d : Area} {c : Option Bool} → ClaimsCoveredIn b d r.stack r.next.at c → DecidesForm (read_sheet a.sheet.now) a d (Ok (Claim key.Covered c))
+    pub cover_decided : {d : Area} {c : Option Bool} → ClaimsCoveredIn b d r.value r.next.at c → DecidesForm (read_sheet a.sheet.now) a d (Ok (Claim key.Covered c))
     cover_decided {d} {c} g =
         sheet_decided k.reads
         (cover_answer k.entries k.members (h.read ∙ ap Some (sym (read_are h))) ∙ ap (λ (o : Option Bool). Some (line (bytes "covered=") (claim o))) (sym (g.claim k.members members_there)))

@@ -1,28 +1,26 @@
 -- What a sheet of kind `unify`, `match`, `cover` or `complete` asks, what is read of its pairs, and what is decided. Definitions only.
-use Rattle.std.specs.Prelude.{ℕ, ◌+◌, ◌*◌, ◌≤◌, ◌≡◌, List, [], length, Option, Some, None, Result}
+use Rattle.std.specs.Prelude.{ℕ, ◌+◌, ◌*◌, ◌≤◌, ◌≡◌, List, [], length, Option, Some, Result}
 use Rattle.rules.specs.Bytes.{Text}
+use Rattle.rules.specs.Substitution.{Pair}
+use Rattle.rules.specs.Solving as rules
+use Rattle.rules.specs.Matching.{matcher}
 use Rattle.rules.specs.Maybe.{◌>>=◌}
-use Rattle.rules.specs.Answer.{read_pairs, answer_of}
+use Rattle.rules.specs.Answer.{answer_of}
 use Rattle.rules.specs.Call.{given}
 use Rattle.rules.specs.declared.Refusal.{Refusal}
 use Rattle.rules.specs.declared.Refusal.TheVariants.{UnreadableTerm}
 use Rattle.rules.specs.RefusalNumbers.{number_for}
 use Rattle.rules.specs.Sheet.{Sheet, Entry, Member, asks_cover, asks_complete, pairs, members_from, none_waiting, read_sheet}
 use Rattle.tree.specs.declared.area.Area.{Area}
-use Rattle.tree.specs.Areas.{Lent, Grows}
+use Rattle.tree.specs.Areas.{Lent}
 use Rattle.sheet.specs.Lines.{lines_at}
 use Rattle.sheet.specs.declared.Place.{Place}
 use Rattle.forms.specs.Members.{members_at}
 use Rattle.forms.specs.Form.{text_of, Inside}
-use Rattle.pairs.specs.Pairs.{PairsFrom}
-use Rattle.pairs.specs.Areas.{ReadPairsIn}
-use Rattle.pairs.specs.declared.Pairs.{Pairs}
-use Rattle.unifier.specs.declared.unifying.Answer.{Answer}
-use Rattle.unifier.specs.declared.unifying.Verdict.{Verdict}
-use Rattle.unifier.specs.declared.unifying.Verdict.TheVariants as verdict
+use Rattle.forms.specs.declared.form.Solver.{Solver}
+use Rattle.forms.specs.declared.form.Solver.TheVariants as solver
 use Rattle.answers.specs.Deciding.{DecisionIs}
 use Rattle.answers.specs.declared.deciding.Lines.{Lines}
-use Rattle.answers.specs.declared.deciding.Lines.TheVariants.{Solved, Failed, Unsupported}
 
 -- an area with no cell yet, and with the words of what is read of its sheet and of one step
 pub record Ready (a : Area) : Type 0 where
@@ -60,21 +58,10 @@ pub record CompleteAsked (s : Text) (t : Place) (at : ℕ) : Type 0 where
   pub follows : t.to ≤ at
   pub inside : at ≤ length s
 
--- the pairs from a position on are read, or one of them is unreadable
-abbrev pub ReadsStack : Area → Area → ℕ → Pairs → Type 0
-ReadsStack a b at r = (es : List Entry) (rest : List Text) → PairsFrom a.sheet.now at es rest → ReadPairsIn a b at es rest r
-
-abbrev pub NoStack : Area → Area → ℕ → Type 0
-NoStack a b at = (es : List Entry) (rest : List Text) → PairsFrom a.sheet.now at es rest → (read_pairs es ≡ None) × Grows a b
-
--- the lines of an answer
-abbrev pub verdict_lines_of : Verdict → ℕ → Lines
-verdict_lines_of (verdict.Solved b) spent = Solved b spent
-verdict_lines_of verdict.Failed spent = Failed spent
-verdict_lines_of verdict.Unsupported spent = Unsupported spent
-
-abbrev pub verdict_of : Answer → Lines
-verdict_of r = verdict_lines_of r.verdict r.spent
+-- how the pairs are solved
+abbrev pub solved_by : Solver → ℕ → List Pair → rules.Answer
+solved_by solver.Unify = rules.unify
+solved_by solver.Match = matcher
 
 -- b is a with cells written, and d is what is decided of a sheet that was read: its answer, or 4 where there is none
 pub record DecidesForm (o : Option Sheet) (a b : Area) (d : Result Lines Refusal) : Type 0 where

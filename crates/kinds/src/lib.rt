@@ -1,34 +1,41 @@
 // One function for each kind of sheet: it decides, and writes no output. The area that it is lent has no cell yet and the words that the
-// sheet needs; a decision tells which of its cells are a term or bindings.
+// sheet needs; a decision tells which of its cells are a term or bindings. A kind is read, one call and its line: no shared form is
+// plainer.
 #![tactic(auto)]
 
-ghost use Rattle.std.specs.Prelude.{◌≡◌, ◌+◌, ◌*◌, ◌<◌, ◌≤◌, length, MatchResult};
+ghost use Rattle.std.specs.Prelude.{◌≡◌, ◌+◌, ◌*◌, ◌<◌, ◌≤◌, length, MatchResult, Some, None};
 ghost use Rattle.rules.specs.Text.{count_of};
-ghost use Rattle.rules.specs.Sheet.{asks_unify, asks_match, read_sheet};
+ghost use Rattle.rules.specs.Sheet.{read_sheet};
 ghost use Rattle.rules.specs.declared.Refusal.TheVariants.{UnreadableTerm};
 ghost use Rattle.sheet.specs.declared.Cursor.{Cursor};
 ghost use Rattle.forms.specs.declared.form.Form.TheVariants as form;
-ghost use Rattle.forms.specs.Form.{text_of, Inside, sheet_of, EnoughWords};
+ghost use Rattle.forms.specs.Form.{text_of, Inside, asks_by, sheet_of, EnoughWords};
 ghost use Rattle.reading.specs.Areas.{Reads, UnreadIn};
+ghost use Rattle.elimination.specs.Stack.{Whole, FitPairs};
+ghost use Rattle.tree.specs.Areas.{trees_in};
+ghost use Rattle.unifier.specs.Running.{Roomy};
+ghost use Rattle.unifier.specs.Areas.{stack_in, AnswersIn};
 ghost use Rattle.pairs.specs.Pairs.{PairsThere};
+ghost use Rattle.pairs.specs.Areas.{ReadsInOrder};
 ghost use Rattle.admission.specs.Admission.{Decoded};
 ghost use Rattle.variants.specs.Soundness.{OneMember};
-ghost use Rattle.kinds.specs.Outcomes.{Ready, Asked, CoverAsked, CompleteAsked, ReadsStack, NoStack, verdict_of, DecidesForm};
+ghost use Rattle.kinds.specs.Outcomes.{Ready, Asked, CoverAsked, CompleteAsked, solved_by, DecidesForm};
 
 use answers::deciding::{Decision, Key, Lines};
-use certificate::equivalent_texts;
+use certificate::equivalent;
 use complete::completing::complete;
 use cover::covered::covered;
-use forms::form::Form;
+use forms::form::{Form, Solver};
 use matching::matcher;
-use pairs::{Pairs, read_pairs};
+use pairs::read_in_order;
 use reading::parse;
 use reduction::normalizing::normalize;
 use rules::Refusal;
-use sheet::{Cursor, Place, part};
+use sheet::{Cursor, Place, Read};
+use substitution::answer::Answer;
 use text::count_of;
 use tree::area::Area;
-use unifier::unifying::{Answer, Verdict, unify};
+use unifier::unifying::unify;
 use variants::soundness::sound;
 
 // The cell of a term of the sheet.
@@ -41,13 +48,13 @@ fn read_term(area: &mut Area, term: Place) -> Result<usize, Refusal>
 }
 
 // The pairs of the sheet from a cursor on, as a list of cells.
-fn read_stack(area: &mut Area, pairs: Cursor) -> Result<Pairs, Refusal>
+fn read_stack(area: &mut Area, pairs: Cursor) -> Result<Read<usize>, Refusal>
     requires ready { Ready area.old }
     requires inside { pairs.at ≤ length area.old.sheet.now }
     requires pairs_there { PairsThere area.old.sheet.now pairs.at }
-    ensures { MatchResult result (λ r. ReadsStack area.old area.new pairs.at r) (λ refusal. (refusal ≡ UnreadableTerm) × NoStack area.old area.new pairs.at) }
+    ensures { MatchResult result (λ r. ReadsInOrder area.old area.new pairs.at (Some r)) (λ refusal. (refusal ≡ UnreadableTerm) × ReadsInOrder area.old area.new pairs.at None) }
 {
-    read_pairs(area, pairs).ok_or(Refusal::UnreadableTerm)
+    read_in_order(area, pairs).ok_or(Refusal::UnreadableTerm)
 }
 
 // Kind `equal`. The words of the cells are scratch.
@@ -56,9 +63,7 @@ fn equal(area: &mut Area, left: Place, right: Place) -> Decision
     requires inside { Inside area.old.sheet.now left × Inside area.old.sheet.now right }
     ensures { DecidesForm (sheet_of area.old.sheet.now (form.Equal left right)) area.old area.new result }
 {
-    let sheet = area.sheet;
-    let work = &mut *area.work;
-    let same = equivalent_texts(sheet, work, 0, left, right).ok_or(Refusal::UnreadableTerm)?;
+    let same = equivalent(area.sheet, area.work, left, right).ok_or(Refusal::UnreadableTerm)?;
     Ok(Lines::Claim {
         key: Key::Equal,
         claim: Some(same),
@@ -79,46 +84,28 @@ fn reduce(area: &mut Area, term: Place) -> Decision
     })
 }
 
-// The lines of an answer of `unify` or `match`.
-fn verdict(answer: Answer) -> Lines
-    ensures { result ≡ verdict_of answer }
+// Solves the pairs of a list of cells.
+fn solve(area: &mut Area, solver: Solver, stack: usize, fuel: usize) -> Answer
+    requires stack { (stack < area.old.free) × Whole (trees_in area.old stack) × FitPairs (stack_in area.old stack) }
+    requires fuel { fuel ≤ 65536 }
+    requires room { Roomy area.old.work.now area.old.free fuel (stack_in area.old stack) }
+    ensures { AnswersIn area.old area.new (solved_by solver fuel (stack_in area.old stack)) result }
 {
-    match answer.verdict {
-        Verdict::Solved(bindings) => Lines::Solved {
-            bindings,
-            spent: answer.spent,
-        },
-        Verdict::Failed => Lines::Failed {
-            spent: answer.spent,
-        },
-        Verdict::Unsupported => Lines::Unsupported {
-            spent: answer.spent,
-        },
+    match solver {
+        Solver::Unify => unify(area, stack, fuel),
+        Solver::Match => matcher(area, stack, fuel),
     }
 }
 
-// Kind `unify`.
-fn unify_pairs(area: &mut Area, fuel: usize, pairs: Cursor) -> Decision
+// Kinds `unify` and `match`.
+fn solve_pairs(area: &mut Area, solver: Solver, fuel: usize, pairs: Cursor) -> Decision
     requires ready { Ready area.old }
-    requires asked { Asked area.old.sheet.now asks_unify fuel pairs.at }
+    requires asked { Asked area.old.sheet.now (asks_by solver) fuel pairs.at }
     requires words { 65536 * (count_of 58 area.old.sheet.now + 16) + 16 * length area.old.sheet.now ≤ length area.old.work.now }
     ensures { DecidesForm (read_sheet area.old.sheet.now) area.old area.new result }
 {
     let read = read_stack(area, pairs)?;
-    let answer = unify(area, read.stack, fuel);
-    Ok(verdict(answer))
-}
-
-// Kind `match`.
-fn match_pairs(area: &mut Area, fuel: usize, pairs: Cursor) -> Decision
-    requires ready { Ready area.old }
-    requires asked { Asked area.old.sheet.now asks_match fuel pairs.at }
-    requires words { 65536 * (count_of 58 area.old.sheet.now + 16) + 16 * length area.old.sheet.now ≤ length area.old.work.now }
-    ensures { DecidesForm (read_sheet area.old.sheet.now) area.old area.new result }
-{
-    let read = read_stack(area, pairs)?;
-    let answer = matcher(area, read.stack, fuel);
-    Ok(verdict(answer))
+    Ok(Lines::Verdict(solve(area, solver, read.value, fuel)))
 }
 
 // Kind `sound`.
@@ -144,7 +131,7 @@ fn cover_of(area: &mut Area, pairs: Cursor) -> Decision
     ensures { DecidesForm (read_sheet area.old.sheet.now) area.old area.new result }
 {
     let read = read_stack(area, pairs)?;
-    let claim = covered(area, read.stack, read.next);
+    let claim = covered(area, read.value, read.next);
     Ok(Lines::Claim {
         key: Key::Covered,
         claim,
@@ -159,7 +146,7 @@ fn complete_of(area: &mut Area, term: Place, members: Cursor) -> Decision
     ensures { DecidesForm (read_sheet area.old.sheet.now) area.old area.new result }
 {
     let index = read_term(area, term)?;
-    let text = part(area.sheet, term.from, term.to);
+    let text = term.text(area.sheet);
     let named = count_of(text, b':') + 2 * count_of(text, b'(');
     let claim = complete(area, index, named, members);
     Ok(Lines::Claim {
@@ -168,7 +155,7 @@ fn complete_of(area: &mut Area, term: Place, members: Cursor) -> Decision
     })
 }
 
-// A sheet that is admitted, by its kind.
+// A sheet that is admitted, by its kind. Each kind has data of its own: no table is plainer.
 pub fn decide(area: &mut Area, form: Form) -> Decision
     requires ready { Ready area.old }
     requires decoded { Decoded area.old.sheet.now form }
@@ -178,8 +165,11 @@ pub fn decide(area: &mut Area, form: Form) -> Decision
     match form {
         Form::Equal { left, right } => equal(area, left, right),
         Form::Reduce { term } => reduce(area, term),
-        Form::Unify { fuel, pairs } => unify_pairs(area, fuel, pairs),
-        Form::Match { fuel, pairs } => match_pairs(area, fuel, pairs),
+        Form::Solve {
+            solver,
+            fuel,
+            pairs,
+        } => solve_pairs(area, solver, fuel, pairs),
         Form::Sound { term, member } => sound_of(area, term, member),
         Form::Cover { pairs, members: _ } => cover_of(area, pairs),
         Form::Complete { term, members } => complete_of(area, term, members),

@@ -1,14 +1,13 @@
 -- The sort of a name by its length and its bytes.
 use mathlib.Core.Path.{◌≡◌, refl}
-use mathlib.Core.List.{[], ◌∷◌}
 use lib.ListN.{length, get_or}
-use native.Mathlib.Omega.{arith}
 use Rattle.std.specs.Prelude.{Some, None}
 use Rattle.rules.specs.Bytes.{Text, same}
 use Rattle.rules.specs.Text.{bytes}
 use Rattle.rules.specs.declared.Sort.TheVariants.{TamNat}
 use Rattle.rules.specs.Sorts.{sort_named}
 use Rattle.laws.proofs.Basics.Tests.{differ_of_ne}
+use Rattle.text.proofs.Spelling.{reads}
 
 -- a text with none of the names
 pub unnamed : (n : Text) → (length n ≡ 3 → get_or n 0 0 ≡ 80 → get_or n 1 0 ≡ 117 → get_or n 2 0 ≡ 98 → ⊥)
@@ -29,11 +28,4 @@ unnamed n p f m t d =
 
 pub named_tam_nat : (n : Text) → length n ≡ 6 → get_or n 0 0 ≡ 84 → get_or n 1 0 ≡ 97 → get_or n 2 0 ≡ 109 → get_or n 3 0 ≡ 78 → get_or n 4 0 ≡ 97 → get_or n 5 0 ≡ 116 → Some TamNat ≡ sort_named n
 unfolding sort_named same
-named_tam_nat (a ∷ b ∷ c ∷ d ∷ e ∷ f ∷ []) l g h i j k m = rw (g, h, i, j, k, m) refl
-named_tam_nat [] l g h i j k m = absurd (omega arith)
-named_tam_nat (a ∷ []) l g h i j k m = absurd (omega arith)
-named_tam_nat (a ∷ b ∷ []) l g h i j k m = absurd (omega arith)
-named_tam_nat (a ∷ b ∷ c ∷ []) l g h i j k m = absurd (omega arith)
-named_tam_nat (a ∷ b ∷ c ∷ d ∷ []) l g h i j k m = absurd (omega arith)
-named_tam_nat (a ∷ b ∷ c ∷ d ∷ e ∷ []) l g h i j k m = absurd (omega arith)
-named_tam_nat (a ∷ b ∷ c ∷ d ∷ e ∷ f ∷ o ∷ n) l g h i j k m = absurd (omega arith)
+named_tam_nat n l g h i j k m = rw (reads n (bytes "TamNat") (g, (h, (i, (j, (k, (m, l))))))) refl

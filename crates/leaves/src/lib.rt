@@ -5,15 +5,20 @@ pub mod sorts; // sorts.rt: the sort of a leaf that is a variable
 
 ghost use Rattle.std.specs.Prelude.{◌≡◌};
 ghost use Rattle.rules.specs.Names.{digit, letter, letter_name, all};
+ghost use Rattle.leaves.specs.Leaves.{name_letter};
 
-// Whether a name is one of the letters of atoms.
+// The letter of atoms that a name is.
 #[tactic(auto, unfolding(rules::specs::Names::letter_name, rules::specs::Names::letter))]
-pub fn is_letter_name(name: &[u8]) -> bool
-    ensures { result ≡ letter_name name.now }
+pub fn letter_of(name: &[u8]) -> Option<u8>
+    ensures { result ≡ name_letter name.now }
 {
-    matches!(name, [b'p' | b'f' | b'c' | b't' | b'n'])
+    match name {
+        [letter @ (b'p' | b'f' | b'c' | b't' | b'n')] => Some(*letter),
+        _ => None,
+    }
 }
 
+// Whether a name has digits alone.
 pub fn all_digits(name: &[u8]) -> bool
     ensures { result ≡ all digit name.now }
 {

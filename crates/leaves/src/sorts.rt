@@ -6,7 +6,7 @@ ghost use Rattle.leaves.specs.Leaves.{colon_in, leaf_sort};
 use rules::Sort;
 
 // The sort of a name, None for a name that no sort has.
-#[tactic(auto, unfolding(rules::specs::Sorts::sort_named, rules::specs::Bytes::same))]
+#[tactic(auto, using(crate::proofs::SortNames::unnamed, crate::proofs::SortNames::named_tam_nat), unfolding(rules::specs::Sorts::sort_named, rules::specs::Bytes::same))]
 fn sort_named(name: &[u8]) -> Option<Sort>
     ensures { result ≡ sort_named name.now }
 {
@@ -28,6 +28,7 @@ fn colon(name: &[u8]) -> Option<usize>
 }
 
 // What a leaf is: None for a name without a colon, else a variable, of the sort that is named after the first.
+// An Option in an Option: an enum would be matched once.
 pub fn leaf_sort(name: &[u8]) -> Option<Option<Sort>>
     ensures { result ≡ leaf_sort name.now }
 {

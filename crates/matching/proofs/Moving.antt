@@ -1,14 +1,17 @@
 -- The loop of `match` over an area: the run is that of the waiting pairs, after the bindings made so far.
 use Prim.Native.Nat.{ℕ, ◌+◌, ◌-◌, ◌*◌, ◌<◌, ◌≤◌}
 use mathlib.Core.Path.{◌≡◌, refl, sym, ap, ap₂, subst, ◌∙◌}
-use mathlib.Core.List.{List, []}
+use mathlib.Core.List.{List, [], ◌∷◌}
 use native.Mathlib.Omega.{arith}
+use Rattle.std.specs.Prelude.{Ok, Err}
+use Rattle.rules.specs.declared.Ending.{Ending}
+use Rattle.rules.specs.declared.Ending.TheVariants as ending
 use Rattle.rules.specs.Substitution.{Binding, Pair, flatten}
 use Rattle.rules.specs.Solving.{solved, unsupported, Answer}
 use Rattle.rules.specs.Matching.{Move, onward, clash, beyond, move, moved, matching, matcher}
-use Rattle.laws.specs.Memory.{load, weight}
+use Rattle.laws.specs.Memory.{weight}
 use Rattle.tree.specs.declared.area.Area.{Area}
-use Rattle.tree.specs.Areas.{next_in, tree_in, trees_in, Grows}
+use Rattle.tree.specs.Areas.{tree_in, trees_in, Grows}
 use Rattle.tree.proofs.Decoding.{trees_none}
 use Rattle.tree.proofs.Keeping.{grows_same, grows_then}
 use Rattle.substitution.specs.Bindings.{bindings_of, flatten_bindings, Chain}
@@ -16,11 +19,12 @@ use Rattle.substitution.specs.Areas.{bindings_in}
 use Rattle.substitution.proofs.Chains.{bindings_flatten, chain_flatten}
 use Rattle.elimination.specs.Stack.{Whole, Fit, FitPairs, FitBindings}
 use Rattle.elimination.specs.Area.{Room}
-use Rattle.moving.specs.Areas.{OnwardsIn}
+use Rattle.elimination.specs.declared.front.Front.{Front}
+use Rattle.elimination.specs.Fronts.{FitFront, load_in, FrontRoom}
+use Rattle.elimination.proofs.Tops.{pairs_are, top_weight, top_fit}
+use Rattle.moving.specs.Areas.{MadeIn, FitMade, last_move, OnwardsIn}
 use Rattle.steps.proofs.Fitting.{FitMove, move_fit}
 use Rattle.unifier.specs.Areas.{stack_in, AnswersIn}
-use Rattle.unifier.specs.declared.unifying.Verdict.TheVariants.{Solved, Failed, Unsupported}
-use Rattle.unifier.proofs.Tops.{stack_empty, Top, right_some, top, top_pairs, top_weight, top_fit, top_whole}
 use Rattle.matching.proofs.Answering.{later, matching_end, matching_step, matching_spent, matcher_start}
 
 -- at the head of the loop: the pairs ps wait from cell waiting on, the bindings bs are from cell made on
@@ -71,9 +75,9 @@ module _ {a b : Area} {start : List Pair} {fuel spent waiting made : ℕ} (h : H
 
   -- The ends
 
-  pub holds_solved : spent < fuel → waiting ≡ 0 → AnswersIn a b (matcher fuel start) (record { verdict = Solved made; spent = spent })
+  pub holds_solved : spent < fuel → stack_in b waiting ≡ [] → AnswersIn a b (matcher fuel start) (record { verdict = Ok made; spent = spent })
   holds_solved p e =
-      let empty = stack_empty b.sheet.now b.work.now waiting h.ps h.waits e in
+      let empty = sym (pairs_are h.ps h.waits) ∙ e in
       let z : spent + 0 ≡ spent = omega arith in
       let room = h.room in
       record {
@@ -85,7 +89,7 @@ module _ {a b : Area} {start : List Pair} {fuel spent waiting made : ℕ} (h : H
         bound = record { inside = h.list; chain = made_chain; room = omega (arith, room.0) };
       }
 
-  pub holds_spent : fuel ≤ spent → AnswersIn a b (matcher fuel start) (record { verdict = Unsupported; spent = fuel })
+  pub holds_spent : fuel ≤ spent → AnswersIn a b (matcher fuel start) (record { verdict = Err ending.Unsupported; spent = fuel })
   holds_spent e =
       let z : spent + 0 ≡ fuel = omega (arith, h.within) in
       record {
@@ -96,31 +100,38 @@ module _ {a b : Area} {start : List Pair} {fuel spent waiting made : ℕ} (h : H
 
   -- The pair on top
 
-  pub holds_right : {r : ℕ} → 0 < waiting → r ≡ next_in b waiting → r < waiting → (0 < r) × (r < b.free)
-  holds_right {r} p e f = (right_some b.sheet.now b.arena.links h.ps waiting r p h.stack e h.waits, omega (arith, h.stack, f))
+  module _ (f : Front) (t : stack_in b waiting ≡ (tree_in b f.left, tree_in b f.right) ∷ stack_in b f.rest) (p : spent < fuel) where
+    on_top : h.ps ≡ (tree_in b f.left, tree_in b f.right) ∷ stack_in b f.rest
+    on_top = sym (pairs_are h.ps h.waits) ∙ t
 
-  pub holds_top : {r rest : ℕ} → 0 < waiting → r ≡ next_in b waiting → r < waiting → rest ≡ next_in b r → Top b.sheet.now b.work.now h.ps waiting r rest
-  holds_top {r} {rest} p e f g = top b.sheet.now b.arena.links h.ps waiting r p h.stack e h.waits rest (holds_right p e f).1 g
+    weighs : weight h.ps ≡ load_in b f + weight (stack_in b f.rest)
+    weighs = top_weight (tree_in b f.left) (tree_in b f.right) (stack_in b f.rest) on_top
 
-  module _ {r rest : ℕ} (t : Top b.sheet.now b.work.now h.ps waiting r rest) (p : spent < fuel) where
+    fits : Fit (tree_in b f.left) × Fit (tree_in b f.right) × FitPairs (stack_in b f.rest)
+    fits = top_fit (tree_in b f.left) (tree_in b f.right) (stack_in b f.rest) on_top h.fit
+
     -- what taking it needs
-    pub move_lists : Whole (trees_in b rest) × Chain (trees_in b made)
-    move_lists = (top_whole t, made_chain)
+    pub move_made : MadeIn b made
+    move_made = (h.list, made_chain)
 
-    pub move_fits : Fit (tree_in b waiting) × Fit (tree_in b r) × FitBindings (bindings_in b made)
-    move_fits = let f = top_fit t h.fit in (f.0, f.1, made_fit)
+    pub move_fits : FitFront b f × FitMade b made
+    move_fits = ((fits.0, fits.1), made_fit)
 
-    pub move_room : Room b.work.now (b.free + load (tree_in b waiting) (tree_in b r) + 2)
-    move_room = let room = h.room in let weighs = top_weight t in (omega (arith, room.0), omega (arith, room.1))
+    pub move_room : FrontRoom b f
+    move_room = let room = h.room in (omega (arith, room.0, weighs), omega (arith, room.1, weighs))
 
-    stays_fit : FitMove (move (tree_in b waiting) (tree_in b r) (stack_in b rest) (bindings_in b made))
-    stays_fit = let f = top_fit t h.fit in move_fit (tree_in b waiting) (tree_in b r) (stack_in b rest) (bindings_in b made) f.0 f.1 f.2 made_fit
+    -- what it makes of it
+    abbrev pub taken_move : Move
+    taken_move = move (tree_in b f.left) (tree_in b f.right) (stack_in b f.rest) (bindings_in b made)
 
-    taken_run : (d : Move) → move (tree_in b waiting) (tree_in b r) (stack_in b rest) (bindings_in b made) ≡ d → matcher fuel start ≡ later spent (moved d (λ qs cs. matching (fuel - spent - 1) qs cs))
+    stays_fit : FitMove taken_move
+    stays_fit = move_fit (tree_in b f.left) (tree_in b f.right) (stack_in b f.rest) (bindings_in b made) fits.0 fits.1 fits.2 made_fit
+
+    taken_run : (d : Move) → taken_move ≡ d → matcher fuel start ≡ later spent (moved d (λ qs cs. matching (fuel - spent - 1) qs cs))
     taken_run d e =
         h.ran
-        ∙ ap₂ (λ (qs : List Pair) (cs : List Binding). later spent (matching (fuel - spent) qs cs)) (top_pairs t) (sym made_are)
-        ∙ ap (λ (x : Answer). later spent x) (matching_step (fuel - spent) (tree_in b waiting) (tree_in b r) (stack_in b rest) (bindings_in b made) (omega arith))
+        ∙ ap₂ (λ (qs : List Pair) (cs : List Binding). later spent (matching (fuel - spent) qs cs)) on_top (sym made_are)
+        ∙ ap (λ (x : Answer). later spent x) (matching_step (fuel - spent) (tree_in b f.left) (tree_in b f.right) (stack_in b f.rest) (bindings_in b made) (omega arith))
         ∙ ap (λ (d : Move). later spent (moved d (λ qs cs. matching (fuel - spent - 1) qs cs))) e
 
     left_is : fuel - spent - 1 ≡ fuel - (spent + 1)
@@ -130,19 +141,17 @@ module _ {a b : Area} {start : List Pair} {fuel spent waiting made : ℕ} (h : H
     counted k = omega arith
 
     module _ {d : Area} where
-      pub holds_clash : (move (tree_in b waiting) (tree_in b r) (stack_in b rest) (bindings_in b made) ≡ clash) × Grows b d → AnswersIn a d (matcher fuel start) (record { verdict = Failed; spent = spent + 1 })
-      holds_clash g = record { grows = grows_then h.grows g.1; is = taken_run clash g.0; bound = tt }
+      pub holds_over : (e : Ending) → (taken_move ≡ last_move e) × Grows b d → AnswersIn a d (matcher fuel start) (record { verdict = Err e; spent = spent + 1 })
+      holds_over ending.Failed g = record { grows = grows_then h.grows g.1; is = taken_run clash g.0; bound = tt }
+      holds_over ending.Unsupported g = record { grows = grows_then h.grows g.1; is = taken_run beyond g.0; bound = tt }
 
-      pub holds_beyond : (move (tree_in b waiting) (tree_in b r) (stack_in b rest) (bindings_in b made) ≡ beyond) × Grows b d → AnswersIn a d (matcher fuel start) (record { verdict = Unsupported; spent = spent + 1 })
-      holds_beyond g = record { grows = grows_then h.grows g.1; is = taken_run beyond g.0; bound = tt }
-
-      pub holds_onward : {st k : ℕ} → OnwardsIn b d (load (tree_in b waiting) (tree_in b r) + weight (stack_in b rest)) (move (tree_in b waiting) (tree_in b r) (stack_in b rest) (bindings_in b made)) st k
+      pub holds_onward : {st k : ℕ} → OnwardsIn b d (load_in b f + weight (stack_in b f.rest)) taken_move st k
           → HoldsIn a d start fuel (spent + 1) st k
       holds_onward {st} {k} g =
           let x = matching (fuel - spent - 1) g.pairs g.bindings in
-          let f = subst FitMove g.is stays_fit in
+          let k = subst FitMove g.is stays_fit in
           let room = h.room in
-          let weighs = top_weight t in
+          let w = weighs in
           let used = g.used in
           let len = g.waits.grows.below.len in
           record {
@@ -154,8 +163,8 @@ module _ {a b : Area} {start : List Pair} {fuel spent waiting made : ℕ} (h : H
             bs = g.bindings;
             waits = g.waits.trees;
             binds = g.list;
-            fit = f.0;
-            values = f.1;
+            fit = k.0;
+            values = k.1;
             room = (omega (arith, room.0), omega (arith, room.1));
             ran = taken_run (onward g.pairs g.bindings) g.is ∙ ap (λ (j : ℕ). (x.0, j)) (counted x.1)
                 ∙ ap (λ (k : ℕ). later (spent + 1) (matching k g.pairs g.bindings)) left_is;

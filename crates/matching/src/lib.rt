@@ -10,11 +10,14 @@ ghost use Rattle.elimination.specs.Area.{Room};
 ghost use Rattle.elimination.specs.Stack.{Whole, FitPairs};
 ghost use Rattle.unifier.specs.Areas.{stack_in, AnswersIn};
 
-use moving::{Moved, advance};
+use elimination::front::Front;
+use moving::advance;
+use rules::Ending;
+use substitution::answer::Answer;
 use tree::area::Area;
-use unifier::unifying::{Answer, Verdict};
 
 // Matches the pairs from cell stack on: the left sides are patterns, the right ones subjects.
+// Each step pushes cells into the area, which an iterator over the pairs would hold.
 pub fn matcher(area: &mut Area, stack: usize, fuel: usize) -> Answer
     requires stack { (stack < area.old.free) × Whole (trees_in area.old stack) × FitPairs (stack_in area.old stack) }
     requires fuel { fuel ≤ 65536 }
@@ -24,35 +27,27 @@ pub fn matcher(area: &mut Area, stack: usize, fuel: usize) -> Answer
     let mut waiting = stack;
     let mut made = 0;
     for spent in 0..fuel {
-        if waiting == 0 {
+        let Some(front) = Front::top(area, waiting) else {
             return Answer {
-                verdict: Verdict::Solved(made),
+                verdict: Ok(made),
                 spent,
             };
-        }
-        let right = area.next_of(waiting);
-        let rest = area.next_of(right);
-        match advance(area, waiting, right, rest, made) {
-            Moved::Onward { stack: s, bindings } => {
-                waiting = s;
-                made = bindings;
+        };
+        match advance(area, front, made) {
+            Ok(onward) => {
+                waiting = onward.stack;
+                made = onward.bindings;
             }
-            Moved::Clash => {
+            Err(ending) => {
                 return Answer {
-                    verdict: Verdict::Failed,
-                    spent: spent + 1,
-                };
-            }
-            Moved::Beyond => {
-                return Answer {
-                    verdict: Verdict::Unsupported,
+                    verdict: Err(ending),
                     spent: spent + 1,
                 };
             }
         }
     }
     Answer {
-        verdict: Verdict::Unsupported,
+        verdict: Err(Ending::Unsupported),
         spent: fuel,
     }
 }

@@ -10,6 +10,8 @@ use Rattle.rules.specs.Bytes.{Text, same}
 use Rattle.rules.specs.Tree.{Tree, variable, Trees, more, head, tamtplus}
 use Rattle.rules.specs.Substitution.{Binding, Pair}
 use Rattle.rules.specs.Sums.{equivalent}
+use Rattle.rules.specs.declared.Ending.{Ending}
+use Rattle.rules.specs.declared.Ending.TheVariants as ending
 use Rattle.rules.specs.declared.Sort.{Sort}
 use Rattle.rules.specs.Sorts.{sorted}
 use Rattle.rules.specs.Solving.{Rest, emptied, mismatch, stuck, equation, cancel_sums}
@@ -21,13 +23,14 @@ use Rattle.tree.specs.Areas.{cell_kind, name_in, tree_in, trees_in, sort_of, Gro
 use Rattle.tree.proofs.Keeping.{adds_grows, grows_trees}
 use Rattle.tree.proofs.ByKind.{tree_application, tree_an_atom}
 use Rattle.substitution.specs.Bindings.{flatten_bindings, Chain}
-use Rattle.substitution.specs.Areas.{bindings_in, Lists}
+use Rattle.tree.specs.Lists.{Lists}
+use Rattle.substitution.specs.Areas.{bindings_in}
 use Rattle.elimination.specs.Stack.{Whole}
 use Rattle.elimination.specs.Areas.{pairs_in, WaitsIn}
 use Rattle.elimination.proofs.Eliminating.{waits_stay}
 use Rattle.sums.specs.declared.striking.Cancelling.TheVariants.{Ground}
-use Rattle.steps.specs.Areas.{Rooted, waiting, unlike, undecided, rest_rooted, roots_at, roots, WaitingIn}
-use Rattle.moving.specs.Areas.{OnwardsIn}
+use Rattle.steps.specs.Areas.{Rooted, waiting, unlike, undecided, rest_rooted, roots_at, roots, rooted_at_end, WaitingIn}
+use Rattle.moving.specs.Areas.{last_move, OnwardsIn}
 
 -- Roots
 
@@ -53,8 +56,12 @@ module _ (t u : Tree) (ps : List Pair) (bs : List Binding) where
       go true true = rest_moves (cancel_sums false ground_eq t u)
       go true false = refl
 
-  pub moves_rooted : {d : Rooted} → roots Ground t u ps ≡ d → match_roots t u ps bs ≡ rooted_move d bs
+  moves_rooted : {d : Rooted} → roots Ground t u ps ≡ d → match_roots t u ps bs ≡ rooted_move d bs
   moves_rooted e = roots_move ∙ ap (λ (d : Rooted). rooted_move d bs) e
+
+  pub moves_ended : (e : Ending) → roots Ground t u ps ≡ rooted_at_end e → match_roots t u ps bs ≡ last_move e
+  moves_ended ending.Failed f = moves_rooted f
+  moves_ended ending.Unsupported f = moves_rooted f
 
 -- the bindings made stay
 module _ {a b : Area} (made : ℕ) (q : made < a.free) (chain : Chain (trees_in a made)) where

@@ -1,10 +1,8 @@
--- Pairs of lines as the definitions read them: one pair, the pairs after some that were read, and where two lines stand.
-use Prim.Native.Nat.{ℕ, ◌+◌, ◌-◌, ◌≤◌}
-use native.Mathlib.Omega.{arith}
+-- Pairs of lines as the definitions read them: one pair, the pairs after some that were read.
+use Prim.Native.Nat.{ℕ}
 use mathlib.Core.Path.{◌≡◌, refl, sym, ap, ◌∙◌}
 use mathlib.Core.List.{List, [], ◌∷◌, ◌++◌, append_assoc, map}
 use Rattle.std.specs.Prelude.{Option, Some, None}
-use lib.ListN.{length}
 use Rattle.rules.specs.Bytes.{Text}
 use Rattle.rules.specs.Text.{bytes}
 use Rattle.rules.specs.Maybe.{◌>>=◌, every}
@@ -15,9 +13,8 @@ use Rattle.rules.specs.Sheet.{Entry}
 use Rattle.rules.specs.Answer.{read_pair, read_pairs}
 use Rattle.sheet.specs.Lines.{lines_at}
 use Rattle.sheet.specs.Pairs.{two_lines_at}
-use Rattle.forms.specs.Form.{Inside}
+use Rattle.sheet.specs.declared.Read.{Read}
 use Rattle.sheet.specs.declared.Sides.{Sides}
-use Rattle.forms.proofs.PairLaws.{paired}
 use Rattle.forms.proofs.WalkLaws.{pairs_by, two_there, two_end}
 use Rattle.pairs.specs.Pairs.{sides, PairsFrom}
 
@@ -40,8 +37,8 @@ pub record Ahead (s : Text) (c : ℕ) (es : List Entry) (rest : List Text) (ps :
   pub read : read_pairs es ≡ (read_pairs later >>= λ qs. Some (ps ++ qs))
 
 module _ {s : Text} {c : ℕ} {es : List Entry} {rest : List Text} {ps : List Pair} (h : Ahead s c es rest ps) where
-  ahead_next : (two : Sides) → Some two ≡ two_lines_at (bytes "left=") (bytes "right=") s c
-      → (fs : List Entry) × (h.later ≡ sides s two.left two.right ∷ fs) × PairsFrom s two.next.at fs rest
+  ahead_next : (two : Read Sides) → Some two ≡ two_lines_at (bytes "left=") (bytes "right=") s c
+      → (fs : List Entry) × (h.later ≡ sides s two.value.left two.value.right ∷ fs) × PairsFrom s two.next.at fs rest
   ahead_next two e =
       let (fs, d, g) = two_there (bytes "left=") (bytes "right=") s c h.later rest (sym (pairs_by s c) ∙ h.from) two e in
       (fs, d, pairs_by s two.next.at ∙ g)
@@ -49,24 +46,24 @@ module _ {s : Text} {c : ℕ} {es : List Entry} {rest : List Text} {ps : List Pa
   ahead_read : (fs : List Entry) → h.later ≡ fs → read_pairs es ≡ (read_pairs fs >>= λ qs. Some (ps ++ qs))
   ahead_read fs d = h.read ∙ ap (λ (fs : List Entry). read_pairs fs >>= λ qs. Some (ps ++ qs)) d
 
-  pub ahead_turn : (two : Sides) (p : Pair) → Some two ≡ two_lines_at (bytes "left=") (bytes "right=") s c → read_pair (sides s two.left two.right) ≡ Some p → Ahead s two.next.at es rest (ps ++ (p ∷ []))
+  pub ahead_turn : (two : Read Sides) (p : Pair) → Some two ≡ two_lines_at (bytes "left=") (bytes "right=") s c → read_pair (sides s two.value.left two.value.right) ≡ Some p → Ahead s two.next.at es rest (ps ++ (p ∷ []))
   ahead_turn two p e g =
       let (fs, d, k) = ahead_next two e in
       record {
         later = fs;
         from = k;
         read =
-            ahead_read (sides s two.left two.right ∷ fs) d ∙ ap (λ (o : Option (List Pair)). o >>= λ qs. Some (ps ++ qs)) (read_first (sides s two.left two.right) fs (Some p) g) ∙ go (read_pairs fs);
+            ahead_read (sides s two.value.left two.value.right ∷ fs) d ∙ ap (λ (o : Option (List Pair)). o >>= λ qs. Some (ps ++ qs)) (read_first (sides s two.value.left two.value.right) fs (Some p) g) ∙ go (read_pairs fs);
       }
     where
       go : (o : Option (List Pair)) → ((o >>= λ qs. Some (p ∷ qs)) >>= λ qs. Some (ps ++ qs)) ≡ (o >>= λ qs. Some ((ps ++ (p ∷ [])) ++ qs))
       go None = refl
       go (Some qs) = ap Some (sym (append_assoc ps (p ∷ []) qs))
 
-  pub ahead_unread : (two : Sides) → Some two ≡ two_lines_at (bytes "left=") (bytes "right=") s c → read_pair (sides s two.left two.right) ≡ None → read_pairs es ≡ None
+  pub ahead_unread : (two : Read Sides) → Some two ≡ two_lines_at (bytes "left=") (bytes "right=") s c → read_pair (sides s two.value.left two.value.right) ≡ None → read_pairs es ≡ None
   ahead_unread two e g =
       let (fs, d, k) = ahead_next two e in
-      ahead_read (sides s two.left two.right ∷ fs) d ∙ ap (λ (o : Option (List Pair)). o >>= λ qs. Some (ps ++ qs)) (read_first (sides s two.left two.right) fs None g)
+      ahead_read (sides s two.value.left two.value.right ∷ fs) d ∙ ap (λ (o : Option (List Pair)). o >>= λ qs. Some (ps ++ qs)) (read_first (sides s two.value.left two.value.right) fs None g)
 
   module _ (e : None ≡ two_lines_at (bytes "left=") (bytes "right=") s c) where
     pub none_later : (h.later ≡ []) × (lines_at s c ≡ Some rest)
@@ -75,27 +72,6 @@ module _ {s : Text} {c : ℕ} {es : List Entry} {rest : List Text} {ps : List Pa
     pub ahead_end : read_pairs es ≡ Some (ps ++ [])
     unfolding read_pairs
     ahead_end = ahead_read [] none_later.0
-
--- ---- two lines at a position
-
--- where two lines stand, and how many bytes there are beside the sides
-pub record Located (s : Text) (c : ℕ) (two : Sides) : Type 0 where
-  pub left : Inside s two.left
-  pub right : Inside s two.right
-  pub next : c + 13 + (two.left.to - two.left.from) + (two.right.to - two.right.from) ≡ two.next.at
-  pub within : two.next.at ≤ length s
-
-pub located : (s : Text) (c : ℕ) (two : Sides) → Some two ≡ two_lines_at (bytes "left=") (bytes "right=") s c → Located s c two
-located s c two e =
-    let h = paired (bytes "left=") (bytes "right=") s c two e in
-    let a : length (bytes "left=") ≡ 5 = refl in
-    let b : length (bytes "right=") ≡ 6 = refl in
-    record {
-      left = h.one.ends;
-      right = h.two.ends;
-      next = omega (arith, h.one.begins, h.one.ends, h.one.after, h.two.begins, h.two.ends, h.two.after);
-      within = omega (arith, h.two.ends, h.two.after);
-    }
 
 -- nothing was read yet
 pub ahead_none : (s : Text) (at : ℕ) (es : List Entry) (rest : List Text) → PairsFrom s at es rest → Ahead s at es rest []

@@ -1,5 +1,5 @@
 -- Pairs of lines read into cells of an area: one pair, the walk over all of them, whose list is backwards, and that list turned round.
-use Prim.Native.Nat.{ℕ, ◌+◌, ◌*◌, ◌-◌, ◌^◌, ◌<◌, ◌≤◌}
+use Prim.Native.Nat.{ℕ, ◌+◌, ◌*◌, ◌-◌, ◌<◌, ◌≤◌}
 use native.Mathlib.Omega.{arith}
 use mathlib.Core.Path.{◌≡◌, refl, sym, ap, ap₂, ◌∙◌, subst}
 use mathlib.Core.List.{List, [], ◌∷◌, ◌++◌, append_assoc}
@@ -14,23 +14,23 @@ use Rattle.rules.specs.Substitution.{Pair, flatten}
 use Rattle.rules.specs.Sheet.{Entry}
 use Rattle.rules.specs.Answer.{read_pair, read_pairs}
 use Rattle.tree.specs.declared.area.Area.{Area}
-use Rattle.tree.specs.Areas.{next_in, tree_in, trees_in, Grows, Pushes}
+use Rattle.tree.specs.Areas.{tree_in, trees_in, Grows}
 use Rattle.tree.specs.Spelled.{text_in}
-use Rattle.tree.proofs.Keeping.{adds_same, adds_grows, adds_then, adds_push, grows_same, grows_then, grows_length, grows_next, grows_tree, grows_trees, pushed_inside, pushed_trees}
-use Rattle.tree.proofs.Lists.{list_none, list_more}
+use Rattle.tree.proofs.Keeping.{adds_grows, grows_same, grows_then, grows_tree, grows_trees}
+use Rattle.tree.proofs.Lists.{list_none}
 use Rattle.tree.proofs.Spelling.{text_lent}
-use Rattle.closing.specs.Machine.{back}
-use Rattle.closing.proofs.Orders.{list_count}
+use Rattle.tree.specs.Lists.{back, Lists}
 use Rattle.reading.specs.Areas.{Reads, UnreadIn, texts_end_in}
 use Rattle.reading.proofs.Keeping.{reads_grows, unread_grows, sheet_length}
-use Rattle.substitution.specs.Areas.{Lists}
 use Rattle.sheet.specs.Lines.{lines_at}
 use Rattle.sheet.specs.Pairs.{two_lines_at}
+use Rattle.sheet.specs.declared.Read.{Read}
 use Rattle.sheet.specs.declared.Sides.{Sides}
+use Rattle.forms.specs.Form.{Inside}
+use Rattle.forms.proofs.Located.{pair_located}
 use Rattle.pairs.specs.Pairs.{sides, pair_end, PairsFrom}
-use Rattle.pairs.specs.Areas.{ReadPairIn, ReversedIn, ReadPairsIn}
-use Rattle.pairs.specs.declared.Pairs.{Pairs}
-use Rattle.pairs.proofs.Ahead.{left_first, Ahead, ahead_none, ahead_turn, ahead_unread, none_later, ahead_end, located}
+use Rattle.pairs.specs.Areas.{ReadPairIn, ReversedIn, InOrder}
+use Rattle.pairs.proofs.Ahead.{left_first, Ahead, ahead_none, ahead_turn, ahead_unread, none_later, ahead_end}
 
 -- ---- one pair
 
@@ -87,7 +87,7 @@ reading_starts a at q = record {
 }
 
 module _ {a b : Area} {at c list : ℕ} (h : ReadingIn a at b c list) where
-  pub reading_ends : None ≡ two_lines_at (bytes "left=") (bytes "right=") b.sheet.now c → ReversedIn a b at record { stack = list; next = record { at = c } }
+  pub reading_ends : None ≡ two_lines_at (bytes "left=") (bytes "right=") b.sheet.now c → ReversedIn a b at record { value = list; next = record { at = c } }
   unfolding flatten
   reading_ends e =
       let f = subst (λ s. None ≡ two_lines_at (bytes "left=") (bytes "right=") s.now c) h.grows.lent.sheet e in
@@ -103,24 +103,27 @@ module _ {a b : Area} {at c list : ℕ} (h : ReadingIn a at b c list) where
         used = h.used;
       }
 
-  module _ (two : Sides) (e : Some two ≡ two_lines_at (bytes "left=") (bytes "right=") b.sheet.now c) where
+  module _ (two : Read Sides) (e : Some two ≡ two_lines_at (bytes "left=") (bytes "right=") b.sheet.now c) where
     here : Some two ≡ two_lines_at (bytes "left=") (bytes "right=") a.sheet.now c
     here = subst (λ s. Some two ≡ two_lines_at (bytes "left=") (bytes "right=") s.now c) h.grows.lent.sheet e
 
-    pub reading_room : (pair_end b.free two.left two.right ≤ texts_end_in a at) × (length b.sheet.now ≡ length a.sheet.now) × (length b.work.now ≡ length a.work.now)
-    reading_room = let x = located b.sheet.now c two e in (omega (arith, h.used, h.onward, x.next, x.within, sheet_length h.grows.lent), sheet_length h.grows.lent, grows_length h.grows)
+    pub reading_inside : Inside b.sheet.now two.value.left × Inside b.sheet.now two.value.right × (list < b.free)
+    reading_inside = let x = pair_located b.sheet.now c two e in (x.left, x.right, h.inside)
 
-    pub reading_unread : {d : Area} → (read_pair (sides b.sheet.now two.left two.right) ≡ None) × Grows b d
+    pub reading_room : pair_end b.free two.value.left two.value.right ≤ texts_end_in a at
+    reading_room = let x = pair_located b.sheet.now c two e in omega (arith, h.used, h.onward, x.next, x.within, sheet_length h.grows.lent)
+
+    pub reading_unread : {d : Area} → (read_pair (sides b.sheet.now two.value.left two.value.right) ≡ None) × Grows b d
         → ((es : List Entry) (rest : List Text) → PairsFrom a.sheet.now at es rest → read_pairs es ≡ None) × Grows a d
     reading_unread x =
-        let u = subst (λ s. read_pair (sides s.now two.left two.right) ≡ None) h.grows.lent.sheet x.0 in
+        let u = subst (λ s. read_pair (sides s.now two.value.left two.value.right) ≡ None) h.grows.lent.sheet x.0 in
         ((λ es rest k. ahead_unread (h.ahead es rest k) two here u), grows_then h.grows x.1)
 
-    pub reading_turn : {d : Area} {i : ℕ} → ReadPairIn b d two list i → ReadingIn a at d two.next.at i
+    pub reading_turn : {d : Area} {i : ℕ} → ReadPairIn b d two.value list i → ReadingIn a at d two.next.at i
     unfolding flatten back
     reading_turn {d} {i} x =
-        let y = located b.sheet.now c two e in
-        let r = subst (λ s. read_pair (sides s.now two.left two.right) ≡ Some x.pair) h.grows.lent.sheet x.read in
+        let y = pair_located b.sheet.now c two e in
+        let r = subst (λ s. read_pair (sides s.now two.value.left two.value.right) ≡ Some x.pair) h.grows.lent.sheet x.read in
         record {
           ps = h.ps ++ (x.pair ∷ []);
           ahead = λ es rest k. ahead_turn (h.ahead es rest k) two x.pair here r;
@@ -133,61 +136,10 @@ module _ {a b : Area} {at c list : ℕ} (h : ReadingIn a at b c list) where
           within = omega (arith, y.within, sheet_length x.grows.lent);
         }
 
--- ---- a list written once more, the last first: the trees of a before cell k stand in b
-
-pub record Turning (a : Area) (list : ℕ) (b : Area) (k first : ℕ) : Type 0 where
-  pub us : Trees
-  pub lists : Lists a b first us
-  pub left : k < a.free
-  pub trees : back (trees_in a k) us ≡ back (trees_in a list) none
-  pub used : b.free + count (trees_in a k) ≡ a.free + count (trees_in a list)
-
-pub turning_starts : (a : Area) (list : ℕ) → list < a.free → Turning a list a list 0
-turning_starts a list q = record {
-  us = none;
-  lists = record { adds = adds_same a; inside = a.arena.links.some; trees = list_none a 0 refl };
-  left = q;
-  trees = refl;
-  used = refl;
-}
-
-module _ {a b : Area} {list k first : ℕ} (h : Turning a list b k first) where
-  pub turning_ends : k ≤ 0 → Lists a b first (back (trees_in a list) none) × (b.free ≡ a.free + count (trees_in a list))
-  unfolding back
-  turning_ends z =
-      let e = list_none a k (omega arith) in (
-        record { adds = h.lists.adds; inside = h.lists.inside; trees = h.lists.trees ∙ sym (ap (λ (ts : Trees). back ts h.us) e) ∙ h.trees },
-        omega (arith, h.used, ap count e),
-      )
-
-  module _ (p : 0 < k) where
-    pub turning_room : 4 * (a.free + count (trees_in a list)) ≤ length a.work.now → a.free + count (trees_in a list) < 2 ^ 32 → (4 * b.free + 4 ≤ length b.work.now) × (b.free < 2 ^ 32)
-    turning_room l m =
-        let r = h.used in
-        let c = list_count a k p h.left refl in
-        (omega (arith, grows_length (adds_grows h.lists.adds)), omega arith)
-
-    pub turning_turn : {d : Area} {next i : ℕ} → next ≡ next_in b k → next < k → Pushes b d i first (tree_in b k) → Turning a list d next i
-    unfolding back
-    turning_turn {d} {next} {i} e q x =
-        let n = e ∙ grows_next (adds_grows h.lists.adds) k h.left in
-        let t = grows_tree (adds_grows h.lists.adds) k h.left p in
-        record {
-          us = more (tree_in a k) h.us;
-          lists = record {
-            adds = adds_then h.lists.adds (adds_push x);
-            inside = pushed_inside x;
-            trees = pushed_trees x ∙ ap₂ more t h.lists.trees;
-          };
-          left = omega (arith, h.left);
-          trees = sym (ap (λ (ts : Trees). back ts h.us) (list_more a k p h.left n)) ∙ h.trees;
-          used = omega (arith, h.used, list_count a k p h.left n, x.end);
-        }
-
 -- ---- all pairs
 
-pub pairs_there : {a b d : Area} {at i : ℕ} {r : Pairs} → ReversedIn a b at r → Lists b d i (back (trees_in b r.stack) none) → d.free ≡ b.free + count (trees_in b r.stack) → (es : List Entry) (rest : List Text)
-    → PairsFrom a.sheet.now at es rest → ReadPairsIn a d at es rest record { stack = i; next = r.next }
+pub pairs_there : {a b d : Area} {at i : ℕ} {r : Read ℕ} → ReversedIn a b at r → Lists b d i (back (trees_in b r.value) none) → d.free ≡ b.free + count (trees_in b r.value)
+    → (es : List Entry) (rest : List Text) → PairsFrom a.sheet.now at es rest → InOrder a d at es rest record { value = i; next = r.next }
 pairs_there {r = r} h l e es rest f = record {
   ps = h.ps;
   read = h.read es rest f;

@@ -7,11 +7,11 @@ use Rattle.rules.specs.Sheet.{Entry}
 use Rattle.rules.specs.Answer.{read_pair, read_pairs}
 use Rattle.tree.specs.declared.area.Area.{Area}
 use Rattle.tree.specs.Areas.{trees_in, Grows}
-use Rattle.closing.specs.Machine.{back}
+use Rattle.tree.specs.Lists.{back}
 use Rattle.sheet.specs.Lines.{lines_at}
+use Rattle.sheet.specs.declared.Read.{Read}
 use Rattle.sheet.specs.declared.Sides.{Sides}
 use Rattle.pairs.specs.Pairs.{sides, pair_end, PairsFrom}
-use Rattle.pairs.specs.declared.Pairs.{Pairs}
 
 -- the sides of a pair, the right one first, before the list from cell `list` on
 pub record ReadPairIn (a b : Area) (p : Sides) (list i : ℕ) : Type 0 where
@@ -27,39 +27,35 @@ abbrev pub ReadsPairIn : Area → Area → Sides → ℕ → Option ℕ → Type
 ReadsPairIn a b p list (Some i) = ReadPairIn a b p list i
 ReadsPairIn a b p list None = (read_pair (sides a.sheet.now p.left p.right) ≡ None) × Grows a b
 
--- the stack is the list of all pairs from a position on, backwards. Two cells for each byte of them are enough for this list and for
--- turning it round
-pub record ReversedIn (a b : Area) (at : ℕ) (r : Pairs) : Type 0 where
+-- the list of all pairs from a position on, backwards. Two cells for each byte of them are enough for this list and for turning it round
+pub record ReversedIn (a b : Area) (at : ℕ) (r : Read ℕ) : Type 0 where
   pub ps : List Pair
   pub read : (es : List Entry) (rest : List Text) → PairsFrom a.sheet.now at es rest → read_pairs es ≡ Some ps
   pub lines : (es : List Entry) (rest : List Text) → PairsFrom a.sheet.now at es rest → lines_at b.sheet.now r.next.at ≡ Some rest
   pub grows : Grows a b
   pub onward : at ≤ r.next.at
   pub within : r.next.at ≤ length b.sheet.now
-  pub inside : r.stack < b.free
-  pub trees : back (trees_in b r.stack) none ≡ flatten ps
-  pub used : b.free + count (trees_in b r.stack) ≤ a.free + 2 * (r.next.at - at)
+  pub inside : r.value < b.free
+  pub trees : back (trees_in b r.value) none ≡ flatten ps
+  pub used : b.free + count (trees_in b r.value) ≤ a.free + 2 * (r.next.at - at)
 
-abbrev pub ReadsReversedIn : Area → Area → ℕ → Option Pairs → Type 0
+abbrev pub ReadsReversedIn : Area → Area → ℕ → Option (Read ℕ) → Type 0
 ReadsReversedIn a b at (Some r) = ReversedIn a b at r
 ReadsReversedIn a b at None = ((es : List Entry) (rest : List Text) → PairsFrom a.sheet.now at es rest → read_pairs es ≡ None) × Grows a b
 
--- the stack is the list of the pairs es, which end where the lines rest follow
-pub record ReadPairsIn (a b : Area) (at : ℕ) (es : List Entry) (rest : List Text) (r : Pairs) : Type 0 where
+-- the list of the pairs es from a position on, which end where the lines rest follow
+pub record InOrder (a b : Area) (at : ℕ) (es : List Entry) (rest : List Text) (r : Read ℕ) : Type 0 where
   pub ps : List Pair
   pub read : read_pairs es ≡ Some ps
   pub lines : lines_at b.sheet.now r.next.at ≡ Some rest
   pub grows : Grows a b
   pub onward : at ≤ r.next.at
   pub within : r.next.at ≤ length b.sheet.now
-  pub inside : r.stack < b.free
-  pub trees : trees_in b r.stack ≡ flatten ps
+  pub inside : r.value < b.free
+  pub trees : trees_in b r.value ≡ flatten ps
   pub used : b.free ≤ a.free + 2 * (r.next.at - at)
 
-abbrev pub ReadAsIn : Area → Area → ℕ → List Entry → List Text → Option Pairs → Type 0
-ReadAsIn a b at es rest (Some r) = ReadPairsIn a b at es rest r
-ReadAsIn a b at es rest None = (read_pairs es ≡ None) × Grows a b
-
--- the pairs from a position on are read, or one of them is unreadable
-abbrev pub ReadsPairsIn : Area → Area → ℕ → Option Pairs → Type 0
-ReadsPairsIn a b at r = (es : List Entry) (rest : List Text) → PairsFrom a.sheet.now at es rest → ReadAsIn a b at es rest r
+-- or one of them is unreadable
+abbrev pub ReadsInOrder : Area → Area → ℕ → Option (Read ℕ) → Type 0
+ReadsInOrder a b at (Some r) = (es : List Entry) (rest : List Text) → PairsFrom a.sheet.now at es rest → InOrder a b at es rest r
+ReadsInOrder a b at None = ((es : List Entry) (rest : List Text) → PairsFrom a.sheet.now at es rest → read_pairs es ≡ None) × Grows a b

@@ -2,22 +2,12 @@
 ghost use Rattle.std.specs.Prelude.{◌≡◌, ◌<◌, length};
 ghost use Rattle.rules.specs.Bytes.{Text};
 ghost use Rattle.rules.specs.Decimal.{decimal};
-ghost use Rattle.tree.specs.Areas.{name_in};
+ghost use Rattle.tree.specs.Areas.{name_in, CellIn};
 ghost use Rattle.printing.specs.Putting.{PutInto};
 
 use crate::output::{Output, Pass};
 use text::decimal::{print, width_of};
 use tree::area::Area;
-use tree::names::print_name;
-
-// Leaves the name of cell i in a part of its length.
-fn fill_name(area: &Area, i: usize, part: &mut [u8])
-    requires cell { (0 < i) × (i < area.now.free) }
-    requires length { length part.old ≡ length (name_in area.now i) }
-    ensures { part.new ≡ name_in area.now i }
-{
-    print_name(area.sheet, area.work, area.free, i, part, 0);
-}
 
 impl Output<'_> {
     // So many bytes, as `fill` leaves them in the part of the output that is theirs.
@@ -54,9 +44,11 @@ impl Output<'_> {
 
     // The name of cell i.
     pub(crate) fn name(&mut self, area: &Area, i: usize) -> Option<()>
-        requires { (0 < i) × (i < area.now.free) }
+        requires { CellIn area.now i }
         ensures { PutInto self.old self.new (name_in area.now i) result }
     {
-        self.put(area.name_len(i), |part| fill_name(area, i, part))
+        self.put(area.name_len(i), |part| {
+            area.print_name(i, part, 0);
+        })
     }
 }

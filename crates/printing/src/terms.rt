@@ -2,7 +2,7 @@
 ghost use Rattle.std.specs.Prelude.{◌<◌};
 ghost use Rattle.rules.specs.Writing.{render, renders};
 ghost use Rattle.rules.specs.Answer.{line};
-ghost use Rattle.tree.specs.Areas.{tree_in, trees_in};
+ghost use Rattle.tree.specs.Areas.{tree_in, trees_in, CellIn};
 ghost use Rattle.printing.specs.Marked.{marked};
 ghost use Rattle.printing.specs.Putting.{PutInto};
 
@@ -12,9 +12,10 @@ use tree::kinds::Kind;
 
 impl Output<'_> {
     // The term of cell i: an atom is its letter, and its digits in brackets; another term its name, then its list.
+    // It and `list` call one another, as document 01 has it.
     #[cycle(term_list)]
     fn term(&mut self, area: &Area, i: usize) -> Option<()>
-        requires { (0 < i) × (i < area.now.free) }
+        requires { CellIn area.now i }
         ensures { PutInto self.old self.new (render (tree_in area.now i)) result }
     {
         match area.kind(i) {
@@ -31,7 +32,8 @@ impl Output<'_> {
         }
     }
 
-    // The terms of the list from cell i on, each after a mark, and the closing bracket.
+    // The terms of the list from cell i on, each after a mark, and the closing bracket. The mark also tells the first term, as in the
+    // definition.
     #[cycle(term_list)]
     fn list(&mut self, area: &Area, i: usize, mark: u8) -> Option<()>
         requires { i < area.now.free }
@@ -48,7 +50,7 @@ impl Output<'_> {
 
     // The line of a key and the term of cell i.
     pub fn line(&mut self, key: &[u8], area: &Area, i: usize) -> Option<()>
-        requires { (0 < i) × (i < area.now.free) }
+        requires { CellIn area.now i }
         ensures { PutInto self.old self.new (line key.now (render (tree_in area.now i))) result }
     {
         self.text(key)?;

@@ -5,3 +5,4 @@ pub mod Rounds
 pub mod StacksIn
 pub mod RoundsIn
 pub mod Keeping
+pub mod TextRooms

@@ -11,9 +11,10 @@ use Rattle.rules.specs.Tree.{Tree, Trees, none, more, size}
 use Rattle.rules.specs.Reading.{leaf, single, parse}
 use Rattle.text.proofs.Slices.{drop_take}
 use Rattle.laws.proofs.Reading.Colons.{leaf_size}
-use Rattle.syntax.specs.Symbols.{symbol_at}
-use Rattle.syntax.specs.declared.Symbol.{Symbol}
-use Rattle.syntax.specs.declared.Symbol.TheVariants.{Begin, Shut, Comma, Name, Stop}
+use Rattle.sheet.specs.declared.Place.{Place}
+use Rattle.syntax.specs.Next.{next_symbol}
+use Rattle.syntax.specs.declared.symbols.Symbol.{Symbol}
+use Rattle.syntax.specs.declared.symbols.Symbol.TheVariants.{Begin, Shut, Comma, Name, Stop}
 use Rattle.tree.specs.Cells.{part, next_of, tree_at, trees_at}
 use Rattle.tree.specs.Arena.{Links, Arena}
 use Rattle.tree.proofs.Decoding.{trees_none, trees_more}
@@ -24,7 +25,7 @@ use Rattle.closing.specs.Words.{stack_at, Held, Added, Opened}
 use Rattle.closing.specs.Closing.{most, NoTree, closed_level}
 use Rattle.reading.specs.Parsing.{limit_of, stack_end}
 use Rattle.reading.proofs.Grammar.{reads}
-use Rattle.closing.proofs.Turns.{limited, name_turn, open_turn, comma_turn, shut_turn, comma_bare, shut_bare, stop_turn, not_name, no_delimiter, leaf_turn, shut_out, small_enough, parse_limited}
+use Rattle.closing.proofs.Turns.{limited, name_turn, open_turn, comma_turn, shut_turn, comma_bare, shut_bare, stop_turn, not_name, no_delimiter, leaf_turn, no_symbol, shut_out, small_enough, parse_limited}
 use Rattle.reading.proofs.Stacks.{stack_top}
 use Rattle.reading.proofs.NamePlaces.{NameAt, mark_past}
 
@@ -131,21 +132,28 @@ module _ {s : Text} {start limit from to : ℕ} (k : Task s start limit from to)
 
   module _ {v w : List ℕ} {free depth at : ℕ} (h : Wants s v start limit from to w free depth at) where
     -- no name
-    pub wants_out : {r : Symbol} → r ≡ symbol_at (take to s) at → ((f t : ℕ) → r ≡ Name f t → ⊥) → parse (part s from (to - from)) ≡ None
+    pub wants_out : {r : Symbol} → Some r ≡ next_symbol (take to s) at → ((p : Place) → r ≡ Name p → ⊥) → parse (part s from (to - from)) ≡ None
     wants_out f o = sym h.reads ∙ ap limited (not_name (take to s) at f (stack_at s w limit depth) o)
 
-    module _ {a e : ℕ} (n : NameAt s to at a e) {r : Symbol} (f : r ≡ symbol_at (take to s) at) (g : r ≡ Name a e) where
-      read_name : limited (machine_reading (take to s) e (named (part s a (e - a)) (stack_at s w limit depth))) ≡ parse (part s from (to - from))
+    -- no symbol
+    pub wants_unread : None ≡ next_symbol (take to s) at → parse (part s from (to - from)) ≡ None
+    wants_unread f = sym h.reads ∙ ap limited (no_symbol (take to s) at (wants (stack_at s w limit depth)) f)
+
+    module _ {name : Place} (n : NameAt s to at name.from name.to) {r : Symbol} (f : Some r ≡ next_symbol (take to s) at) (g : r ≡ Name name) where
+      read_name : limited (machine_reading (take to s) name.to (named (part s name.from (name.to - name.from)) (stack_at s w limit depth))) ≡ parse (part s from (to - from))
       read_name =
-          ap (λ (m : Text). limited (machine_reading (take to s) e (named m (stack_at s w limit depth)))) (sym n.bytes)
-          ∙ sym (ap limited (name_turn (take to s) at f a e (stack_at s w limit depth) g))
+          ap (λ (m : Text). limited (machine_reading (take to s) name.to (named m (stack_at s w limit depth)))) (sym n.bytes)
+          ∙ sym (ap limited (name_turn (take to s) at f name (stack_at s w limit depth) g))
           ∙ h.reads
 
+      pub named_unread : None ≡ next_symbol (take to s) name.to → parse (part s from (to - from)) ≡ None
+      named_unread j = sym read_name ∙ ap limited (no_symbol (take to s) name.to (named (part s name.from (name.to - name.from)) (stack_at s w limit depth)) j)
+
       -- a list is opened
-      pub wants_open : {u : List ℕ} {i : ℕ} {q : Symbol} → q ≡ symbol_at (take to s) e → q ≡ Begin i → Opened s w u free limit depth (part s a (e - a)) → Wants s v start limit from to u free (depth + 1) i
+      pub wants_open : {u : List ℕ} {i : ℕ} {q : Symbol} → Some q ≡ next_symbol (take to s) name.to → q ≡ Begin i → Opened s w u free limit depth (part s name.from (name.to - name.from)) → Wants s v start limit from to u free (depth + 1) i
       wants_open {u} {i} {q} j b x =
           let st = h.stands in
-          let p = mark_past s e to k.within j i (Begin i) b refl in
+          let p = mark_past s name.to to k.within j i (Begin i) b refl in
           let pa = n.past in
           let so = n.some in
           let ro = h.room in
@@ -166,13 +174,13 @@ module _ {s : Text} {start limit from to : ℕ} (k : Task s start limit from to)
             room = omega arith;
             reads =
                 ap (λ (y : Stack). limited (machine_reading (take to s) i (wants y))) x.stack
-                ∙ sym (ap limited (open_turn (take to s) e j i (part s a (e - a)) (stack_at s w limit depth) b))
+                ∙ sym (ap limited (open_turn (take to s) name.to j i (part s name.from (name.to - name.from)) (stack_at s w limit depth) b))
                 ∙ read_name;
           }
 
       -- a leaf is there
-      pub has_leaf : {u : List ℕ} {end : ℕ} {q : Symbol} → q ≡ symbol_at (take to s) e → ((t : ℕ) → q ≡ Begin t → ⊥) → end ≡ free + 1
-          → Added s w u free end limit depth (leaf (part s a (e - a))) → Has s u start limit from to e u end depth e
+      pub has_leaf : {u : List ℕ} {end : ℕ} {q : Symbol} → Some q ≡ next_symbol (take to s) name.to → ((t : ℕ) → q ≡ Begin t → ⊥) → end ≡ free + 1
+          → Added s w u free end limit depth (leaf (part s name.from (name.to - name.from))) → Has s u start limit from to name.to u end depth name.to
       has_leaf {u} {end} {q} j o z x =
           let st = h.stands in
           let pa = n.past in
@@ -190,15 +198,18 @@ module _ {s : Text} {start limit from to : ℕ} (k : Task s start limit from to)
               deep = omega arith;
             };
             past = omega arith;
-            one = rw x.stack (add_has (leaf (part s a (e - a))) (stack_at s w limit depth) h.bare (omega (arith, leaf_size (part s a (e - a)))));
-            room = omega (arith, add_weight (leaf (part s a (e - a))) (stack_at s w limit depth));
+            one = rw x.stack (add_has (leaf (part s name.from (name.to - name.from))) (stack_at s w limit depth) h.bare (omega (arith, leaf_size (part s name.from (name.to - name.from)))));
+            room = omega (arith, add_weight (leaf (part s name.from (name.to - name.from))) (stack_at s w limit depth));
             reads =
-                ap (λ (y : Stack). limited (machine_reading (take to s) e (has y))) x.stack
-                ∙ sym (ap limited (leaf_turn (take to s) e j (part s a (e - a)) (stack_at s w limit depth) o))
+                ap (λ (y : Stack). limited (machine_reading (take to s) name.to (has y))) x.stack
+                ∙ sym (ap limited (leaf_turn (take to s) name.to j (part s name.from (name.to - name.from)) (stack_at s w limit depth) o))
                 ∙ read_name;
           }
 
-  module _ {v w : List ℕ} {v_at free depth at : ℕ} (h : Has s v start limit from to v_at w free depth at) {r : Symbol} (f : r ≡ symbol_at (take to s) at) where
+  pub has_unread : {v w : List ℕ} {v_at free depth at : ℕ} → Has s v start limit from to v_at w free depth at → None ≡ next_symbol (take to s) at → parse (part s from (to - from)) ≡ None
+  has_unread {v} {w} {v_at} {free} {depth} {at} h f = sym h.reads ∙ ap limited (no_symbol (take to s) at (has (stack_at s w limit depth)) f)
+
+  module _ {v w : List ℕ} {v_at free depth at : ℕ} (h : Has s v start limit from to v_at w free depth at) {r : Symbol} (f : Some r ≡ next_symbol (take to s) at) where
     -- no delimiter
     pub has_out : (r ≡ Stop → ⊥) → ((t : ℕ) → r ≡ Comma t → ⊥) → ((t : ℕ) → r ≡ Shut t → ⊥) → parse (part s from (to - from)) ≡ None
     has_out no_stop no_comma no_shut = sym h.reads ∙ ap limited (no_delimiter (take to s) at f (stack_at s w limit depth) no_stop no_comma no_shut)

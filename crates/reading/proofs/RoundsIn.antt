@@ -6,9 +6,9 @@ use lib.ListN.{length, get_or, take}
 use Rattle.std.specs.Prelude.{Option, Some, None}
 use Rattle.rules.specs.Reading.{leaf, parse}
 use Rattle.sheet.specs.declared.Place.{Place}
-use Rattle.syntax.specs.Symbols.{symbol_at}
-use Rattle.syntax.specs.declared.Symbol.{Symbol}
-use Rattle.syntax.specs.declared.Symbol.TheVariants.{Begin, Shut, Comma, Name, Stop}
+use Rattle.syntax.specs.Next.{next_symbol}
+use Rattle.syntax.specs.declared.symbols.Symbol.{Symbol}
+use Rattle.syntax.specs.declared.symbols.Symbol.TheVariants.{Begin, Shut, Comma, Name, Stop}
 use Rattle.text.specs.Frames.{Outside}
 use Rattle.tree.specs.declared.area.Area.{Area}
 use Rattle.tree.specs.Cells.{part, tree_at}
@@ -24,7 +24,7 @@ use Rattle.reading.specs.Parsing.{limit_of, stack_end}
 use Rattle.reading.specs.Stacks.{HeldIn, AddsTo, OpensOn, ClosedOn, ClosesOn, bottom_of, ReadsUp}
 use Rattle.reading.specs.declared.stack.Stack.{Stack}
 use Rattle.reading.proofs.NamePlaces.{NameAt, name_at_place, mark_past}
-use Rattle.reading.proofs.Rounds.{Task, task, Wants, Has, wants_start, wants_out, wants_open, has_leaf, has_out, comma_out, shut_alone, stop_out, stop_in, has_comma, has_shut, shut_refused, shut_room, outside_same, outside_on, outside_inner, bottom_word, bottom_outside}
+use Rattle.reading.proofs.Rounds.{Task, task, Wants, Has, wants_start, wants_out, wants_unread, named_unread, has_unread, wants_open, has_leaf, has_out, comma_out, shut_alone, stop_out, stop_in, has_comma, has_shut, shut_refused, shut_room, outside_same, outside_on, outside_inner, bottom_word, bottom_outside}
 use Rattle.reading.proofs.StacksIn.{held_in}
 use Rattle.reading.proofs.Keeping.{outside_below}
 
@@ -41,8 +41,8 @@ pub record HasIn (a : Area) (p : Place) (v_at : ℕ) (b : Area) (k : Stack) (at 
   pub has : Has a.sheet.now a.work.now a.free k.limit p.from p.to v_at b.work.now b.free k.depth at
 
 -- a symbol of the sheet that both were lent
-symbol_of : {a b : Area} → Lent a b → (to at : ℕ) {r : Symbol} → r ≡ symbol_at (take to b.sheet.now) at → r ≡ symbol_at (take to a.sheet.now) at
-symbol_of l to at {r} f = subst (λ s. r ≡ symbol_at (take to s.now) at) l.sheet f
+symbol_of : {a b : Area} → Lent a b → (to at : ℕ) {r : Option Symbol} → r ≡ next_symbol (take to b.sheet.now) at → r ≡ next_symbol (take to a.sheet.now) at
+symbol_of l to at {r} f = subst (λ s. r ≡ next_symbol (take to s.now) at) l.sheet f
 
 pub wants_starts : {a : Area} {p : Place} {limit : ℕ} → limit ≡ limit_of a.free p.from p.to → get_or a.work.now (4 * limit) 0 ≡ 0 → p.from ≤ p.to → p.to ≤ length a.sheet.now → length a.sheet.now ≤ 65536 → p.to < p.from + 65536
     → stack_end a.free p.from p.to ≤ length a.work.now → WantsIn a p a record { limit = limit; depth = 0 } p.from
@@ -54,19 +54,22 @@ module _ {a b : Area} {p : Place} {k : Stack} {at : ℕ} (h : WantsIn a p b k at
   pub wants_held : HeldIn b k.limit k.depth
   wants_held = held_in h.lent h.wants.stands.held
 
-  module _ {r : Symbol} (f : r ≡ symbol_at (take p.to b.sheet.now) at) where
+  pub wants_ends : None ≡ next_symbol (take p.to b.sheet.now) at → ReadsUp a b p None
+  wants_ends f = (wants_unread h.task h.wants (symbol_of h.lent p.to at f), h.lent, h.wants.stands.outside, h.wants.stands.starts)
+
+  module _ {r : Symbol} (f : Some r ≡ next_symbol (take p.to b.sheet.now) at) where
     -- no name
-    pub wants_none : ((g t : ℕ) → r ≡ Name g t → ⊥) → ReadsUp a b p None
-    wants_none o = (wants_out h.task h.wants (symbol_of h.lent p.to at f) o, h.lent, h.wants.stands.outside)
+    pub wants_none : ((p : Place) → r ≡ Name p → ⊥) → ReadsUp a b p None
+    wants_none o = (wants_out h.task h.wants (symbol_of h.lent p.to at f) o, h.lent, h.wants.stands.outside, h.wants.stands.starts)
 
-    module _ {from to : ℕ} (g : r ≡ Name from to) where
-      pub name_at : NameAt a.sheet.now p.to at from to
-      name_at = name_at_place a.sheet.now at p.to h.task.within (symbol_of h.lent p.to at f) p.from from to h.wants.stands.after h.task.short g
+    module _ {name : Place} (g : r ≡ Name name) where
+      pub name_at : NameAt a.sheet.now p.to at name.from name.to
+      name_at = name_at_place a.sheet.now at p.to h.task.within (symbol_of h.lent p.to at f) p.from name h.wants.stands.after h.task.short g
 
-      pub name_spelled : Spelled b.sheet.now record { from = from; to = to }
+      pub name_spelled : Spelled b.sheet.now name
       name_spelled =
           let n = name_at in
-          subst (λ s. Spelled s.now record { from = from; to = to }) (sym h.lent.sheet)
+          subst (λ s. Spelled s.now name) (sym h.lent.sheet)
           (record {
             some = n.some;
             inside = omega (arith, n.within, h.task.within);
@@ -81,28 +84,31 @@ module _ {a b : Area} {p : Place} {k : Stack} {at : ℕ} (h : WantsIn a p b k at
       pub leaf_room : b.free < k.limit
       leaf_room = let n = name_at in omega (arith, h.wants.room, n.past, n.some, n.within, h.task.limit_is)
 
-      module _ {q : Symbol} (j : q ≡ symbol_at (take p.to b.sheet.now) to) where
+      pub named_ends : None ≡ next_symbol (take p.to b.sheet.now) name.to → ReadsUp a b p None
+      named_ends j = (named_unread h.task h.wants name_at (symbol_of h.lent p.to at f) g (symbol_of h.lent p.to name.to j), h.lent, h.wants.stands.outside, h.wants.stands.starts)
+
+      module _ {q : Symbol} (j : Some q ≡ next_symbol (take p.to b.sheet.now) name.to) where
         -- a list is opened
-        pub wants_opens : {d : Area} {i : ℕ} → q ≡ Begin i → OpensOn b d k (text_in b record { from = from; to = to }) → WantsIn a p d record { limit = k.limit; depth = k.depth + 1 } i
+        pub wants_opens : {d : Area} {i : ℕ} → q ≡ Begin i → OpensOn b d k (text_in b name) → WantsIn a p d record { limit = k.limit; depth = k.depth + 1 } i
         wants_opens {d} {i} e x =
-            let y = subst (λ s. Opened s.now b.work.now d.work.now b.free k.limit k.depth (part s.now from (to - from))) h.lent.sheet x.opened in
+            let y = subst (λ s. Opened s.now b.work.now d.work.now b.free k.limit k.depth (part s.now name.from (name.to - name.from))) h.lent.sheet x.opened in
             record {
               lent = record { work = x.lent.work ∙ h.lent.work; sheet = x.lent.sheet ∙ h.lent.sheet };
               task = h.task;
-              wants = rw x.end (wants_open h.task h.wants name_at (symbol_of h.lent p.to at f) g (symbol_of h.lent p.to to j) e y);
+              wants = rw x.end (wants_open h.task h.wants name_at (symbol_of h.lent p.to at f) g (symbol_of h.lent p.to name.to j) e y);
             }
 
         pub opens_past : {i : ℕ} → q ≡ Begin i → (at < i) × (i ≤ p.to) × (k.depth + 1 ≤ p.to)
         opens_past {i} e =
             let n = name_at in
-            let m = mark_past a.sheet.now to p.to h.task.within (symbol_of h.lent p.to to j) i (Begin i) e refl in
+            let m = mark_past a.sheet.now name.to p.to h.task.within (symbol_of h.lent p.to name.to j) i (Begin i) e refl in
             omega (arith, n.past, n.some, n.within, m, h.wants.stands.deep)
 
         -- a leaf is there
-        pub wants_leaf : {d : Area} → ((t : ℕ) → q ≡ Begin t → ⊥) → d.free ≡ b.free + 1 → AddsTo b d k (leaf (text_in b record { from = from; to = to })) → HasIn a p to d k to
+        pub wants_leaf : {d : Area} → ((t : ℕ) → q ≡ Begin t → ⊥) → d.free ≡ b.free + 1 → AddsTo b d k (leaf (text_in b name)) → HasIn a p name.to d k name.to
         wants_leaf {d} o e x =
-            let y = subst (λ s. Added s.now b.work.now d.work.now b.free d.free k.limit k.depth (leaf (part s.now from (to - from)))) h.lent.sheet x.added in
-            let z = has_leaf h.task h.wants name_at (symbol_of h.lent p.to at f) g (symbol_of h.lent p.to to j) o e y in
+            let y = subst (λ s. Added s.now b.work.now d.work.now b.free d.free k.limit k.depth (leaf (part s.now name.from (name.to - name.from)))) h.lent.sheet x.added in
+            let z = has_leaf h.task h.wants name_at (symbol_of h.lent p.to at f) g (symbol_of h.lent p.to name.to j) o e y in
             let s = z.stands in
             record {
               lent = record { work = x.lent.work ∙ h.lent.work; sheet = x.lent.sheet ∙ h.lent.sheet };
@@ -123,19 +129,22 @@ module _ {a b : Area} {p : Place} {k : Stack} {at : ℕ} (h : WantsIn a p b k at
               };
             }
 
-module _ {a b : Area} {p : Place} {v_at : ℕ} {k : Stack} {at : ℕ} (h : HasIn a p v_at b k at) {r : Symbol} (f : r ≡ symbol_at (take p.to b.sheet.now) at) where
-  here : r ≡ symbol_at (take p.to a.sheet.now) at
+pub has_ends : {a b : Area} {p : Place} {v_at : ℕ} {k : Stack} {at : ℕ} → HasIn a p v_at b k at → None ≡ next_symbol (take p.to b.sheet.now) at → ReadsUp a b p None
+has_ends {p = p} {at = at} h f = (has_unread h.task h.has (symbol_of h.lent p.to at f), h.lent, h.has.stands.outside, h.has.stands.starts)
+
+module _ {a b : Area} {p : Place} {v_at : ℕ} {k : Stack} {at : ℕ} (h : HasIn a p v_at b k at) {r : Symbol} (f : Some r ≡ next_symbol (take p.to b.sheet.now) at) where
+  here : Some r ≡ next_symbol (take p.to a.sheet.now) at
   here = symbol_of h.lent p.to at f
 
   -- no delimiter, or one that closes nothing
   pub has_none : (r ≡ Stop → ⊥) → ((t : ℕ) → r ≡ Comma t → ⊥) → ((t : ℕ) → r ≡ Shut t → ⊥) → ReadsUp a b p None
-  has_none x y z = (has_out h.task h.has here x y z, h.lent, h.has.stands.outside)
+  has_none x y z = (has_out h.task h.has here x y z, h.lent, h.has.stands.outside, h.has.stands.starts)
 
   pub comma_none : (t : ℕ) → k.depth ≡ 0 → r ≡ Comma t → ReadsUp a b p None
-  comma_none t e g = (comma_out h.task h.has here t e g, h.lent, h.has.stands.outside)
+  comma_none t e g = (comma_out h.task h.has here t e g, h.lent, h.has.stands.outside, h.has.stands.starts)
 
   pub shut_none : (t : ℕ) → k.depth ≡ 0 → r ≡ Shut t → ReadsUp a b p None
-  shut_none t e g = (shut_alone h.task h.has here t e g, h.lent, h.has.stands.outside)
+  shut_none t e g = (shut_alone h.task h.has here t e g, h.lent, h.has.stands.outside, h.has.stands.starts)
 
   -- a comma: a term is wanted again
   pub has_wants : (t : ℕ) → (k.depth ≡ 0 → ⊥) → r ≡ Comma t → WantsIn a p b k t
@@ -161,6 +170,7 @@ module _ {a b : Area} {p : Place} {v_at : ℕ} {k : Stack} {at : ℕ} (h : HasIn
           shut_refused h.task h.has here t e g y,
           record { work = x.1.work ∙ h.lent.work; sheet = x.1.sheet ∙ h.lent.sheet },
           outside_on (omega (arith, h.has.stands.starts)) (omega (arith, h.task.limit_is)) h.has.stands.outside x.2,
+          omega (arith, h.has.stands.starts, x.3),
         )
 
     pub shut_goes : {d : Area} → ClosedOn b d record { limit = k.limit; depth = k.depth - 1 } → HasIn a p v_at d record { limit = k.limit; depth = k.depth - 1 } t
@@ -175,7 +185,7 @@ module _ {a b : Area} {p : Place} {v_at : ℕ} {k : Stack} {at : ℕ} (h : HasIn
         }
 
 -- at the end of the text
-pub has_stops : {a b : Area} {p : Place} {v_at limit : ℕ} (d : ℕ) {at : ℕ} → HasIn a p v_at b record { limit = limit; depth = d } at → {r : Symbol} → r ≡ symbol_at (take p.to b.sheet.now) at → r ≡ Stop
+pub has_stops : {a b : Area} {p : Place} {v_at limit : ℕ} (d : ℕ) {at : ℕ} → HasIn a p v_at b record { limit = limit; depth = d } at → {r : Symbol} → Some r ≡ next_symbol (take p.to b.sheet.now) at → r ≡ Stop
     → (q : Option ℕ) → q ≡ bottom_of b.work.now limit d → ReadsUp a b p q
 has_stops {a} {b} {p} {v_at} {limit} zero {at} h f g q e =
     let x = stop_in h.task h.has (symbol_of h.lent p.to at f) refl g refl h.has.stands.outside in
@@ -191,7 +201,7 @@ has_stops {a} {b} {p} {v_at} {limit} zero {at} h f g q e =
       outside = x.outside;
     })
 has_stops {a} {b} {p} {v_at} {limit} (suc d) {at} h f g q e =
-    subst (ReadsUp a b p) (sym e) (stop_out h.task h.has (symbol_of h.lent p.to at f) (λ z. (omega arith)) g, h.lent, h.has.stands.outside)
+    subst (ReadsUp a b p) (sym e) (stop_out h.task h.has (symbol_of h.lent p.to at f) (λ z. (omega arith)) g, h.lent, h.has.stands.outside, h.has.stands.starts)
 
 -- the word of the bottom is set before the rounds
 module _ {a m : Area} (p : Place) (y : Writes a m (4 * limit_of a.free p.from p.to) 0) (room : stack_end a.free p.from p.to ≤ length a.work.now) where
@@ -208,8 +218,8 @@ module _ {a m : Area} (p : Place) (y : Writes a m (4 * limit_of a.free p.from p.
     all_lent : Lent m b → Lent a b
     all_lent l = record { work = l.work ∙ y.lent.work; sheet = l.sheet ∙ y.lent.sheet }
 
-    pub unread_from : ReadsUp m b p None → (parse (text_in a p) ≡ None) × Lent a b × Outside a.work.now b.work.now (4 * a.free) (stack_end a.free p.from p.to)
-    unread_from x = (ap parse (sym (text_lent p y.lent)) ∙ x.0, all_lent x.1, all_outside x.2)
+    pub unread_from : ReadsUp m b p None → (parse (text_in a p) ≡ None) × Lent a b × Outside a.work.now b.work.now (4 * a.free) (stack_end a.free p.from p.to) × (a.free ≤ b.free)
+    unread_from x = (ap parse (sym (text_lent p y.lent)) ∙ x.0, all_lent x.1, all_outside x.2, omega (arith, y.end, x.3))
 
 -- the cells of an area where the words above them alone changed
 pub cells_kept : {a b : Area} {e : ℕ} → Lent a b → Outside a.work.now b.work.now (4 * a.free) e → Arena b.sheet.now b.work.now a.free

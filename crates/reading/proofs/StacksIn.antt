@@ -2,7 +2,7 @@
 use Prim.Native.Nat.{ℕ, ◌+◌, ◌*◌, ◌-◌, ◌<◌, ◌≤◌}
 use native.Mathlib.Omega.{arith}
 use mathlib.Core.Path.{◌≡◌, refl, sym, ap, ◌∙◌, subst}
-use lib.ListN.{length, get_or}
+use lib.ListN.{get_or}
 use Rattle.std.specs.Prelude.{None}
 use Rattle.rules.specs.Bytes.{Text}
 use Rattle.rules.specs.Tree.{Tree, none, more, sizes}
@@ -85,6 +85,7 @@ module _ (a : Area) (k : Stack) {from len chain : ℕ} (e₁ : from ≡ get_or a
       (λ t f. x.0 t (level_closed ∙ f)),
       x.1.lent,
       outside_grown (omega (arith, room_is, x.2)) x.1.grown,
+      x.1.grew,
     )
 
     pub level_shut : {d : Area} {cell : ℕ} → HeldIn a k.limit (k.depth + 1) → most a.sheet.now a.work.now a.free (get_or a.work.now (4 * k.limit + 3 * k.depth + 3) 0) ≤ k.limit

@@ -48,7 +48,7 @@ pub record ClosedOn (a b : Area) (k : Stack) : Type 0 where
 -- or there is none, or too large a one
 abbrev pub ClosesOn : Area → Area → Stack → Option ℕ → Type 0
 ClosesOn a b k (Some i) = ClosedOn a b k
-ClosesOn a b k None = NoTree (level_tree a k) × Lent a b × Outside a.work.now b.work.now (4 * a.free) (4 * k.limit)
+ClosesOn a b k None = NoTree (level_tree a k) × Lent a b × Outside a.work.now b.work.now (4 * a.free) (4 * k.limit) × (a.free ≤ b.free)
 
 -- the tree of the bottom, where no list is open
 abbrev pub bottom_of : List ℕ → ℕ → ℕ → Option ℕ
@@ -58,4 +58,4 @@ bottom_of w limit (suc d) = None
 -- the text at a place reads as the tree of a cell, or is no term, and then there may be new cells
 abbrev pub ReadsUp : Area → Area → Place → Option ℕ → Type 0
 ReadsUp a b p (Some i) = Reads a b p i
-ReadsUp a b p None = (parse (text_in a p) ≡ None) × Lent a b × Outside a.work.now b.work.now (4 * a.free) (stack_end a.free p.from p.to)
+ReadsUp a b p None = (parse (text_in a p) ≡ None) × Lent a b × Outside a.work.now b.work.now (4 * a.free) (stack_end a.free p.from p.to) × (a.free ≤ b.free)

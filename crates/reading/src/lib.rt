@@ -4,20 +4,20 @@
 pub mod stack; // stack.rt: the stack of open lists over a work area
 
 ghost use Rattle.std.specs.Prelude.{◌≡◌, ◌+◌, ◌*◌, ◌<◌, ◌≤◌, ◌^◌, length, get_or, take};
-ghost use Rattle.syntax.specs.Symbols.{symbol_at};
+ghost use Rattle.syntax.specs.Next.{next_symbol};
 ghost use Rattle.reading.specs.Parsing.{limit_of, stack_end};
 ghost use Rattle.reading.specs.Areas.{ParsesIn};
 ghost use Rattle.reading.specs.Stacks.{bottom_of, ReadsUp};
 
 use crate::stack::{Stack, begin, close, leaf};
 use sheet::Place;
-use syntax::{Symbol, next_symbol};
+use syntax::symbols::{Symbol, next_symbol};
 use tree::area::Area;
 
 // The next symbol of the text that ends at `to`.
-pub(crate) fn symbol(sheet: &[u8], to: usize, at: usize) -> Symbol
+pub(crate) fn symbol(sheet: &[u8], to: usize, at: usize) -> Option<Symbol>
     requires { to ≤ length sheet.now }
-    ensures { result ≡ symbol_at (take to sheet.now) at }
+    ensures { result ≡ next_symbol (take to sheet.now) at }
 {
     next_symbol(&sheet[..to], at)
 }
@@ -33,7 +33,7 @@ fn finished(area: &Area, stack: Stack) -> Option<usize>
     Some(area.word(4 * stack.limit))
 }
 
-// Reads a text with an empty stack above the cells.
+// Reads a text with an empty stack above the cells. Two loops with a label, as the document has them: a term is wanted, a term is there.
 fn read(area: &mut Area, text: Place, limit: usize) -> Option<usize>
     requires limit { (limit ≡ limit_of area.old.free text.from text.to) × (get_or area.old.work.now (4 * limit) 0 ≡ 0) }
     requires text { (text.from ≤ text.to) × (text.to ≤ length area.old.sheet.now) × (length area.old.sheet.now ≤ 65536) × (text.to < text.from + 65536) }
@@ -43,20 +43,19 @@ fn read(area: &mut Area, text: Place, limit: usize) -> Option<usize>
     let mut stack = Stack { limit, depth: 0 };
     let mut at = text.from;
     'term: loop {
-        let Symbol::Name(from, to) = symbol(area.sheet, text.to, at) else {
+        let Symbol::Name(name) = symbol(area.sheet, text.to, at)? else {
             break 'term None;
         };
-        let name = Place { from, to };
-        if let Symbol::Begin(inner) = symbol(area.sheet, text.to, to) {
+        if let Symbol::Begin(inner) = symbol(area.sheet, text.to, name.to)? {
             begin(area, stack, name);
             stack.depth += 1;
             at = inner;
             continue 'term;
         }
         leaf(area, stack, name);
-        at = to;
+        at = name.to;
         loop {
-            match symbol(area.sheet, text.to, at) {
+            match symbol(area.sheet, text.to, at)? {
                 Symbol::Stop => return finished(area, stack),
                 Symbol::Comma(past) => {
                     if stack.depth == 0 {
@@ -88,8 +87,9 @@ pub fn parse(area: &mut Area, text: Place) -> Option<usize>
     let start = area.free;
     let limit = start + 2 * (text.to - text.from);
     area.set_word(4 * limit, 0);
+    // No `?`: what was written is given back first.
     let Some(cell) = read(area, text, limit) else {
-        area.free = start;
+        area.truncate(start);
         return None;
     };
     Some(cell)

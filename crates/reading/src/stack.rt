@@ -1,17 +1,18 @@
 // The stack of open lists, in words above the cells of an area: a leaf on its top, a list opened, a list closed.
 ghost use Rattle.std.specs.Prelude.{◌≡◌, ◌+◌, ◌*◌, ◌<◌, ◌≤◌, ◌^◌, length, get_or};
 ghost use Rattle.rules.specs.Reading.{leaf};
-ghost use Rattle.tree.specs.Areas.{Pushes};
+ghost use Rattle.tree.specs.Areas.{Pushes, HasRoom};
 ghost use Rattle.tree.specs.Spelled.{text_in, Spelled};
 ghost use Rattle.closing.specs.Closing.{most};
 ghost use Rattle.reading.specs.Stacks.{HeldIn, AddsTo, OpensOn, ClosesOn};
 
 use closing::shut;
 use leaves::sorts::leaf_sort;
-use sheet::{Place, part};
+use sheet::Place;
 use tree::area::Area;
 
-// The stack has so many levels above the bottom, whose word stands above so many cells.
+// The stack has so many levels above the bottom, whose word stands above so many cells. Its words are the area's own: a slice of them
+// beside the area that closing writes to is a loan through a struct with a ghost field, which has no proof.
 #[derive(Clone, Copy, Debug, PartialEq, Eq)]
 pub(crate) struct Stack {
     pub limit: usize,
@@ -22,10 +23,10 @@ pub(crate) struct Stack {
 fn push_leaf(area: &mut Area, name: Place, next: usize) -> usize
     requires name { Spelled area.old.sheet.now name }
     requires link { next < area.old.free }
-    requires room { (4 * area.old.free + 4 ≤ length area.old.work.now) × (area.old.free < 2 ^ 32) }
+    requires room { HasRoom area.old 1 }
     ensures { Pushes area.old area.new result next (leaf (text_in area.old name)) }
 {
-    match leaf_sort(part(area.sheet, name.from, name.to)) {
+    match leaf_sort(name.text(area.sheet)) {
         Some(sort) => area.push_variable(name, sort, next),
         None => area.push_application(name, 0, next, 1),
     }
@@ -53,6 +54,7 @@ pub(crate) fn begin(area: &mut Area, stack: Stack, name: Place)
     ensures { OpensOn area.old area.new stack (text_in area.old name) }
 {
     let top = 4 * stack.limit + 3 * stack.depth;
+    // Lent once: the area's invariant is asked after each word that is written through the area.
     let work = &mut *area.work;
     work[top + 1] = name.from as u32;
     work[top + 2] = (name.to - name.from) as u32;

@@ -4,7 +4,7 @@ use mathlib.Core.Path.{◌≡◌, refl, sym, ap, ap₂, ◌∙◌}
 use mathlib.Core.Logic.{◌⊎◌, inl, inr}
 use native.Mathlib.Omega.{arith}
 use Rattle.std.specs.Prelude.{Option}
-use Rattle.rules.specs.Tree.{Tree, apply, more, size, sizes}
+use Rattle.rules.specs.Tree.{Tree, apply, none, more, size, sizes}
 use Rattle.rules.specs.declared.Sort.{Sort}
 use Rattle.rules.specs.Reduction.{root, normalize, normalizes}
 use Rattle.laws.proofs.Reduction.Sizes.{normalizes_size}
@@ -41,13 +41,18 @@ becomes_later {next = next} {t = t} q g u h = record {
 pub over_own : (a : Area) (i : ℕ) {first : ℕ} → cell_kind a i ≡ Application → first_in a i ≡ first → tree_in a i ≡ apply (name_in a i) (trees_in a first)
 over_own a i k e = tree_application a i k ∙ ap (λ (j : ℕ). apply (name_in a i) (trees_in a j)) e
 
+-- no children
+pub no_trees : (a : Area) → (trees_in a 0 ≡ none) × (1 ≡ 1 + sizes (trees_in a 0))
+unfolding size
+no_trees a = let e = trees_none a.sheet.now a.work.now 0 refl in (e, omega (arith, ap sizes e))
+
 -- what a rule makes after the words above the cells were used
 module _ {a m b : Area} {next j : ℕ} (g : KeepsCells a m) (q : next < a.free) where
   pub fired_cell : (k : ℕ) → 0 < k → k < a.free → Puts m b j next (tree_in m k) → b.free ≤ m.free + 1 → Becomes a b 1 next (tree_in a k) j
   fired_cell k p r h u = rw (← grows_tree (grows_keeps g) k r p) (becomes_later q (grows_keeps g) (omega (arith, g.end)) (becomes_put h u))
 
-  pub fired_role : {t : Tree} → Pushes m b j next t → Becomes a b 1 next t j
-  fired_role h = becomes_later q (grows_keeps g) (omega (arith, g.end)) (becomes_push h)
+  pub fired_name : {t : Tree} → Pushes m b j next t → Becomes a b 1 next t j
+  fired_name h = becomes_later q (grows_keeps g) (omega (arith, g.end)) (becomes_push h)
 
   pub fired_none : (i first : ℕ) → i < a.free → first < a.free → Becomes m b 1 next (apply (name_in m i) (trees_in m first)) j → Becomes a b 1 next (apply (name_in a i) (trees_in a first)) j
   fired_none i first r s h = rw (← grows_name (grows_keeps g) i r, ← grows_trees (grows_keeps g) first s) (becomes_later q (grows_keeps g) (omega (arith, g.end)) h)

@@ -1,3 +1,2 @@
 pub mod Becoming
-pub mod Placing
 pub mod NormalForms

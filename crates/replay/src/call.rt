@@ -3,8 +3,6 @@ ghost use Rattle.std.specs.Prelude.{◌≡◌, ◌&&◌, length, take, nat_le};
 ghost use Rattle.rules.specs.Bytes.{same};
 ghost use Rattle.replay.specs.Replaying.{lends, Compares, Replays};
 
-use text::places::wide;
-use text::same;
 use yukhtsami::yukhtsami_answer;
 
 // A record: the words and bytes of output lent, the refusal, and its label with the byte 10 after it.
@@ -26,36 +24,31 @@ impl Record<'_> {
     {
         self.words <= words && self.room <= room
     }
+
+    // Whether the call gives the reply stored.
+    fn agrees(&self, work: &mut [u32], output: &mut [u8]) -> bool
+        ensures { Compares self.now.sheet.now work.old work.new output.old output.new self.now.refusal self.now.answer.now result }
+    {
+        let called = yukhtsami_answer(self.sheet, work, output);
+        called.refusal as usize == self.refusal && holds(output, called.written, self.answer)
+    }
+
+    // Replays the record, if there are the words and bytes that it lends: whether its reply is the one stored.
+    pub(crate) fn replay(&self, work: &mut [u32], output: &mut [u8]) -> Option<bool>
+        ensures { Replays self.now work.old work.new output.old output.new result }
+    {
+        if !self.lends(work.len(), output.len()) {
+            return None;
+        }
+        let same = self.agrees(&mut work[..self.words], &mut output[..self.room]);
+        Some(same)
+    }
 }
 
 // Whether so many bytes of the output are the answer.
+#[tactic(auto, using(text::proofs::Library::same_is))]
 fn holds(output: &[u8], written: usize, answer: &[u8]) -> bool
     ensures { result ≡ nat_le written (length output.now) && same (take written output.now) answer.now }
 {
-    written <= output.len() && same(&output[..written], answer)
-}
-
-// Whether the call gives the reply stored.
-fn agrees(sheet: &[u8], work: &mut [u32], output: &mut [u8], refusal: usize, answer: &[u8]) -> bool
-    ensures { Compares sheet.now work.old work.new output.old output.new refusal answer.now result }
-{
-    let called = yukhtsami_answer(sheet, work, output);
-    wide(called.refusal) == refusal && holds(output, called.written, answer)
-}
-
-// Replays a record, if there are the words and bytes that it lends: whether its reply is the one stored.
-pub(crate) fn replay(work: &mut [u32], output: &mut [u8], stored: &Record<'_>) -> Option<bool>
-    ensures { Replays stored.now work.old work.new output.old output.new result }
-{
-    if !stored.lends(work.len(), output.len()) {
-        return None;
-    }
-    let same = agrees(
-        stored.sheet,
-        &mut work[..stored.words],
-        &mut output[..stored.room],
-        stored.refusal,
-        stored.answer,
-    );
-    Some(same)
+    output.get(..written) == Some(answer)
 }

@@ -10,7 +10,7 @@ mod reader; // reader.rt: what is left of the list, read from its front
 
 ghost use Rattle.std.specs.Prelude.{◌≤◌, length, IfOk};
 
-use call::{Record, replay};
+use call::Record;
 use reader::Reader;
 use std::io::{Read, Write};
 use std::{fmt, io};
@@ -50,7 +50,7 @@ impl fmt::Display for Tally {
     }
 }
 
-// Reads until the room is full or the input ends, and gives how many bytes it put at the start.
+// Reads until the room is full or the input ends, and gives how many bytes it put at the start: the library has no such read.
 fn read_full<R: Read>(input: &mut R, room: &mut [u8]) -> io::Result<usize>
     ensures { IfOk result (λ n. n ≤ length room.new) }
 {
@@ -77,7 +77,7 @@ fn left_off<W: Write>(out: &mut W, tally: Tally) -> io::Result<Tally> {
     Ok(tally)
 }
 
-// Replays every record.
+// Replays every record. Where one ends is known when it is read, and what is not a record ends the replay: no iterator is plainer.
 fn replay_all<W: Write>(
     out: &mut W,
     list: &[u8],
@@ -91,7 +91,7 @@ fn replay_all<W: Write>(
         let Some(stored) = reader.record() else {
             return left_off(out, tally);
         };
-        let agrees = replay(work, output, &stored);
+        let agrees = stored.replay(work, output);
         if agrees == Some(false) {
             report(out, &stored)?;
         }

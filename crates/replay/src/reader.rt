@@ -3,7 +3,7 @@ ghost use Rattle.std.specs.Prelude.{◌≡◌, ◌++◌, length, min, IfSome};
 ghost use Rattle.replay.specs.Records.{LeftOf, ReadsRecord, in_form};
 
 use crate::call::Record;
-use text::{begins, is_digit, same};
+use text::is_digit;
 
 // What is left of the list.
 #[derive(Clone, Copy)]
@@ -11,7 +11,7 @@ pub(crate) struct Reader<'a> {
     pub rest: &'a [u8],
 }
 
-// The number with one more digit. A number above a thousand million stays as it is.
+// The number with one more digit. A number above a thousand million stays as it is, where number_up_to would give none.
 fn with_digit(value: usize, digit: u8) -> usize {
     if value > 1000000000 || digit < b'0' {
         return value;
@@ -24,7 +24,7 @@ fn with_digit(value: usize, digit: u8) -> usize {
 fn closed(start: &[u8], end: &[u8]) -> bool
     ensures { result ≡ in_form start.now end.now }
 {
-    begins(start, b"sheet ") && same(end, b"\n")
+    start.starts_with(b"sheet ") && end == b"\n".as_slice()
 }
 
 impl<'a> Reader<'a> {
@@ -53,7 +53,7 @@ impl<'a> Reader<'a> {
     pub(crate) fn skip_head(&mut self)
         ensures { LeftOf self.old.rest.now self.new.rest.now }
     {
-        while begins(self.rest, b"#") {
+        while self.rest.starts_with(b"#") {
             self.take(1);
             self.line();
         }
@@ -63,10 +63,11 @@ impl<'a> Reader<'a> {
     fn number(&mut self) -> usize
         ensures { LeftOf self.old.rest.now self.new.rest.now }
     {
-        let count = match self.rest.iter().position(|b| !is_digit(*b)) {
-            Some(length) => length,
-            None => self.rest.len(),
-        };
+        let count = self
+            .rest
+            .iter()
+            .position(|b| !is_digit(*b))
+            .unwrap_or(self.rest.len());
         let digits = self.take(count);
         self.take(1);
         digits

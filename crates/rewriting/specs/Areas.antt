@@ -1,13 +1,8 @@
 -- Cells of an area that hold arguments. Definitions only.
-use Rattle.std.specs.Prelude.{ℕ, ◌<◌}
 use Rattle.rules.specs.Tree.{Tree}
 use Rattle.tree.specs.declared.area.Area.{Area}
 use Rattle.tree.specs.Areas.{tree_in}
 use Rattle.rewriting.specs.declared.naming.Two.{Two}
-
--- a cell of the area
-abbrev pub CellIn : Area → ℕ → Type 0
-CellIn a k = (0 < k) × (k < a.free)
 
 -- the trees of two cells
 abbrev pub two_in : Area → Two → Tree × Tree

@@ -3,29 +3,22 @@ ghost use Rattle.std.specs.Prelude.{◌≡◌, ◌+◌, ◌*◌, ◌<◌, ◌≤
 ghost use Rattle.rules.specs.declared.Rule.TheVariants.{Flip, Sdec, Kdec};
 ghost use Rattle.rules.specs.Tree.{size, sizes};
 ghost use Rattle.rules.specs.Reduction.{fire, opens};
-ghost use Rattle.tree.specs.Areas.{tree_in, trees_in, KeepsCells};
+ghost use Rattle.tree.specs.Areas.{tree_in, trees_in, CellIn, KeepsCells};
 ghost use Rattle.rewriting.specs.Building.{key_room};
-ghost use Rattle.rewriting.specs.Areas.{CellIn};
-ghost use Rattle.rewriting.specs.Values.{PartsIn, role_tree, value_tree, ValueIn};
+ghost use Rattle.rewriting.specs.Values.{PartsIn, fixed_tree, value_tree, ValueIn};
 
 use crate::naming::{Two, is_constant, is_one, is_two, one_argument, two_arguments};
 use equivalence::equivalent;
 use rules::Rule;
 use sorts::message;
 use tree::area::Area;
+use tree::fixed::Fixed;
 
-// The two roles.
-#[derive(Clone, Copy, Debug, PartialEq, Eq)]
-pub enum Role {
-    A,
-    B,
-}
-
-// What a rule makes: the tree of a cell, or a role.
+// What a rule makes: the tree of a cell, or a fixed name without children.
 #[derive(Clone, Copy, Debug, PartialEq, Eq)]
 pub enum Value {
     Cell(usize),
-    Role(Role),
+    Name(Fixed),
 }
 
 // The parts, which are messages, of the pair that is the one child from cell `list` on.
@@ -36,25 +29,22 @@ fn parts_of(area: &Area, list: usize) -> Option<Two>
     ensures cells { IfSome result (λ two. CellIn area.now two.first × CellIn area.now two.second) }
 {
     let pair = one_argument(area, list)?;
-    let parts = is_two(area, pair, b"tamXCpair")?;
-    if message(area, parts.first) && message(area, parts.second) {
-        return Some(parts);
-    }
-    None
+    let parts = is_two(area, pair, Fixed::Pair)?;
+    (message(area, parts.first) && message(area, parts.second)).then_some(parts)
 }
 
 // The other role than the one child from cell `list` on.
 #[tactic(auto, unfolding(rules::specs::Reduction::fire, rules::specs::Reduction::flipped))]
-fn flipped(area: &Area, list: usize) -> Option<Role>
+fn flipped(area: &Area, list: usize) -> Option<Fixed>
     requires { list < area.now.free }
-    ensures { fire Flip (trees_in area.now list) ≡ option_map role_tree result }
+    ensures { fire Flip (trees_in area.now list) ≡ option_map fixed_tree result }
 {
     let role = one_argument(area, list)?;
-    if is_constant(area, role, b"tamXCroleA") {
-        return Some(Role::B);
+    if is_constant(area, role, Fixed::RoleA) {
+        return Some(Fixed::RoleB);
     }
-    if is_constant(area, role, b"tamXCroleB") {
-        return Some(Role::A);
+    if is_constant(area, role, Fixed::RoleB) {
+        return Some(Fixed::RoleA);
     }
     None
 }
@@ -82,11 +72,11 @@ fn decrypted(area: &mut Area, list: usize) -> Option<usize>
     ensures keeps { KeepsCells area.old area.new }
 {
     let other = two_arguments(area, list)?;
-    let cipher = is_two(area, list, b"tamXCsenc")?;
+    let cipher = is_two(area, list, Fixed::Senc)?;
     opens(area, cipher.first, cipher.second, other).then_some(cipher.first)
 }
 
-// The same where the key of the cipher is boxed.
+// The same where the key of the cipher is boxed: it lies one level deeper, and what the two share is `opens`.
 #[tactic(auto, unfolding(rules::specs::Reduction::fire))]
 fn unboxed(area: &mut Area, list: usize) -> Option<usize>
     requires list { list < area.old.free }
@@ -97,12 +87,13 @@ fn unboxed(area: &mut Area, list: usize) -> Option<usize>
     ensures keeps { KeepsCells area.old area.new }
 {
     let other = two_arguments(area, list)?;
-    let cipher = is_two(area, list, b"tamXCkem")?;
-    let key = is_one(area, cipher.second, b"tamXCpk")?;
+    let cipher = is_two(area, list, Fixed::Kem)?;
+    let key = is_one(area, cipher.second, Fixed::Pk)?;
     opens(area, cipher.first, key, other).then_some(cipher.first)
 }
 
-// What the rule makes of the list from cell `list` on, if it fires. The words above the cells are scratch.
+// What the rule makes of the list from cell `list` on, if it fires. The words above the cells are scratch. An arm to a rule: each reads
+// its children in its own way.
 pub fn fire(area: &mut Area, rule: Rule, list: usize) -> Option<Value>
     requires list { list < area.old.free }
     requires small { sizes (trees_in area.old list) ≤ 4096 }
@@ -114,7 +105,7 @@ pub fn fire(area: &mut Area, rule: Rule, list: usize) -> Option<Value>
     match rule {
         Rule::Fst => Some(Value::Cell(parts_of(area, list)?.first)),
         Rule::Snd => Some(Value::Cell(parts_of(area, list)?.second)),
-        Rule::Flip => Some(Value::Role(flipped(area, list)?)),
+        Rule::Flip => Some(Value::Name(flipped(area, list)?)),
         Rule::Sdec => Some(Value::Cell(decrypted(area, list)?)),
         Rule::Kdec => Some(Value::Cell(unboxed(area, list)?)),
     }

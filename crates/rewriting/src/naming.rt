@@ -1,36 +1,39 @@
-// The rule of a name, and the children of a tree of an area where they are as many as a rule asks for.
+// The rule of a name, and the children of a tree of an area where they are as many as a rule asks for: a function for one child and
+// one for two, since one for N would go by a loop.
 ghost use Rattle.std.specs.Prelude.{◌≡◌, ◌<◌, IfSome, option_map};
 ghost use Rattle.rules.specs.Reduction.{rule_named, arguments1, arguments2, arguments_of, is_constant, is_one, is_two};
 ghost use Rattle.rules.specs.Maybe.{guard};
-ghost use Rattle.tree.specs.Areas.{name_in, tree_in, trees_in};
-ghost use Rattle.rewriting.specs.Areas.{two_in, CellIn};
+ghost use Rattle.tree.specs.Names.{fixed_text};
+ghost use Rattle.tree.specs.Areas.{name_in, tree_in, trees_in, CellIn};
+ghost use Rattle.rewriting.specs.Areas.{two_in};
 
 use rules::Rule;
 use tree::area::Area;
+use tree::fixed::Fixed;
 use tree::kinds::Kind;
 
-// The rule of the name of cell k, if it has one.
-#[tactic(auto, unfolding(rules::specs::Reduction::rule_named, rules::specs::Reduction::rule_in))]
+// The rule of a name, if it has one.
+#[tactic(auto, using(crate::proofs::Rules::fst_named, crate::proofs::Rules::snd_named, crate::proofs::Rules::flip_named, crate::proofs::Rules::sdec_named, crate::proofs::Rules::kdec_named, crate::proofs::Rules::no_rule))]
+fn rule_of(name: &[u8]) -> Option<Rule>
+    ensures { result ≡ rule_named name.now }
+{
+    match name {
+        b"tamXCfst" => Some(Rule::Fst),
+        b"tamXCsnd" => Some(Rule::Snd),
+        b"tamXCflip" => Some(Rule::Flip),
+        b"tamXCsdec" => Some(Rule::Sdec),
+        b"tamXCkdec" => Some(Rule::Kdec),
+        _ => None,
+    }
+}
+
+// The rule of the name of cell k, if it has one. A name by its code has none.
+#[tactic(auto, using(crate::proofs::Rules::coded_none))]
 pub fn rule_named(area: &Area, k: usize) -> Option<Rule>
-    requires { (0 < k) × (k < area.now.free) }
+    requires { CellIn area.now k }
     ensures { result ≡ rule_named (name_in area.now k) }
 {
-    if area.name_is(k, b"tamXCfst") {
-        return Some(Rule::Fst);
-    }
-    if area.name_is(k, b"tamXCsnd") {
-        return Some(Rule::Snd);
-    }
-    if area.name_is(k, b"tamXCflip") {
-        return Some(Rule::Flip);
-    }
-    if area.name_is(k, b"tamXCsdec") {
-        return Some(Rule::Sdec);
-    }
-    if area.name_is(k, b"tamXCkdec") {
-        return Some(Rule::Kdec);
-    }
-    None
+    rule_of(area.spelled(k)?)
 }
 
 // The only cell of the list from cell `list` on.
@@ -61,37 +64,31 @@ pub fn two_arguments(area: &Area, list: usize) -> Option<usize>
 
 // The list of the children of cell k, if it is an application with the name.
 #[tactic(auto, using(crate::proofs::Arguments::application_arguments, crate::proofs::Arguments::variable_arguments, crate::proofs::Arguments::atom_arguments))]
-pub(crate) fn arguments_of(area: &Area, k: usize, name: &[u8]) -> Option<usize>
-    requires { (0 < k) × (k < area.now.free) }
-    ensures trees { arguments_of name.now (tree_in area.now k) ≡ option_map (trees_in area.now) result }
+pub(crate) fn arguments_of(area: &Area, k: usize, name: Fixed) -> Option<usize>
+    requires { CellIn area.now k }
+    ensures trees { arguments_of (fixed_text name) (tree_in area.now k) ≡ option_map (trees_in area.now) result }
     ensures list { IfSome result (λ i. i < area.now.free) }
 {
     match area.kind(k) {
-        Kind::Application => {
-            if area.name_is(k, name) {
-                Some(area.first_of(k))
-            } else {
-                None
-            }
-        }
+        Kind::Application => area.name_is(k, name.text()).then_some(area.first_of(k)),
         Kind::Variable(_) | Kind::Atom(_) => None,
     }
 }
 
 // Whether the tree of cell k is a name without arguments.
 #[tactic(auto, unfolding(rules::specs::Reduction::is_constant))]
-pub(crate) fn is_constant(area: &Area, k: usize, name: &[u8]) -> bool
-    requires { (0 < k) × (k < area.now.free) }
-    ensures { is_constant name.now (tree_in area.now k) ≡ guard result }
+pub(crate) fn is_constant(area: &Area, k: usize, name: Fixed) -> bool
+    requires { CellIn area.now k }
+    ensures { is_constant (fixed_text name) (tree_in area.now k) ≡ guard result }
 {
     arguments_of(area, k, name) == Some(0)
 }
 
 // The cell of the one argument under a name at cell k.
 #[tactic(auto, unfolding(rules::specs::Reduction::is_one))]
-pub(crate) fn is_one(area: &Area, k: usize, name: &[u8]) -> Option<usize>
-    requires { (0 < k) × (k < area.now.free) }
-    ensures tree { is_one name.now (tree_in area.now k) ≡ option_map (tree_in area.now) result }
+pub(crate) fn is_one(area: &Area, k: usize, name: Fixed) -> Option<usize>
+    requires { CellIn area.now k }
+    ensures tree { is_one (fixed_text name) (tree_in area.now k) ≡ option_map (tree_in area.now) result }
     ensures cell { IfSome result (CellIn area.now) }
 {
     let list = arguments_of(area, k, name)?;
@@ -107,9 +104,9 @@ pub(crate) struct Two {
 
 // The cells of the two arguments under a name at cell k.
 #[tactic(auto, unfolding(rules::specs::Reduction::is_two))]
-pub(crate) fn is_two(area: &Area, k: usize, name: &[u8]) -> Option<Two>
-    requires { (0 < k) × (k < area.now.free) }
-    ensures trees { is_two name.now (tree_in area.now k) ≡ option_map (two_in area.now) result }
+pub(crate) fn is_two(area: &Area, k: usize, name: Fixed) -> Option<Two>
+    requires { CellIn area.now k }
+    ensures trees { is_two (fixed_text name) (tree_in area.now k) ≡ option_map (two_in area.now) result }
     ensures cells { IfSome result (λ two. CellIn area.now two.first × CellIn area.now two.second) }
 {
     let first = arguments_of(area, k, name)?;

@@ -1,7 +1,5 @@
 pub mod Pieces
 pub mod WordTexts
 pub mod Comparing
-pub mod Parts
 pub mod Each
 pub mod RunLaws
-pub mod RunSorting

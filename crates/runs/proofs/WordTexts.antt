@@ -54,22 +54,16 @@ pub width_place : (x : ℕ) → (x % 65536 ≡ 0 → ⊥) → width_of x ≡ x %
 unfolding width_of
 width_place x e = rw (ne_eqb (x % 65536) 0 e)
 
-pub width_pos : (x : ℕ) → 0 < width_of x
-width_pos x = elim (dec_lt 0 (x % 65536)) [
-  | yes p ↦ omega (arith, width_place x (omega arith))
-  | no p ↦ omega (arith, width_mark x (omega arith), code_length (x / 65536))
+pub width_bounds : (x : ℕ) → (0 < width_of x) × (width_of x ≤ 65789)
+width_bounds x = elim (dec_lt 0 (x % 65536)) [
+  | yes p ↦ (let e = width_place x (omega arith) in (omega arith, omega arith))
+  | no p ↦ (let e = width_mark x (omega arith) in let c = code_length (x / 65536) in (omega arith, omega arith))
 ]
 
 pub width_text : (s : List ℕ) (x : ℕ) → Token s x → length (word_text s x) ≡ width_of x
 width_text s x t = elim (dec_lt 0 (x % 65536)) [
   | yes p ↦ (let k = t.placed p in let l = length-drop (x / 65536) s in let m : x % 65536 ≤ length (drop (x / 65536) s) = omega arith in ap length (text_place s x (omega arith)) ∙ length-take-le (x % 65536) (drop (x / 65536) s) m ∙ sym (width_place x (omega arith)))
   | no p ↦ ap length (text_mark s x (omega arith)) ∙ (code_length (x / 65536)).0 ∙ sym (width_mark x (omega arith))
-]
-
-pub width_small : (x : ℕ) → width_of x ≤ 65789
-width_small x = elim (dec_lt 0 (x % 65536)) [
-  | yes p ↦ omega (arith, width_place x (omega arith))
-  | no p ↦ omega (arith, width_mark x (omega arith), code_length (x / 65536))
 ]
 
 -- what is left of the text of the words l from word i on, past a bytes
@@ -118,7 +112,7 @@ module _ (s l : List ℕ) where
 
   -- the next word
   pub word_at : (p : Spot) → At l p → p.word < length l → At l (record { word = p.word + 1; byte = 0 })
-  word_at p h q = record { inside = omega arith; within = λ q. width_pos (get_or l (p.word + 1) 0); over = λ q. refl }
+  word_at p h q = record { inside = omega arith; within = λ q. (width_bounds (get_or l (p.word + 1) 0)).0; over = λ q. refl }
 
   -- the next byte
   pub byte_at : (p : Spot) → At l p → p.word < length l → At l (next_spot (get_or l p.word 0) p)

@@ -8,8 +8,10 @@ use Rattle.std.specs.Cmp.Lexicographic.{slice_cmp}
 use Rattle.std.specs.Ordering.{nat_cmp}
 use Rattle.rules.specs.Tree.{tamtplus}
 use Rattle.tree.specs.Cells.{fixed_name}
+use Rattle.tree.specs.Names.{coded_fixed}
+use Rattle.tree.specs.declared.fixed.Fixed as fixed
 use Rattle.runs.specs.declared.order.Piece.{Piece}
-use Rattle.runs.specs.declared.order.Piece.TheVariants.{Place, Byte, Name}
+use Rattle.runs.specs.declared.order.Piece.TheVariants.{Place, Byte, Sum, Fixed, Unspelled}
 use Rattle.runs.specs.declared.order.Spot.{Spot}
 
 -- the name of sums, and the fixed names
@@ -34,9 +36,17 @@ unfoldable pub width_of : ℕ → ℕ
 unfolding code_width
 width_of x = cond (eqb (x % 65536) 0) (code_width (x / 65536)) (x % 65536)
 
--- what a code stands for, and a word
+-- what the code of a name stands for, a code, and a word
+abbrev pub fixed_piece : Option fixed.Fixed → ℕ → Piece
+fixed_piece None n = Unspelled (n - 7)
+fixed_piece (Some f) n = Fixed f
+
+abbrev pub name_piece : ℕ → Piece
+name_piece zero = Sum
+name_piece (suc n) = fixed_piece (coded_fixed (suc n)) (suc n)
+
 abbrev pub code_piece : ℕ → Piece
-code_piece c = cond (ltb c 256) (Byte c) (cond (ltb c 512) (Name (c - 256)) (Byte (c % 256)))
+code_piece c = cond (ltb c 256) (Byte c) (cond (ltb c 512) (name_piece (c - 256)) (Byte (c % 256)))
 
 abbrev pub piece_of : ℕ → Piece
 piece_of x = cond (eqb (x % 65536) 0) (code_piece (x / 65536)) (Place (x / 65536) (x % 65536))
@@ -66,7 +76,9 @@ next_spot x p = cond (eqb (p.byte + 1) (width_of x)) (record { word = p.word + 1
 abbrev pub piece_zeros : Piece → Option ℕ
 piece_zeros (Place start n) = None
 piece_zeros (Byte b) = None
-piece_zeros (Name n) = cond (ltb 6 n) (Some (n + 65529)) None
+piece_zeros Sum = None
+piece_zeros (Fixed f) = None
+piece_zeros (Unspelled n) = Some (65536 + n)
 
 -- how many zeros the name of the word x has, if it is such
 unfoldable pub zeros_of : ℕ → Option ℕ

@@ -4,13 +4,12 @@
 ghost use Rattle.std.specs.Prelude.{◌≡◌, ◌+◌, ◌*◌, ◌<◌};
 
 pub mod order; // order.rt: the bytes of words, and the order of texts
-mod precedence; // precedence.rt: the order by which runs are sorted
 pub mod sorting; // sorting.rt: runs of words, sorted by their texts
 
 // A word is a start, or a code, times SPAN, and a length.
 pub const SPAN: u32 = 65536;
 
-// The words of the marks `(`, `)` and `,`.
+// The words of the marks `(`, `)` and `,`: constants and no enum, since they are matched where they lie, in lent words.
 pub const OPEN: u32 = b'(' as u32 * SPAN;
 
 pub const SHUT: u32 = b')' as u32 * SPAN;
@@ -21,6 +20,7 @@ pub const COMMA: u32 = b',' as u32 * SPAN;
 pub const PLUS: u32 = 256 * SPAN;
 
 // The word of a start, or a code, and a length.
+// Not sheet's Place, which is of bytes: runs of words and codes have it too.
 pub fn word(start: usize, length: usize) -> u32
     requires { (start < SPAN) × (length < SPAN) }
     ensures { result ≡ start * SPAN + length }

@@ -1,17 +1,23 @@
 // Texts as runs of words, and their order by bytes.
 ghost use Rattle.std.specs.Prelude.{◌≡◌, ◌+◌, ◌^◌, ◌<◌, length, get_or};
-ghost use Rattle.runs.specs.Texts.{code_name, piece_of, Token, Tokens, width_of, word_text, texts, next_spot, lex, zeros_of, more_zeros};
+ghost use Rattle.laws.specs.Unspelled.{unspelled};
+ghost use Rattle.runs.specs.Texts.{piece_of, Token, Tokens, width_of, word_text, texts, next_spot, lex, zeros_of, more_zeros};
 
 use crate::SPAN;
+use rules::SUM;
 use std::cmp::Ordering;
-use tree::fixed::{fixed_byte, fixed_len};
+use tree::fixed::{Fixed, UNSPELLED};
 
-// What a word stands for: a place of the sheet; a byte; the name of sums, 0, or the fixed name of a code.
+// What a word stands for: a place of the sheet, a byte or a name.
 #[derive(Clone, Copy, Debug, PartialEq, Eq)]
-enum Piece {
+pub enum Piece {
     Place { start: usize, length: usize },
     Byte(u8),
-    Name(u8),
+    // The name of sums.
+    Sum,
+    Fixed(Fixed),
+    // An x, 65,536 zeros and so many more, a colon and the sort: no sheet spells it.
+    Unspelled(u8),
 }
 
 // Codes from NAMES on are names, and those from BYTES on are bytes that are no mark. The codes below are marks, which are bytes too.
@@ -19,16 +25,11 @@ const NAMES: usize = 256;
 
 pub const BYTES: usize = 512;
 
-// The last name that a sheet may spell. The one after it has 65,536 zeros, and each next one has one more.
-const LAST_SPELLED: u8 = 6;
-
-const ZEROS: usize = 65536 - 7;
-
-// The name of sums.
-const SUM: [u8; 8] = *b"tamtplus";
+// How many zeros the first name has that no sheet spells.
+pub const ZEROS: usize = 65536;
 
 // What the word x stands for.
-fn piece_of(x: u32) -> Piece
+pub fn piece_of(x: u32) -> Piece
     ensures { result ≡ piece_of x }
 {
     let start = (x / SPAN) as usize;
@@ -36,50 +37,49 @@ fn piece_of(x: u32) -> Piece
     if 0 < length {
         return Piece::Place { start, length };
     }
-    if NAMES <= start && start < BYTES {
-        return Piece::Name((start - NAMES) as u8);
+    if start < NAMES || BYTES <= start {
+        return Piece::Byte((start % 256) as u8);
     }
-    Piece::Byte((start % 256) as u8)
-}
-
-// How many bytes a name has.
-fn name_width(n: u8) -> usize
-    ensures { result ≡ length (code_name n) }
-{
-    if n == 0 {
-        SUM.len()
-    } else {
-        fixed_len(n as usize)
+    let code = start - NAMES;
+    if code == 0 {
+        return Piece::Sum;
+    }
+    match Fixed::of(code) {
+        Some(name) => Piece::Fixed(name),
+        None => Piece::Unspelled((code - UNSPELLED) as u8),
     }
 }
 
-// A byte of a name.
-fn name_byte(n: u8, a: usize) -> u8
-    requires { a < length (code_name n) }
-    ensures { result ≡ get_or (code_name n) a 0 }
+// Byte a of the n-th name that no sheet spells.
+fn unspelled_byte(n: u8, a: usize) -> u8
+    requires { a < 65541 + n }
+    ensures { result ≡ get_or (unspelled n) a 0 }
 {
-    if n == 0 {
-        SUM[a]
-    } else {
-        fixed_byte(n as usize, a)
+    let end = 1 + ZEROS + n as usize;
+    match a {
+        0 => b'x',
+        _ if a < end => b'0',
+        _ => b":Msg"[a - end],
     }
 }
 
 // How many bytes the text of a word has.
 #[tactic(auto, using(crate::proofs::Pieces::width_piece))]
-pub fn width_of(x: u32) -> usize
+fn width_of(x: u32) -> usize
     ensures { result ≡ width_of x }
 {
     match piece_of(x) {
         Piece::Place { length, .. } => length,
         Piece::Byte(_) => 1,
-        Piece::Name(n) => name_width(n),
+        Piece::Sum => SUM.len(),
+        Piece::Fixed(name) => name.text().len(),
+        Piece::Unspelled(n) => 5 + ZEROS + n as usize,
     }
 }
 
 // A byte of the text of a word.
 #[tactic(auto, using(crate::proofs::Pieces::width_piece, crate::proofs::Pieces::byte_piece, crate::proofs::Pieces::piece_fits))]
-pub fn byte_of(sheet: &[u8], x: u32, a: usize) -> u8
+fn byte_of(sheet: &[u8], x: u32, a: usize) -> u8
     requires token { Token sheet.now x }
     requires a_bound { a < width_of x }
     ensures { result ≡ get_or (word_text sheet.now x) a 0 }
@@ -87,17 +87,19 @@ pub fn byte_of(sheet: &[u8], x: u32, a: usize) -> u8
     match piece_of(x) {
         Piece::Place { start, .. } => sheet[start + a],
         Piece::Byte(b) => b,
-        Piece::Name(n) => name_byte(n, a),
+        Piece::Sum => SUM[a],
+        Piece::Fixed(name) => name.text()[a],
+        Piece::Unspelled(n) => unspelled_byte(n, a),
     }
 }
 
 // How many zeros the name of the word x has, if it is one that no sheet spells.
 #[tactic(auto, unfolding(crate::specs::Texts::zeros_of))]
-pub fn zeros_of(x: u32) -> Option<usize>
+fn zeros_of(x: u32) -> Option<usize>
     ensures { result ≡ zeros_of x }
 {
     match piece_of(x) {
-        Piece::Name(n) if LAST_SPELLED < n => Some(n as usize + ZEROS),
+        Piece::Unspelled(n) => Some(ZEROS + n as usize),
         _ => None,
     }
 }
@@ -150,6 +152,7 @@ pub fn compare(sheet: &[u8], left: &[u32], right: &[u32]) -> Ordering
     requires right_tokens { Tokens sheet.now right.now 0 (length right.now) }
     ensures { result ≡ lex (texts sheet.now left.now) (texts sheet.now right.now) }
 {
+    // Two walks at two rates: no iterator is plainer.
     let mut i = Spot { word: 0, byte: 0 };
     let mut j = Spot { word: 0, byte: 0 };
     while i.word < left.len() && j.word < right.len() {

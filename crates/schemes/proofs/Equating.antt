@@ -14,11 +14,13 @@ use Rattle.laws.specs.Schemes.{root_at}
 use Rattle.tree.specs.declared.area.Area.{Area}
 use Rattle.tree.specs.Areas.{next_in, tree_in, trees_in, Adds, Pushes}
 use Rattle.tree.proofs.Keeping.{adds_then, adds_grows, adds_push, grows_next, grows_tree, grows_trees, pushed_some, pushed_inside, pushed_tree}
-use Rattle.substitution.specs.Areas.{Lists, Puts}
+use Rattle.substitution.specs.Areas.{Puts}
+use Rattle.tree.specs.Lists.{Lists}
 use Rattle.schemes.specs.Choices.{joined_as}
-use Rattle.schemes.specs.declared.patterns.Fixed.TheVariants.{RoleA, RoleB}
+use Rattle.tree.specs.declared.fixed.Fixed.TheVariants.{RoleA, RoleB}
 use Rattle.schemes.specs.declared.firing.Fired.{Fired}
-use Rattle.schemes.specs.Making.{fixed_text, FiredIn}
+use Rattle.tree.specs.Names.{fixed_text}
+use Rattle.schemes.specs.Making.{FiredIn}
 use Rattle.schemes.proofs.Counts.{with_one_few, with_two_few}
 use Rattle.schemes.proofs.Firings.{one_child, two_children, flip_at}
 use Rattle.schemes.proofs.Leaves.{no_trees}

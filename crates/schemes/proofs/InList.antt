@@ -1,11 +1,10 @@
 -- The choices for a list of cells of an area: for the first tree's children, for its root, for the later trees.
-use Prim.Native.Nat.{ℕ, ◌+◌, ◌*◌, ◌/◌, ◌%◌, ◌<◌, ◌≤◌, ◌^◌}
+use Prim.Native.Nat.{ℕ, ◌+◌, ◌*◌, ◌/◌, ◌%◌, ◌<◌, ◌≤◌}
 use native.Mathlib.Nat.{div-one, mod-eq_of_lt}
 use native.Mathlib.Omega.{arith}
 use mathlib.Core.Path.{◌≡◌, refl, sym, ap, ap₂, ◌∙◌, subst}
 use mathlib.Core.List.{List, ◌++◌}
 use mathlib.Core.Logic.{◌⊎◌, inl, inr}
-use lib.ListN.{length}
 use Rattle.rules.specs.Bytes.{Text}
 use Rattle.rules.specs.Tree.{Tree, Trees, none, more, children, count, size, sizes}
 use Rattle.rules.specs.Substitution.{Pair, flatten}
@@ -13,7 +12,7 @@ use Rattle.rules.specs.Variants.{Scheme, Joined, scheme_count, scheme_counts}
 use Rattle.laws.specs.Schemes.{scheme_at, joined_at}
 use Rattle.laws.specs.Memory.{site, sites, sites_in}
 use Rattle.tree.specs.declared.area.Area.{Area}
-use Rattle.tree.specs.Areas.{next_in, tree_in, trees_in, Grows}
+use Rattle.tree.specs.Areas.{next_in, tree_in, trees_in, Grows, CellIn, HasRoom}
 use Rattle.tree.proofs.Decoding.{size_pos}
 use Rattle.tree.proofs.Keeping.{grows_same, grows_then, adds_grows, grows_next, grows_tree, grows_trees}
 use Rattle.schemes.specs.Choices.{over, appended, ways_of, root_of, joined_as, Shared}
@@ -242,10 +241,10 @@ module _ {a m : Area} {fresh : ℕ} {w : Draw} (i : ℕ) (d : ReadyIn a fresh w 
         let x = scheme_fits name first_tree w.next (w.index / (w.ways / scheme_count first_tree)) in
         omega (arith, ap count equations_later.trees, count_flatten (scheme_at name first_tree w.next (w.index / (w.ways / scheme_count first_tree))).equations, x.equations, d.names, sites_of list_is)
 
-    pub join_cells : (0 < here.values) × (here.values < b.free) × (here.equations < b.free) × (rest.values < b.free) × (rest.equations < b.free)
-    join_cells = (h.value.some_cell, value_later.inside, equations_later.inside, rest_chosen.values.inside, rest_chosen.equations.inside)
+    pub join_cells : CellIn b here.values × (here.equations < b.free) × (rest.values < b.free) × (rest.equations < b.free)
+    join_cells = ((h.value.some_cell, value_later.inside), equations_later.inside, rest_chosen.values.inside, rest_chosen.equations.inside)
 
-    pub join_room : (4 * (b.free + 1 + count (trees_in b here.equations)) ≤ length b.work.now) × (b.free + 1 + count (trees_in b here.equations) < 2 ^ 32)
+    pub join_room : HasRoom b (1 + count (trees_in b here.equations))
     join_room =
         let o = rest_chosen.used in (
           omega (arith, few, o, rest_chosen.grows.below.len, h.room, h.grows.below.len, sizes_of list_is, sites_of list_is, d.room),

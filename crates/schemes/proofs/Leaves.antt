@@ -1,31 +1,19 @@
 -- Fixed names over leaves of an area.
-use Prim.Native.Nat.{ℕ, ◌+◌, ◌*◌, ◌<◌, ◌≤◌}
-use mathlib.Core.Path.{◌≡◌, refl, ap, ap₂, ◌∙◌, subst}
-use mathlib.Core.List.{List}
-use lib.ListN.{length}
+use Prim.Native.Nat.{ℕ, zero, suc, ◌+◌}
+use mathlib.Core.Path.{◌≡◌, refl, sym, ap, ap₂, ◌∙◌, subst}
 use native.Mathlib.Omega.{arith}
 use Rattle.rules.specs.Bytes.{Text}
-use Rattle.rules.specs.Tree.{Tree, apply, Trees, none, more, size, sizes}
+use Rattle.rules.specs.Tree.{Tree, apply, Trees, none, more, count, size, sizes}
 use Rattle.rules.specs.Reduction.{one, two}
-use Rattle.tree.specs.Cells.{fixed_name, made}
-use Rattle.tree.specs.Arena.{WroteCell, Linked}
 use Rattle.tree.specs.declared.area.Area.{Area}
-use Rattle.tree.specs.Areas.{tree_in, trees_in, Pushes}
+use Rattle.tree.specs.Areas.{next_in, tree_in, trees_in, Pushes}
 use Rattle.tree.proofs.Decoding.{trees_none, sizes_none}
-use Rattle.tree.proofs.Pushing.{linked_fixed}
-use Rattle.tree.proofs.Keeping.{adds_grows, pushed_inside, grows_tree}
-use Rattle.substitution.specs.Areas.{Lists, Puts}
-use Rattle.substitution.proofs.Listing.{lists_same, lists_push, lists_more, puts_push, puts_then}
-use Rattle.schemes.specs.declared.patterns.Fixed.{Fixed}
-use Rattle.schemes.specs.Making.{fixed_text, LeafIn}
-
--- the cell that is written
-pub named_linked : (a : Area) {v : List ℕ} {code count first : ℕ} (name : Fixed) → (fixed_name code ≡ fixed_text name) × (0 < code) × (code < 7) → first < a.free → 4 * a.free + 4 ≤ length a.work.now
-    → count ≡ sizes (trees_in a first) → WroteCell a.work.now v a.free code 0 0 first 0 (1 + count) → Linked a.sheet.now a.work.now v a.free 0 (apply (fixed_text name) (trees_in a first))
-unfolding made size
-named_linked a {first = first} name c q room e x =
-    linked_fixed a.sheet.now x a.arena c.1 (omega (arith, c.2)) (omega arith) (λ h. absurd (omega arith)) room q a.arena.links.some
-    (ap (λ (n : Text). apply n (trees_in a first)) c.0) (ap (λ (k : ℕ). 1 + k) e)
+use Rattle.tree.proofs.Keeping.{adds_grows, grows_tree}
+use Rattle.tree.proofs.Lists.{list_more}
+use Rattle.substitution.specs.Areas.{Puts}
+use Rattle.tree.specs.Lists.{Lists}
+use Rattle.substitution.proofs.Listing.{lists_same, lists_push, lists_more, puts_then}
+use Rattle.schemes.specs.Making.{LeafIn}
 
 -- the empty list
 pub no_trees : (a : Area) → trees_in a 0 ≡ none
@@ -34,20 +22,15 @@ no_trees a = trees_none a.sheet.now a.work.now 0 refl
 pub no_sizes : (a : Area) → sizes (trees_in a 0) ≡ 0
 no_sizes a = sizes_none a.sheet.now a.work.now 0 refl
 
--- a tree before a list that was there
-module _ {a m : Area} {l rest : ℕ} (x : ℕ) (q : rest < a.free) (g : Pushes a m l rest (tree_in a x)) where
-  both : Lists a m l (more (tree_in a x) (trees_in a rest))
-  both = lists_push (lists_same a rest q) g
+-- a list of one tree more, at its first cell
+list_puts_at : {a m : Area} (k : ℕ) {t : Tree} → Lists a m k (more t (trees_in a 0)) → Puts a m k 0 t
+list_puts_at {a} {m} zero {t} h = let z : 0 ≡ suc (count (trees_in a 0)) = sym (ap count (no_trees m)) ∙ ap count h.trees in absurd (omega (arith, z))
+list_puts_at {a} {m} (suc j) {t} h =
+    let e : more (tree_in m (suc j)) (trees_in m (next_in m (suc j))) ≡ more t (trees_in a 0) = sym (list_more m (suc j) (omega arith) h.inside refl) ∙ h.trees in
+    record { adds = h.adds; some_cell = omega arith; inside = h.inside; tree = cc; trees = h.trees }
 
-  pub both_inside : l < m.free
-  both_inside = pushed_inside g
-
-  pub both_sizes : sizes (trees_in m l) ≡ size (tree_in a x) + sizes (trees_in a rest)
-  unfolding size
-  both_sizes = ap sizes both.trees
-
-  pub over_puts : {b : Area} {k : ℕ} (f : Text) → Pushes m b k 0 (apply f (trees_in m l)) → Puts a b k 0 (apply f (more (tree_in a x) (trees_in a rest)))
-  over_puts {b} {k} f h = subst (λ (ts : Trees). Puts a b k 0 (apply f ts)) both.trees (puts_then both a.arena.links.some (puts_push h))
+pub list_puts : {a m : Area} {k : ℕ} {t : Tree} → Lists a m k (more t (trees_in a 0)) → Puts a m k 0 t
+list_puts {k = k} h = list_puts_at k h
 
 -- a leaf before a tree alone
 module _ {a m : Area} {l : ℕ} {u : Tree} (x : ℕ) (o : LeafIn a x) (g : Lists a m l (more u (trees_in a 0))) where

@@ -15,7 +15,8 @@ use Rattle.tree.specs.Areas.{cell_kind, next_in, name_in, tree_in, trees_in, Pus
 use Rattle.tree.proofs.Decoding.{trees_none, trees_more}
 use Rattle.tree.proofs.Keeping.{grows_same, adds_then, adds_grows, grows_trees}
 use Rattle.tree.proofs.ByKind.{application_kind, number_application}
-use Rattle.substitution.specs.Areas.{Lists, Puts}
+use Rattle.substitution.specs.Areas.{Puts}
+use Rattle.tree.specs.Lists.{Lists}
 use Rattle.substitution.proofs.Listing.{lists_same, lists_push, lists_tree}
 use Rattle.reduction.specs.Areas.{Becomes}
 use Rattle.laws.specs.Schemes.{root_count}

@@ -1,11 +1,10 @@
 -- The scheme of one term of an area, and its system.
-use Prim.Native.Nat.{ℕ, zero, suc, ◌+◌, ◌*◌, ◌/◌, ◌<◌, ◌≤◌, ◌^◌}
+use Prim.Native.Nat.{ℕ, zero, suc, ◌+◌, ◌*◌, ◌/◌, ◌<◌, ◌≤◌}
 use native.Mathlib.Nat.{mul-one, div-one, div-eq_of_eq-mul_right}
 use native.Mathlib.Omega.{arith}
 use mathlib.Core.Path.{◌≡◌, sym, ap, ap₂, ◌∙◌, subst}
 use mathlib.Core.List.{[], ◌∷◌, ◌++◌}
 use Rattle.std.proofs.lemmas.List.{append-nil}
-use lib.ListN.{length}
 use Rattle.rules.specs.Bytes.{Text}
 use Rattle.rules.specs.Tree.{Tree, Trees, none, more, count, size, sizes}
 use Rattle.rules.specs.Substitution.{flatten}
@@ -14,9 +13,9 @@ use Rattle.laws.specs.Schemes.{scheme_at, joined_at}
 use Rattle.laws.specs.Memory.{sites, sites_in}
 use Rattle.laws.proofs.Variants.Sites.{sites_few}
 use Rattle.tree.specs.declared.area.Area.{Area}
-use Rattle.tree.specs.Areas.{tree_in, trees_in, Grows, Pushes}
+use Rattle.tree.specs.Areas.{tree_in, trees_in, Grows, Pushes, CellIn, HasRoom}
 use Rattle.tree.proofs.Keeping.{grows_then, grows_push, adds_then, adds_grows, grows_tree, pushed_inside, pushed_trees}
-use Rattle.substitution.specs.Areas.{Lists}
+use Rattle.tree.specs.Lists.{Lists}
 use Rattle.substitution.proofs.Chains.{head_more, none_more}
 use Rattle.schemes.specs.Choices.{appended, Shared}
 use Rattle.schemes.specs.Areas.{Has, HasList, FreshIn, SomeFreshIn, SystemIn}
@@ -50,9 +49,9 @@ first_has a zero h = absurd (none_more (sym (no_trees a) ∙ h.trees))
 first_has a (suc k) h = record { some_cell = omega arith; inside = h.inside; tree = head_more (sym (list_parts a (suc k) (omega arith) h.inside) ∙ h.trees) }
 
 -- the term alone, in cell k of m
-module _ {a m : Area} {fresh k : ℕ} (term c i : ℕ) (names : SomeFreshIn a fresh) (tree : (0 < term) × (term < a.free) × (size (tree_in a term) ≤ 4096))
+module _ {a m : Area} {fresh k : ℕ} (term c i : ℕ) (names : SomeFreshIn a fresh) (tree : CellIn a term × (size (tree_in a term) ≤ 4096))
     (index : (c ≡ scheme_count (tree_in a term)) × (c ≤ 4096) × (i < c))
-    (room : (4 * (a.free + 2 * size (tree_in a term) + 1024) ≤ length a.work.now) × (a.free + 2 * size (tree_in a term) + 1024 < 2 ^ 32)) (x : Pushes a m k 0 (tree_in a term)) where
+    (room : HasRoom a (2 * size (tree_in a term) + 1024)) (x : Pushes a m k 0 (tree_in a term)) where
   abbrev t₀ : Tree
   t₀ = tree_in a term
 
@@ -87,7 +86,7 @@ module _ {a m : Area} {fresh k : ℕ} (term c i : ℕ) (names : SomeFreshIn a fr
       record {
         named = named_later g names;
         inside = pushed_inside x;
-        small = omega (arith, sizes_is, tree.2);
+        small = omega (arith, sizes_is, tree.1);
         shared = subst (λ (ts : Trees). Shared (scheme_counts ts) c i) (sym list_is) one_shared;
         names = omega (arith, sites_is, twelve);
         room = omega (arith, sizes_is, sites_is, twelve, room.0, g.below.len, x.end);
@@ -125,13 +124,13 @@ module _ {a m : Area} {fresh k : ℕ} (term c i : ℕ) (names : SomeFreshIn a fr
     term_used : u.free ≤ a.free + 2 * size t₀ + 800
     term_used = omega (arith, x.end, chosen_list.used, sizes_is, sites_is, twelve)
 
-    pub value_cells : (0 < r.values) × (r.values < u.free) × (0 < r.values) × (r.values < u.free) × (0 < u.free)
-    value_cells = (value_is.some_cell, value_is.inside, value_is.some_cell, value_is.inside, u.arena.links.some)
+    pub value_cells : CellIn u r.values × CellIn u r.values × (0 < u.free)
+    value_cells = ((value_is.some_cell, value_is.inside), (value_is.some_cell, value_is.inside), u.arena.links.some)
 
     pub term_inside : term < u.free
-    term_inside = omega (arith, tree.1, term_grows.grew)
+    term_inside = omega (arith, tree.0.1, term_grows.grew)
 
-    pub more_room : (4 * (u.free + 100) ≤ length u.work.now) × (u.free + 100 < 2 ^ 32)
+    pub more_room : HasRoom u 100
     more_room = (omega (arith, term_used, term_grows.below.len, room.0), omega (arith, term_used, room.1))
 
     -- the value, and then the term, beside itself
@@ -144,7 +143,7 @@ module _ {a m : Area} {fresh k : ℕ} (term c i : ℕ) (names : SomeFreshIn a fr
       all_grows = grows_then term_grows later
 
       term_is : tree_in u₁ term ≡ t₀
-      term_is = grows_tree (grows_then term_grows (adds_grows d₁.adds)) term tree.1 tree.0
+      term_is = grows_tree (grows_then term_grows (adds_grows d₁.adds)) term tree.0.1 tree.0.0
 
       last_list : HasList u₂ k₂ (flatten ((t₀, t₀) ∷ (the_scheme.value, the_scheme.value) ∷ []))
       unfolding flatten
@@ -159,7 +158,7 @@ module _ {a m : Area} {fresh k : ℕ} (term c i : ℕ) (names : SomeFreshIn a fr
       pub stack_lists : (r.equations < u₂.free) × (k₂ < u₂.free)
       stack_lists = (equations_later.inside, d₂.inside)
 
-      pub stack_room : (4 * (u₂.free + count (trees_in u₂ r.equations)) ≤ length u₂.work.now) × (u₂.free + count (trees_in u₂ r.equations) < 2 ^ 32)
+      pub stack_room : HasRoom u₂ (count (trees_in u₂ r.equations))
       stack_room = (omega (arith, copied, f₂, f₁, term_used, all_grows.below.len, room.0), omega (arith, copied, f₂, f₁, term_used, room.1))
 
       pub systems : {b : Area} {j : ℕ} → AppendsIn u₂ b r.equations k₂ j → SystemIn a b name i t₀ (record { value = r.values; stack = j })

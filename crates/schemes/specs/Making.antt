@@ -1,7 +1,6 @@
 -- What the functions that make schemes at the free end of an area answer. Definitions only.
 use Rattle.std.specs.Prelude.{ℕ, ◌+◌, ◌*◌, ◌/◌, ◌%◌, ◌<◌, ◌≤◌, ◌^◌, ◌≡◌, List, ◌⊎◌, length}
 use Rattle.rules.specs.Bytes.{Text}
-use Rattle.rules.specs.Text.{bytes}
 use Rattle.rules.specs.Tree.{Tree, Trees, more, children, count, size, sizes}
 use Rattle.rules.specs.Substitution.{Pair, flatten}
 use Rattle.rules.specs.Variants.{Scheme, scheme_counts}
@@ -9,23 +8,12 @@ use Rattle.laws.specs.Schemes.{joined_at}
 use Rattle.laws.specs.Memory.{site, sites_in}
 use Rattle.tree.specs.declared.area.Area.{Area}
 use Rattle.tree.specs.Areas.{tree_in, trees_in, Grows, Adds}
-use Rattle.substitution.specs.Areas.{Lists}
+use Rattle.tree.specs.Lists.{Lists}
 use Rattle.schemes.specs.Choices.{over, appended, ways_of, root_of, Shared, joined_as}
 use Rattle.schemes.specs.Areas.{Has, HasList, SomeFreshIn}
-use Rattle.schemes.specs.declared.patterns.Fixed.{Fixed}
-use Rattle.schemes.specs.declared.patterns.Fixed.TheVariants as fixed
 use Rattle.schemes.specs.declared.firing.Fired.{Fired}
 use Rattle.schemes.specs.declared.firing.Draw.{Draw}
 use Rattle.schemes.specs.declared.firing.Chosen.{Chosen}
-
--- the text of a name
-abbrev pub fixed_text : Fixed → Text
-fixed_text fixed.RoleA = bytes "tamXCroleA"
-fixed_text fixed.RoleB = bytes "tamXCroleB"
-fixed_text fixed.Pair = bytes "tamXCpair"
-fixed_text fixed.Senc = bytes "tamXCsenc"
-fixed_text fixed.Kem = bytes "tamXCkem"
-fixed_text fixed.Pk = bytes "tamXCpk"
 
 -- which of c choices a draw makes
 abbrev pub choice_of : Draw → ℕ → ℕ

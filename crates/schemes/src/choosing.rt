@@ -1,9 +1,9 @@
 // The choices for a list of trees of an area, by an index: the first choice varies slowest. Cells of what does not change are used again.
-ghost use Rattle.std.specs.Prelude.{◌≡◌, List, ℕ, ◌+◌, ◌*◌, ◌<◌, ◌≤◌, ◌^◌, length};
+ghost use Rattle.std.specs.Prelude.{◌≡◌, List, ℕ, ◌+◌, ◌<◌};
 ghost use Rattle.rules.specs.Bytes.{Text};
 ghost use Rattle.rules.specs.Tree.{sizes, count};
 ghost use Rattle.rules.specs.Substitution.{Pair, flatten};
-ghost use Rattle.tree.specs.Areas.{next_in, tree_in, trees_in};
+ghost use Rattle.tree.specs.Areas.{next_in, tree_in, trees_in, CellIn, HasRoom};
 ghost use Rattle.reduction.specs.Areas.{Becomes};
 ghost use Rattle.schemes.specs.Choices.{over};
 ghost use Rattle.schemes.specs.Areas.{FreshIn};
@@ -16,11 +16,11 @@ use substitution::instances::keep;
 use tree::area::Area;
 use tree::kinds::Kind;
 
-// The list from cell x on before the list from cell y on.
+// The list from cell x on before the list from cell y on. By recursion: the cells of later trees are made first.
 #[tactic(auto, using(crate::proofs::Lining::list_count, crate::proofs::Lining::appends_second, crate::proofs::Lining::appends_first))]
 pub(crate) fn append(area: &mut Area, x: usize, y: usize) -> usize
     requires lists { (x < area.old.free) × (y < area.old.free) }
-    requires room { (4 * (area.old.free + count (trees_in area.old x)) ≤ length area.old.work.now) × (area.old.free + count (trees_in area.old x) < 2 ^ 32) }
+    requires room { HasRoom area.old (count (trees_in area.old x)) }
     ensures { AppendsIn area.old area.new x y result }
 {
     if x == 0 {
@@ -37,9 +37,9 @@ pub(crate) fn append(area: &mut Area, x: usize, y: usize) -> usize
 // The tree of cell i with the children from cell first on.
 #[tactic(auto, using(crate::proofs::Lining::over_node, crate::proofs::Lining::becomes_as))]
 fn unchanged(area: &mut Area, i: usize, first: usize) -> usize
-    requires cells { (0 < i) × (i < area.old.free) × (first < area.old.free) }
+    requires cells { CellIn area.old i × (first < area.old.free) }
     requires small { sizes (trees_in area.old first) < 65535 }
-    requires room { (4 * area.old.free + 4 ≤ length area.old.work.now) × (area.old.free < 2 ^ 32) }
+    requires room { HasRoom area.old 1 }
     ensures { Becomes area.old area.new 1 (next_in area.old i) (over (tree_in area.old i) (trees_in area.old first)) result }
 {
     match area.kind(i) {
@@ -56,6 +56,7 @@ fn root(area: &mut Area, i: usize, fresh: usize, below: Chosen) -> Chosen
     requires { RootReadyIn area.old fresh below i }
     ensures { (name : ℕ → Text) → FreshIn area.old fresh name → (es : List Pair) → trees_in area.old below.equations ≡ flatten es → ChosenRootIn area.old area.new name below (over (tree_in area.old i) (trees_in area.old below.values)) es result }
 {
+    // No `?`: without a rule the root is made of its new children.
     let Some(rule) = rule_at(area, i, below.values) else {
         let values = unchanged(area, i, below.values);
         return Chosen { values, ..below };
@@ -91,8 +92,8 @@ fn root(area: &mut Area, i: usize, fresh: usize, below: Chosen) -> Chosen
 
 // The value of cell value, with its equations, before the choices for the later trees.
 fn join(area: &mut Area, value: usize, equations: usize, rest: Chosen) -> Chosen
-    requires cells { (0 < value) × (value < area.old.free) × (equations < area.old.free) × (rest.values < area.old.free) × (rest.equations < area.old.free) }
-    requires room { (4 * (area.old.free + 1 + count (trees_in area.old equations)) ≤ length area.old.work.now) × (area.old.free + 1 + count (trees_in area.old equations) < 2 ^ 32) }
+    requires cells { CellIn area.old value × (equations < area.old.free) × (rest.values < area.old.free) × (rest.equations < area.old.free) }
+    requires room { HasRoom area.old (1 + count (trees_in area.old equations)) }
     ensures { FollowsIn area.old area.new value equations rest result }
 {
     let values = keep(area, value, rest.values);

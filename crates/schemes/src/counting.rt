@@ -2,7 +2,7 @@
 ghost use Rattle.std.specs.Prelude.{◌≡◌, ◌*◌, ◌<◌, ◌≤◌, IfSome, Some};
 ghost use Rattle.rules.specs.Reduction.{rule_named};
 ghost use Rattle.rules.specs.Variants.{scheme_count, scheme_counts};
-ghost use Rattle.tree.specs.Areas.{cell_kind, name_in, tree_in, trees_in};
+ghost use Rattle.tree.specs.Areas.{cell_kind, name_in, tree_in, trees_in, CellIn};
 ghost use Rattle.tree.specs.declared.kinds.Kind.TheVariants.{Application};
 ghost use Rattle.schemes.specs.Choices.{over, ways_of, suits, choice_count};
 ghost use Rattle.schemes.specs.Areas.{counted_in};
@@ -12,7 +12,7 @@ use rules::Rule;
 use tree::area::Area;
 use tree::kinds::Kind;
 
-// Whether the list from cell first on has as many trees as a rule asks for.
+// Whether the list from cell first on has as many trees as a rule asks for. One arm to a number of trees: no table is plainer.
 fn suits(area: &Area, rule: Rule, first: usize) -> bool
     requires { first < area.now.free }
     ensures { result ≡ suits rule (trees_in area.now first) }
@@ -26,23 +26,20 @@ fn suits(area: &Area, rule: Rule, first: usize) -> bool
 // The rule that can fire at the root of cell i with the children from cell first on.
 #[tactic(auto, using(crate::proofs::Lining::ways_leaf, crate::proofs::Lining::ways_node, crate::proofs::Lining::leaf_kind, crate::proofs::Firings::count_of, crate::proofs::Numbering::suits_choices, crate::proofs::Numbering::unsuited_choices))]
 pub(crate) fn rule_at(area: &Area, i: usize, first: usize) -> Option<Rule>
-    requires { (0 < i) × (i < area.now.free) × (first < area.now.free) }
+    requires { CellIn area.now i × (first < area.now.free) }
     ensures ways { choice_count result ≡ ways_of (over (tree_in area.now i) (trees_in area.now first)) }
     ensures rule { IfSome result (λ rule. (cell_kind area.now i ≡ Application) × (rule_named (name_in area.now i) ≡ Some rule)) }
 {
     match area.kind(i) {
         Kind::Application => {
             let rule = rule_named(area, i)?;
-            if suits(area, rule, first) {
-                return Some(rule);
-            }
-            None
+            suits(area, rule, first).then_some(rule)
         }
         Kind::Variable(_) | Kind::Atom(_) => None,
     }
 }
 
-// How many choices there are at a root where a rule, if any, can fire.
+// How many choices there are at a root where a rule, if any, can fire. One arm to a number: no table is plainer.
 pub(crate) fn choices(rule: Option<Rule>) -> usize
     ensures { result ≡ choice_count rule }
 {
@@ -63,7 +60,8 @@ fn times(count: usize, ways: usize) -> Option<usize>
     (product <= 4096).then_some(product)
 }
 
-// The count of schemes of the trees of the list from cell i on, times another count. One frame for each node: a term may be 4,096 deep.
+// The count of schemes of the trees of the list from cell i on, times another count. One frame for each node: a term may be 4,096 deep, and
+// a function of the tree, for the lines that count_schemes has too, would be a second frame at each level.
 fn count_list(area: &Area, i: usize, count: usize) -> Option<usize>
     requires { (i < area.now.free) × (count ≤ 4096) }
     ensures { result ≡ counted_in (count * scheme_counts (trees_in area.now i)) }
@@ -81,7 +79,7 @@ fn count_list(area: &Area, i: usize, count: usize) -> Option<usize>
 
 // The count of schemes of the tree of cell i, if it is at most 4,096.
 pub fn count_schemes(area: &Area, i: usize) -> Option<usize>
-    requires { (0 < i) × (i < area.now.free) }
+    requires { CellIn area.now i }
     ensures { result ≡ counted_in (scheme_count (tree_in area.now i)) }
 {
     let first = area.child_of(i);

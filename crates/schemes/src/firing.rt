@@ -1,22 +1,24 @@
 // A rule that fires in an area: its value and its equations, over fresh variables.
-ghost use Rattle.std.specs.Prelude.{◌≡◌, List, ◌∷◌, ℕ, ◌+◌, ◌*◌, ◌<◌, ◌≤◌, ◌^◌, length, Some};
+ghost use Rattle.std.specs.Prelude.{◌≡◌, List, ◌∷◌, ℕ, ◌+◌, ◌<◌, Some};
 ghost use Rattle.rules.specs.Bytes.{Text};
 ghost use Rattle.rules.specs.Tree.{more};
 ghost use Rattle.rules.specs.Substitution.{Pair, flatten};
 ghost use Rattle.rules.specs.Reduction.{rule_named, two, constant};
 ghost use Rattle.rules.specs.Variants.{scheme, firing_count};
 ghost use Rattle.laws.specs.Schemes.{root_at};
-ghost use Rattle.tree.specs.Areas.{next_in, tree_in, trees_in};
-ghost use Rattle.substitution.specs.Areas.{Lists};
+ghost use Rattle.tree.specs.Areas.{next_in, tree_in, trees_in, CellIn, HasRoom};
+ghost use Rattle.tree.specs.Lists.{Lists};
+ghost use Rattle.tree.specs.Names.{fixed_text};
+ghost use Rattle.tree.specs.declared.fixed.Fixed.TheVariants.{Pair as pair_name};
 ghost use Rattle.schemes.specs.Choices.{joined_as};
 ghost use Rattle.schemes.specs.Areas.{FreshIn, SomeFreshIn};
-ghost use Rattle.schemes.specs.Making.{fixed_text, LeafIn, FiredIn};
-ghost use Rattle.schemes.specs.declared.patterns.Fixed.TheVariants.{Pair as pair_name};
+ghost use Rattle.schemes.specs.Making.{LeafIn, FiredIn};
 
-use crate::patterns::{Fixed, boxed, named, plain};
+use crate::patterns::{boxed, plain};
 use rules::Rule;
 use substitution::pairing::push_pair;
 use tree::area::Area;
+use tree::fixed::Fixed;
 
 // What choices are made by: the next fresh variable, and what is left of the index and of the number of ways.
 #[derive(Clone, Copy, Debug, PartialEq, Eq)]
@@ -45,8 +47,8 @@ pub(crate) struct Fired {
 // The list from cell `list` on after the equation of the tree of cell i and the pair of the leaves of cells x and y.
 fn split(area: &mut Area, i: usize, x: usize, y: usize, list: usize) -> usize
     requires leaves { LeafIn area.old x × LeafIn area.old y }
-    requires cells { (0 < i) × (i < area.old.free) × (list < area.old.free) }
-    requires room { (4 * (area.old.free + 5) ≤ length area.old.work.now) × (area.old.free + 5 < 2 ^ 32) }
+    requires cells { CellIn area.old i × (list < area.old.free) }
+    requires room { HasRoom area.old 5 }
     ensures lists { Lists area.old area.new result (more (tree_in area.old i) (more (two (fixed_text pair_name) (tree_in area.old x) (tree_in area.old y)) (trees_in area.old list))) }
     ensures end { area.new.free ≡ area.old.free + 5 }
 {
@@ -56,9 +58,9 @@ fn split(area: &mut Area, i: usize, x: usize, y: usize, list: usize) -> usize
 
 // The list from cell `list` on after the equations of the cipher of cell i and its pattern, and of the next cell, its key, and cell y.
 fn unseal(area: &mut Area, i: usize, pattern: usize, y: usize, list: usize) -> usize
-    requires cells { (0 < i) × (i < area.old.free) × (0 < next_in area.old i) × (0 < pattern) × (pattern < area.old.free) }
-    requires others { (0 < y) × (y < area.old.free) × (list < area.old.free) }
-    requires room { (4 * (area.old.free + 4) ≤ length area.old.work.now) × (area.old.free + 4 < 2 ^ 32) }
+    requires cells { CellIn area.old i × (0 < next_in area.old i) × CellIn area.old pattern }
+    requires others { CellIn area.old y × (list < area.old.free) }
+    requires room { HasRoom area.old 4 }
     ensures lists { Lists area.old area.new result (more (tree_in area.old i) (more (tree_in area.old pattern) (more (tree_in area.old (next_in area.old i)) (more (tree_in area.old y) (trees_in area.old list))))) }
     ensures end { area.new.free ≡ area.old.free + 4 }
 {
@@ -70,12 +72,12 @@ fn unseal(area: &mut Area, i: usize, pattern: usize, y: usize, list: usize) -> u
 // Where the one child is the first of two roles, the value is the other one.
 #[tactic(auto, using(crate::proofs::Leaves::no_sizes))]
 fn flip(area: &mut Area, role: Fixed, other: Fixed, below: Chosen) -> Fired
-    requires cells { (0 < below.values) × (below.values < area.old.free) × (below.equations < area.old.free) }
-    requires room { (4 * (area.old.free + 4) ≤ length area.old.work.now) × (area.old.free + 4 < 2 ^ 32) }
+    requires cells { CellIn area.old below.values × (below.equations < area.old.free) }
+    requires room { HasRoom area.old 4 }
     ensures { (es : List Pair) → trees_in area.old below.equations ≡ flatten es → FiredIn area.old area.new (scheme (constant (fixed_text other)) ((tree_in area.old below.values, constant (fixed_text role)) ∷ es) below.left.next) result }
 {
-    let value = named(area, other, 0);
-    let pattern = named(area, role, 0);
+    let value = area.push_fixed(other, 0, 0, 1);
+    let pattern = area.push_fixed(role, 0, 0, 1);
     let equations = push_pair(area, below.values, pattern, below.equations);
     Fired {
         value,
@@ -84,13 +86,14 @@ fn flip(area: &mut Area, role: Fixed, other: Fixed, below: Chosen) -> Fired
     }
 }
 
-// The choice of a rule at a root, the first or the second of two, after those of its children.
+// The choice of a rule at a root, the first or the second of two, after those of its children. The choice is a digit of the scheme's index,
+// used in arithmetic: an enum would be made to be matched here. One arm to a rule: no table is plainer.
 #[tactic(auto, using(crate::proofs::Lasting::leaf_fresh, crate::proofs::Equating::one_in))]
 pub(crate) fn fire(area: &mut Area, rule: Rule, choice: usize, fresh: usize, below: Chosen) -> Fired
     requires fresh { SomeFreshIn area.old fresh × (below.left.next + 1 < 24) }
     requires cells { (below.values < area.old.free) × (below.equations < area.old.free) }
     requires choice { (0 < choice) × (choice < 1 + firing_count (Some rule) (trees_in area.old below.values)) }
-    requires room { (4 * (area.old.free + 10) ≤ length area.old.work.now) × (area.old.free + 10 < 2 ^ 32) }
+    requires room { HasRoom area.old 10 }
     ensures { (f : Text) → rule_named f ≡ Some rule → (name : ℕ → Text) → FreshIn area.old fresh name → (es : List Pair) → trees_in area.old below.equations ≡ flatten es → FiredIn area.old area.new (root_at name f (joined_as (trees_in area.old below.values) es below.left.next) choice) result }
 {
     let x = fresh + below.left.next;

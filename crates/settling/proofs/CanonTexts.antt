@@ -9,11 +9,11 @@ use native.Mathlib.Omega.{arith}
 use Rattle.rules.specs.Bytes.{upto, insert, sort}
 use Rattle.runs.specs.Texts.{word_text, texts}
 use Rattle.runs.specs.declared.TheConstants.{OPEN, SHUT, COMMA}
-use Rattle.settling.specs.Settle.{sums_sorted}
+use Rattle.settling.specs.Orders.{sums_ordered}
 use Rattle.flattening.specs.Terms.{Term, node, Terms, none, more, inner, insert_words, sort_words, headed, words, canonical, canonicals, canon_text, canon_texts}
 use Rattle.rules.specs.Writing.{commas, listed}
 use Rattle.flattening.specs.Spelling.{NoMark}
-use Rattle.settling.proofs.Canonicals.{PlainTerm, settle_term}
+use Rattle.settling.proofs.Canonicals.{PlainTerm, order_term}
 
 module _ (s : List ℕ) where
   texts_append : (l m : List ℕ) → texts s (l ++ m) ≡ texts s l ++ texts s m
@@ -81,9 +81,9 @@ module _ (s : List ℕ) where
       canonicals_texts (more t ts) = ap₂ (λ (a : List ℕ) (b : List (List ℕ)). a ∷ b) (canonical_text t) (canonicals_texts ts)
 
     -- the pass over the words of a term leaves words whose text is the canonical text
-    pub settled_text : (base : ℕ) → NoMark plus → (t : Term) → PlainTerm t → length (words t) < 65536 → texts s (sums_sorted s plus base (length (words t)) (words t)) ≡ canon_text s plus t
-    unfolding sums_sorted
-    settled_text base pp t h f =
+    pub ordered_text : NoMark plus → (t : Term) → PlainTerm t → length (words t) < 65536 → texts s (sums_ordered s plus (length (words t)) (words t)) ≡ canon_text s plus t
+    unfolding sums_ordered
+    ordered_text pp t h f =
         let e : words t ≡ [] ++ (words t ++ []) = sym (append-nil (words t)) in
-        let k : sums_sorted s plus base (length (words t)) ([] ++ (words t ++ [])) ≡ [] ++ (canonical s plus t ++ []) = settle_term s plus base pp t h [] [] (length (words t)) (omega arith) (omega arith) (λ e. omega arith) in
-        ap (texts s) (ap (sums_sorted s plus base (length (words t))) e ∙ k ∙ append-nil (canonical s plus t)) ∙ canonical_text t
+        let k : sums_ordered s plus (length (words t)) ([] ++ (words t ++ [])) ≡ [] ++ (canonical s plus t ++ []) = order_term s plus pp t h [] [] (length (words t)) (omega arith) (omega arith) (λ e. omega arith) in
+        ap (texts s) (ap (sums_ordered s plus (length (words t))) e ∙ k ∙ append-nil (canonical s plus t)) ∙ canonical_text t

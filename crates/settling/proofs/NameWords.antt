@@ -11,12 +11,12 @@ use Rattle.rules.specs.Tree.{Tree, Trees}
 use Rattle.rules.specs.Sums.{canonical}
 use Rattle.runs.specs.Texts.{texts, Token}
 use Rattle.runs.specs.declared.TheConstants.{OPEN, SHUT, COMMA, PLUS}
-use Rattle.settling.specs.Settle.{sums_sorted}
+use Rattle.settling.specs.Orders.{sums_ordered}
 use Rattle.flattening.specs.Terms.{Term, node, Terms, none, more, inner, headed, words, words_each}
 use Rattle.flattening.specs.Items.{adds}
 use Rattle.settling.proofs.Canonicals.{PlainTerm, PlainTerms}
 use Rattle.settling.proofs.Canonicals as canonicals
-use Rattle.settling.proofs.CanonTexts.{settled_text}
+use Rattle.settling.proofs.CanonTexts.{ordered_text}
 use Rattle.runs.proofs.Each.{Each, each_append, code_token}
 use Rattle.runs.proofs.Each as words_of
 use Rattle.flattening.specs.Spelling.{NoMark, flat_by, splice_by, flatten, flattens, splice, splices, Word, Spells, as_variable, as_atom, as_apply, SpellsAll, spell_none, spell_more}
@@ -112,6 +112,6 @@ module _ (s : Text) {t : Term} {u : Tree} (h : Spells s t u) where
       words_have (Token s) (code_token s OPEN (omega arith)) (code_token s SHUT (omega arith)) (code_token s COMMA (omega arith))
       (flatten_names (Token s) s (code_token s PLUS (omega arith)) (λ x w. w.token) h)
 
-  pub spelled_settled : length (words (flatten s t)) < 65536 → (base : ℕ) → texts s (sums_sorted s PLUS base (length (words (flatten s t))) (words (flatten s t))) ≡ canonical u
+  pub spelled_ordered : length (words (flatten s t)) < 65536 → texts s (sums_ordered s PLUS (length (words (flatten s t))) (words (flatten s t))) ≡ canonical u
   unfolding canonical
-  spelled_settled k base = settled_text s PLUS base plus_plain (flatten s t) (plain_term (flatten_names NoMark s plus_plain (λ x w. w.plain) h)) k ∙ flatten_text s h
+  spelled_ordered k = ordered_text s PLUS plus_plain (flatten s t) (plain_term (flatten_names NoMark s plus_plain (λ x w. w.plain) h)) k ∙ flatten_text s h

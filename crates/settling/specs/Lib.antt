@@ -1,2 +1,2 @@
 pub mod Divisions
-pub mod Settle
+pub mod Orders

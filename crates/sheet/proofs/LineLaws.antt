@@ -21,7 +21,8 @@ use Rattle.text.specs.Prefix.{begins_with}
 use Rattle.text.proofs.Prefixes.{after_key_is}
 use Rattle.text.proofs.Slices.{drop_take}
 use Rattle.sheet.specs.Lines.{up_to, line_between, line_of, line_at, lines_at, value_of, value_at, part_of}
-use Rattle.sheet.specs.declared.Line.{Line}
+use Rattle.sheet.specs.declared.Place.{Place}
+use Rattle.sheet.specs.declared.Read.{Read}
 
 -- how many bytes stand before the first 10, by the byte in front
 up_to_first : (a : ℕ) (s : Text) → up_to 10 (a ∷ s) ≡ cond (eqb a 10) (Some 0) (option_map suc (up_to 10 s))
@@ -80,13 +81,13 @@ lines_none [] e = tt
 lines_none (a ∷ s) e = lines_none_turn a s (eqb a 10) (up_to 10 s) (lines_none s) (sym (up_to_first a s) ∙ e)
 
 -- a line that is there is the first of the lines from there on
-record First (s : Text) (at : ℕ) (l : Line) : Type 0 where
+record First (s : Text) (at : ℕ) (l : Read Place) : Type 0 where
   begins : l.value.from ≡ at
   ends : (l.value.from ≤ l.value.to) × (l.value.to < length s)
   after : l.next.at ≡ l.value.to + 1
   first : lines_at s at ≡ (lines_at s l.next.at >>= λ ls. Some (part_of l.value.from l.value.to s ∷ ls))
 
-first_of : (s : Text) (at : ℕ) (l : Line) (o : Option ℕ) → up_to 10 (drop at s) ≡ o → Some l ≡ option_map (line_of at) o → First s at l
+first_of : (s : Text) (at : ℕ) (l : Read Place) (o : Option ℕ) → up_to 10 (drop at s) ≡ o → Some l ≡ option_map (line_of at) o → First s at l
 unfolding lines_at add_line
 first_of s at l None u e = absurd (some_ne_none l e)
 first_of s at l (Some k) u e =
@@ -99,7 +100,7 @@ first_of s at l (Some k) u e =
       first = lines_cut (drop at s) k u ∙ rw (add-sub_cancel_left at k, w, ← drop-drop (suc k) at s);
     })
 
-line_first : (s : Text) (at : ℕ) (l : Line) → Some l ≡ line_at s at → First s at l
+line_first : (s : Text) (at : ℕ) (l : Read Place) → Some l ≡ line_at s at → First s at l
 unfolding line_at
 line_first s at l e = first_of s at l (up_to 10 (drop at s)) refl e
 
@@ -114,7 +115,7 @@ no_line s at e = no_line_of s at (up_to 10 (drop at s)) refl e
 
 -- ---- lines with a key
 
-pub record Keyed (s key : Text) (at : ℕ) (l : Line) : Type 0 where
+pub record Keyed (s key : Text) (at : ℕ) (l : Read Place) : Type 0 where
   pub line : Text
   pub has : after_key key line ≡ Some (part_of l.value.from l.value.to s)
   pub begins : l.value.from ≡ at + length key
@@ -138,7 +139,7 @@ begins_length [] s e = omega arith
 begins_length (k ∷ ks) [] e = cc
 begins_length (k ∷ ks) (b ∷ s) e = omega (arith, begins_length ks s (and_right (eqb b k) (begins_with ks s) e))
 
-keyed_by : (s key : Text) (at : ℕ) (l r : Line) (x : Bool) → First s at r → begins_with key (part_of r.value.from r.value.to s) ≡ x
+keyed_by : (s key : Text) (at : ℕ) (l r : Read Place) (x : Bool) → First s at r → begins_with key (part_of r.value.from r.value.to s) ≡ x
     → Some l ≡ cond x (Some (line_between (r.value.from + length key) r.value.to r.next)) None → Keyed s key at l
 keyed_by s key at l r false h p q = absurd (some_ne_none l q)
 keyed_by s key at l r true h p q =
@@ -157,16 +158,16 @@ keyed_by s key at l r true h p q =
       first = h.first;
     })
 
-keyed_of : (s key : Text) (at : ℕ) (l : Line) (o : Option Line) → o ≡ line_at s at → Some l ≡ (o >>= value_of s key) → Keyed s key at l
+keyed_of : (s key : Text) (at : ℕ) (l : Read Place) (o : Option (Read Place)) → o ≡ line_at s at → Some l ≡ (o >>= value_of s key) → Keyed s key at l
 keyed_of s key at l None e q = absurd (some_ne_none l q)
 keyed_of s key at l (Some r) e q = keyed_by s key at l r (begins_with key (part_of r.value.from r.value.to s)) (line_first s at r e) refl q
 
-pub keyed : (s key : Text) (at : ℕ) (l : Line) → Some l ≡ value_at s key at → Keyed s key at l
+pub keyed : (s key : Text) (at : ℕ) (l : Read Place) → Some l ≡ value_at s key at → Keyed s key at l
 unfolding value_at
 keyed s key at l q = keyed_of s key at l (line_at s at) refl q
 
 -- a line's value stands within the sheet
-pub keyed_inside : (s key : Text) (at : ℕ) (l : Line) → Some l ≡ value_at s key at → (l.value.from ≤ l.value.to) × (l.value.to < length s)
+pub keyed_inside : (s key : Text) (at : ℕ) (l : Read Place) → Some l ≡ value_at s key at → (l.value.from ≤ l.value.to) × (l.value.to < length s)
 keyed_inside s key at l q = (keyed s key at l q).ends
 
 unkeyed_first : (key l : Text) (o : Option (List Text)) → after_key key l ≡ None → Unkeyed key (o >>= λ ls. Some (l ∷ ls))
@@ -178,14 +179,14 @@ unkeyed_empty key None h = tt
 unkeyed_empty key (Some []) h = tt
 unkeyed_empty key (Some (l ∷ ls)) h = absurd h
 
-unkeyed_by : (s key : Text) (at : ℕ) (r : Line) (x : Bool) → First s at r → begins_with key (part_of r.value.from r.value.to s) ≡ x
+unkeyed_by : (s key : Text) (at : ℕ) (r : Read Place) (x : Bool) → First s at r → begins_with key (part_of r.value.from r.value.to s) ≡ x
     → None ≡ cond x (Some (line_between (r.value.from + length key) r.value.to r.next)) None → Unkeyed key (lines_at s at)
 unkeyed_by s key at r true h p q = absurd (none_ne_some _ q)
 unkeyed_by s key at r false h p q =
     let text = part_of r.value.from r.value.to s in
     rw h.first (unkeyed_first key text (lines_at s r.next.at) (after_key_is key text ∙ rw p))
 
-unkeyed_of : (s key : Text) (at : ℕ) (o : Option Line) → o ≡ line_at s at → None ≡ (o >>= value_of s key) → Unkeyed key (lines_at s at)
+unkeyed_of : (s key : Text) (at : ℕ) (o : Option (Read Place)) → o ≡ line_at s at → None ≡ (o >>= value_of s key) → Unkeyed key (lines_at s at)
 unkeyed_of s key at None e q = unkeyed_empty key (lines_at s at) (no_line s at e)
 unkeyed_of s key at (Some r) e q = unkeyed_by s key at r (begins_with key (part_of r.value.from r.value.to s)) (line_first s at r e) refl q
 
@@ -202,7 +203,7 @@ module _ {A : Type 0} (s key : Text) (at : ℕ) (go_on : Text × List Text → O
   go_with l v None p = refl
   go_with l v (Some ls) p = ap (λ (o : Option Text). (o >>= λ w. Some (w, ls)) >>= go_on) p
 
-  pub then : (l : Line) → Keyed s key at l
+  pub then : (l : Read Place) → Keyed s key at l
       → (lines_at s at >>= λ ls. value key ls >>= go_on) ≡ (lines_at s l.next.at >>= λ ls. go_on (part_of l.value.from l.value.to s, ls))
   then l h = ap (λ (o : Option (List Text)). o >>= λ ls. value key ls >>= go_on) h.first ∙ go_with h.line (part_of l.value.from l.value.to s) (lines_at s l.next.at) h.has
 

@@ -6,14 +6,18 @@ use Rattle.rules.specs.Maybe.{◌>>=◌}
 use Rattle.rules.specs.Lines.{after_key}
 use Rattle.rules.specs.Sheet.{Entry, with_entry}
 use Rattle.sheet.specs.Lines.{value_at}
-use Rattle.sheet.specs.declared.Line.{Line}
+use Rattle.sheet.specs.declared.Place.{Place}
+use Rattle.sheet.specs.declared.Read.{Read}
 use Rattle.sheet.specs.declared.Sides.{Sides}
 
-abbrev pub sides_of : Line → Line → Sides
-sides_of l r = record { left = l.value; right = r.value; next = r.next }
+abbrev pub sides_between : Place → Place → Sides
+sides_between l r = record { left = l; right = r }
+
+abbrev pub sides_of : Read Place → Read Place → Read Sides
+sides_of l r = record { value = sides_between l.value r.value; next = r.next }
 
 -- the values of two lines with these keys
-unfoldable pub two_lines_at : Text → Text → Text → ℕ → Option Sides
+unfoldable pub two_lines_at : Text → Text → Text → ℕ → Option (Read Sides)
 two_lines_at first second s at = do
   l ← value_at s first at
   r ← value_at s second l.next.at

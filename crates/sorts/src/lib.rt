@@ -1,12 +1,13 @@
 // The five sorts: which meet, which trees of an area have them, and which may have an instance of them.
+// A list is tested by one call of the library: a function of the test would only add a contract.
 #![tactic(auto)]
 
 ghost use Rattle.std.specs.Prelude.{◌≡◌, ◌<◌};
 ghost use Rattle.rules.specs.Sorts.{intersects, symbol, natural, naturals, message, messages, basic, sorted, refinable, refinables};
-ghost use Rattle.tree.specs.Areas.{name_in, tree_in, trees_in};
+ghost use Rattle.tree.specs.Areas.{name_in, tree_in, trees_in, CellIn};
 ghost use Rattle.sorts.specs.Symbols.{meaning};
 
-use rules::Sort;
+use rules::{SUM, Sort};
 use tree::area::Area;
 use tree::kinds::Kind;
 
@@ -35,33 +36,28 @@ enum Symbol {
     Free,
 }
 
-// What the name of cell k stands for, by comparing it.
-#[tactic(auto, unfolding(rules::specs::Sorts::symbol, rules::specs::Sorts::is_frame))]
-fn symbol_named(area: &Area, k: usize) -> Symbol
-    requires { (0 < k) × (k < area.now.free) }
-    ensures { meaning result ≡ symbol (name_in area.now k) }
+// What a name stands for.
+#[tactic(auto, using(crate::proofs::Symbols::sum_named, crate::proofs::Symbols::unit_named, crate::proofs::Symbols::other_named), unfolding(rules::specs::Sorts::symbol, rules::specs::Sorts::is_frame))]
+fn symbol_named(name: &[u8]) -> Symbol
+    ensures { meaning result ≡ symbol name.now }
 {
-    if area.name_is(k, b"tamtplus") {
-        return Symbol::Addition;
+    match name {
+        SUM => Symbol::Addition,
+        b"tamXCtone" => Symbol::Unit,
+        b"list" | b"cons" | b"nil" => Symbol::Frame,
+        _ => Symbol::Free,
     }
-    if area.name_is(k, b"tamXCtone") {
-        return Symbol::Unit;
-    }
-    if area.name_is(k, b"list") || area.name_is(k, b"cons") || area.name_is(k, b"nil") {
-        return Symbol::Frame;
-    }
-    Symbol::Free
 }
 
-// What the name of cell k stands for. Most names are told apart by their length.
-#[tactic(auto, using(crate::proofs::Symbols::other_length))]
+// What the name of cell k stands for. A name by its code stands for itself.
+#[tactic(auto, using(crate::proofs::Symbols::coded_free))]
 fn symbol_of(area: &Area, k: usize) -> Symbol
-    requires { (0 < k) × (k < area.now.free) }
+    requires { CellIn area.now k }
     ensures { meaning result ≡ symbol (name_in area.now k) }
 {
-    match area.name_len(k) {
-        3 | 4 | 8 | 9 => symbol_named(area, k),
-        _ => Symbol::Free,
+    match area.spelled(k) {
+        Some(name) => symbol_named(name),
+        None => Symbol::Free,
     }
 }
 
@@ -69,7 +65,7 @@ fn symbol_of(area: &Area, k: usize) -> Symbol
 #[tactic(auto, using(crate::proofs::Testing::by_kind))]
 #[cycle(natural_naturals)]
 pub fn natural(area: &Area, i: usize) -> bool
-    requires { (0 < i) × (i < area.now.free) }
+    requires { CellIn area.now i }
     ensures { result ≡ natural (tree_in area.now i) }
 {
     match area.kind(i) {
@@ -89,21 +85,19 @@ fn naturals(area: &Area, list: usize) -> bool
     requires { list < area.now.free }
     ensures { result ≡ naturals (trees_in area.now list) }
 {
-    let mut i = list;
-    while i != 0 {
-        if !natural(area, i) {
-            return false;
-        }
-        i = area.next_of(i);
-    }
-    true
+    area.list(list).all(
+        |i|
+            requires { CellIn area.now i }
+            ensures { result ≡ natural (tree_in area.entry.now i) }
+        { natural(area, i) },
+    )
 }
 
 // Whether the tree of cell i is a message.
 #[tactic(auto, using(crate::proofs::Testing::by_kind))]
 #[cycle(message_messages)]
 pub fn message(area: &Area, i: usize) -> bool
-    requires { (0 < i) × (i < area.now.free) }
+    requires { CellIn area.now i }
     ensures { result ≡ message (tree_in area.now i) }
 {
     match area.kind(i) {
@@ -124,20 +118,18 @@ fn messages(area: &Area, list: usize) -> bool
     requires { list < area.now.free }
     ensures { result ≡ messages (trees_in area.now list) }
 {
-    let mut i = list;
-    while i != 0 {
-        if !message(area, i) {
-            return false;
-        }
-        i = area.next_of(i);
-    }
-    true
+    area.list(list).all(
+        |i|
+            requires { CellIn area.now i }
+            ensures { result ≡ message (tree_in area.entry.now i) }
+        { message(area, i) },
+    )
 }
 
 // Whether the tree of cell i is a variable of the sort or an atom of the letter.
 #[tactic(auto, using(crate::proofs::Testing::by_kind))]
 fn basic(area: &Area, sort: Sort, letter: u8, i: usize) -> bool
-    requires { (0 < i) × (i < area.now.free) }
+    requires { CellIn area.now i }
     ensures { result ≡ basic sort letter (tree_in area.now i) }
 {
     match area.kind(i) {
@@ -147,10 +139,10 @@ fn basic(area: &Area, sort: Sort, letter: u8, i: usize) -> bool
     }
 }
 
-// Whether the tree of cell i has the sort.
+// Whether the tree of cell i has the sort. An arm to a sort: no table is plainer.
 #[tactic(auto, unfolding(rules::specs::Sorts::sorted))]
 pub fn sorted(area: &Area, sort: Sort, i: usize) -> bool
-    requires { (0 < i) × (i < area.now.free) }
+    requires { CellIn area.now i }
     ensures { result ≡ sorted sort (tree_in area.now i) }
 {
     match sort {
@@ -166,7 +158,7 @@ pub fn sorted(area: &Area, sort: Sort, i: usize) -> bool
 #[tactic(auto, using(crate::proofs::Testing::by_kind))]
 #[cycle(refinable_refinables)]
 pub fn refinable(area: &Area, sort: Sort, i: usize) -> bool
-    requires { (0 < i) × (i < area.now.free) }
+    requires { CellIn area.now i }
     ensures { result ≡ refinable sort (tree_in area.now i) }
 {
     match area.kind(i) {
@@ -198,12 +190,10 @@ fn refinables(area: &Area, sort: Sort, list: usize) -> bool
     requires { list < area.now.free }
     ensures { result ≡ refinables sort (trees_in area.now list) }
 {
-    let mut i = list;
-    while i != 0 {
-        if !refinable(area, sort, i) {
-            return false;
-        }
-        i = area.next_of(i);
-    }
-    true
+    area.list(list).all(
+        |i|
+            requires { CellIn area.now i }
+            ensures { result ≡ refinable sort (tree_in area.entry.now i) }
+        { refinable(area, sort, i) },
+    )
 }

@@ -4,18 +4,19 @@ use mathlib.Core.Path.{◌≡◌, refl, sym, ap, subst, ◌∙◌}
 use mathlib.Core.Bool.{Bool, true, false, ◌&&◌, true≢false}
 use mathlib.Core.List.{List, ◌∷◌}
 use native.Mathlib.Omega.{arith}
-use Rattle.std.specs.Prelude.{Option, Some}
+use Rattle.std.specs.Prelude.{Option, Some, None, MatchOption, IsSomeAnd, Result, Ok, Err}
 use Rattle.rules.specs.Bytes.{Text, same}
 use Rattle.rules.specs.Tree.{Tree, variable, atom, apply, head, same_tree, tamtplus}
 use Rattle.rules.specs.Substitution.{Pair}
 use Rattle.rules.specs.Sums.{equivalent}
+use Rattle.rules.specs.declared.Ending.{Ending}
 use Rattle.rules.specs.declared.Sort.{Sort}
 use Rattle.rules.specs.Sorts.{sort_refuted}
 use Rattle.rules.specs.Solving.{Rest, emptied, mismatch, stuck, equation, Step, goes_on, fails, cancel_sums, if_refuted, sum_step, decompose_at, decompose, step_at, step, eliminate}
 use Rattle.tree.specs.declared.area.Area.{Area}
 use Rattle.tree.specs.declared.kinds.Kind.TheVariants.{Variable}
 use Rattle.tree.specs.Cells.{kind_of}
-use Rattle.tree.specs.Areas.{cell_kind, tree_in, trees_in, Grows}
+use Rattle.tree.specs.Areas.{cell_kind, tree_in, trees_in, CellIn, Grows}
 use Rattle.tree.proofs.Keeping.{grows_same, grows_tree}
 use Rattle.tree.proofs.Decoding.{Kind, application, a_variable, an_atom, kind, tree_apply, tree_atom}
 use Rattle.tree.proofs.ByKind.{variable_kind}
@@ -60,10 +61,10 @@ pub goes_rooted : {a b : Area} {h st : ℕ} {k : Option ℕ} (l r : Tree) (ps : 
 goes_rooted l r ps e w = record { pairs = w.pairs; is = decomposed l r ps w.is; waits = w.waits; used = w.used; apart = w.apart e }
 
 -- more than the rules settle, by the answer of the test of sorts
-pub stuck_rooted : {a b : Area} {t : Bool} (l r : ℕ) (ps : List Pair) → (0 < l) × (l < a.free) × (0 < r) × (r < a.free) → Grows a b → roots Every (tree_in a l) (tree_in a r) ps ≡ undecided
+pub stuck_rooted : {a b : Area} {t : Bool} (l r : ℕ) (ps : List Pair) → CellIn a l × CellIn a r → Grows a b → roots Every (tree_in a l) (tree_in a r) ps ≡ undecided
     → sort_refuted (tree_in b l) (tree_in b r) ≡ t → decompose (tree_in a l) (tree_in a r) ps ≡ if_refuted t
 stuck_rooted {a} l r ps i g e f =
-    let z = rw (grows_tree g l i.1 i.0, grows_tree g r i.3 i.2) at f in
+    let z = rw (grows_tree g l i.0.1 i.0.0, grows_tree g r i.1.1 i.1.0) at f in
     decomposed (tree_in a l) (tree_in a r) ps e ∙ ap if_refuted z
 
 -- Pairs that are known to differ
@@ -88,6 +89,12 @@ module _ (t u : Tree) (ps : List Pair) where
           let z : n ≡ suc n - 1 = omega arith in
           let h : all_same n ps ≡ false = sym (ap (λ (b : Bool). b && all_same n ps) f) ∙ g in
           (omega arith, subst (λ (j : ℕ). all_same j ps ≡ false) z h)
+
+  -- that of the pairs below it, as a closure gives it
+  pub below_apart : (o p : Option ℕ) {Q : ℕ → ℕ → Type 0} → ApartIn o ((t, u) ∷ ps) → same_tree t u ≡ true → MatchOption o (p ≡ None) (λ x. IsSomeAnd p (Q x)) → ((x y : ℕ) → Q x y → y ≡ x - 1) → ApartIn p ps
+  below_apart None p d e h f = subst (λ (q : Option ℕ). ApartIn q ps) (sym h) tt
+  below_apart (Some x) None d e h f = absurd h
+  below_apart (Some x) (Some y) d e h f = subst (λ (k : ℕ). ApartIn (Some k) ps) (sym (f x y h)) (rest_apart x d refl e).1
 
 -- The step
 
@@ -142,11 +149,10 @@ pub goes_dropped : (a : Area) (h stack : ℕ) {d : Step} {k : Option ℕ} → st
 goes_dropped a h stack q o e f = record { pairs = pairs_in a stack; is = e; waits = waits_stay stack (grows_same a) q o; used = omega arith; apart = f }
 
 -- a step that is another, at a larger weight
-pub taken_as : (a b : Area) (h : ℕ) {c d : Step} (r : Taken) → c ≡ d → TakenIn a b 0 d r → TakenIn a b h c r
+pub taken_as : (a b : Area) (h : ℕ) {c d : Step} (r : Result Taken Ending) → c ≡ d → TakenIn a b 0 d r → TakenIn a b h c r
 taken_as a b h r e x = subst (λ (z : Step). TakenIn a b h z r) (sym e) (more _ r x)
   where
-    more : (z : Step) (t : Taken) → TakenIn a b 0 z t → TakenIn a b h z t
-    more z (taken.Next st k) y = record { pairs = y.pairs; is = y.is; waits = y.waits; used = omega (arith, y.used); apart = y.apart }
-    more z (taken.Bind key value st) y = y
-    more z taken.Fails y = y
-    more z taken.Unknown y = y
+    more : (z : Step) (t : Result Taken Ending) → TakenIn a b 0 z t → TakenIn a b h z t
+    more z (Ok (taken.Next n)) y = record { pairs = y.pairs; is = y.is; waits = y.waits; used = omega (arith, y.used); apart = y.apart }
+    more z (Ok (taken.Bind key value st)) y = y
+    more z (Err e) y = y

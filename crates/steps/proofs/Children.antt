@@ -1,7 +1,7 @@
 -- The children of two cells, pairwise on the stack.
 use Prim.Native.Nat.{ℕ, suc, ◌<◌}
 use mathlib.Core.Path.{◌≡◌, refl, ap}
-use mathlib.Core.List.{List, [], ◌∷◌}
+use mathlib.Core.List.{List}
 use Rattle.rules.specs.Bytes.{Text}
 use Rattle.rules.specs.Tree.{Trees, none, more}
 use Rattle.rules.specs.Substitution.{Pair, flatten}
@@ -10,13 +10,7 @@ use Rattle.laws.specs.Memory.{pushed}
 use Rattle.tree.specs.Cells.{next_of, tree_at, trees_at}
 use Rattle.tree.specs.Arena.{Links}
 use Rattle.tree.proofs.Decoding.{trees_none, trees_more}
-use Rattle.elimination.specs.Stack.{pairs_of, pushes}
-
--- pairs read back
-pub pairs_flatten : (ps : List Pair) → pairs_of (flatten ps) ≡ ps
-unfolding pairs_of flatten
-pairs_flatten [] = refl
-pairs_flatten (p ∷ ps) = ap (λ (qs : List Pair). (p.0, p.1) ∷ qs) (pairs_flatten ps)
+use Rattle.elimination.specs.Stack.{pushes}
 
 pub flatten_pushes : (ts us : Trees) (ps : List Pair) → flatten (push_children ts us ps) ≡ pushes ts us (flatten ps)
 unfolding push_children pushes flatten

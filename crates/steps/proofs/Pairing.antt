@@ -1,23 +1,28 @@
 -- The children of two cells of an area, pairwise on the stack, and their number.
-use Prim.Native.Nat.{ℕ, zero, suc, ◌+◌, ◌*◌, ◌<◌}
+use Prim.Native.Nat.{ℕ, zero, suc, ◌+◌, ◌*◌, ◌<◌, ◌≤◌}
 use mathlib.Core.Path.{◌≡◌, refl, sym, ap, ap₂, ◌∙◌}
 use mathlib.Core.Logic.{◌⊎◌, inl, inr}
+use mathlib.Core.Bool.{Bool, true, false, cond, true≢false}
+use lib.Dec.{eqb}
+use lib.ListN.{length}
+use borrow.Author.Tests.{eq-eqb, ne_eqb, eqb-true}
 use mathlib.Core.List.{List}
 use native.Mathlib.Omega.{arith}
 use Rattle.std.specs.Prelude.{Some, None}
-use Rattle.rules.specs.Tree.{Trees, more}
+use Rattle.std.specs.Bool.{then_some}
+use Rattle.rules.specs.Tree.{Trees, more, count}
 use Rattle.rules.specs.Substitution.{Pair}
 use Rattle.laws.specs.Memory.{pushed}
 use Rattle.tree.specs.declared.area.Area.{Area}
 use Rattle.tree.specs.Areas.{next_in, tree_in, trees_in}
 use Rattle.tree.proofs.Keeping.{adds_same, adds_then, adds_grows, grows_tree}
-use Rattle.substitution.specs.Areas.{Lists}
+use Rattle.tree.specs.Lists.{chained, cells_from, Lists}
+use Rattle.tree.proofs.Lists.{list_none, list_more}
 use Rattle.elimination.specs.Stack.{pushes}
 use Rattle.elimination.specs.Differing.{Differing, common_count}
 use Rattle.elimination.specs.Areas.{ApartIn}
 use Rattle.steps.specs.Areas.{some_pairs}
 use Rattle.steps.proofs.Children.{pushes_left, pushes_right, pushes_more}
-use Rattle.steps.proofs.Differing.{Counting, counting_end, counting_apart}
 
 -- a list is at its end
 module _ (a : Area) (l r k : ℕ) (p : l < a.free) (q : k < a.free) where
@@ -46,23 +51,47 @@ module _ (a : Area) (l r x y : ℕ) (p : 0 < l) (q : l < a.free) (p₁ : 0 < r) 
 
 -- The number of pairs
 
-module _ (a : Area) {x y i j k : ℕ} (h : Counting a.work.now a.free x y i j k) where
-  pub none_apart : (i ≡ j → ⊥) → (i ≡ 0) ⊎ (j ≡ 0) → None ≡ some_pairs (common_count (trees_in a x) (trees_in a y))
-  none_apart u v = ap some_pairs (counting_apart h a.arena.links (λ e f. u (e ∙ sym f)) v a.sheet.now)
+cells_within : (a : Area) (f k : ℕ) → k ≤ f → k < a.free → (length (chained f a k) ≡ count (trees_in a k)) × (length (chained f a k) ≤ k)
+unfolding chained
+cells_within a zero zero p q = (sym (ap (λ (ts : Trees). count ts) (list_none a zero refl)), omega arith)
+cells_within a zero (suc k) p q = absurd (omega arith)
+cells_within a (suc f) zero p q = (sym (ap (λ (ts : Trees). count ts) (list_none a zero refl)), omega arith)
+cells_within a (suc f) (suc k) p q =
+    let n = a.arena.links.next (suc k) (omega arith) q in
+    let h = cells_within a f (next_in a (suc k)) (omega arith) (omega arith) in
+    (ap suc h.0 ∙ sym (ap (λ (ts : Trees). count ts) (list_more a (suc k) (omega arith) q refl)), omega (arith, h.1))
 
-  both : i ≡ j → (i ≡ 0) ⊎ (j ≡ 0) → k ≡ common_count (trees_in a x) (trees_in a y)
-  both e (inl f) = counting_end h f (sym e ∙ f) a.sheet.now
-  both e (inr f) = counting_end h (e ∙ f) f a.sheet.now
+-- a list has as many cells as trees
+pub cells_count : (a : Area) (k : ℕ) → k < a.free → (length (cells_from a k) ≡ count (trees_in a k)) × (length (cells_from a k) ≤ k)
+unfolding cells_from
+cells_count a k q = cells_within a k k (omega arith) q
 
-  pub none_paired : i ≡ j → (i ≡ 0) ⊎ (j ≡ 0) → k ≡ 0 → None ≡ some_pairs (common_count (trees_in a x) (trees_in a y))
-  none_paired e v z = ap some_pairs (sym z ∙ both e v)
+pub none_paired : (ts us : Trees) → count ts ≡ 0 → None ≡ some_pairs (common_count ts us)
+unfolding common_count
+none_paired ts us e = go (eqb (count ts) (count us))
+  where
+    go : (b : Bool) → None ≡ some_pairs (cond b (count ts) 0)
+    go true = ap some_pairs (sym e)
+    go false = refl
 
-  pub some_paired : i ≡ j → (i ≡ 0) ⊎ (j ≡ 0) → 0 < k → Some k ≡ some_pairs (common_count (trees_in a x) (trees_in a y))
-  some_paired e v p = some k p ∙ ap some_pairs (both e v)
-    where
-      some : (n : ℕ) → 0 < n → Some n ≡ some_pairs n
-      some zero r = absurd (omega arith)
-      some (suc n) r = refl
+none_apart : (ts us : Trees) → (count ts ≡ count us → ⊥) → None ≡ some_pairs (common_count ts us)
+unfolding common_count
+none_apart ts us h = ap (λ (b : Bool). some_pairs (cond b (count ts) 0)) (sym (ne_eqb (count ts) (count us) h))
+
+some_paired : (ts us : Trees) (k : ℕ) → 0 < k → k ≡ count ts → k ≡ count us → Some k ≡ some_pairs (common_count ts us)
+unfolding common_count
+some_paired ts us k p e f = some k p ∙ ap some_pairs e ∙ ap (λ (b : Bool). some_pairs (cond b (count ts) 0)) (sym (eq-eqb (count ts) (count us) (sym e ∙ f)))
+  where
+    some : (n : ℕ) → 0 < n → Some n ≡ some_pairs n
+    some zero r = absurd (omega arith)
+    some (suc n) r = refl
+
+pub paired_when : (ts us : Trees) (n m : ℕ) → 0 < n → n ≡ count ts → m ≡ count us → then_some (eqb n m) n ≡ some_pairs (common_count ts us)
+paired_when ts us n m p e f = go (eqb n m) refl
+  where
+    go : (b : Bool) → eqb n m ≡ b → then_some b n ≡ some_pairs (common_count ts us)
+    go true g = some_paired ts us n p e (eqb-true n m g ∙ f)
+    go false g = none_apart ts us (λ z. true≢false (sym (eq-eqb n m (e ∙ z ∙ sym f)) ∙ g))
 
 pub apart_pairs : (k : ℕ) (ps : List Pair) → Differing k ps → ApartIn (some_pairs k) ps
 apart_pairs zero ps d = tt

@@ -1,10 +1,9 @@
 -- What the roots of two trees of an area leave of their pair.
-use Prim.Native.Nat.{ℕ, ◌+◌, ◌*◌, ◌<◌, ◌≤◌, ◌^◌}
+use Prim.Native.Nat.{ℕ, ◌+◌, ◌*◌, ◌<◌, ◌≤◌}
 use mathlib.Core.Path.{◌≡◌, refl, sym, ap, ap₂, subst, ◌∙◌}
 use mathlib.Core.Bool.{Bool, true, false, true≢false, false≢true}
 use mathlib.Core.List.{List, [], ◌∷◌}
 use lib.Dec.{eqb}
-use lib.ListN.{length}
 use native.Mathlib.Omega.{arith}
 use Rattle.std.specs.Prelude.{Option, None}
 use Rattle.rules.specs.Bytes.{Text, same}
@@ -18,10 +17,10 @@ use Rattle.laws.specs.Memory.{load, weight, pushed, kept_summands}
 use Rattle.laws.proofs.Basics.Tests.{and_right, same_eq, same_of_eq}
 use Rattle.laws.proofs.Solving.Weights.{push_weight, sum_weight}
 use Rattle.tree.specs.declared.area.Area.{Area}
-use Rattle.tree.specs.Areas.{tree_in, trees_in, KeepsCells}
+use Rattle.tree.specs.Areas.{tree_in, trees_in, KeepsCells, HasRoom}
 use Rattle.tree.proofs.Keeping.{grows_keeps, grows_then, grows_trees, grows_length, adds_grows}
-use Rattle.sums.specs.Areas.{sum_in}
-use Rattle.substitution.specs.Areas.{Lists}
+use Rattle.tree.specs.Areas.{sum_in}
+use Rattle.tree.specs.Lists.{Lists}
 use Rattle.elimination.specs.Area.{Room}
 use Rattle.elimination.specs.Stack.{Whole, Fit, pushes}
 use Rattle.elimination.specs.Areas.{pairs_in, ApartIn}
@@ -92,7 +91,7 @@ module _ {a m : Area} (every : Bool) (test : Tree → Tree → Bool) {l r : Tree
   paid : 2 * kept_summands test l r + load (tree_in m i) (tree_in m j) ≤ load l r + 2
   paid = sum_weight every test l r fit.0.built fit.1.built (sum_head l sums.0) (sum_head r sums.1) (tree_in m i) (tree_in m j) g.is
 
-  pub pair_room : Room a.work.now (a.free + load l r + 2) → (4 * (m.free + 2) ≤ length m.work.now) × (m.free + 2 < 2 ^ 32)
+  pub pair_room : Room a.work.now (a.free + load l r + 2) → HasRoom m 2
   pair_room h = (omega (arith, g.used, grows_length g.grows, paid, h.0), omega (arith, g.used, paid, h.1))
 
   pub sums_paired : {b : Area} {st : ℕ} (stack : ℕ) (same : Bool) → stack < a.free → Whole (trees_in a stack) → Lists m b st (more (tree_in m i) (more (tree_in m j) (trees_in m stack))) → b.free ≡ m.free + 2
@@ -118,7 +117,7 @@ module _ (a : Area) (l r : Tree) (x y : ℕ) (e : trees_in a x ≡ children l) (
   unfolding weight
   pushed_paid ps = rw (e, f) (push_weight l r ps h)
 
-  pub children_room : Room a.work.now (a.free + load l r + 2) → (4 * (a.free + 2 * pushed (trees_in a x) (trees_in a y)) ≤ length a.work.now) × (a.free + 2 * pushed (trees_in a x) (trees_in a y) < 2 ^ 32)
+  pub children_room : Room a.work.now (a.free + load l r + 2) → HasRoom a (2 * pushed (trees_in a x) (trees_in a y))
   unfolding weight
   children_room k = let p = pushed_paid [] in (omega (arith, p, k.0), omega (arith, p, k.1))
 

@@ -1,25 +1,23 @@
 -- What is left of two sums of an area, and what the roots of two of its trees leave of their pair. Definitions only.
-use Rattle.std.specs.Prelude.{ℕ, zero, suc, ◌+◌, ◌-◌, ◌*◌, ◌<◌, ◌≤◌, ◌^◌, ◌≡◌, Bool, true, false, List, [], ◌∷◌, Option, Some, None, length, get_or}
+use Rattle.std.specs.Prelude.{ℕ, zero, suc, ◌+◌, ◌-◌, ◌*◌, ◌<◌, ◌≤◌, ◌^◌, ◌≡◌, Bool, true, false, List, [], ◌∷◌, Option, Some, None, Result, Ok, Err, length, get_or}
 use Rattle.rules.specs.Bytes.{same}
 use Rattle.rules.specs.Tree.{Tree, head, children, tamtplus}
 use Rattle.rules.specs.Substitution.{Pair}
 use Rattle.rules.specs.Solving.{cancel_sums, push_children}
 use Rattle.rules.specs.Solving as rules
+use Rattle.rules.specs.declared.Ending.{Ending}
+use Rattle.rules.specs.declared.Ending.TheVariants as ending
 use Rattle.laws.specs.Memory.{weight}
 use Rattle.tree.specs.declared.area.Area.{Area}
-use Rattle.tree.specs.Areas.{tree_in, KeepsCells, Grows}
+use Rattle.tree.specs.Areas.{tree_in, CellIn, KeepsCells, Grows}
 use Rattle.sums.specs.Sums.{heavy}
 use Rattle.sums.specs.Summands.{every_cancels, test_of}
 use Rattle.sums.specs.declared.striking.Cancelling.{Cancelling}
 use Rattle.sums.specs.Areas.{remaining_in}
+use Rattle.elimination.specs.declared.Next.{Next}
 use Rattle.elimination.specs.Areas.{ApartIn, WaitsIn}
 use Rattle.steps.specs.Resting.{Several}
-use Rattle.steps.specs.declared.rest.Left.{Left}
-use Rattle.steps.specs.declared.rest.Left.TheVariants as left
-use Rattle.steps.specs.declared.rest.Rest.{Rest}
-use Rattle.steps.specs.declared.rest.Rest.TheVariants as rest
-use Rattle.steps.specs.declared.roots.Roots.{Roots}
-use Rattle.steps.specs.declared.roots.Roots.TheVariants as taken
+use Rattle.steps.specs.declared.rest.Equation.{Equation}
 
 -- a number of pairs, if there are some
 abbrev pub some_pairs : ℕ → Option ℕ
@@ -28,11 +26,11 @@ some_pairs (suc k) = Some (suc k)
 
 -- Sums
 
--- what is left of cells that have these trees: none, one, which it is, or more
-abbrev pub LeftIn : Area → List Tree → Left → Type 0
-LeftIn a ts left.Nothing = ts ≡ []
-LeftIn a ts (left.One k) = (0 < k) × (k < a.free) × (ts ≡ tree_in a k ∷ [])
-LeftIn a ts left.Several = Several ts
+-- the first two of the cells that are left, which have these trees
+abbrev pub LeftIn : Area → List Tree → Option ℕ → Option ℕ → Type 0
+LeftIn a ts None o = ts ≡ []
+LeftIn a ts (Some k) None = CellIn a k × (ts ≡ tree_in a k ∷ [])
+LeftIn a ts (Some k) (Some m) = Several ts
 
 -- the words from x to y are cells or 0, and there is room for the sum of what is left of them
 pub record SummableIn (a : Area) (x y : ℕ) : Type 0 where
@@ -47,18 +45,22 @@ pub record SummableIn (a : Area) (x y : ℕ) : Type 0 where
 pub record EquationIn (a b : Area) (kept : ℕ) (d : rules.Rest) (i j : ℕ) : Type 0 where
   pub is : d ≡ rules.equation (tree_in b i) (tree_in b j)
   pub grows : Grows a b
-  pub left_inside : (0 < i) × (i < b.free)
-  pub right_inside : (0 < j) × (j < b.free)
+  pub left_inside : CellIn b i
+  pub right_inside : CellIn b j
   pub used : b.free + 2 ≤ a.free + 2 * kept
 
-abbrev pub RestIn : Area → Area → ℕ → rules.Rest → Rest → Type 0
-RestIn a b kept d rest.Emptied = (d ≡ rules.emptied) × KeepsCells a b
-RestIn a b kept d rest.Mismatch = (d ≡ rules.mismatch) × Grows a b
-RestIn a b kept d (rest.Equation i j) = EquationIn a b kept d i j
-RestIn a b kept d rest.Stuck = (d ≡ rules.stuck) × Grows a b
+-- what sums leave where they end a run
+abbrev pub rest_at_end : Ending → rules.Rest
+rest_at_end ending.Failed = rules.mismatch
+rest_at_end ending.Unsupported = rules.stuck
+
+abbrev pub RestIn : Area → Area → ℕ → rules.Rest → Result (Option Equation) Ending → Type 0
+RestIn a b kept d (Ok None) = (d ≡ rules.emptied) × KeepsCells a b
+RestIn a b kept d (Ok (Some e)) = EquationIn a b kept d e.left e.right
+RestIn a b kept d (Err e) = (d ≡ rest_at_end e) × Grows a b
 
 -- what is left on both sides is settled
-abbrev pub RemainderIn : Area → Area → Cancelling → List Tree → List Tree → Rest → Type 0
+abbrev pub RemainderIn : Area → Area → Cancelling → List Tree → List Tree → Result (Option Equation) Ending → Type 0
 RemainderIn a b c ks os r = RestIn a b (length ks + length os) (rules.remainder (every_cancels c) ks os) r
 
 -- Roots
@@ -93,7 +95,11 @@ pub record WaitingIn (a b : Area) (h : ℕ) (same : Bool) (d : Rooted) (st : ℕ
   pub used : b.free + weight pairs ≤ a.free + h + 2
   pub apart : same ≡ false → ApartIn k pairs
 
-abbrev pub RootsIn : Area → Area → ℕ → Bool → Rooted → Roots → Type 0
-RootsIn a b h same d (taken.Next st k) = WaitingIn a b h same d st k
-RootsIn a b h same d taken.Clash = (d ≡ unlike) × Grows a b
-RootsIn a b h same d taken.Stuck = (d ≡ undecided) × Grows a b
+-- what roots leave where they end a run
+abbrev pub rooted_at_end : Ending → Rooted
+rooted_at_end ending.Failed = unlike
+rooted_at_end ending.Unsupported = undecided
+
+abbrev pub RootsIn : Area → Area → ℕ → Bool → Rooted → Result Next Ending → Type 0
+RootsIn a b h same d (Ok n) = WaitingIn a b h same d n.stack n.apart
+RootsIn a b h same d (Err e) = (d ≡ rooted_at_end e) × Grows a b

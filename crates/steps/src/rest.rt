@@ -2,98 +2,97 @@
 ghost use Rattle.std.specs.Prelude.{◌≡◌, true, ℕ, ◌<◌, ◌≤◌, length, get_or};
 ghost use Rattle.rules.specs.Solving.{cancel_sums};
 ghost use Rattle.laws.specs.Memory.{kept_summands};
-ghost use Rattle.tree.specs.Areas.{tree_in};
+ghost use Rattle.tree.specs.Areas.{tree_in, sum_in, CellIn};
 ghost use Rattle.sums.specs.Summands.{every_cancels, test_of};
-ghost use Rattle.sums.specs.Areas.{sum_in, remaining_in};
+ghost use Rattle.sums.specs.Areas.{remaining_in};
 ghost use Rattle.elimination.specs.Stack.{Fit};
 ghost use Rattle.elimination.specs.Area.{Room};
 ghost use Rattle.steps.specs.Resting.{Several};
 ghost use Rattle.steps.specs.Areas.{LeftIn, SummableIn, RestIn, RemainderIn};
 
+use rules::Ending;
 use sums::striking::Cancelling;
 use sums::{Summands, prepare, rebuild};
-use text::places::wide;
 use tree::area::Area;
 
-// How many of the cells are not taken out: none, one, which it is, or more.
-#[derive(Clone, Copy, Debug, PartialEq, Eq)]
-enum Left {
-    Nothing,
-    One(usize),
-    Several,
-}
-
-// What is left of the cells in the words from `at` to `end`.
-fn left_of(area: &Area, at: usize, end: usize) -> Left
+// The first two of the cells in the words from `at` to `end` that are not taken out.
+fn first_two(area: &Area, at: usize, end: usize) -> (Option<usize>, Option<usize>)
     requires words { (at ≤ end) × (end ≤ length area.now.work.now) }
     requires cells { (p : ℕ) → at ≤ p → p < end → get_or area.now.work.now p 0 < area.now.free }
-    ensures { LeftIn area.now (remaining_in area.now at end) result }
+    ensures { LeftIn area.now (remaining_in area.now at end) result.0 result.1 }
 {
-    let mut left = Left::Nothing;
-    for word in &area.work[at..end] {
-        if *word == 0 {
-            continue;
-        }
-        left = match left {
-            Left::Nothing => Left::One(wide(*word)),
-            Left::One(_) | Left::Several => return Left::Several,
-        };
-    }
-    left
+    let words = &area.work[at..end];
+    let mut left = words
+        .iter()
+        .filter(|word| **word != 0)
+        .map(|word| *word as usize);
+    (left.next(), left.next())
 }
 
-// What is left of two sums: nothing, one side only, two trees to be paired, or more than the rules settle.
+// Two trees that are to be paired.
 #[derive(Clone, Copy, Debug, PartialEq, Eq)]
-pub(crate) enum Rest {
-    Emptied,
-    Mismatch,
-    Equation { left: usize, right: usize },
-    Stuck,
+pub(crate) struct Equation {
+    pub(crate) left: usize,
+    pub(crate) right: usize,
 }
 
 // Several summands are left of the left sum. Only where every summand cancels is one on the right paired with them.
-fn rest_of_several(area: &mut Area, like: usize, split: Summands, cancelling: Cancelling) -> Rest
-    requires like_cell { (0 < like) × (like < area.old.free) × (sum_in (tree_in area.old like) ≡ true) }
+fn rest_of_several(
+    area: &mut Area,
+    like: usize,
+    split: Summands,
+    cancelling: Cancelling,
+) -> Result<Option<Equation>, Ending>
+    requires like_cell { CellIn area.old like × (sum_in (tree_in area.old like) ≡ true) }
     requires left { SummableIn area.old split.at split.mid }
     requires right { SummableIn area.old split.mid split.end }
     requires several { Several (remaining_in area.old split.at split.mid) }
     ensures { RemainderIn area.old area.new cancelling (remaining_in area.old split.at split.mid) (remaining_in area.old split.mid split.end) result }
 {
-    match (cancelling, left_of(area, split.mid, split.end)) {
-        (_, Left::Nothing) => Rest::Mismatch,
-        (Cancelling::Every, Left::One(right)) => {
-            match rebuild(area, like, split.at, split.mid) {
-                Some(left) => Rest::Equation { left, right },
-                None => Rest::Mismatch,
-            }
+    let (first, second) = first_two(area, split.mid, split.end);
+    match (cancelling, first, second) {
+        (_, None, _) => Err(Ending::Failed),
+        (Cancelling::Every, Some(right), None) => {
+            let left = rebuild(area, like, split.at, split.mid).ok_or(Ending::Failed)?;
+            Ok(Some(Equation { left, right }))
         }
-        (Cancelling::Ground, Left::One(_)) | (_, Left::Several) => Rest::Stuck,
+        (Cancelling::Ground, Some(_), None) | (_, Some(_), Some(_)) => Err(Ending::Unsupported),
     }
 }
 
-// What the summands that are left of two sums come to. The cell like is a sum.
-fn settle(area: &mut Area, like: usize, split: Summands, cancelling: Cancelling) -> Rest
-    requires like_cell { (0 < like) × (like < area.old.free) × (sum_in (tree_in area.old like) ≡ true) }
+// What the summands that are left of two sums come to: nothing, or two trees to be paired. The cell like is a sum.
+fn settle(
+    area: &mut Area,
+    like: usize,
+    split: Summands,
+    cancelling: Cancelling,
+) -> Result<Option<Equation>, Ending>
+    requires like_cell { CellIn area.old like × (sum_in (tree_in area.old like) ≡ true) }
     requires left { SummableIn area.old split.at split.mid }
     requires right { SummableIn area.old split.mid split.end }
     ensures { RemainderIn area.old area.new cancelling (remaining_in area.old split.at split.mid) (remaining_in area.old split.mid split.end) result }
 {
-    match left_of(area, split.at, split.mid) {
-        Left::Nothing => match left_of(area, split.mid, split.end) {
-            Left::Nothing => Rest::Emptied,
-            Left::One(_) | Left::Several => Rest::Mismatch,
+    match first_two(area, split.at, split.mid) {
+        (None, _) => match first_two(area, split.mid, split.end) {
+            (None, _) => Ok(None),
+            (Some(_), _) => Err(Ending::Failed),
         },
-        Left::One(left) => match rebuild(area, like, split.mid, split.end) {
-            Some(right) => Rest::Equation { left, right },
-            None => Rest::Mismatch,
-        },
-        Left::Several => rest_of_several(area, like, split, cancelling),
+        (Some(left), None) => {
+            let right = rebuild(area, like, split.mid, split.end).ok_or(Ending::Failed)?;
+            Ok(Some(Equation { left, right }))
+        }
+        (Some(_), Some(_)) => rest_of_several(area, like, split, cancelling),
     }
 }
 
 // What is left of the sums of cells left and right.
-pub(crate) fn rest_of(area: &mut Area, left: usize, right: usize, cancelling: Cancelling) -> Rest
-    requires cells { (0 < left) × (left < area.old.free) × (0 < right) × (right < area.old.free) }
+pub(crate) fn rest_of(
+    area: &mut Area,
+    left: usize,
+    right: usize,
+    cancelling: Cancelling,
+) -> Result<Option<Equation>, Ending>
+    requires cells { CellIn area.old left × CellIn area.old right }
     requires sums { (sum_in (tree_in area.old left) ≡ true) × (sum_in (tree_in area.old right) ≡ true) }
     requires fit { Fit (tree_in area.old left) × Fit (tree_in area.old right) }
     requires room { Room area.old.work.now area.old.free }

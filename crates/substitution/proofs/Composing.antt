@@ -1,11 +1,9 @@
 -- The loop that composes the bindings.
-use Prim.Native.Nat.{ℕ, ◌+◌, ◌*◌, ◌<◌, ◌≤◌}
-use mathlib.Core.Path.{◌≡◌, refl, sym, ap, ap₂, ◌∙◌}
+use Prim.Native.Nat.{◌<◌, ◌≤◌}
+use mathlib.Core.Path.{◌≡◌, refl, ap, ◌∙◌}
 use mathlib.Core.Bool.{Bool}
-use mathlib.Core.List.{List, [], ◌∷◌, reverse, reverse_aux}
+use mathlib.Core.List.{List, [], ◌∷◌, reverse_aux}
 use Rattle.std.specs.Prelude.{Option, Some, None}
-use lib.ListN.{length}
-use native.Mathlib.Omega.{arith}
 use Rattle.rules.specs.Bytes.{Text}
 use Rattle.rules.specs.Tree.{Tree, size}
 use Rattle.rules.specs.Substitution.{Binding, instantiate}

@@ -1,8 +1,7 @@
 -- Instances of the trees of an area.
 use Prim.Native.Nat.{ℕ, ◌<◌}
 use mathlib.Core.Path.{◌≡◌, sym, ap, ap₂, ◌∙◌}
-use Rattle.std.specs.Prelude.{Option, Some, None}
-use Rattle.std.specs.Option.{unwrap_or}
+use Rattle.std.specs.Prelude.{Option}
 use Rattle.rules.specs.Tree.{Tree, apply, Trees, none, more}
 use Rattle.rules.specs.Substitution.{lookup, substitute, substitutes, instantiate}
 use Rattle.rules.specs.declared.Sort.{Sort}
@@ -13,7 +12,7 @@ use Rattle.tree.proofs.Decoding.{trees_none, trees_more}
 use Rattle.tree.proofs.Keeping.{grows_tree, grows_trees}
 use Rattle.tree.proofs.ByKind.{tree_application, tree_a_variable, tree_an_atom}
 use Rattle.substitution.specs.Bindings.{bindings_of}
-use Rattle.substitution.specs.Areas.{bindings_in, instance_in, instances_in, FindsIn}
+use Rattle.substitution.specs.Areas.{bindings_in, instance_in, instances_in}
 
 module _ (a : Area) (b k : ℕ) where
   pub instance_application : (j : ℕ) → j ≡ first_in a k → cell_kind a k ≡ Application → instance_in a b k ≡ apply (name_in a k) (instances_in a b j)
@@ -24,14 +23,9 @@ module _ (a : Area) (b k : ℕ) where
   unfolding substitute
   instance_atom c e = tree_an_atom a k c e ∙ sym (ap (instantiate (bindings_in a b)) (tree_an_atom a k c e))
 
-  instance_variable : (v : Option Sort) → cell_kind a k ≡ Variable v → instance_in a b k ≡ lookup (bindings_in a b) (name_in a k)
+  pub instance_variable : (v : Option Sort) → cell_kind a k ≡ Variable v → instance_in a b k ≡ lookup (bindings_in a b) (name_in a k)
   unfolding substitute
   instance_variable v e = ap (instantiate (bindings_in a b)) (tree_a_variable a k v e)
-
-  -- the value that was found, or the variable itself
-  pub instance_found : (v : Option Sort) (o : Option ℕ) → cell_kind a k ≡ Variable v → FindsIn a (bindings_in a b) (name_in a k) o → tree_in a (unwrap_or o k) ≡ instance_in a b k
-  instance_found v (Some j) e f = sym (instance_variable v e ∙ f.is_value)
-  instance_found v None e f = tree_a_variable a k v e ∙ sym (instance_variable v e ∙ f.1)
 
   pub instances_none : k ≡ 0 → instances_in a b k ≡ none
   unfolding substitute

@@ -2,7 +2,9 @@ pub mod Keys
 pub mod Chains
 pub mod Composing
 pub mod Listing
+pub mod ByCells
 pub mod Searching
 pub mod Instantiating
 pub mod Putting
 pub mod Chaining
+pub mod Walks

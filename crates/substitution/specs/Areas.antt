@@ -8,6 +8,7 @@ use Rattle.rules.specs.Solving.{bind, unknown, bind_into, compose}
 use Rattle.tree.specs.declared.area.Area.{Area}
 use Rattle.tree.specs.Arena.{Grown}
 use Rattle.tree.specs.Areas.{tree_in, trees_in, Lent, Adds}
+pub use Rattle.tree.specs.Lists.{Lists}
 use Rattle.substitution.specs.Bindings.{bindings_of, Chain}
 use Rattle.substitution.specs.Composing.{put_pairs}
 use Rattle.substitution.specs.declared.instances.Built.{Built}
@@ -34,13 +35,7 @@ abbrev pub FindsIn : Area → List Binding → Text → Option ℕ → Type 0
 FindsIn a bs x (Some k) = FoundIn a bs x k
 FindsIn a bs x None = (bound x bs ≡ None) × (lookup bs x ≡ variable x)
 
--- b is a with new cells, and the list from cell i on is ts
-pub record Lists (a b : Area) (i : ℕ) (ts : Trees) : Type 0 where
-  pub adds : Adds a b
-  pub inside : i < b.free
-  pub trees : trees_in b i ≡ ts
-
--- the same, where the list is the tree t before that from cell next on
+-- b is a with new cells, and the list from cell i on is the tree t before that from cell next on
 pub record Puts (a b : Area) (i next : ℕ) (t : Tree) : Type 0 where
   pub adds : Adds a b
   pub some_cell : 0 < i

@@ -1,6 +1,5 @@
 -- What a binding makes of the waiting pairs, and what composing makes of the bindings. Definitions only.
-use Rattle.std.specs.Prelude.{ℕ, ◌+◌, ◌*◌, ◌≤◌, ◌≡◌, List, [], ◌∷◌, reverse, length}
-use Rattle.std.specs.Prelude.{Some, None}
+use Rattle.std.specs.Prelude.{List, [], ◌∷◌}
 use Rattle.rules.specs.Bytes.{Text}
 use Rattle.rules.specs.Tree.{Tree}
 use Rattle.rules.specs.Substitution.{Pair, instantiate_pairs}

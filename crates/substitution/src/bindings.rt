@@ -1,26 +1,34 @@
 // Bindings in an area: one list of cells, the key and the value of each in turn.
 ghost use Rattle.std.specs.Prelude.{◌≡◌, ◌<◌};
-ghost use Rattle.tree.specs.Areas.{name_in};
+ghost use Rattle.rules.specs.Tree.{variable};
+ghost use Rattle.rules.specs.Substitution.{lookup};
+ghost use Rattle.tree.specs.Areas.{name_in, tree_in, CellIn};
 ghost use Rattle.substitution.specs.Areas.{bindings_in, FindsIn};
 
 use tree::area::Area;
 
-// The value in the first of the bindings from cell b on whose key has the name of cell x.
+// The value in the first of the bindings from cell b on whose key has the name of cell x. Two cells a step: a key and
+// its value.
 pub fn lookup(area: &Area, b: usize, x: usize) -> Option<usize>
     requires b_link { b < area.now.free }
-    requires x_cell { (0 < x) × (x < area.now.free) }
+    requires x_cell { CellIn area.now x }
     ensures { FindsIn area.now (bindings_in area.now b) (name_in area.now x) result }
 {
-    let mut key = b;
-    while key != 0 {
-        let value = area.next_of(key);
-        if value == 0 {
-            return None;
-        }
+    let mut cells = area.list(b);
+    while let (Some(key), Some(value)) = (cells.next(), cells.next()) {
         if area.same_name(key, x) {
             return Some(value);
         }
-        key = area.next_of(value);
     }
     None
+}
+
+// The cell of what the bindings from cell b on give the variable of cell x: its own where none has its name.
+pub fn image(area: &Area, b: usize, x: usize) -> usize
+    requires b_link { b < area.now.free }
+    requires x_cell { CellIn area.now x × (tree_in area.now x ≡ variable (name_in area.now x)) }
+    ensures cell { CellIn area.now result }
+    ensures value { tree_in area.now result ≡ lookup (bindings_in area.now b) (name_in area.now x) }
+{
+    lookup(area, b, x).unwrap_or(x)
 }

@@ -1,7 +1,8 @@
 // Whether any variable occurs in a tree of an area.
+// A list is tested by one call of the library: a function of the test would only add a contract.
 ghost use Rattle.std.specs.Prelude.{◌≡◌, ◌<◌};
 ghost use Rattle.rules.specs.Tree.{ground, grounds};
-ghost use Rattle.tree.specs.Areas.{tree_in, trees_in};
+ghost use Rattle.tree.specs.Areas.{tree_in, trees_in, CellIn};
 
 use tree::area::Area;
 use tree::kinds::Kind;
@@ -10,7 +11,7 @@ use tree::kinds::Kind;
 #[tactic(auto, using(crate::proofs::Searching::ground_by_kind))]
 #[cycle(ground_grounds)]
 pub fn ground(area: &Area, i: usize) -> bool
-    requires { (0 < i) × (i < area.now.free) }
+    requires { CellIn area.now i }
     ensures { result ≡ ground (tree_in area.now i) }
 {
     match area.kind(i) {
@@ -26,12 +27,10 @@ fn grounds(area: &Area, list: usize) -> bool
     requires { list < area.now.free }
     ensures { result ≡ grounds (trees_in area.now list) }
 {
-    let mut i = list;
-    while i != 0 {
-        if !ground(area, i) {
-            return false;
-        }
-        i = area.next_of(i);
-    }
-    true
+    area.list(list).all(
+        |i|
+            requires { CellIn area.now i }
+            ensures { result ≡ ground (tree_in area.entry.now i) }
+        { ground(area, i) },
+    )
 }

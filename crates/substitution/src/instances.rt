@@ -1,16 +1,16 @@
 // Substitution in an area within a budget of nodes. Cells of what does not change are used again.
-ghost use Rattle.std.specs.Prelude.{◌≡◌, ◌+◌, ◌*◌, ◌<◌, ◌≤◌, ◌^◌, length};
-ghost use Rattle.tree.specs.Areas.{tree_in};
+ghost use Rattle.std.specs.Prelude.{◌+◌, ◌<◌, ◌≤◌};
+ghost use Rattle.tree.specs.Areas.{tree_in, CellIn, HasRoom};
 ghost use Rattle.substitution.specs.Areas.{Puts, BuildsTreeIn, BuildsListIn, instance_in, instances_in};
 
-use crate::bindings::lookup;
+use crate::bindings::image;
 use tree::area::Area;
 use tree::kinds::Kind;
 
 // The tree of cell i before the list from cell next on: cell i itself, if that is its link, or a new cell.
 pub fn keep(area: &mut Area, i: usize, next: usize) -> usize
-    requires cells { (0 < i) × (i < area.old.free) × (next < area.old.free) }
-    requires room { (4 * area.old.free + 4 ≤ length area.old.work.now) × (area.old.free < 2 ^ 32) }
+    requires cells { CellIn area.old i × (next < area.old.free) }
+    requires room { HasRoom area.old 1 }
     ensures puts { Puts area.old area.new result next (tree_in area.old i) }
     ensures end { area.new.free ≤ area.old.free + 1 }
 {
@@ -29,8 +29,8 @@ pub struct Built {
 
 // The same within a budget of nodes.
 fn place(area: &mut Area, i: usize, next: usize, budget: usize) -> Option<Built>
-    requires cells { (0 < i) × (i < area.old.free) × (next < area.old.free) }
-    requires room { (4 * (area.old.free + budget) ≤ length area.old.work.now) × (area.old.free + budget < 2 ^ 32) }
+    requires cells { CellIn area.old i × (next < area.old.free) }
+    requires room { HasRoom area.old budget }
     ensures { BuildsTreeIn area.old area.new budget next (tree_in area.old i) result }
 {
     let left = budget.checked_sub(area.count_of(i))?;
@@ -44,8 +44,9 @@ fn place(area: &mut Area, i: usize, next: usize, budget: usize) -> Option<Built>
 // The instance of the tree of cell i under the bindings from cell b on, before the list from cell next on.
 #[cycle(substitute_substitute_list)]
 pub fn substitute(area: &mut Area, i: usize, b: usize, next: usize, budget: usize) -> Option<Built>
-    requires cells { (0 < i) × (i < area.old.free) × (b < area.old.free) × (next < area.old.free) }
-    requires room { (4 * (area.old.free + budget) ≤ length area.old.work.now) × (area.old.free + budget < 2 ^ 32) × (budget < 65536) }
+    requires cells { CellIn area.old i × (b < area.old.free) × (next < area.old.free) }
+    requires room { HasRoom area.old budget }
+    requires budget { budget < 65536 }
     ensures { BuildsTreeIn area.old area.new budget next (instance_in area.old b i) result }
 {
     match area.kind(i) {
@@ -64,18 +65,20 @@ pub fn substitute(area: &mut Area, i: usize, b: usize, next: usize, budget: usiz
             })
         }
         Kind::Variable(_) => {
-            let image = lookup(area, b, i).unwrap_or(i);
-            place(area, image, next, budget)
+            let value = image(area, b, i);
+            place(area, value, next, budget)
         }
         Kind::Atom(_) => place(area, i, next, budget),
     }
 }
 
-// The instances of the trees of the list from cell i on. Each has a node, so the rest has one less.
+// The instances of the trees of the list from cell i on. Each has a node, so the rest has one less. By recursion, as the definition is:
+// the cells of later trees are made first.
 #[cycle(substitute_substitute_list)]
 pub(crate) fn substitute_list(area: &mut Area, i: usize, b: usize, budget: usize) -> Option<Built>
     requires links { (i < area.old.free) × (b < area.old.free) }
-    requires room { (4 * (area.old.free + budget) ≤ length area.old.work.now) × (area.old.free + budget < 2 ^ 32) × (budget < 65536) }
+    requires room { HasRoom area.old budget }
+    requires budget { budget < 65536 }
     ensures { BuildsListIn area.old area.new budget (instances_in area.old b i) result }
 {
     if i == 0 {

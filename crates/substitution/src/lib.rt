@@ -1,6 +1,7 @@
 // Occurrence of variables, bindings, and substitution over the trees of an area.
 #![tactic(auto)]
 
+pub mod answer; // answer.rt: what a run answers
 pub mod bindings; // bindings.rt: a binding looked up
 pub mod ground; // ground.rt: trees without variables
 pub mod instances; // instances.rt: substitution within a budget of nodes

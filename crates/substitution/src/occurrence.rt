@@ -1,7 +1,7 @@
 // Whether a variable occurs in a tree of an area.
 ghost use Rattle.std.specs.Prelude.{◌≡◌, ◌<◌};
 ghost use Rattle.rules.specs.Tree.{occurs, occurs_in};
-ghost use Rattle.tree.specs.Areas.{name_in, tree_in, trees_in};
+ghost use Rattle.tree.specs.Areas.{name_in, tree_in, trees_in, CellIn};
 
 use tree::area::Area;
 use tree::kinds::Kind;
@@ -10,8 +10,8 @@ use tree::kinds::Kind;
 #[tactic(auto, using(crate::proofs::Searching::occurs_by_kind))]
 #[cycle(occurs_occurs_in)]
 pub fn occurs(area: &Area, key: usize, i: usize) -> bool
-    requires key_cell { (0 < key) × (key < area.now.free) }
-    requires i_cell { (0 < i) × (i < area.now.free) }
+    requires key_cell { CellIn area.now key }
+    requires i_cell { CellIn area.now i }
     ensures { result ≡ occurs (name_in area.now key) (tree_in area.now i) }
 {
     match area.kind(i) {
@@ -24,16 +24,14 @@ pub fn occurs(area: &Area, key: usize, i: usize) -> bool
 // Whether it occurs in the list from cell `list` on.
 #[cycle(occurs_occurs_in)]
 fn occurs_in(area: &Area, key: usize, list: usize) -> bool
-    requires key_cell { (0 < key) × (key < area.now.free) }
+    requires key_cell { CellIn area.now key }
     requires list_link { list < area.now.free }
     ensures { result ≡ occurs_in (name_in area.now key) (trees_in area.now list) }
 {
-    let mut i = list;
-    while i != 0 {
-        if occurs(area, key, i) {
-            return true;
-        }
-        i = area.next_of(i);
-    }
-    false
+    area.list(list).any(
+        |i|
+            requires { CellIn area.now key × CellIn area.now i }
+            ensures { result ≡ occurs (name_in area.entry.now key) (tree_in area.entry.now i) }
+        { occurs(area, key, i) },
+    )
 }

@@ -1,7 +1,7 @@
 // A binding put into the waiting pairs of an area, and the bindings composed.
-ghost use Rattle.std.specs.Prelude.{◌≡◌, List, ◌+◌, ◌*◌, ◌<◌, ◌≤◌, ◌^◌, length};
+ghost use Rattle.std.specs.Prelude.{◌≡◌, List, ◌*◌, ◌<◌, length};
 ghost use Rattle.rules.specs.Substitution.{Pair, flatten};
-ghost use Rattle.tree.specs.Areas.{name_in, tree_in, trees_in};
+ghost use Rattle.tree.specs.Areas.{name_in, tree_in, trees_in, CellIn, HasRoom};
 ghost use Rattle.substitution.specs.Bindings.{Chain};
 ghost use Rattle.substitution.specs.Areas.{bindings_in, PairsIn, BindsInArea, ComposesIn};
 
@@ -12,8 +12,8 @@ use tree::area::Area;
 // Puts the tree of cell value for the name of cell key into the waiting pairs, 4,096 nodes in all, and answers where they begin, or
 // None for more nodes. The pairs are the list from cell stack on: left, right, left, right, ..
 pub fn bind_into(area: &mut Area, key: usize, value: usize, stack: usize) -> Option<usize>
-    requires cells { (0 < key) × (key < area.old.free) × (0 < value) × (value < area.old.free) × (stack < area.old.free) }
-    requires room { (4 * (area.old.free + 4098) ≤ length area.old.work.now) × (area.old.free + 4098 < 2 ^ 32) }
+    requires cells { CellIn area.old key × CellIn area.old value × (stack < area.old.free) }
+    requires room { HasRoom area.old 4098 }
     requires pairs { PairsIn area.old stack }
     ensures { (ps : List Pair) → trees_in area.old stack ≡ flatten ps → BindsInArea area.old area.new (name_in area.old key) (tree_in area.old value) ps result }
 {
@@ -23,10 +23,10 @@ pub fn bind_into(area: &mut Area, key: usize, value: usize, stack: usize) -> Opt
 }
 
 // Composes the bindings from cell made on, the last made first: those composed so far are put into each value, 4,096 nodes, and it
-// goes before them. None for a value of more nodes.
+// goes before them. None for a value of more nodes. The cells are pushed into the area that is walked: an iterator would hold it.
 pub fn compose(area: &mut Area, made: usize) -> Option<usize>
     requires chain { (made < area.old.free) × Chain (trees_in area.old made) }
-    requires room { (4 * (area.old.free + 4097 * length (bindings_in area.old made)) ≤ length area.old.work.now) × (area.old.free + 4097 * length (bindings_in area.old made) < 2 ^ 32) }
+    requires room { HasRoom area.old (4097 * length (bindings_in area.old made)) }
     ensures { ComposesIn area.old area.new (bindings_in area.old made) result }
 {
     let mut left = made;

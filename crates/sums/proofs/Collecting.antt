@@ -1,29 +1,28 @@
 -- The cells of summands gathered in words, and their trees.
 use Prim.Native.Nat.{ℕ, ◌+◌, ◌-◌, ◌<◌, ◌≤◌}
-use mathlib.Core.Path.{◌≡◌, refl, sym, ap, ◌∙◌}
+use mathlib.Core.Path.{◌≡◌, refl, sym, ap, subst, ◌∙◌}
 use mathlib.Core.Bool.{Bool, true, false}
 use mathlib.Core.List.{List, [], ◌∷◌, ◌++◌}
-use lib.ListN.{length, set, length-set, length-append, get_or-append}
-use lib.Seq.{get_or-set_other}
+use lib.ListN.{length, length-append, get_or-append}
 use native.Mathlib.Omega.{arith}
 use native.Mathlib.Decide.{dec_lt}
 use Rattle.std.proofs.lemmas.List.{get_or-append_right}
-use Rattle.std.specs.Prelude.{Option}
-use Rattle.rules.specs.declared.Sort.{Sort}
-use Rattle.tree.specs.declared.kinds.Kind.TheVariants.{Application, Variable, Atom}
-use Rattle.rules.specs.Bytes.{Text, same}
-use Rattle.rules.specs.Tree.{Tree, variable, atom, apply, Trees, size, sizes, tamtplus}
+use Rattle.rules.specs.Bytes.{Text}
+use Rattle.rules.specs.Tree.{Tree, variable, atom, apply, Trees, size, sizes}
 use Rattle.rules.specs.Sums.{summands, summands_of, unless_sum}
-use Rattle.text.proofs.Slices.{slice_set, slice_none}
+use Rattle.text.proofs.Slices.{slice_none}
 use Rattle.text.specs.Sorting.{Wrote}
 use Rattle.tree.specs.declared.area.Area.{Area}
-use Rattle.tree.specs.Areas.{cell_kind, first_in, next_in, name_in, tree_in, trees_in}
+use Rattle.tree.specs.Areas.{first_in, next_in, name_in, tree_in, trees_in, sum_in, CellIn}
+use Rattle.tree.specs.Lists.{cells_from}
 use Rattle.tree.proofs.Lists.{list_none, list_more, list_size}
-use Rattle.tree.proofs.ByKind.{tree_application, tree_a_variable, tree_an_atom}
-use Rattle.equivalence.proofs.Scratch.{wrote_append}
+use Rattle.tree.proofs.ByKind.{tree_application}
+use Rattle.flattening.proofs.WriterSteps.{wrote_append}
+use Rattle.flattening.specs.declared.writer.Writer.{Writer}
+use Rattle.flattening.specs.Writers.{Appended}
+use Rattle.substitution.proofs.Walks.{walk_ends, walk_goes}
 use Rattle.sums.specs.Sums.{remaining, heft}
-use Rattle.sums.specs.Areas.{sum_in}
-use Rattle.sums.specs.Summands.{trees_of, heft_in, AreCells, CollectsCells}
+use Rattle.sums.specs.Summands.{trees_of, heft_in, AreCells, CollectsCells, CellsWritten}
 use Rattle.sums.proofs.Summanding.{remaining_some, remaining_append, heft_append}
 use Rattle.sums.proofs.Describing.{heft_count}
 use Rattle.sums.proofs.InAreas.{sum_kind}
@@ -33,18 +32,6 @@ are_append a cs ds h k q l = elim (dec_lt q (length cs)) [
   | yes y ↦ rw (get_or-append cs ds 0 q y) (h q y)
   | no n ↦ rw (get_or-append_right cs ds (length cs) q 0 refl (omega arith)) (k (q - length cs) (omega (arith, length-append cs ds)))
 ]
-
-module _ (a : Area) (i : ℕ) where
-  pub sum_application : cell_kind a i ≡ Application → sum_in (tree_in a i) ≡ same (name_in a i) tamtplus
-  sum_application e = ap sum_in (tree_application a i e)
-
-  pub sum_variable : (v : Option Sort) → cell_kind a i ≡ Variable v → sum_in (tree_in a i) ≡ false
-  sum_variable v e = ap sum_in (tree_a_variable a i v e)
-
-  pub sum_atom : (c : ℕ) → cell_kind a i ≡ Atom c → sum_in (tree_in a i) ≡ false
-  sum_atom c e = ap sum_in (tree_an_atom a i c e)
-
-pub ruleset sum_by_kind = (sum_application, sum_variable, sum_atom)
 
 -- a tree that is no sum is its own summand
 one_summand : (t : Tree) → sum_in t ≡ false → summands t ≡ t ∷ []
@@ -62,34 +49,36 @@ pub sum_size : (a : Area) (i : ℕ) {j : ℕ} → j ≡ first_in a i → true �
 unfolding size
 sum_size a i {j} f e = ap size (tree_application a i (sum_kind a i (sym e)) ∙ ap (λ (j : ℕ). apply (name_in a i) (trees_in a j)) (sym f))
 
-module _ {a : Area} {w : List ℕ} (i at : ℕ) where
-  pub gathers_leaf : 0 < i → i < a.free → at < length w → false ≡ sum_in (tree_in a i) → CollectsCells a w (set w at i) at (at + 1) (size (tree_in a i)) (summands (tree_in a i))
+module _ {a : Area} {x y : Writer} (i : ℕ) where
+  pub gathers_leaf : 0 < i → i < a.free → false ≡ sum_in (tree_in a i) → Appended x y (i ∷ []) → CellsWritten a x y (size (tree_in a i)) (summands (tree_in a i))
   unfolding heft remaining
-  gathers_leaf p q room e = record {
-    cells = i ∷ [];
-    wrote = record {
-      len = length-set w at i;
-      below = λ x h. get_or-set_other w at x i 0 (λ g. omega arith);
-      above = λ x h. get_or-set_other w at x i 0 (λ g. omega arith);
-      words = slice_set at at w i (omega arith) room ∙ ap (λ (l : List ℕ). l ++ (i ∷ [])) (slice_none at at w (omega arith));
+  gathers_leaf p q e g = record {
+    lent = g.lent;
+    collected = record {
+      cells = i ∷ [];
+      wrote = g.wrote;
+      ends = g.end;
+      are = λ k l. (let z : k ≡ 0 = omega arith in rw z (p, q));
+      light = omega arith;
+      trees = remaining_some a.sheet.now a.work.now i [] p ∙ sym (one_summand (tree_in a i) (sym e));
     };
-    ends = refl;
-    are = λ k l. (let z : k ≡ 0 = omega arith in rw z (p, q));
-    light = omega arith;
-    trees = remaining_some a.sheet.now a.work.now i [] p ∙ sym (one_summand (tree_in a i) (sym e));
   }
 
-  pub gathers_sum : {v : List ℕ} {end j : ℕ} → j ≡ first_in a i → true ≡ sum_in (tree_in a i) → CollectsCells a w v at end (sizes (trees_in a j)) (summands_of (trees_in a j))
-      → CollectsCells a w v at end (size (tree_in a i)) (summands (tree_in a i))
+  pub gathers_sum : {j : ℕ} → j ≡ first_in a i → true ≡ sum_in (tree_in a i) → CellsWritten a x y (sizes (trees_in a j)) (summands_of (trees_in a j))
+      → CellsWritten a x y (size (tree_in a i)) (summands (tree_in a i))
   gathers_sum {j = j} f e g =
       let t : tree_in a i ≡ apply (name_in a i) (trees_in a j) = tree_application a i (sum_kind a i (sym e)) ∙ ap (λ (j : ℕ). apply (name_in a i) (trees_in a j)) (sym f) in
+      let h = g.collected in
       record {
-        cells = g.cells;
-        wrote = g.wrote;
-        ends = g.ends;
-        are = g.are;
-        light = omega (arith, g.light, sum_size a i f e);
-        trees = g.trees ∙ sym (summands_sum (name_in a i) (trees_in a j) (tree_in a i) t (sym e));
+        lent = g.lent;
+        collected = record {
+          cells = h.cells;
+          wrote = h.wrote;
+          ends = h.ends;
+          are = h.are;
+          light = omega (arith, h.light, sum_size a i f e);
+          trees = h.trees ∙ sym (summands_sum (name_in a i) (trees_in a j) (tree_in a i) t (sym e));
+        };
       }
 
 -- at the head of the loop: the list from cell i on is left
@@ -146,3 +135,28 @@ module _ {a : Area} {w v : List ℕ} {at end list i : ℕ} (h : Gathering a w v 
               ∙ mathlib.Core.List.append_assoc (trees_of a h.cells) (summands (tree_in a i)) (summands_of (trees_in a j))
               ∙ ap (λ (ts : Trees). trees_of a h.cells ++ summands_of ts) (sym (list_more a i p q e)) ∙ h.trees;
         }
+
+-- the same by the cells that are left of the list, and by the writer y, which was x
+pub record GatheringCells (a : Area) (x y : Writer) (list : ℕ) (left : List ℕ) : Type 0 where
+  pub lent : y.words.ghost_name ≡ x.words.ghost_name
+  pub cell : ℕ
+  pub cells : left ≡ cells_from a cell
+  pub inside : cell < a.free
+  pub before : Gathering a x.words.now y.words.now x.end y.end list cell
+
+module _ {a : Area} {x y : Writer} {list : ℕ} where
+  pub cells_gathered : {left : List ℕ} → GatheringCells a x y list left → left ≡ [] → CellsWritten a x y (sizes (trees_in a list)) (summands_of (trees_in a list))
+  cells_gathered h e = record { lent = h.lent; collected = gathering_ends h.before (walk_ends a h.cell (sym e ∙ h.cells) h.inside) }
+
+  -- the next cell of the list
+  module _ {i : ℕ} {left rest : List ℕ} (h : GatheringCells a x y list left) (e : left ≡ i ∷ rest) where
+    pub gathering_cell : CellIn a i × (rest ≡ cells_from a (next_in a i)) × Gathering a x.words.now y.words.now x.end y.end list i
+    gathering_cell =
+        let n = walk_goes a h.cell (sym e ∙ h.cells) h.inside in
+        ((n.1, omega (arith, n.0, h.inside)), n.2, subst (λ (k : ℕ). Gathering a x.words.now y.words.now x.end y.end list k) n.0 h.before)
+
+    pub gathering_turn : {z : Writer} → x.end + sizes (trees_in a list) ≤ length x.words.now → CellsWritten a y z (size (tree_in a i)) (summands (tree_in a i)) → GatheringCells a x z list rest
+    gathering_turn room g =
+        let n = gathering_cell in
+        let l = a.arena.links.next i n.0.0 n.0.1 in
+        record { lent = g.lent ∙ h.lent; cell = next_in a i; cells = n.1; inside = omega (arith, n.0.1); before = gathering_next n.2 n.0.0 n.0.1 room g.collected refl (omega arith) }

@@ -13,7 +13,8 @@ use Rattle.tree.specs.Areas.{cell_kind, name_in, tree_in, Grows}
 use Rattle.tree.proofs.Keeping.{adds_grows}
 use Rattle.tree.proofs.ByKind.{application_kind}
 use Rattle.tree.proofs.Decoding.{Kind, application, a_variable, an_atom, kind, tree_variable, tree_atom, tree_apply}
-use Rattle.sums.specs.Areas.{sum_in, Summed}
+use Rattle.tree.specs.Areas.{sum_in}
+use Rattle.sums.specs.Areas.{Summed}
 
 module _ (a : Area) (i : ℕ) where
   pub sum_cell : sum_in (tree_in a i) ≡ true → (kind_of a.work.now i ≡ 0) × (name_in a i ≡ tamtplus)

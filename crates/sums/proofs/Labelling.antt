@@ -16,10 +16,17 @@ use Rattle.tree.specs.declared.area.Area.{Area}
 use Rattle.tree.specs.Areas.{tree_in}
 use Rattle.tree.proofs.Decoding.{size_pos}
 use Rattle.runs.specs.Texts.{texts}
-use Rattle.fingerprints.specs.Fingerprints.{fingerprint, Marked}
+use Rattle.fingerprints.specs.Fingerprints.{fingerprint}
 use Rattle.sums.specs.Sums.{heft}
 use Rattle.sums.specs.Summands.{heft_in, TextFits, TextIs, TextsIn}
+use Rattle.equivalence.specs.Words.{Canon}
 use Rattle.sums.proofs.Describing.{heft_count}
+
+-- the words of v from base to r have the canonical text of t, and the word at k is its fingerprint
+pub record Marked (s w v : List ℕ) (t : Tree) (base r k : ℕ) : Type 0 where
+  pub area : List ℕ
+  pub canon : Canon s w area t base r
+  pub is : v ≡ set area k (fingerprint (canonical t))
 
 -- text p is written: the first n words are for fingerprints, and its words end at most at lim
 pub record Written (s v y : List ℕ) (n p lim : ℕ) (t : Tree) : Type 0 where

@@ -14,7 +14,7 @@ use Rattle.text.specs.Sorting.{Wrote}
 use Rattle.tree.specs.declared.area.Area.{Area}
 use Rattle.tree.specs.Areas.{tree_in, Lent}
 use Rattle.tree.proofs.Parting.{Parted, joined_below, joined_outside}
-use Rattle.equivalence.proofs.Scratch.{wrote_append}
+use Rattle.flattening.proofs.WriterSteps.{wrote_append}
 use Rattle.sums.specs.Sums.{remaining}
 use Rattle.sums.specs.Areas.{remaining_in, CancelsIn, Prepared}
 use Rattle.sums.specs.Summands.{every_cancels, test_of, trees_of, heft_in, AreCells, CollectsCells, StrikesCells}
@@ -61,8 +61,8 @@ module _ {a : Area} {w v : List ℕ} {mid : ℕ} (i j : ℕ) (room : 17 * (size 
     pub strike_room : length x + 15 * heft_in a x + 2 ≤ length y
     strike_room = omega (arith, both_heft, f, g.ends, h.ends, first_count, second_count, ap length e, length-append x y, h.wrote.len, g.wrote.len, room)
 
-    pub cancels : {c : Cancelling} {x₁ : List ℕ} (y₁ : List ℕ) → StrikesCells a x x₁ mid c → CancelsIn a (x₁ ++ y₁) mid end (size (tree_in a i) + size (tree_in a j)) (tree_in a i) (tree_in a j) c
-    cancels {c} {x₁} y₁ s =
+    pub cancels : {c : Cancelling} {x₁ z : List ℕ} (y₁ : List ℕ) → StrikesCells a x x₁ mid c → z ≡ x₁ ++ y₁ → CancelsIn a z mid end (size (tree_in a i) + size (tree_in a j)) (tree_in a i) (tree_in a j) c
+    cancels {c} {x₁} y₁ s o =
         let len = s.struck.len in
         let n = length g.cells in
         let z : length g.cells ≡ mid = omega (arith, g.ends) in
@@ -70,7 +70,7 @@ module _ {a : Area} {w v : List ℕ} {mid : ℕ} (i j : ℕ) (room : 17 * (size 
         let rights : drop mid x ≡ h.cells = rw (cells_are, ← z) (drop-append_seam g.cells h.cells) in
         let lefts₁ : take mid x₁ ≡ take mid (x₁ ++ y₁) = sym (take-append-le mid x₁ y₁ (omega (arith, f, h.ends))) in
         let rights₁ : drop mid x₁ ≡ slice mid end (x₁ ++ y₁) = ap (drop mid) (sym (take-append_seam x₁ y₁) ∙ ap (λ (k : ℕ). take k (x₁ ++ y₁)) (len ∙ f)) in
-        record {
+        rw o record {
           high = omega (arith, h.ends);
           bound = omega (arith, g.ends, h.ends, first_count, second_count);
           cells = λ q l. rw (get_or-append x₁ y₁ 0 q (omega (arith, f, len))) (struck_below s.struck q a.free (strike_cells.0 q (omega (arith, f))).1);

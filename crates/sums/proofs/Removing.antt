@@ -1,18 +1,21 @@
 -- The search for a partner among cells, and the cells that are struck out one after another.
-use Prim.Native.Nat.{ℕ, suc, ◌+◌, ◌-◌, ◌<◌, ◌≤◌}
-use mathlib.Core.Path.{◌≡◌, refl, sym, ap, ap₂, ◌∙◌}
+use Prim.Native.Nat.{ℕ, zero, suc, ◌+◌, ◌-◌, ◌<◌, ◌≤◌}
+use mathlib.Core.Path.{◌≡◌, refl, sym, ap, ap₂, subst, ◌∙◌}
 use mathlib.Core.Bool.{Bool, true, false, not, ◌&&◌, ◌||◌}
-use mathlib.Core.Logic.{inl, inr, ⊎_elim}
+use mathlib.Core.Logic.{inl, inr, ⊎_elim, ◌⊎◌}
 use mathlib.Core.List.{List, [], ◌∷◌, ◌++◌, append-nil, append_assoc}
 use Rattle.std.specs.Prelude.{Option, Some, None}
 use lib.Dec.{eqb}
 use lib.ListN.{length, get_or, set, take, drop, length-set, length-append, get_or-append, drop_of_length-le}
 use lib.Seq.{drop-cons, drop-drop, drop-set-lt, take-suc, take-length, take-append_seam, drop-append_seam, get_or-drop, get_or-set_same, get_or-set_other}
 use native.Mathlib.Omega.{arith}
-use native.Mathlib.Decide.{dec_lt}
+use native.Mathlib.Decide.{dec_lt, ℕ_discrete}
 use native.Mathlib.Numerals.{add-one}
 use borrow.Author.Tests.{eq-eqb, ne_eqb}
-use Rattle.std.proofs.lemmas.List.{take-set, get_or-append_right}
+use Rattle.std.proofs.lemmas.List.{take-set, get_or-append_right, get_or_default}
+use Rattle.std.specs.List.{enumerate_from, AllWithin, HoldsAt}
+use Rattle.std.specs.Option.{MatchOption}
+use Rattle.std.proofs.lemmas.List.FromFn.{length-enumerate_from, get_or-enumerate_from}
 use Rattle.rules.specs.Tree.{Tree, ground}
 use Rattle.rules.specs.Sums.{equivalent}
 use Rattle.rules.specs.Solving.{remove_at, remove, cancel_at, cancel}
@@ -20,7 +23,7 @@ use Rattle.tree.specs.declared.area.Area.{Area}
 use Rattle.tree.specs.Areas.{tree_in}
 use Rattle.sums.specs.Sums.{remaining, index, ahead}
 use Rattle.sums.specs.declared.striking.Cancelling.{Cancelling}
-use Rattle.sums.specs.Summands.{every_cancels, test_of, trees_of, AreCells, TextsIn, Struck, StrikesOne, Strikes, StrikesCells}
+use Rattle.sums.specs.Summands.{every_cancels, test_of, trees_of, AreCells, TextIs, TextsIn, FindsPartner, Struck, StrikesOne, Strikes, StrikesCells}
 use Rattle.sums.proofs.Summanding.{remaining_some, remaining_zero, remaining_append}
 use Rattle.sums.proofs.Cancelling.{index_skip, index_hit, remove_found, remove_none, remove_never}
 
@@ -68,6 +71,50 @@ module _ (a : Area) (t : Tree) where
           let z : index (equivalent t) a.sheet.now a.work.now cs ≡ k = omega (arith, h.place) in
           (few, remove_found equivalent t a.sheet.now a.work.now cs (omega arith) ∙ ap (λ (k : ℕ). Some (trees_of a (set cs k 0))) z)
 
+-- an item and its place
+pub item_place : (cs : List ℕ) (k i x : ℕ) → k < length (enumerate_from 0 cs) → ◌≡◌ {A = ℕ × ℕ} (i, x) (get_or (enumerate_from 0 cs) k (i, x)) → (i < length cs) × (get_or cs i 0 ≡ x)
+item_place cs k i x l e =
+    let n : k < length cs = omega (arith, length-enumerate_from 0 cs) in
+    let f : ◌≡◌ {A = ℕ × ℕ} (i, x) (0 + k, get_or cs k x) = e ∙ get_or-enumerate_from 0 cs k (i, x) n in
+    let z : i ≡ 0 + k = ap (λ (p : ℕ × ℕ). p.0) f in
+    let g : i ≡ k = omega arith in
+    let h : x ≡ get_or cs k x = ap (λ (p : ℕ × ℕ). p.1) f in
+    (omega arith, ap (λ (j : ℕ). get_or cs j 0) g ∙ get_or_default cs k 0 x n ∙ sym h)
+
+item_at : (cs : List ℕ) (k : ℕ) → k < length cs → ◌≡◌ {A = ℕ × ℕ} (get_or (enumerate_from 0 cs) k (0, 0)) (k, get_or cs k 0)
+item_at cs k l = let z : 0 + k ≡ k = omega arith in get_or-enumerate_from 0 cs k (0, 0) l ∙ ap (λ (j : ℕ). (j, get_or cs k 0)) z
+
+-- what the search tells of an item: whether its tree is the partner, by the texts of the trees
+module _ (s starts words : List ℕ) (p n : ℕ) where
+  abbrev pub Told : Bool → ℕ × ℕ → Type 0
+  Told b y = (t u : Tree) → TextIs s starts words p t → TextIs s starts words (n + y.0) u → equivalent t u ≡ b
+
+  abbrev pub Partner : ℕ × ℕ → Type 0
+  Partner y = (y.1 ≡ 0 → ⊥) × Told true y
+
+  abbrev pub Other : ℕ × ℕ → Type 0
+  Other y = (y.1 ≡ 0 → ⊥) → Told false y
+
+module _ {starts words : List ℕ} (a : Area) (t : Tree) (p : ℕ) (cs : List ℕ) (n : ℕ) (x : TextIs a.sheet.now starts words p t) (h : TextsIn a cs n starts words) where
+  others : (m : ℕ) → AllWithin (Other a.sheet.now starts words p n) (enumerate_from 0 cs) 0 m → m ≤ length cs → (k : ℕ) → k ≤ m → Finding a t cs k
+  others m o l zero r = finding_starts a t cs
+  others m o l (suc k) r =
+      let f = others m o l k (omega arith) in
+      let q : k < length cs = omega arith in
+      rw (← add-one k) (elim (ℕ_discrete (get_or cs k 0) 0) [
+        | yes z ↦ finding_zero a t f q z
+        | no z ↦ finding_other a t f q z (subst (Other a.sheet.now starts words p n) (item_at cs k q) (o k (0, 0) (omega arith) (omega arith)) z t (tree_in a (get_or cs k 0)) x (h k q (omega arith)).1)
+      ])
+
+  pub finds_partner : (r : Option ℕ) → MatchOption r (AllWithin (Other a.sheet.now starts words p n) (enumerate_from 0 cs) 0 (length (enumerate_from 0 cs))) (λ k. (k < length (enumerate_from 0 cs)) × HoldsAt (Partner a.sheet.now starts words p n) (enumerate_from 0 cs) k × AllWithin (Other a.sheet.now starts words p n) (enumerate_from 0 cs) 0 k)
+      → FindsPartner a t cs r
+  finds_partner None o = let e = length-enumerate_from 0 cs in finding_ends a t (others (length (enumerate_from 0 cs)) o (omega arith) (length cs) (omega arith)) (omega arith)
+  finds_partner (Some k) o =
+      let e = length-enumerate_from 0 cs in
+      let q : k < length cs = omega (arith, o.0) in
+      let y = subst (Partner a.sheet.now starts words p n) (item_at cs k q) (o.1 (0, 0)) in
+      finding_finds a t (others k o.2 (omega arith) k (omega arith)) q y.0 (y.1 t (tree_in a (get_or cs k 0)) x (h k q (let z = y.0 in omega arith)).1)
+
 -- tests that agree remove the same
 remove_same : (f g : Tree → Tree → Bool) (t : Tree) → ((u : Tree) → f t u ≡ g t u) → (us : List Tree) → remove f t us ≡ remove g t us
 unfolding remove
@@ -79,15 +126,12 @@ remove_same f g t h (u ∷ us) = ap₂ (λ (b : Bool) (r : Option (List Tree)). 
 pub struck_same : (w : List ℕ) → Struck w w
 struck_same w = record { len = refl; word = λ q. inl refl }
 
-pub struck_set : (w : List ℕ) (k : ℕ) → k < length w → Struck w (set w k 0)
-struck_set w k r = record {
-  len = length-set w k 0;
-  word = λ q. elim (dec_lt q k) [
-    | yes x ↦ inl (get_or-set_other w k q 0 0 (λ z. omega arith))
-    | no x ↦ elim (dec_lt k q) [
-      | yes y ↦ inl (get_or-set_other w k q 0 0 (λ z. omega arith))
-      | no y ↦ (let z : q ≡ k = omega arith in inr (ap (λ (q : ℕ). get_or (set w k 0) q 0) z ∙ get_or-set_same w k 0 0 r))
-    ]
+pub struck_put : (w : List ℕ) (k x : ℕ) → k < length w → (x ≡ get_or w k 0) ⊎ (x ≡ 0) → Struck w (set w k x)
+struck_put w k x r h = record {
+  len = length-set w k x;
+  word = λ q. elim (ℕ_discrete q k) [
+    | yes z ↦ rw (z, get_or-set_same w k x 0 r) h
+    | no z ↦ inl (get_or-set_other w k q x 0 z)
   ];
 }
 
@@ -127,56 +171,41 @@ strikes_cells {a} {l} {r} {m} {s} {c} w mid e f h =
 
 -- ---- one left cell
 
-module _ (a : Area) (l r : List ℕ) (p : ℕ) (c : Cancelling) (few : p < length l) (some_cell : 0 < get_or l p 0) where
-  abbrev t : Tree
-  t = tree_in a (get_or l p 0)
-
-  abbrev ts : List Tree
-  ts = trees_of a (drop (p + 1) l)
-
-  lefts : trees_of a (drop p l) ≡ tree_in a (get_or l p 0) ∷ trees_of a (drop (p + 1) l)
-  lefts = rw (add-one p, drop-cons l p 0 few) (remaining_some a.sheet.now a.work.now (get_or l p 0) (drop (suc p) l) some_cell)
-
-  step : (o : Option (List Tree)) → remove (test_of c) (tree_in a (get_or l p 0)) (trees_of a r) ≡ o
-      → cancel (test_of c) (trees_of a (drop p l)) (trees_of a r) ≡ cancel_at o (tree_in a (get_or l p 0)) (λ vs. cancel (test_of c) ts vs) (trees_of a r)
+module _ (a : Area) (i : ℕ) (r : List ℕ) (c : Cancelling) (some_cell : 0 < i) where
+  step : (o : Option (List Tree)) → remove (test_of c) (tree_in a i) (trees_of a r) ≡ o → (ts : List Tree)
+      → cancel (test_of c) (tree_in a i ∷ ts) (trees_of a r) ≡ cancel_at o (tree_in a i) (λ vs. cancel (test_of c) ts vs) (trees_of a r)
   unfolding cancel
-  step o e = ap (λ (us : List Tree). cancel (test_of c) us (trees_of a r)) lefts ∙ ap (λ (o : Option (List Tree)). cancel_at o (tree_in a (get_or l p 0)) (λ vs. cancel (test_of c) ts vs) (trees_of a r)) e
+  step o e ts = ap (λ (o : Option (List Tree)). cancel_at o (tree_in a i) (λ vs. cancel (test_of c) ts vs) (trees_of a r)) e
 
-  kept_one : trees_of a (get_or l p 0 ∷ []) ≡ tree_in a (get_or l p 0) ∷ []
+  kept_one : trees_of a (i ∷ []) ≡ tree_in a i ∷ []
   unfolding remaining
-  kept_one = remaining_some a.sheet.now a.work.now (get_or l p 0) [] some_cell
+  kept_one = remaining_some a.sheet.now a.work.now i [] some_cell
 
-  stays : remove (test_of c) (tree_in a (get_or l p 0)) (trees_of a r) ≡ None → StrikesOne a l r l r p c
+  stays : remove (test_of c) (tree_in a i) (trees_of a r) ≡ None → StrikesOne a i r i r c
   stays e = record {
-    lefts = struck_same l;
+    left = inl refl;
     rights = struck_same r;
-    front = refl;
-    back = refl;
-    are = step None e ∙ ap (λ (us : List Tree). ahead us (cancel (test_of c) ts (trees_of a r))) (sym kept_one);
+    are = λ ts. step None e ts ∙ ap (λ (us : List Tree). ahead us (cancel (test_of c) ts (trees_of a r))) (sym kept_one);
   }
 
-  pub strikes_never : false ≡ every_cancels c || ground (tree_in a (get_or l p 0)) → StrikesOne a l r l r p c
-  strikes_never e = stays (remove_never (test_of c) (tree_in a (get_or l p 0)) (λ u. ap (λ (x : Bool). x && equivalent (tree_in a (get_or l p 0)) u) (sym e)) (trees_of a r))
+  pub strikes_never : false ≡ every_cancels c || ground (tree_in a i) → StrikesOne a i r i r c
+  strikes_never e = stays (remove_never (test_of c) (tree_in a i) (λ u. ap (λ (x : Bool). x && equivalent (tree_in a i) u) (sym e)) (trees_of a r))
 
-  module _ (e : true ≡ every_cancels c || ground (tree_in a (get_or l p 0))) where
-    by_test : remove (test_of c) (tree_in a (get_or l p 0)) (trees_of a r) ≡ remove equivalent (tree_in a (get_or l p 0)) (trees_of a r)
-    by_test = remove_same (test_of c) equivalent (tree_in a (get_or l p 0)) (λ u. ap (λ (x : Bool). x && equivalent (tree_in a (get_or l p 0)) u) (sym e)) (trees_of a r)
+  module _ (e : true ≡ every_cancels c || ground (tree_in a i)) where
+    by_test : remove (test_of c) (tree_in a i) (trees_of a r) ≡ remove equivalent (tree_in a i) (trees_of a r)
+    by_test = remove_same (test_of c) equivalent (tree_in a i) (λ u. ap (λ (x : Bool). x && equivalent (tree_in a i) u) (sym e)) (trees_of a r)
 
-    pub strikes_none : remove equivalent (tree_in a (get_or l p 0)) (trees_of a r) ≡ None → StrikesOne a l r l r p c
+    pub strikes_none : remove equivalent (tree_in a i) (trees_of a r) ≡ None → StrikesOne a i r i r c
     strikes_none n = stays (by_test ∙ n)
 
-    pub strikes_both : {k : ℕ} → (k < length r) × (remove equivalent (tree_in a (get_or l p 0)) (trees_of a r) ≡ Some (trees_of a (set r k 0))) → StrikesOne a l r (set l p 0) (set r k 0) p c
+    pub strikes_both : {k : ℕ} → (k < length r) × (remove equivalent (tree_in a i) (trees_of a r) ≡ Some (trees_of a (set r k 0))) → StrikesOne a i r 0 (set r k 0) c
     unfolding remaining
-    strikes_both {k} n =
-        let gone : get_or (set l p 0) p 0 ≡ 0 = get_or-set_same l p 0 0 few in
-        record {
-          lefts = struck_set l p few;
-          rights = struck_set r k n.0;
-          front = take-set l p 0;
-          back = drop-set-lt (p + 1) l p 0 (omega arith);
-          are = step (Some (trees_of a (set r k 0))) (by_test ∙ n.1)
-              ∙ ap (λ (us : List Tree). ahead us (cancel (test_of c) ts (trees_of a (set r k 0)))) (sym (remaining_zero a.sheet.now a.work.now (get_or (set l p 0) p 0) [] gone));
-        }
+    strikes_both {k} n = record {
+      left = inr refl;
+      rights = struck_put r k 0 n.0 (inr refl);
+      are = λ ts. step (Some (trees_of a (set r k 0))) (by_test ∙ n.1) ts
+          ∙ ap (λ (us : List Tree). ahead us (cancel (test_of c) ts (trees_of a (set r k 0)))) (sym (remaining_zero a.sheet.now a.work.now 0 [] refl));
+    }
 
 -- ---- each left cell
 
@@ -216,20 +245,26 @@ module _ {a : Area} {l r m s : List ℕ} {c : Cancelling} {p : ℕ} (h : Strikin
       let j = k p q in
       (omega arith, omega arith)
 
-  pub striking_next : {m₁ s₁ : List ℕ} → p < length l → StrikesOne a m s m₁ s₁ p c → Striking a l r m₁ s₁ c (p + 1)
-  striking_next {m₁} {s₁} q g =
+  pub striking_next : {j : ℕ} {s₁ : List ℕ} → p < length l → 0 < get_or m p 0 → StrikesOne a (get_or m p 0) s j s₁ c → Striking a l r (set m p j) s₁ c (p + 1)
+  striking_next {j} {s₁} q k g =
       let n = h.lefts.len in
-      let o = g.lefts.len in
+      let f : p < length m = omega arith in
+      let m₁ = set m p j in
+      let struck = struck_put m p j f g.left in
+      let o = struck.len in
+      let back : drop (p + 1) m₁ ≡ drop (p + 1) m = drop-set-lt (p + 1) m p j (omega arith) in
       let rest = cancel (test_of c) (trees_of a (drop (p + 1) m)) (trees_of a s₁) in
-      let rest₁ = cancel (test_of c) (trees_of a (drop (p + 1) m₁)) (trees_of a s₁) in
-      let fronts : take (p + 1) m₁ ≡ take p m ++ (get_or m₁ p 0 ∷ []) = rw (add-one p) (take-suc m₁ p 0 (omega arith) ∙ ap (λ (ds : List ℕ). ds ++ (get_or m₁ p 0 ∷ [])) g.front) in
+      let front : trees_of a (drop p m) ≡ tree_in a (get_or m p 0) ∷ trees_of a (drop (p + 1) m) = rw (add-one p, drop-cons m p 0 f) (remaining_some a.sheet.now a.work.now (get_or m p 0) (drop (suc p) m) k) in
+      let are : cancel (test_of c) (trees_of a (drop p m)) (trees_of a s) ≡ ahead (trees_of a (get_or m₁ p 0 ∷ [])) rest =
+      ap (λ (us : List Tree). cancel (test_of c) us (trees_of a s)) front ∙ g.are (trees_of a (drop (p + 1) m)) ∙ ap (λ (x : ℕ). ahead (trees_of a (x ∷ [])) rest) (sym (get_or-set_same m p j 0 f)) in
+      let fronts : take (p + 1) m₁ ≡ take p m ++ (get_or m₁ p 0 ∷ []) = rw (add-one p) (take-suc m₁ p 0 (omega arith) ∙ ap (λ (ds : List ℕ). ds ++ (get_or m₁ p 0 ∷ [])) (take-set m p j)) in
       record {
         high = omega arith;
-        lefts = struck_then h.lefts g.lefts;
+        lefts = struck_then h.lefts struck;
         rights = struck_then h.rights g.rights;
-        back = g.back ∙ sym (drop-drop 1 p m) ∙ ap (drop 1) h.back ∙ drop-drop 1 p l;
-        are = h.are ∙ ap (ahead (trees_of a (take p m))) g.are
+        back = back ∙ sym (drop-drop 1 p m) ∙ ap (drop 1) h.back ∙ drop-drop 1 p l;
+        are = h.are ∙ ap (ahead (trees_of a (take p m))) are
             ∙ ap (λ (ts : List Tree). (ts, rest.1)) (sym (append_assoc (trees_of a (take p m)) (trees_of a (get_or m₁ p 0 ∷ [])) rest.0)
             ∙ ap (λ (ts : List Tree). ts ++ rest.0) (sym (ap (trees_of a) fronts ∙ remaining_append a.sheet.now a.work.now (take p m) (get_or m₁ p 0 ∷ []))))
-            ∙ ap (λ (ds : List ℕ). ahead (trees_of a (take (p + 1) m₁)) (cancel (test_of c) (trees_of a ds) (trees_of a s₁))) (sym g.back);
+            ∙ ap (λ (ds : List ℕ). ahead (trees_of a (take (p + 1) m₁)) (cancel (test_of c) (trees_of a ds) (trees_of a s₁))) (sym back);
       }

@@ -13,11 +13,11 @@ use Rattle.rules.specs.Sums.{rebuild}
 use Rattle.text.proofs.Slices.{slice_join, slice_none}
 use Rattle.tree.specs.declared.area.Area.{Area}
 use Rattle.tree.specs.declared.kinds.Kind.TheVariants.{Application}
-use Rattle.tree.specs.Areas.{cell_kind, name_in, next_in, tree_in, trees_in, Pushes}
+use Rattle.tree.specs.Areas.{cell_kind, name_in, next_in, tree_in, trees_in, CellIn, sum_in, Pushes}
 use Rattle.tree.proofs.Keeping.{grows_push, grows_kind, grows_name, grows_tree, adds_same, adds_then, adds_grows, adds_push, pushed_some, pushed_inside, pushed_tree, pushed_trees}
 use Rattle.tree.proofs.Lists.{list_none, list_more}
 use Rattle.sums.specs.Sums.{remaining, heavy}
-use Rattle.sums.specs.Areas.{sum_in, remaining_in, AddsSum, SumAt, Summed}
+use Rattle.sums.specs.Areas.{remaining_in, AddsSum, SumAt, Summed}
 use Rattle.sums.proofs.Summanding.{remaining_some, remaining_zero, remaining_append}
 use Rattle.sums.proofs.Rebuilding.{remaining_length, heavy_append, rebuild_size}
 use Rattle.sums.proofs.InAreas.{sum_cell, sum_kind}
@@ -29,8 +29,8 @@ pushed_next {b = b} h = ap (next_in b) h.cell ∙ h.linked.link
 -- ---- a sum of two cells
 
 module _ {a x : Area} {like r first : ℕ} (l : ℕ) (pl : 0 < like) (ql : like < a.free) (e : sum_in (tree_in a like) ≡ true) (pr : 0 < r) (qr : r < a.free) (n : next_in a r ≡ 0) (h : Pushes a x first r (tree_in a l)) where
-  pub like_kept : (0 < like) × (like < x.free) × (cell_kind x like ≡ Application)
-  like_kept = (pl, omega (arith, h.end), grows_kind (grows_push h) like ql ∙ sum_kind a like e)
+  pub like_kept : CellIn x like × (cell_kind x like ≡ Application)
+  like_kept = ((pl, omega (arith, h.end)), grows_kind (grows_push h) like ql ∙ sum_kind a like e)
 
   pub two_are : trees_in x first ≡ more (tree_in a l) (more (tree_in a r) none)
   two_are = pushed_trees h ∙ ap (more (tree_in a l)) (list_more a r pr qr refl ∙ ap (more (tree_in a r)) (list_none a (next_in a r) n))
@@ -68,8 +68,8 @@ module _ {a b : Area} {at end k : ℕ} {o : Option ℕ} (h : Summing a b at end 
   summing_ends q = let z : k ≡ at = omega (arith, h.low) in rw z at h.summed
 
   -- the cell like is kept
-  pub like_stays : {like : ℕ} → 0 < like → like < a.free → sum_in (tree_in a like) ≡ true → (0 < like) × (like < b.free) × (sum_in (tree_in b like) ≡ true)
-  like_stays {like} p q e = (p, omega (arith, h.summed.adds.grew), ap sum_in (grows_tree (adds_grows h.summed.adds) like q p) ∙ e)
+  pub like_stays : {like : ℕ} → 0 < like → like < a.free → sum_in (tree_in a like) ≡ true → CellIn b like × (sum_in (tree_in b like) ≡ true)
+  like_stays {like} p q e = ((p, omega (arith, h.summed.adds.grew)), ap sum_in (grows_tree (adds_grows h.summed.adds) like q p) ∙ e)
 
   module _ (q : at < k) (r : end ≤ length a.work.now) (room : 4 * (a.free + 2 * (end - at)) ≤ at) where
     pub top : b.free ≤ a.free + 2 * (end - k)

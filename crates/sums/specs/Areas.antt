@@ -1,8 +1,7 @@
 -- Sums in an area: which trees are sums, their summands in the words above the cells, and the sum of what is left. Definitions only.
-use Rattle.std.specs.Prelude.{ℕ, ◌+◌, ◌*◌, ◌<◌, ◌≤◌, ◌≡◌, Bool, false, List, [], ◌∷◌, Option, Some, None, length, get_or, take}
+use Rattle.std.specs.Prelude.{ℕ, ◌+◌, ◌*◌, ◌<◌, ◌≤◌, ◌≡◌, Bool, List, [], ◌∷◌, Option, Some, None, length, get_or, take}
 use Rattle.std.proofs.Math.Seq.{slice}
-use Rattle.rules.specs.Bytes.{same}
-use Rattle.rules.specs.Tree.{Tree, variable, atom, apply, tamtplus}
+use Rattle.rules.specs.Tree.{Tree}
 use Rattle.rules.specs.Sums.{summands, rebuild}
 use Rattle.rules.specs.Solving.{cancel}
 use Rattle.tree.specs.declared.area.Area.{Area}
@@ -12,11 +11,6 @@ use Rattle.sums.specs.Sums.{remaining, test}
 use Rattle.sums.specs.Summands.{test_of, trees_of}
 use Rattle.sums.specs.declared.striking.Cancelling.{Cancelling}
 use Rattle.sums.specs.declared.Summands.{Summands}
-
-abbrev pub sum_in : Tree → Bool
-sum_in (variable x) = false
-sum_in (atom c d) = false
-sum_in (apply f ts) = same f tamtplus
 
 -- the trees of the cells in the words from one position to another, but 0
 abbrev pub remaining_in : Area → ℕ → ℕ → List Tree

@@ -7,6 +7,7 @@ use Rattle.rules.specs.Solving.{remove, cancel}
 use Rattle.tree.specs.declared.area.Area.{Area}
 use Rattle.tree.specs.Areas.{tree_in}
 use Rattle.text.specs.Sorting.{Wrote}
+use Rattle.flattening.specs.declared.writer.Writer.{Writer}
 use Rattle.runs.specs.Texts.{texts, Tokens}
 use Rattle.fingerprints.specs.Fingerprints.{fingerprint}
 use Rattle.sums.specs.Sums.{remaining, heft, test, ahead}
@@ -41,6 +42,11 @@ pub record CollectsCells (a : Area) (w v : List ℕ) (at end n : ℕ) (ts : List
   pub light : heft_in a cells ≤ n
   pub trees : trees_of a cells ≡ ts
 
+-- y is x with them
+pub record CellsWritten (a : Area) (x y : Writer) (n : ℕ) (ts : List Tree) : Type 0 where
+  pub lent : y.words.ghost_name ≡ x.words.ghost_name
+  pub collected : CollectsCells a x.words.now y.words.now x.end y.end n ts
+
 -- the words of text q are those from its start to the next
 pub record TextFits (s starts words : List ℕ) (q : ℕ) : Type 0 where
   pub started : q + 1 < length starts
@@ -58,23 +64,21 @@ pub record TextIs (s starts words : List ℕ) (q : ℕ) (t : Tree) : Type 0 wher
 abbrev pub TextsIn : Area → List ℕ → ℕ → List ℕ → List ℕ → Type 0
 TextsIn a cs k starts words = (q : ℕ) → q < length cs → 0 < get_or cs q 0 → TextFits a.sheet.now starts words (k + q) × TextIs a.sheet.now starts words (k + q) (tree_in a (get_or cs q 0))
 
--- the first of the cells whose tree is equal to that of cell c, if there is one
-abbrev pub FindsPartner : Area → ℕ → List ℕ → Option ℕ → Type 0
-FindsPartner a c cs (Some k) = (k < length cs) × (remove equivalent (tree_in a c) (trees_of a cs) ≡ Some (trees_of a (set cs k 0)))
-FindsPartner a c cs None = remove equivalent (tree_in a c) (trees_of a cs) ≡ None
+-- the first of the cells whose tree is equal to t, if there is one
+abbrev pub FindsPartner : Area → Tree → List ℕ → Option ℕ → Type 0
+FindsPartner a t cs (Some k) = (k < length cs) × (remove equivalent t (trees_of a cs) ≡ Some (trees_of a (set cs k 0)))
+FindsPartner a t cs None = remove equivalent t (trees_of a cs) ≡ None
 
 -- v is w with some cells struck out
 pub record Struck (w v : List ℕ) : Type 0 where
   pub len : length v ≡ length w
   pub word : (q : ℕ) → (get_or v q 0 ≡ get_or w q 0) ⊎ (get_or v q 0 ≡ 0)
 
--- of the left cells l and the right ones r the left cell p and its partner are struck out, if it has one that cancels
-pub record StrikesOne (a : Area) (l r m s : List ℕ) (p : ℕ) (c : Cancelling) : Type 0 where
-  pub lefts : Struck l m
-  pub front : take p m ≡ take p l
-  pub back : drop (p + 1) m ≡ drop (p + 1) l
+-- the left cell i and its partner of the right cells r are struck out, if it has one that cancels
+pub record StrikesOne (a : Area) (i : ℕ) (r : List ℕ) (j : ℕ) (s : List ℕ) (c : Cancelling) : Type 0 where
+  pub left : (j ≡ i) ⊎ (j ≡ 0)
   pub rights : Struck r s
-  pub are : cancel (test_of c) (trees_of a (drop p l)) (trees_of a r) ≡ ahead (trees_of a (get_or m p 0 ∷ [])) (cancel (test_of c) (trees_of a (drop (p + 1) l)) (trees_of a s))
+  pub are : (ts : List Tree) → cancel (test_of c) (tree_in a i ∷ ts) (trees_of a r) ≡ ahead (trees_of a (j ∷ [])) (cancel (test_of c) ts (trees_of a s))
 
 -- the left cells l and the right ones r are cancelled
 pub record Strikes (a : Area) (l r m s : List ℕ) (c : Cancelling) : Type 0 where

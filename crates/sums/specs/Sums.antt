@@ -1,6 +1,5 @@
 -- The cells of summands in the work area, and the runs of their canonical words. Definitions only.
-use Rattle.std.specs.Prelude.{ℕ, suc, ◌+◌, ◌*◌, ◌<◌, ◌≤◌, ◌≡◌, Bool, cond, not, ◌&&◌, ◌||◌, ◌⊎◌, List, [], ◌∷◌, ◌++◌, eqb, length, get_or}
-use Rattle.std.proofs.Math.Seq.{slice}
+use Rattle.std.specs.Prelude.{ℕ, suc, ◌+◌, Bool, cond, not, ◌&&◌, ◌||◌, List, [], ◌∷◌, ◌++◌, eqb}
 use Rattle.rules.specs.Tree.{Tree, size, ground}
 use Rattle.rules.specs.Sums.{equivalent}
 use Rattle.tree.specs.Cells.{tree_at}

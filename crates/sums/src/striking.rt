@@ -1,15 +1,15 @@
 // The cells of two sums whose trees cancel are struck out: they become 0.
-ghost use Rattle.std.specs.Prelude.{◌≡◌, ◌||◌, ◌+◌, ◌*◌, ◌<◌, ◌≤◌, length, get_or};
+ghost use Rattle.std.specs.Prelude.{◌≡◌, ◌||◌, ◌+◌, ◌*◌, ◌<◌, ◌≤◌, length};
 ghost use Rattle.rules.specs.Tree.{ground};
-ghost use Rattle.tree.specs.Areas.{tree_in};
-ghost use Rattle.sums.specs.Summands.{AreCells, heft_in, TextsIn, every_cancels, StrikesOne, Strikes, StrikesCells};
+ghost use Rattle.tree.specs.Areas.{tree_in, CellIn};
+ghost use Rattle.sums.specs.Summands.{AreCells, heft_in, TextsIn, TextFits, TextIs, every_cancels, StrikesOne, Strikes, StrikesCells};
 
 use crate::texts::{Texts, describe, find};
 use substitution::ground::ground;
-use text::places::wide;
 use tree::area::Area;
 
-// Which summands of the left sum cancel: every one, or those without variables.
+// Which summands of the left sum cancel: every one, as in `unify`, or those without variables, as in `match`. All else of sums is the same
+// for both.
 #[derive(Clone, Copy, Debug, PartialEq, Eq)]
 pub enum Cancelling {
     Every,
@@ -19,7 +19,7 @@ pub enum Cancelling {
 impl Cancelling {
     // Whether the tree of cell i may cancel.
     fn admits(self, area: &Area, i: usize) -> bool
-        requires { (0 < i) × (i < area.now.free) }
+        requires { CellIn area.now i }
         ensures { result ≡ every_cancels self || ground (tree_in area.now i) }
     {
         match self {
@@ -29,22 +29,25 @@ impl Cancelling {
     }
 }
 
-// Strikes out the left cell p and the first right cell whose tree is equal to its own, if it may cancel and there is one.
+// Strikes out the left cell of text p and the first right cell whose tree is equal to its own, if it may cancel and there is one. The texts
+// of the right cells are those from `first` on.
 fn strike_one(
     area: &Area,
     texts: Texts,
-    lefts: &mut [u32],
+    left: &mut u32,
     p: usize,
     rights: &mut [u32],
+    first: usize,
     cancelling: Cancelling,
 )
-    requires cell { (p < length lefts.old) × (0 < get_or lefts.old p 0) × (get_or lefts.old p 0 < area.now.free) }
-    requires texts { TextsIn area.now lefts.old 0 texts.starts.now texts.words.now × TextsIn area.now rights.old (length lefts.old) texts.starts.now texts.words.now }
-    ensures { StrikesOne area.now lefts.old rights.old lefts.new rights.new p cancelling }
+    requires cell { CellIn area.now left.old }
+    requires text { TextFits area.now.sheet.now texts.starts.now texts.words.now p × TextIs area.now.sheet.now texts.starts.now texts.words.now p (tree_in area.now left.old) }
+    requires texts { TextsIn area.now rights.old first texts.starts.now texts.words.now }
+    ensures { StrikesOne area.now left.old rights.old left.new rights.new cancelling }
 {
-    if cancelling.admits(area, wide(lefts[p])) {
-        if let Some(k) = find(area, texts, lefts, p, rights) {
-            lefts[p] = 0;
+    if cancelling.admits(area, *left as usize) {
+        if let Some(k) = find(area, texts, p, rights, first) {
+            *left = 0;
             rights[k] = 0;
         }
     }
@@ -62,12 +65,14 @@ fn strike_each(
     requires texts { TextsIn area.now lefts.old 0 texts.starts.now texts.words.now × TextsIn area.now rights.old (length lefts.old) texts.starts.now texts.words.now }
     ensures { Strikes area.now lefts.old rights.old lefts.new rights.new cancelling }
 {
-    for p in 0..lefts.len() {
-        strike_one(area, texts, lefts, p, rights, cancelling);
+    let first = lefts.len();
+    for (p, left) in lefts.iter_mut().enumerate() {
+        strike_one(area, texts, left, p, rights, first, cancelling);
     }
 }
 
 // Strikes out the cells of summands that cancel: the left ones are the first mid. Sixteen words for each node, and two, are scratch.
+// The cells of both are one slice, since their texts are numbered through.
 pub(crate) fn strike(
     area: &Area,
     cells: &mut [u32],

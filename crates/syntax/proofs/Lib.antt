@@ -1,4 +1,4 @@
 pub mod Runs
 pub mod TokenEnds
 pub mod TokenList
-pub mod SymbolLaws
+pub mod Meanings

@@ -1,21 +1,19 @@
--- The next token at a position is the first of the tokens from there on.
-use mathlib.Core.Path.{◌≡◌, refl, ap, sym, ◌∙◌}
+-- The tokens from a position of a text on.
+use mathlib.Core.Path.{◌≡◌, refl, ap, ◌∙◌}
 use mathlib.Core.List.{List, [], ◌∷◌}
 use Rattle.std.specs.Prelude.{Option, Some, None}
 use mathlib.Core.Bool.{Bool, true, false, cond, ◌&&◌}
-use Prim.Native.Nat.{ℕ, zero, suc, ◌+◌, ◌-◌, ◌<◌, ◌≤◌}
+use Prim.Native.Nat.{ℕ, zero, suc, ◌+◌, ◌<◌, ◌≤◌}
 use native.Mathlib.Omega.{arith}
-use lib.ListN.{length, get_or, take, drop, drop_of_length-le, length-drop}
+use lib.ListN.{length, get_or, take, drop, length-drop}
 use lib.Dec.{eqb, ltb}
 use lib.Seq.{drop-drop}
-use borrow.Author.Tests.{ltb-true, ltb-false}
 use Rattle.rules.specs.Bytes.{Text}
 use Rattle.rules.specs.Maybe.{◌>>=◌, guard}
 use Rattle.rules.specs.Names.{digit, alphabetic, alphanumeric}
 use Rattle.rules.specs.Tokens.{run_length, sigil, mark, sort_length, variable_rest, plain_rest, rest_length, tokens_after, tokens}
 use Rattle.text.proofs.Loops.{drop_next}
-use Rattle.syntax.specs.Next.{blank, end_of, token_from, start_at, next_at}
-use Rattle.syntax.specs.declared.Next.TheVariants.{Token, End, Unsupported}
+use Rattle.syntax.specs.Next.{blank, start_at}
 use Rattle.syntax.proofs.Runs.{run_le}
 
 -- to pass over k bytes is to start after them
@@ -85,79 +83,10 @@ rest_le b s n e = go (variable_rest b s) (variable_le b s) e
     go (Some m) h f = h n f
     go None h f = plain_le b s n f
 
--- what the next token's places are
-pub record Placed (s : Text) (at from to : ℕ) : Type 0 where
-  pub past : at ≤ from
-  pub inside : from < length s
-  pub size : ℕ
-  pub ends : to ≡ from + 1 + size
-  pub is : rest_length (get_or s from 0) (drop (from + 1) s) ≡ Some size
-  pub within : to ≤ length s
-
--- the three answers, at the place j after the blanks
+-- the tokens from a position on, at the place j after the blanks
 module _ (s : Text) (at j : ℕ) (is : j ≡ start_at s at) where
-  tokens_at : tokens (drop at s) ≡ front (drop j s)
+  pub tokens_at : tokens (drop at s) ≡ front (drop j s)
   tokens_at = tokens_front (drop at s) ∙ rw (is, ← drop-drop (run_length blank (drop at s)) at s)
 
-  tokens_there : j < length s → tokens (drop at s) ≡ (rest_length (get_or s j 0) (drop (j + 1) s) >>= λ n. joined (get_or s j 0 ∷ take n (drop (j + 1) s)) (tokens_after n (drop (j + 1) s)))
+  pub tokens_there : j < length s → tokens (drop at s) ≡ (rest_length (get_or s j 0) (drop (j + 1) s) >>= λ n. joined (get_or s j 0 ∷ take n (drop (j + 1) s)) (tokens_after n (drop (j + 1) s)))
   tokens_there h = tokens_at ∙ ap front (drop_next s j h)
-
-  end_is : (t : Bool) (o : Option ℕ) → ltb j (length s) ≡ t → End ≡ cond t (token_from j (end_of (j + 1) o)) End → tokens (drop at s) ≡ Some []
-  end_is true None h e = cc
-  end_is true (Some n) h e = cc
-  end_is false o h e = tokens_at ∙ rw (drop_of_length-le s (ltb-false j (length s) h))
-
-  unsupported_is : (t : Bool) (o : Option ℕ) → ltb j (length s) ≡ t → rest_length (get_or s j 0) (drop (j + 1) s) ≡ o
-      → Unsupported ≡ cond t (token_from j (end_of (j + 1) o)) End → tokens (drop at s) ≡ None
-  unsupported_is true None h g e = tokens_there (ltb-true j (length s) h) ∙ ap (λ (o : Option ℕ). o >>= λ n. joined (get_or s j 0 ∷ take n (drop (j + 1) s)) (tokens_after n (drop (j + 1) s))) g
-  unsupported_is true (Some n) h g e = cc
-  unsupported_is false o h g e = cc
-
-  placed_is : (f t : ℕ) (b : Bool) (o : Option ℕ) → ltb j (length s) ≡ b → rest_length (get_or s j 0) (drop (j + 1) s) ≡ o
-      → Token f t ≡ cond b (token_from j (end_of (j + 1) o)) End → (f ≡ j) × Placed s at f t
-  placed_is f t true (Some n) h g e =
-      let z : f ≡ j = cc in
-      let y : t ≡ j + 1 + n = cc in
-      let l = ltb-true j (length s) h in
-      let g' : rest_length (get_or s f 0) (drop (f + 1) s) ≡ Some n = rw z g in (
-        z,
-        record {
-          past = omega arith;
-          inside = omega arith;
-          size = n;
-          ends = omega arith;
-          is = g';
-          within = omega (arith, rest_le (get_or s j 0) (drop (j + 1) s) n g, length-drop (j + 1) s);
-        },
-      )
-  placed_is f t true None h g e = cc
-  placed_is f t false o h g e = cc
-
-module _ (s : Text) (at : ℕ) where
-  pub next_end : End ≡ next_at s at → tokens (drop at s) ≡ Some []
-  unfolding next_at
-  next_end e = end_is s at (start_at s at) refl (ltb (start_at s at) (length s)) (rest_length (get_or s (start_at s at) 0) (drop (start_at s at + 1) s)) refl e
-
-  pub next_unsupported : Unsupported ≡ next_at s at → tokens (drop at s) ≡ None
-  unfolding next_at
-  next_unsupported e = unsupported_is s at (start_at s at) refl (ltb (start_at s at) (length s)) (rest_length (get_or s (start_at s at) 0) (drop (start_at s at + 1) s)) refl refl e
-
-  found : (f t : ℕ) → Token f t ≡ next_at s at → (f ≡ start_at s at) × Placed s at f t
-  unfolding next_at
-  found f t e = placed_is s at (start_at s at) refl f t (ltb (start_at s at) (length s)) (rest_length (get_or s (start_at s at) 0) (drop (start_at s at + 1) s)) refl refl e
-
-  pub placed : (f t : ℕ) → Token f t ≡ next_at s at → Placed s at f t
-  placed f t e = (found f t e).1
-
-  -- the token's bytes, and the tokens after it
-  pub next_token : (f t : ℕ) → Token f t ≡ next_at s at → tokens (drop at s) ≡ joined (take (t - f) (drop f s)) (tokens (drop t s))
-  next_token f t e =
-      let (z, p) = found f t e in
-      let n = p.size in
-      let d : t - f ≡ suc n = omega (arith, p.ends) in
-      let w : f + 1 + n ≡ t = sym p.ends in
-      let u : take (t - f) (drop f s) ≡ get_or s f 0 ∷ take n (drop (f + 1) s) = rw (d, drop_next s f p.inside) in
-      let a : tokens_after n (drop (f + 1) s) ≡ tokens (drop t s) = tokens_drop n (drop (f + 1) s) ∙ ap tokens (drop-drop n (f + 1) s ∙ ap (λ (k : ℕ). drop k s) w) in
-      tokens_there s at f z p.inside
-      ∙ ap (λ (o : Option ℕ). o >>= λ n. joined (get_or s f 0 ∷ take n (drop (f + 1) s)) (tokens_after n (drop (f + 1) s))) p.is
-      ∙ rw (u, a)

@@ -1,12 +1,14 @@
 // Tokens of a text (syntax.rs): where each starts and ends, and the symbol that it is.
+// A text and a position, not the rest of the text: names are told by their places.
 #![tactic(auto)]
+
+pub mod symbols; // symbols.rt: the next symbol of a text
 
 ghost use Rattle.std.specs.Prelude.{◌≡◌, ℕ, ◌+◌, ◌<◌, Bool, length, get_or, drop};
 ghost use Rattle.std.specs.List.{take_while};
 ghost use Rattle.rules.specs.Names.{digit, alphanumeric};
 ghost use Rattle.rules.specs.Tokens.{run_length, sigil, mark, sort_length, variable_rest, plain_rest, rest_length};
-ghost use Rattle.syntax.specs.Next.{blank, end_of, next_at};
-ghost use Rattle.syntax.specs.Symbols.{symbol_at};
+ghost use Rattle.syntax.specs.Next.{blank, end_of};
 
 // A class of bytes that a run is made of.
 pub trait Class {
@@ -16,7 +18,7 @@ pub trait Class {
         ensures { result ≡ has b };
 }
 
-struct Blank;
+pub(crate) struct Blank;
 
 pub struct Digit;
 
@@ -46,6 +48,7 @@ impl Class for Word {
     }
 }
 
+// The two classes of a single byte: each stands here and in the definitions alone.
 fn is_sigil(b: u8) -> bool
     ensures { result ≡ sigil b }
 {
@@ -76,22 +79,12 @@ pub fn run_end<C: Class>(text: &[u8], at: usize) -> usize
     }
 }
 
-// The byte at a position, and 0 past the end.
-fn byte_at(text: &[u8], at: usize) -> u8
-    ensures { result ≡ get_or text.now at 0 }
-{
-    text.get(at).copied().unwrap_or(0)
-}
-
 // Where a colon, a letter, and then letters and digits end.
-#[tactic(auto, using(crate::proofs::TokenEnds::sort_is))]
+#[tactic(auto, using(crate::proofs::TokenEnds::sort_is), unfolding(rules::specs::Names::alphabetic))]
 fn sort_end(text: &[u8], at: usize) -> Option<usize>
     ensures { result ≡ end_of at (sort_length (drop at text.now)) }
 {
-    if byte_at(text, at) != b':' {
-        return None;
-    }
-    if !text::is_alphabetic(byte_at(text, at + 1)) {
+    if *text.get(at)? != b':' || !text::is_alphabetic(*text.get(at + 1)?) {
         return None;
     }
     Some(run_end::<Word>(text, at + 2))
@@ -126,66 +119,14 @@ fn plain_end(text: &[u8], at: usize) -> Option<usize>
     if text::is_digit(b) {
         return Some(run_end::<Digit>(text, at + 1));
     }
-    if is_mark(b) {
-        return Some(at + 1);
-    }
-    None
+    is_mark(b).then_some(at + 1)
 }
 
 // Where the token ends that starts at `at`.
 #[tactic(auto, unfolding(rules::specs::Tokens::rest_length))]
-fn token_end(text: &[u8], at: usize) -> Option<usize>
+pub(crate) fn token_end(text: &[u8], at: usize) -> Option<usize>
     requires { at < length text.now }
     ensures { result ≡ end_of (at + 1) (rest_length (get_or text.now at 0) (drop (at + 1) text.now)) }
 {
     variable_end(text, at).or_else(|| plain_end(text, at))
-}
-
-// The next token of a text.
-#[derive(Clone, Copy, Debug, PartialEq, Eq)]
-pub enum Next {
-    Token { from: usize, to: usize },
-    End,
-    Unsupported,
-}
-
-#[tactic(auto, unfolding(crate::specs::Next::next_at))]
-fn next_token(text: &[u8], at: usize) -> Next
-    ensures { result ≡ next_at text.now at }
-{
-    let from = run_end::<Blank>(text, at);
-    if text.len() <= from {
-        return Next::End;
-    }
-    match token_end(text, from) {
-        Some(to) => Next::Token { from, to },
-        None => Next::Unsupported,
-    }
-}
-
-// The next symbol of a text, and where it ends; a name's start too.
-#[derive(Clone, Copy, Debug, PartialEq, Eq)]
-pub enum Symbol {
-    Begin(usize),
-    Shut(usize),
-    Comma(usize),
-    Name(usize, usize),
-    Stop,
-    Bad,
-}
-
-#[tactic(auto, unfolding(crate::specs::Symbols::symbol_at))]
-pub fn next_symbol(text: &[u8], at: usize) -> Symbol
-    ensures { result ≡ symbol_at text.now at }
-{
-    match next_token(text, at) {
-        Next::Token { from, to } => match byte_at(text, from) {
-            b'(' => Symbol::Begin(to),
-            b')' => Symbol::Shut(to),
-            b',' => Symbol::Comma(to),
-            _ => Symbol::Name(from, to),
-        },
-        Next::End => Symbol::Stop,
-        Next::Unsupported => Symbol::Bad,
-    }
 }

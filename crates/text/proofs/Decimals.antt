@@ -2,7 +2,7 @@
 use mathlib.Core.Path.{◌≡◌, refl, ap, sym, ◌∙◌}
 use mathlib.Core.List.{List, [], ◌∷◌, ◌++◌, append_assoc}
 use mathlib.Core.Bool.{Bool, true, false, not, ◌&&◌}
-use Prim.Native.Nat.{ℕ, zero, suc, ◌+◌, ◌-◌, ◌*◌, ◌/◌, ◌%◌, ◌<◌, ◌≤◌}
+use Prim.Native.Nat.{ℕ, zero, suc, ◌+◌, ◌-◌, ◌*◌, ◌/◌, ◌%◌, ◌<◌, ◌≤◌, ◌^◌}
 use native.Mathlib.Omega.{arith}
 use native.Mathlib.Decide.{dec_lt}
 use lib.ListN.{length, get_or, take, drop, set, drop_of_length-le, length-append, take-append-drop}
@@ -12,7 +12,7 @@ use borrow.Author.Tests.{eq-eqb, lt-ltb, le-ltb, lt-leb, le-leb}
 use Rattle.rules.specs.Names.{digit, all}
 use Rattle.rules.specs.Decimal.{value_from, proper, number_up_to, digits_in, decimal}
 use Rattle.laws.proofs.Basics.Tests.{and_left, and_right, leb_true}
-use Rattle.std.specs.Prelude.{Some, None}
+use Rattle.std.specs.Prelude.{Option, Some, None, IfNone, IfSome, MatchOption}
 use Rattle.text.proofs.Loops.{drop_next}
 use Rattle.text.proofs.Sameness.{and_false}
 
@@ -122,6 +122,20 @@ width_one n h = ap length (decimal_one n h)
 
 pub width_more : (n : ℕ) → 10 ≤ n → length (decimal n) ≡ suc (length (decimal (n / 10)))
 width_more n h = ap length (decimal_more n h) ∙ length-append (decimal (n / 10)) ((48 + n % 10) ∷ []) ∙ omega arith
+
+-- the digits of a number between two powers of ten
+pub width_by : (k n : ℕ) → 10 ^ k ≤ n → n < 10 * 10 ^ k → length (decimal n) ≡ k + 1
+width_by zero n p q = width_one n (omega (arith, q))
+width_by (suc k) n p q =
+    let e : 10 ^ suc k ≡ 10 * 10 ^ k = omega arith in
+    let z : 1 ≤ 10 ^ k = omega arith in
+    width_more n (omega arith) ∙ ap suc (width_by k (n / 10) (omega arith) (omega arith)) ∙ omega arith
+
+-- the same by the logarithm, if there is one
+pub width_told : (n : ℕ) {r : ℕ} (o : Option ℕ) (Q : ℕ → Type 0) → IfNone o (n ≡ 0) → IfSome o (λ k. 10 ^ k ≤ n) → IfSome o (λ k. n < 10 * 10 ^ k) → MatchOption o (r ≡ 1) Q → ((k : ℕ) → Q k → r ≡ k + 1)
+    → r ≡ length (decimal n)
+width_told n None Q z p q e f = e ∙ sym (width_one n (omega (arith, z)))
+width_told n (Some k) Q z p q e f = f k e ∙ sym (width_by k n p q)
 
 -- the last w digits of a number
 unfoldable pub padded : ℕ → ℕ → List ℕ

@@ -3,8 +3,8 @@ pub mod Prefixes
 pub mod Sameness
 pub mod Slices
 pub mod Merging
-pub mod Writing
 pub mod Halves
 pub mod Decimals
 pub mod PlaceLaws
 pub mod Library
+pub mod Spelling

@@ -1,14 +1,14 @@
 -- Places in a sheet: start * 65536 + length of a text. Definitions only.
-use Rattle.std.specs.Prelude.{ℕ, ◌/◌, ◌%◌, Bool, cond, ltb, take, drop}
+use Rattle.std.specs.Prelude.{ℕ, ◌/◌, ◌%◌, Bool, List, take, drop}
 use Rattle.rules.specs.Bytes.{Text, upto}
 
--- at most a limit
-abbrev pub cut : ℕ → ℕ → ℕ
-cut limit n = cond (ltb limit n) limit n
+-- the items at a place; what reaches past the end is cut
+abbrev pub slice_at : {A : Type 0} → List A → ℕ → List A
+slice_at s x = take (x % 65536) (drop (x / 65536) s)
 
--- the text at a place; what reaches past the sheet is cut
+-- the text at a place
 unfoldable pub text_at : Text → ℕ → Text
-text_at s x = take (x % 65536) (drop (x / 65536) s)
+text_at s x = slice_at s x
 
 -- the first place's text is not after the second's, by bytes
 unfoldable pub places_upto : Text → ℕ → ℕ → Bool

@@ -9,10 +9,8 @@ use super::is_digit;
 pub fn number_up_to(text: &[u8], bound: usize) -> Option<usize>
     ensures { result ≡ number_up_to bound text.now }
 {
-    match text {
-        [] => return None,
-        [b'0', _, ..] => return None,
-        _ => {}
+    if matches!(text, [] | [b'0', _, ..]) {
+        return None;
     }
     let mut n: usize = 0;
     for b in text {
@@ -32,16 +30,10 @@ pub fn number_up_to(text: &[u8], bound: usize) -> Option<usize>
 pub fn width_of(n: usize) -> usize
     ensures { result ≡ length (decimal n) }
 {
-    let mut m = n;
-    let mut w = 1;
-    while 10 <= m {
-        m /= 10;
-        w += 1;
-    }
-    w
+    n.checked_ilog10().map_or(1, |k| k as usize + 1)
 }
 
-// Writes a number in decimal from `at` on, and gives where it ends.
+// Writes a number in decimal from `at` on, and gives where it ends. Display would write through a formatter, not into lent bytes.
 pub fn print(n: usize, out: &mut [u8], at: usize) -> usize
     requires { at + length (decimal n) ≤ length out.old }
     ensures { Printed out.old out.new at (decimal n) result }

@@ -1,4 +1,4 @@
-// Bytes and texts: classes of bytes, the screening of a sheet, counting, equality of two texts.
+// Bytes and texts: classes of bytes, the screening of a sheet, counting.
 #![tactic(auto)]
 
 pub mod decimal; // decimal.rt: decimal numbers
@@ -6,12 +6,10 @@ pub mod places; // places.rt: texts named by places, and sorting by them
 pub mod sorting; // sorting.rt: words sorted by a test
 
 ghost use Rattle.std.specs.Prelude.{◌≡◌};
-ghost use Rattle.rules.specs.Bytes.{same};
 ghost use Rattle.rules.specs.Text.{count_of};
 ghost use Rattle.rules.specs.Names.{digit, alphabetic, alphanumeric};
 ghost use Rattle.rules.specs.Call.{plain};
 ghost use Rattle.text.specs.Screen.{screened};
-ghost use Rattle.text.specs.Prefix.{begins_with};
 
 use rules::Refusal;
 
@@ -22,7 +20,7 @@ fn is_plain(b: u8) -> bool
     matches!(b, b'\n' | b' '..=b'~')
 }
 
-// 0 to 9.
+// 0 to 9. This and the next two are the one place where a class of the definitions meets the code.
 pub fn is_digit(b: u8) -> bool
     ensures { result ≡ digit b }
 {
@@ -60,18 +58,4 @@ pub fn count_of(text: &[u8], b: u8) -> usize
     ensures { result ≡ count_of b text.now }
 {
     text.iter().filter(|x| **x == b).count()
-}
-
-// Whether two texts are one.
-pub fn same(a: &[u8], b: &[u8]) -> bool
-    ensures { result ≡ same a.now b.now }
-{
-    a == b
-}
-
-// Whether a text begins with another.
-pub fn begins(text: &[u8], front: &[u8]) -> bool
-    ensures { result ≡ begins_with front.now text.now }
-{
-    text.starts_with(front)
 }

@@ -1,18 +1,21 @@
 -- The tree of a cell by its kind.
-use Prim.Native.Nat.{ℕ, ◌<◌, ◌≤◌}
+use Prim.Native.Nat.{ℕ, zero, suc, ◌+◌, ◌<◌, ◌≤◌}
 use mathlib.Core.Path.{◌≡◌, refl, sym, ap, ◌∙◌}
+use mathlib.Core.Bool.{false}
 use native.Mathlib.Omega.{arith}
 use borrow.Author.Tests.{ne_eqb, lt-ltb, le-ltb}
 use Rattle.std.specs.Prelude.{Option, Some, None}
-use Rattle.rules.specs.Tree.{variable, atom, apply}
+use Rattle.rules.specs.Bytes.{same}
+use Rattle.rules.specs.Tree.{variable, atom, apply, children, size, sizes, tamtplus}
 use Rattle.rules.specs.declared.Sort.{Sort}
 use Rattle.rules.specs.declared.Sort.TheVariants.{Pub, Fresh, Msg, TamNat, Node}
 use Rattle.rules.specs.Sorts.{variable_sort}
 use Rattle.tree.specs.declared.area.Area.{Area}
 use Rattle.tree.specs.declared.kinds.Kind.TheVariants.{Application, Variable, Atom}
 use Rattle.tree.specs.Cells.{kind_of, kind_of_sort}
-use Rattle.tree.specs.Areas.{coded_sort, coded_kind, cell_kind, first_in, name_in, tree_in, trees_in, sort_of}
-use Rattle.tree.proofs.Decoding.{Kind as Coded, application, a_variable, an_atom, kind, tree_variable, tree_atom, tree_apply}
+use Rattle.tree.specs.Kinds.{coded_sort, coded_kind, kind_number}
+use Rattle.tree.specs.Areas.{cell_kind, first_in, name_in, tree_in, trees_in, sort_of, sum_in}
+use Rattle.tree.proofs.Decoding.{Kind as Coded, application, a_variable, an_atom, kind, tree_variable, tree_atom, tree_apply, trees_none}
 
 -- the three kinds of numbers
 pub application_kind : (n : ℕ) → n ≡ 0 → coded_kind n ≡ Application
@@ -57,6 +60,25 @@ sort_coded (Some Msg) = refl
 sort_coded (Some TamNat) = refl
 sort_coded (Some Node) = refl
 
+-- the number of a kind is the one that it stands for
+pub number_coded : (n : ℕ) → kind_number (coded_kind n) ≡ n
+number_coded n = go (kind n)
+  where
+    few : (n : ℕ) → 0 < n → n < 7 → kind_of_sort (coded_sort n) ≡ n
+    few zero p q = absurd (omega arith)
+    few (suc zero) p q = refl
+    few (suc (suc zero)) p q = refl
+    few (suc (suc (suc zero))) p q = refl
+    few (suc (suc (suc (suc zero)))) p q = refl
+    few (suc (suc (suc (suc (suc zero))))) p q = refl
+    few (suc (suc (suc (suc (suc (suc zero)))))) p q = refl
+    few (suc (suc (suc (suc (suc (suc (suc n))))))) p q = absurd (omega arith)
+
+    go : Coded n → kind_number (coded_kind n) ≡ n
+    go (application f) = ap kind_number (application_kind n f) ∙ sym f
+    go (a_variable p q) = ap kind_number (variable_kind n p q) ∙ few n p q
+    go (an_atom p) = ap kind_number (atom_kind n p)
+
 -- the tree of a cell
 module _ (a : Area) (k : ℕ) where
   pub tree_application : cell_kind a k ≡ Application → tree_in a k ≡ apply (name_in a k) (trees_in a (first_in a k))
@@ -90,3 +112,41 @@ module _ (a : Area) (k : ℕ) where
       go (application f) = let g = sym (ap sort_of (tree_apply a.sheet.now a.work.now k f)) ∙ e in absurd cc
       go (a_variable p q) = tree_variable a.sheet.now a.work.now k p q
       go (an_atom p) = let g = sym (ap sort_of (tree_atom a.sheet.now a.work.now k p)) ∙ e in absurd cc
+
+  -- whether it is a sum
+  pub sum_application : cell_kind a k ≡ Application → sum_in (tree_in a k) ≡ same (name_in a k) tamtplus
+  sum_application e = ap sum_in (tree_application e)
+
+  pub sum_variable : (v : Option Sort) → cell_kind a k ≡ Variable v → sum_in (tree_in a k) ≡ false
+  sum_variable v e = ap sum_in (tree_a_variable v e)
+
+  pub sum_atom : (c : ℕ) → cell_kind a k ≡ Atom c → sum_in (tree_in a k) ≡ false
+  sum_atom c e = ap sum_in (tree_an_atom c e)
+
+  -- its children
+  pub children_application : {j : ℕ} → cell_kind a k ≡ Application → j ≡ first_in a k → trees_in a j ≡ children (tree_in a k)
+  unfolding children
+  children_application e f = ap (trees_in a) f ∙ sym (ap children (tree_application e))
+
+  pub children_variable : (v : Option Sort) → cell_kind a k ≡ Variable v → trees_in a 0 ≡ children (tree_in a k)
+  unfolding children
+  children_variable v e = trees_none a.sheet.now a.work.now 0 refl ∙ sym (ap children (tree_a_variable v e))
+
+  pub children_atom : (c : ℕ) → cell_kind a k ≡ Atom c → trees_in a 0 ≡ children (tree_in a k)
+  unfolding children
+  children_atom c e = trees_none a.sheet.now a.work.now 0 refl ∙ sym (ap children (tree_an_atom c e))
+
+  -- its nodes
+  pub nodes_application : {j : ℕ} → cell_kind a k ≡ Application → j ≡ first_in a k → size (tree_in a k) ≡ 1 + sizes (trees_in a j)
+  unfolding size
+  nodes_application e f = ap size (tree_application e) ∙ ap (λ (j : ℕ). 1 + sizes (trees_in a j)) (sym f)
+
+  pub nodes_variable : (v : Option Sort) → cell_kind a k ≡ Variable v → size (tree_in a k) ≡ 1
+  unfolding size
+  nodes_variable v e = ap size (tree_a_variable v e)
+
+  pub nodes_atom : (c : ℕ) → cell_kind a k ≡ Atom c → size (tree_in a k) ≡ 1
+  unfolding size
+  nodes_atom c e = ap size (tree_an_atom c e)
+
+pub ruleset sum_by_kind = (sum_application, sum_variable, sum_atom)

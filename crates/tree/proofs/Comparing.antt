@@ -1,6 +1,6 @@
 -- Equality of the trees of two cells.
 use Prim.Native.Nat.{ℕ, ◌<◌}
-use mathlib.Core.Path.{◌≡◌, refl, sym, ap, ap₂, ◌∙◌}
+use mathlib.Core.Path.{◌≡◌, sym, ap, ap₂, ◌∙◌}
 use mathlib.Core.Bool.{Bool, false, ◌&&◌}
 use mathlib.Core.List.{List}
 use lib.Dec.{eqb}
@@ -12,7 +12,14 @@ use Rattle.rules.specs.Tree.{same_tree, same_trees}
 use Rattle.laws.proofs.Basics.Tests.{differ_of_ne}
 use Rattle.tree.specs.Cells.{kind_of, variable_kind, name_at, first_of, next_of, tree_at, trees_at}
 use Rattle.tree.specs.Arena.{Links, Cell}
-use Rattle.tree.proofs.Decoding.{Kind, application, a_variable, an_atom, tree_variable, tree_atom, tree_apply, trees_none, trees_more}
+use Rattle.std.specs.Prelude.{Option}
+use Rattle.rules.specs.declared.Sort.{Sort}
+use Rattle.tree.specs.declared.area.Area.{Area}
+use Rattle.tree.specs.declared.kinds.Kind.TheVariants.{Variable, Atom}
+use Rattle.tree.specs.Kinds.{coded_kind}
+use Rattle.tree.specs.Areas.{cell_kind, name_in, tree_in}
+use Rattle.tree.proofs.ByKind.{tree_a_variable, tree_an_atom}
+use Rattle.tree.proofs.Decoding.{Kind, application, a_variable, an_atom, kind, tree_variable, tree_atom, tree_apply, trees_none, trees_more}
 
 module _ (s : Text) (w : List ℕ) (i j : ℕ) where
   -- cells of different kinds
@@ -28,13 +35,6 @@ module _ (s : Text) (w : List ℕ) (i j : ℕ) where
   kinds_differ c d h (an_atom p) (application f) = sym (ap₂ same_tree (tree_atom s w i p) (tree_apply s w j f))
   kinds_differ c d h (an_atom p) (a_variable p₁ q₁) = sym (ap₂ same_tree (tree_atom s w i p) (tree_variable s w j p₁ q₁))
   kinds_differ c d h (an_atom p) (an_atom p₁) = sym (ap₂ same_tree (tree_atom s w i p) (tree_atom s w j p₁) ∙ rw (ne_eqb (kind_of w i) (kind_of w j) h))
-
-  -- cells of one kind: the answers of the comparisons of the names and, of an application, of the lists
-  pub leaves : 0 < kind_of w i → kind_of w i ≡ kind_of w j → Kind (kind_of w i) → same (name_at s w i) (name_at s w j) ≡ same_tree (tree_at s w i) (tree_at s w j)
-  unfolding same_tree
-  leaves z e (application f) = absurd (omega arith)
-  leaves z e (a_variable p q) = sym (ap₂ same_tree (tree_variable s w i p q) (tree_variable s w j (omega arith) (omega arith)))
-  leaves z e (an_atom p) = sym (ap₂ same_tree (tree_atom s w i p) (tree_atom s w j (omega arith)) ∙ rw (eq-eqb (kind_of w i) (kind_of w j) e))
 
   pub applications : (x y : ℕ) (b all : Bool) → kind_of w i ≡ 0 → kind_of w j ≡ 0 → x ≡ first_of w i → y ≡ first_of w j → b ≡ same (name_at s w i) (name_at s w j) → all ≡ same_trees (trees_at s w x) (trees_at s w y) → b && all ≡ same_tree (tree_at s w i) (tree_at s w j)
   unfolding same_tree
@@ -55,7 +55,17 @@ module _ (s : Text) (w : List ℕ) (i j : ℕ) where
   unfolding same_tree
   none_second n l p q e = sym (ap₂ same_trees (trees_more s l i p q) (trees_none s w j e))
 
-  pub names_differ : kind_of w i ≡ kind_of w j → same (name_at s w i) (name_at s w j) ≡ false → Kind (kind_of w i) → false ≡ same_tree (tree_at s w i) (tree_at s w j)
-  names_differ e f (application g) = applications (first_of w i) (first_of w j) false _ g (sym e ∙ g) refl refl (sym f) refl
-  names_differ e f (a_variable p q) = sym f ∙ leaves p e (a_variable p q)
-  names_differ e f (an_atom p) = sym f ∙ leaves (omega arith) e (an_atom p)
+-- two cells of an area by their kinds
+module _ (a : Area) (i j : ℕ) where
+  pub kinds_apart : 0 < i → i < a.free → 0 < j → j < a.free → (cell_kind a i ≡ cell_kind a j → ⊥) → false ≡ same_tree (tree_in a i) (tree_in a j)
+  kinds_apart p q r t h =
+      let w = a.work.now in
+      kinds_differ a.sheet.now w i j (a.arena.cell i p q) (a.arena.cell j r t) (λ e. h (ap coded_kind e)) (kind (kind_of w i)) (kind (kind_of w j))
+
+  pub both_variables : (v u : Option Sort) → cell_kind a i ≡ Variable v → cell_kind a j ≡ Variable u → same (name_in a i) (name_in a j) ≡ same_tree (tree_in a i) (tree_in a j)
+  unfolding same_tree
+  both_variables v u e f = sym (ap₂ same_tree (tree_a_variable a i v e) (tree_a_variable a j u f))
+
+  pub both_atoms : (c d : ℕ) → cell_kind a i ≡ Atom c → cell_kind a j ≡ Atom d → eqb c d && same (name_in a i) (name_in a j) ≡ same_tree (tree_in a i) (tree_in a j)
+  unfolding same_tree
+  both_atoms c d e f = sym (ap₂ same_tree (tree_an_atom a i c e) (tree_an_atom a j d f))

@@ -1,7 +1,6 @@
--- The decoder at a cell, the frame law, and the measures of a walk over cells.
+-- The decoder at a cell, and the frame law.
 use Prim.Native.Nat.{ℕ, zero, suc, ◌+◌, ◌*◌, ◌<◌, ◌≤◌}
-use mathlib.Core.Path.{◌≡◌, refl, sym, ap, ap₂, ◌∙◌}
-use mathlib.Core.Bool.{Bool, ◌&&◌}
+use mathlib.Core.Path.{◌≡◌, refl, ap, ap₂}
 use mathlib.Core.List.{List}
 use lib.ListN.{get_or}
 use native.Mathlib.Omega.{arith}
@@ -142,12 +141,6 @@ size_pos (atom l d) = omega arith
 size_pos (apply n ts) = omega arith
 
 -- the counts of a cell's parts
-pub size_leaf : (s : Text) (w : List ℕ) (k : ℕ) → 0 < kind_of w k → Kind (kind_of w k) → size (tree_at s w k) ≡ 1
-unfolding size
-size_leaf s w k p (application e) = absurd (omega arith)
-size_leaf s w k p (a_variable q r) = ap size (tree_variable s w k q r)
-size_leaf s w k p (an_atom q) = ap size (tree_atom s w k q)
-
 pub size_apply : (s : Text) (w : List ℕ) (k : ℕ) → kind_of w k ≡ 0 → size (tree_at s w k) ≡ 1 + sizes (trees_at s w (first_of w k))
 unfolding size
 size_apply s w k e = ap size (tree_apply s w k e)
@@ -167,20 +160,3 @@ sizes_is s w e = rw e
 pub count_small : (w : List ℕ) (k : ℕ) → nodes_of w k < 65536
 unfolding nodes_of
 count_small w k = omega arith
-
--- The measures of a walk: twice the count of nodes of a tree, and one more than that of a list. They fall from a tree to its list,
--- from a list to its first tree and from a list to its rest.
-pub children_fall : (s : Text) (w : List ℕ) (k j : ℕ) → kind_of w k ≡ 0 → j ≡ first_of w k → 2 * sizes (trees_at s w j) + 1 < 2 * size (tree_at s w k)
-children_fall s w k j e f = omega (arith, size_apply s w k e, sizes_is s w f)
-
-pub head_falls : {w : List ℕ} {n : ℕ} (s : Text) → Links w n → (k : ℕ) → 0 < k → k < n → 2 * size (tree_at s w k) < 2 * sizes (trees_at s w k) + 1
-head_falls s l k p q = omega (arith, sizes_more s l k p q)
-
-pub rest_falls : {w : List ℕ} {n : ℕ} (s : Text) → Links w n → (k j : ℕ) → 0 < k → k < n → j ≡ next_of w k → 2 * sizes (trees_at s w j) + 1 < 2 * sizes (trees_at s w k) + 1
-rest_falls {w} s l k j p q e = omega (arith, sizes_more s l k p q, size_pos (tree_at s w k), sizes_is s w e)
-
--- A test of every tree of a list, from the answers at its first cell and at its next.
-module _ (f : Tree → Bool) (fs : Trees → Bool) (step : (t : Tree) (ts : Trees) → fs (more t ts) ≡ f t && fs ts) where
-  pub all_more : {w : List ℕ} {n : ℕ} (s : Text) (k j : ℕ) (b all : Bool) → Links w n → 0 < k → k < n → j ≡ next_of w k → b ≡ f (tree_at s w k) → all ≡ fs (trees_at s w j)
-      → b && all ≡ fs (trees_at s w k)
-  all_more {w} s k j b all l p q e g h = ap₂ ◌&&◌ g (h ∙ ap (λ (j : ℕ). fs (trees_at s w j)) e) ∙ sym (ap fs (trees_more s l k p q) ∙ step (tree_at s w k) (trees_at s w (next_of w k)))

@@ -13,8 +13,12 @@ use Rattle.rules.specs.Bytes.{Text, same}
 use Rattle.rules.specs.Text.{bytes}
 use Rattle.laws.specs.Unspelled.{zeros, unspelled}
 use Rattle.laws.proofs.Basics.Tests.{same_of_eq, differ_of_ne, ne_of_differ}
-use Rattle.laws.proofs.Renaming.Unspelled.{unspelled_sort, unspelled_length}
-use Rattle.tree.specs.Cells.{fixed_name, kind_of_sort, variable_kind}
+use Rattle.laws.proofs.Renaming.Unspelled.{unspelled_length}
+use Rattle.std.specs.Prelude.{Some, None}
+use Rattle.tree.specs.declared.fixed.Fixed.{Fixed}
+use Rattle.tree.specs.declared.fixed.Fixed.TheVariants.{RoleA, RoleB, Pair, Senc, Kem, Pk}
+use Rattle.tree.specs.Names.{fixed_text, coded_fixed}
+use Rattle.tree.specs.Cells.{fixed_name}
 use Rattle.tree.proofs.Bounded.{every_below, below_holds, agree, agreeing}
 
 -- ---- the bytes of a name that no sheet spells
@@ -43,10 +47,6 @@ pub unspelled_end : (n a i : ℕ) → a ≡ 65537 + n + i → get_or (bytes ":Ms
 unfolding unspelled
 unspelled_end n a i e = let f : a ≡ suc (65536 + n + i) = omega arith in rw f (sym (zeros_then (65536 + n) (bytes ":Msg") i))
 
--- it is of the sort Msg
-pub unspelled_kind : (n : ℕ) → 3 ≡ variable_kind (unspelled n)
-unspelled_kind n = sym (ap kind_of_sort (unspelled_sort n))
-
 -- ---- the name of a code
 
 -- the names from code 7 on
@@ -56,12 +56,32 @@ fixed_unspelled c h =
     let f : suc (suc (suc (suc (suc (suc (c - 7)))))) - 6 ≡ c - 7 = omega arith in
     ap fixed_name e ∙ ap unspelled f
 
+-- the name of a code that is one of the fixed names, and of any other
+pub some_fixed : (c : ℕ) (f : Fixed) → coded_fixed c ≡ Some f → fixed_text f ≡ fixed_name c
+some_fixed zero f e = absurd cc
+some_fixed (suc zero) f e = let g : RoleA ≡ f = cc in ap fixed_text (sym g)
+some_fixed (suc (suc zero)) f e = let g : RoleB ≡ f = cc in ap fixed_text (sym g)
+some_fixed (suc (suc (suc zero))) f e = let g : Pair ≡ f = cc in ap fixed_text (sym g)
+some_fixed (suc (suc (suc (suc zero)))) f e = let g : Senc ≡ f = cc in ap fixed_text (sym g)
+some_fixed (suc (suc (suc (suc (suc zero))))) f e = let g : Kem ≡ f = cc in ap fixed_text (sym g)
+some_fixed (suc (suc (suc (suc (suc (suc zero)))))) f e = let g : Pk ≡ f = cc in ap fixed_text (sym g)
+some_fixed (suc (suc (suc (suc (suc (suc (suc c))))))) f e = absurd cc
+
+pub none_code : (c : ℕ) → 0 < c → coded_fixed c ≡ None → 7 ≤ c
+none_code zero p e = absurd (omega arith)
+none_code (suc zero) p e = absurd cc
+none_code (suc (suc zero)) p e = absurd cc
+none_code (suc (suc (suc zero))) p e = absurd cc
+none_code (suc (suc (suc (suc zero)))) p e = absurd cc
+none_code (suc (suc (suc (suc (suc zero))))) p e = absurd cc
+none_code (suc (suc (suc (suc (suc (suc zero)))))) p e = absurd cc
+none_code (suc (suc (suc (suc (suc (suc (suc c))))))) p e = omega arith
+
+pub none_fixed : (c : ℕ) → 0 < c → coded_fixed c ≡ None → unspelled (c - 7) ≡ fixed_name c
+none_fixed c p e = sym (fixed_unspelled c (none_code c p e))
+
 pub fixed_length : (c : ℕ) → 7 ≤ c → length (fixed_name c) ≡ c + 65534
 fixed_length c h = ap length (fixed_unspelled c h) ∙ omega (arith, unspelled_length (c - 7))
-
--- any other code than 1 to 6
-pub other_code : (c : ℕ) → 0 < c → (c ≡ 1 → ⊥) → (c ≡ 2 → ⊥) → (c ≡ 3 → ⊥) → (c ≡ 4 → ⊥) → (c ≡ 5 → ⊥) → (c ≡ 6 → ⊥) → 7 ≤ c
-other_code c p h1 h2 h3 h4 h5 h6 = omega arith
 
 -- the names before code 7
 pub fixed_short : (c : ℕ) → 0 < c → c < 7 → (0 < length (fixed_name c)) × (length (fixed_name c) ≤ 10)

@@ -5,7 +5,7 @@ use lib.ListN.{length}
 use native.Mathlib.Omega.{arith}
 use Rattle.rules.specs.Tree.{Tree, more}
 use Rattle.tree.specs.declared.area.Area.{Area}
-use Rattle.tree.specs.Areas.{cell_kind, coded_kind, count_in, first_in, next_in, name_in, tree_in, trees_in, Lent, KeepsCells, Grows, Adds, Pushes}
+use Rattle.tree.specs.Areas.{cell_kind, coded_kind, count_in, first_in, next_in, name_in, tree_in, trees_in, KeepsCells, Grows, Adds, Pushes}
 use Rattle.tree.specs.Cells.{name_at, tree_at, trees_at}
 use Rattle.tree.specs.Words.{Writes}
 use Rattle.tree.proofs.Areas.{below_same, below_set, below_then, below_grown, grown_same, grown_on}

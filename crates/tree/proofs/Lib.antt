@@ -1,6 +1,5 @@
 pub mod Decoding
 pub mod ByKind
-pub mod ChildrenLaws
 pub mod Bounded
 pub mod FixedNames
 pub mod Pushing
@@ -14,4 +13,9 @@ pub mod Spelling
 pub mod Walking
 pub mod Lists
 pub mod Parting
+pub mod Rooms
 pub mod Truncating
+pub mod Backward
+pub mod Chains
+pub mod Fitting
+pub mod LongNames

@@ -1,14 +1,14 @@
 -- Bytes written into an output, one after another.
 use Prim.Native.Nat.{ℕ, ◌+◌, ◌<◌, ◌≤◌}
+use borrow.Rule.Slice.PartMut.{put_mid}
 use mathlib.Core.Path.{◌≡◌, sym, ap, ap₂, ◌∙◌}
 use mathlib.Core.List.{List, [], ◌∷◌, ◌++◌, append_assoc}
-use lib.ListN.{length, get_or, take, drop, set, length-append, length-take, length-drop, take-append-drop}
-use lib.Seq.{take_at, drop-append-add, drop-drop, set_split, take-suc, length-take-le}
+use lib.ListN.{length, take, drop, set, length-append, length-take, length-drop, take-append-drop}
+use lib.Seq.{take_at, drop-append-add, drop-drop, set_split}
 use native.Mathlib.Nat.{add-zero}
 use native.Mathlib.Numerals.{add-one}
 use native.Mathlib.Omega.{arith}
 use Rattle.rules.specs.Bytes.{Text}
-use Rattle.rules.specs.Answer.{line}
 use Rattle.text.specs.Printing.{printed_over, Printed}
 
 pub written_none : (out : List ℕ) (at : ℕ) → printed_over out at [] ≡ out
@@ -50,27 +50,7 @@ printed_then {out} {v} {u} {at} {r} {q} {a} {b} h x y = record {
   end = omega (arith, y.end, x.end, length-append a b);
 }
 
--- a turn of the loop that prints a text
-pub written_more : (out text : List ℕ) (at i : ℕ) → at + length text ≤ length out → i < length text → set (printed_over out at (take i text)) (at + i) (get_or text i 0) ≡ printed_over out at (take (i + 1) text)
-written_more out text at i h l =
-    let a = take i text in
-    let x = get_or text i 0 in
-    let len : length a ≡ i = length-take-le i text (omega arith) in
-    let long = length_written out at a (omega arith) in
-    written_byte (printed_over out at a) (at + i) x (omega arith)
-    ∙ ap (λ (n : ℕ). printed_over (printed_over out at a) (at + n) (x ∷ [])) (sym len)
-    ∙ written_then out at a (x ∷ []) (omega arith)
-    ∙ ap (printed_over out at) (sym (ap (λ (n : ℕ). take n text) (add-one i) ∙ take-suc text i 0 l))
-
-pub printed_none : (out : Text) (at : ℕ) {t : Text} → t ≡ [] → Printed out out at t at
-printed_none out at e = rw e record { bytes = sym (written_none out at); end = omega arith }
-
--- a line: its key, its value, byte 10
-pub line_length : (key v : Text) → length (line key v) ≡ length key + length v + 1
-line_length key v = simp length-append
-
-pub line_printed : {out a b c : Text} {at i j n : ℕ} (key v : Text) → at + (length key + length v + 1) ≤ length out → Printed out a at key i → Printed a b i v j → Printed b c j (10 ∷ []) n
-    → Printed out c at (line key v) n
-line_printed key v h p q r =
-    let f = length-append key v in
-    printed_then (omega arith) (printed_then (omega arith) p q) r
+-- a text put back into a part of an output
+pub put_part : (out : Text) {v t : Text} (at : ℕ) {k : ℕ} → k ≡ length t → v ≡ t → put_mid at k out v ≡ printed_over out at t
+unfolding printed_over
+put_part out {t = t} at {k} l f = rw (f, l) (ap (λ (z : Text). take at out ++ (t ++ z)) (drop-drop (length t) at out))

@@ -1,6 +1,6 @@
 -- The cell that is written at the free end.
-use Prim.Native.Nat.{ℕ, ◌+◌, ◌-◌, ◌*◌, ◌/◌, ◌%◌, ◌<◌, ◌≤◌}
-use mathlib.Core.Path.{◌≡◌, refl, sym, ap, ap₂, ◌∙◌}
+use Prim.Native.Nat.{ℕ, ◌+◌, ◌*◌, ◌/◌, ◌%◌, ◌<◌, ◌≤◌}
+use mathlib.Core.Path.{◌≡◌, sym, ap, ap₂, ◌∙◌}
 use mathlib.Core.Logic.{◌⊎◌, inl, inr}
 use mathlib.Core.List.{List}
 use lib.ListN.{length, get_or, set, length-set}
@@ -8,12 +8,10 @@ use lib.Seq.{get_or-set_same, get_or-set_other}
 use native.Mathlib.Omega.{arith}
 use native.Mathlib.Decide.{dec_lt}
 use Rattle.rules.specs.Bytes.{Text}
-use Rattle.rules.specs.Tree.{Tree, variable, apply, more, size, sizes}
-use Rattle.laws.specs.Unspelled.{unspelled}
-use Rattle.tree.specs.Cells.{start_of, length_of, kind_of, first_of, next_of, nodes_of, fixed_name, named, name_at, variable_kind, made, trees_at, tree_at}
+use Rattle.rules.specs.Tree.{Tree, more, size}
+use Rattle.tree.specs.Cells.{start_of, length_of, kind_of, first_of, next_of, nodes_of, named, name_at, variable_kind, made, trees_at, tree_at}
 use Rattle.tree.specs.Arena.{Links, Place, Cell, Arena, WroteCell, Linked}
-use Rattle.tree.proofs.Decoding.{Agree, made_apply, same_start, same_length, same_kind, same_count, same_first, same_next, same_name, frame_tree, frame_trees, trees_more}
-use Rattle.tree.proofs.FixedNames.{fixed_unspelled, fixed_plain, unspelled_kind}
+use Rattle.tree.proofs.Decoding.{Agree, same_start, same_length, same_kind, same_count, same_first, same_next, same_name, frame_tree, frame_trees, trees_more}
 
 -- two numbers in one word
 quotient : (a b : ℕ) → b < 65536 → (a * 65536 + b) / 65536 ≡ a
@@ -113,14 +111,10 @@ module _ {w v : List ℕ} {n start len kind first next count : ℕ} (x : WroteCe
       at_next k p (inl q) = omega (arith, same_next w v x.grown.below k q, l.next k p q)
       at_next k p (inr q) = rw q (rw x.next_is g)
 
-  -- the new cell's name: that of its place, and that of a cell with the same place
+  -- the new cell's name: that of its place
   pub name_push : (s : Text) → name_at s v n ≡ named s start len
   unfolding name_at
   name_push s = ap₂ (named s) x.start_is x.length_is
-
-  pub name_like : (s : Text) (k : ℕ) → k < n → start ≡ start_of w k → len ≡ length_of w k → name_at s v n ≡ name_at s w k
-  unfolding name_at
-  name_like s k q e f = ap₂ (named s) (x.start_is ∙ e) (x.length_is ∙ f)
 
   -- the new cell's tree
   pub tree_push : (s : Text) → Links w n → first < n → tree_at s v n ≡ made kind (name_at s v n) (trees_at s w first)
@@ -156,52 +150,6 @@ module _ {w v : List ℕ} {n start len kind first next count : ℕ} (x : WroteCe
         link = x.next_is;
         trees = trees_more s a.links n l.some (omega arith) ∙ ap₂ more t (ap (trees_at s v) x.next_is ∙ sym (frame_trees s v l x.grown.below next g));
       }
-
--- a cell written with the name and the kind of cell k
-module _ {w v : List ℕ} {n first next count : ℕ} (s : Text) (k : ℕ) (x : WroteCell w v n (start_of w k) (length_of w k) (kind_of w k) first next count) where
-  pub linked_like : {t : Tree} → Arena s w n → 0 < k → k < n → 4 * n + 4 ≤ length w → first < n → next < n → made (kind_of w k) (name_at s w k) (trees_at s w first) ≡ t → count ≡ size t
-      → Linked s w v n next t
-  linked_like a p q room f g e c =
-      let h = a.cell k p q in
-      let m = name_like x s k q refl refl in
-      let e' = ap (λ (y : Text). made (kind_of w k) y (trees_at s w first)) m ∙ e in
-      linked x s a.links g f (arena_push x s a room f g h.placed h.small (rw m h.sorted) (rw m h.plain) (c ∙ ap size (sym e'))) e'
-
--- an application with the name of another
-pub linked_over : (s : Text) {w v : List ℕ} {n count first next : ℕ} (k : ℕ) → kind_of w k ≡ 0 → Arena s w n → 0 < k → k < n → first < n → next < n → 4 * n + 4 ≤ length w → count ≡ 1 + sizes (trees_at s w first)
-    → WroteCell w v n (start_of w k) (length_of w k) (kind_of w k) first next count → Linked s w v n next (apply (name_at s w k) (trees_at s w first))
-unfolding size
-linked_over s {w} {first = first} k z a p q f g room c x = linked_like s k x a p q room f g (made_apply (kind_of w k) (name_at s w k) (trees_at s w first) z) c
-
--- a tree shared, at the numbers that the code holds
-pub linked_shared : (s : Text) {w v : List ℕ} {n count first next : ℕ} (k : ℕ) → Arena s w n → 0 < k → k < n → next < n → 4 * n + 4 ≤ length w → first ≡ first_of w k → count ≡ nodes_of w k
-    → WroteCell w v n (start_of w k) (length_of w k) (kind_of w k) first next count → Linked s w v n next (tree_at s w k)
-unfolding tree_at
-linked_shared s {w} {v} {n} {count} {first} {next} k a p q g room e f x =
-    let h = a.links.first k p q in
-    linked_like s k x a p q room (omega arith) g (rw e) (f ∙ (a.cell k p q).counted)
-
--- a cell written with the fixed name of a code
-module _ {w v : List ℕ} {n code kind first next count : ℕ} (s : Text) (x : WroteCell w v n code 0 kind first next count) where
-  pub linked_fixed : {t : Tree} → Arena s w n → 0 < code → code < 31 → kind < 7 → (0 < kind → kind ≡ variable_kind (fixed_name code)) → 4 * n + 4 ≤ length w → first < n → next < n
-      → made kind (fixed_name code) (trees_at s w first) ≡ t → count ≡ size t → Linked s w v n next t
-  unfolding named
-  linked_fixed a p q k h room f g e c =
-      let m : name_at s v n ≡ fixed_name code = name_push x s in
-      let e' = ap (λ (y : Text). made kind y (trees_at s w first)) m ∙ e in
-      let here : Place s code 0 = record { inside = λ h. absurd (omega arith); code = λ h. (p, q) } in
-      linked x s a.links g f
-      (arena_push x s a room f g here (omega arith) (λ z y. h z ∙ ap variable_kind (sym m)) (λ z y. fixed_plain code (ap (λ (y : Text). get_or y 1 0) (sym m) ∙ y)) (c ∙ ap size (sym e')))
-      e'
-
--- a variable whose name no sheet spells
-pub linked_unspelled : (s : Text) {w v : List ℕ} {n next : ℕ} (i : ℕ) → Arena s w n → i < 24 → next < n → 4 * n + 4 ≤ length w
-    → WroteCell w v n (i + 7) 0 3 0 next 1 → Linked s w v n next (variable (unspelled i))
-unfolding made size
-linked_unspelled s i a h g room x =
-    let d : i + 7 - 7 ≡ i = omega arith in
-    let e : fixed_name (i + 7) ≡ unspelled i = fixed_unspelled (i + 7) (omega arith) ∙ ap unspelled d in
-    linked_fixed s x a (omega arith) (omega arith) (omega arith) (λ z. unspelled_kind i ∙ ap variable_kind (sym e)) room a.links.some g (ap variable e) refl
 
 -- an area with no cell
 pub arena_none : (s : Text) (w : List ℕ) → 4 ≤ length w → Arena s w 1

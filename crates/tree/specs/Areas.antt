@@ -1,23 +1,14 @@
 -- What the cells of an area hold, and what a function that writes cells there keeps. Definitions only.
-use Rattle.std.specs.Prelude.{ℕ, ◌+◌, ◌-◌, ◌≤◌, ◌≡◌, cond, [], ◌∷◌, eqb, ltb, get_or, Option, Some, None}
-use Rattle.rules.specs.Bytes.{Text}
-use Rattle.rules.specs.Tree.{Tree, variable, atom, apply, Trees}
+use Rattle.std.specs.Prelude.{ℕ, ◌+◌, ◌*◌, ◌^◌, ◌<◌, ◌≤◌, ◌≡◌, Bool, false, length, Option, None}
+use Rattle.rules.specs.Bytes.{Text, same}
+use Rattle.rules.specs.Tree.{Tree, variable, atom, apply, Trees, tamtplus}
 use Rattle.rules.specs.declared.Sort.{Sort}
-use Rattle.rules.specs.declared.Sort.TheVariants.{Pub, Fresh, Msg, TamNat, Node}
 use Rattle.rules.specs.Sorts.{variable_sort}
 use Rattle.tree.specs.declared.area.Area.{Area}
 use Rattle.tree.specs.declared.kinds.Kind.{Kind}
-use Rattle.tree.specs.declared.kinds.Kind.TheVariants.{Application, Variable, Atom}
+pub use Rattle.tree.specs.Kinds.{coded_sort, coded_kind}
 use Rattle.tree.specs.Cells.{kind_of, nodes_of, first_of, next_of, name_at, tree_at, trees_at}
 use Rattle.tree.specs.Arena.{Below, Grown, Linked}
-
--- the sort that a number from 1 to 5 stands for
-abbrev pub coded_sort : ℕ → Option Sort
-coded_sort n = get_or (Some Pub ∷ Some Fresh ∷ Some Msg ∷ Some TamNat ∷ Some Node ∷ []) (n - 1) None
-
--- the kind that a number stands for
-abbrev pub coded_kind : ℕ → Kind
-coded_kind n = cond (eqb n 0) Application (cond (ltb n 7) (Variable (coded_sort n)) (Atom n))
 
 abbrev pub cell_kind : Area → ℕ → Kind
 cell_kind a k = coded_kind (kind_of a.work.now k)
@@ -45,6 +36,20 @@ abbrev pub sort_of : Tree → Option Sort
 sort_of (variable x) = variable_sort x
 sort_of (atom c d) = None
 sort_of (apply f ts) = None
+
+-- whether a tree is a sum
+abbrev pub sum_in : Tree → Bool
+sum_in (variable x) = false
+sum_in (atom c d) = false
+sum_in (apply f ts) = same f tamtplus
+
+-- cell k holds a tree
+abbrev pub CellIn : Area → ℕ → Type 0
+CellIn a k = (0 < k) × (k < a.free)
+
+-- there is room for n cells more
+abbrev pub HasRoom : Area → ℕ → Type 0
+HasRoom a n = (4 * (a.free + n) ≤ length a.work.now) × (a.free + n ≤ 2 ^ 32)
 
 -- b has the sheet and the work area that a was lent
 pub record Lent (a b : Area) : Type 0 where

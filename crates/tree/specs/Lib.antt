@@ -1,5 +1,9 @@
 pub mod Cells
 pub mod Arena
 pub mod Areas
+pub mod Kinds
+pub mod Lists
+pub mod Names
+pub mod Pushed
 pub mod Spelled
 pub mod Words

@@ -3,14 +3,13 @@ ghost use Rattle.std.specs.Prelude.{◌≡◌, ◌*◌, ◌<◌, ◌≤◌, ◌^
 ghost use Rattle.tree.specs.Words.{Writes};
 
 use crate::area::Area;
-use text::places::wide;
 
 impl Area<'_, '_> {
     pub fn word(&self, at: usize) -> usize
         requires { at < length self.now.work.now }
         ensures { (result ≡ get_or self.now.work.now at 0) × (result < 2 ^ 32) }
     {
-        wide(self.work[at])
+        self.work[at] as usize
     }
 
     // Writes a word above the cells.
@@ -19,7 +18,6 @@ impl Area<'_, '_> {
         requires small { value < 2 ^ 32 }
         ensures { Writes self.old self.new at value }
     {
-        let work = &mut *self.work;
-        work[at] = value as u32;
+        self.work[at] = value as u32;
     }
 }

@@ -1,4 +1,3 @@
-pub mod Tops
 pub mod Resuming
 pub mod Parts
 pub mod Taking

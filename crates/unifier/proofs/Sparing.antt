@@ -14,14 +14,14 @@ use Rattle.tree.specs.Cells.{trees_at}
 use Rattle.tree.specs.Arena.{Arena, Below}
 use Rattle.tree.proofs.Decoding.{frame_trees}
 use Rattle.unifier.specs.Running.{Roomy}
+use Rattle.std.specs.Prelude.{Result, Ok, Err}
+use Rattle.rules.specs.declared.Ending.{Ending}
 use Rattle.rules.specs.Solving.{Answer, solved}
 use Rattle.tree.specs.declared.area.Area.{Area}
 use Rattle.tree.specs.Areas.{trees_in, Lent, Grows}
 use Rattle.substitution.specs.Bindings.{bindings_of, Chain}
 use Rattle.elimination.specs.Area.{step_words}
 use Rattle.unifier.specs.Areas.{NamesFew, spared_end, HoldsBound, AnswersIn, EndsIn}
-use Rattle.unifier.specs.declared.unifying.Verdict.{Verdict}
-use Rattle.unifier.specs.declared.unifying.Verdict.TheVariants.{Solved, Failed, Unsupported}
 use Rattle.unifier.proofs.Parts.{part_agrees, part_arena, back_agrees, back_arena, back_below}
 
 -- the room of a run, by the nodes of its pairs, in so many words
@@ -90,18 +90,16 @@ module _ {p q : Area} (a : Area) (limit : ℕ) (h : limit ≤ length a.work.now)
         ∙ ap (λ (w : List ℕ). trees_at a.sheet.now w k) (sym wb)
         ∙ sym (ap (λ s. trees_at s.now b.work.now k) lent.sheet)
 
-    pub spared_answers : {x : Answer} (v : Verdict) (n : ℕ) → AnswersIn p q x (record { verdict = v; spent = n }) → AnswersIn a b x (record { verdict = v; spent = n })
-    spared_answers (Solved k) n r =
+    pub spared_answers : {x : Answer} (v : Result ℕ Ending) (n : ℕ) → AnswersIn p q x (record { verdict = v; spent = n }) → AnswersIn a b x (record { verdict = v; spent = n })
+    spared_answers (Ok k) n r =
         let t = spared_list k r.bound.inside in
         record {
           grows = spared_grows;
           is = r.is ∙ ap (λ (ts : Trees). (solved (bindings_of ts), n)) t;
           bound = record { inside = omega (arith, r.bound.inside, fb); chain = subst Chain t r.bound.chain; room = omega (arith, r.bound.room, ap length e, long limit h l a.arena kept, spared_grows.below.len, fb) };
         }
-    spared_answers Failed n r = record { grows = spared_grows; is = r.is; bound = tt }
-    spared_answers Unsupported n r = record { grows = spared_grows; is = r.is; bound = tt }
+    spared_answers (Err e) n r = record { grows = spared_grows; is = r.is; bound = tt }
 
-  pub spared_ends : (m : ℕ) (v : Verdict) → HoldsBound q v → limit ≡ 4 * m + step_words → EndsIn q v m
-  spared_ends m (Solved k) r f = omega (arith, r.room, ap length e, long limit h l a.arena kept)
-  spared_ends m Failed r f = tt
-  spared_ends m Unsupported r f = tt
+  pub spared_ends : (m : ℕ) (v : Result ℕ Ending) → HoldsBound q v → limit ≡ 4 * m + step_words → EndsIn q v m
+  spared_ends m (Ok k) r f = omega (arith, r.room, ap length e, long limit h l a.arena kept)
+  spared_ends m (Err e) r f = tt

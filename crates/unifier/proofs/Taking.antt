@@ -1,34 +1,37 @@
 -- The loop of `unify` over an area: the run is that of the waiting pairs, after the bindings made so far.
-use Prim.Native.Nat.{ℕ, ◌+◌, ◌-◌, ◌*◌, ◌<◌, ◌≤◌, ◌^◌}
+use Prim.Native.Nat.{ℕ, ◌+◌, ◌-◌, ◌*◌, ◌<◌, ◌≤◌}
 use mathlib.Core.Path.{◌≡◌, refl, sym, ap, ap₂, subst, ◌∙◌}
 use mathlib.Core.List.{List, [], ◌∷◌, reverse}
 use lib.ListN.{length}
 use native.Mathlib.Omega.{arith}
-use Rattle.std.specs.Prelude.{Option, None}
+use Rattle.std.specs.Prelude.{Option, Some, None, ok_or, Result, Ok, Err}
 use Rattle.rules.specs.Bytes.{Text}
 use Rattle.rules.specs.Tree.{Tree, variable, Trees, more}
 use Rattle.rules.specs.Substitution.{Binding, Pair, flatten}
+use Rattle.rules.specs.declared.Ending.{Ending}
+use Rattle.rules.specs.declared.Ending.TheVariants as ending
 use Rattle.rules.specs.Solving.{Step, goes_on, bind, fails, unknown, step, Verdict, solved, unsupported, Answer, after, compose, composed, run, unify}
-use Rattle.laws.specs.Memory.{OverPairs, load, weight, without}
+use Rattle.laws.specs.Memory.{OverPairs, weight, without}
 use Rattle.laws.proofs.Solving.Names.{StepOver, step_over}
 use Rattle.laws.proofs.Solving.Weights.{weight_size}
 use Rattle.tree.specs.declared.area.Area.{Area}
-use Rattle.tree.specs.Areas.{next_in, tree_in, trees_in, Grows}
+use Rattle.tree.specs.Areas.{tree_in, trees_in, Grows, CellIn, HasRoom}
+use Rattle.tree.specs.Lists.{Lists}
 use Rattle.tree.proofs.Decoding.{trees_none}
 use Rattle.tree.proofs.Areas.{below_grown}
 use Rattle.tree.proofs.Keeping.{grows_same, grows_then, grows_trees, adds_grows}
 use Rattle.substitution.specs.Bindings.{bindings_of, flatten_bindings, Chain}
-use Rattle.substitution.specs.Areas.{bindings_in, Lists, ComposedIn, WithinArea}
+use Rattle.substitution.specs.Areas.{bindings_in, ComposedIn, ComposesIn, WithinArea}
 use Rattle.substitution.proofs.Chains.{bindings_flatten, chain_flatten}
-use Rattle.elimination.specs.Stack.{Whole, FitPairs}
+use Rattle.elimination.specs.Stack.{Whole, Fit, FitPairs}
 use Rattle.elimination.specs.Area.{Room}
-use Rattle.elimination.specs.Areas.{ApartIn, GoesOnIn, BindsIn}
+use Rattle.elimination.specs.Areas.{last_step, ApartIn, GoesOnIn, BindsIn}
 use Rattle.unifier.specs.Running.{Roomy}
 use Rattle.unifier.specs.Areas.{stack_in, RunsIn, AnswersIn}
-use Rattle.unifier.specs.declared.unifying.Verdict.{Verdict as Verdicts}
-use Rattle.unifier.specs.declared.unifying.Verdict.TheVariants.{Solved, Failed, Unsupported}
 use Rattle.steps.proofs.Fitting.{FitStep, step_fit}
-use Rattle.unifier.proofs.Tops.{stack_empty, Top, right_some, top, top_pairs, top_weight, top_fit}
+use Rattle.elimination.proofs.Tops.{pairs_are, top_weight, top_fit}
+use Rattle.elimination.specs.declared.front.Front.{Front}
+use Rattle.elimination.specs.Fronts.{FitFront, load_in, FrontRoom}
 use Rattle.unifier.proofs.Resuming.{with_bindings, resumed, with_none, with_more, run_end, run_step, run_spent, finished}
 
 -- at the head of the loop: the pairs ps wait from cell waiting on, the bindings bs are from cell made on, over the names ns
@@ -80,9 +83,9 @@ module _ {a b : Area} {start : List Pair} {fuel spent waiting made : ℕ} {apart
 
   -- The ends
 
-  pub holds_solved : spent < fuel → waiting ≡ 0 → RunsIn a b (run fuel start) (record { verdict = Solved made; spent = spent })
+  pub holds_solved : spent < fuel → stack_in b waiting ≡ [] → RunsIn a b (run fuel start) (record { verdict = Ok made; spent = spent })
   holds_solved p e =
-      let empty = stack_empty b.sheet.now b.work.now waiting h.ps h.waits e in
+      let empty = sym (pairs_are h.ps h.waits) ∙ e in
       let z : spent + 0 ≡ spent = omega arith in
       let room = h.room in
       let len = ap length made_are in
@@ -93,7 +96,7 @@ module _ {a b : Area} {start : List Pair} {fuel spent waiting made : ℕ} {apart
         made = record { inside = h.list; chain = subst Chain (sym h.binds) (chain_flatten h.bs); room = omega (arith, room.0); fits = omega (arith, room.1) };
       }
 
-  pub holds_spent : fuel ≤ spent → RunsIn a b (run fuel start) (record { verdict = Unsupported; spent = fuel })
+  pub holds_spent : fuel ≤ spent → RunsIn a b (run fuel start) (record { verdict = Err ending.Unsupported; spent = fuel })
   holds_spent e =
       let z : spent + 0 ≡ fuel = omega (arith, h.within) in
       record {
@@ -104,35 +107,41 @@ module _ {a b : Area} {start : List Pair} {fuel spent waiting made : ℕ} {apart
 
   -- The pair on top
 
-  pub holds_right : {r : ℕ} → 0 < waiting → r ≡ next_in b waiting → r < waiting → (0 < r) × (r < b.free)
-  holds_right {r} p e f = (right_some b.sheet.now b.arena.links h.ps waiting r p h.stack e h.waits, omega (arith, h.stack, f))
+  module _ (f : Front) (t : stack_in b waiting ≡ (tree_in b f.left, tree_in b f.right) ∷ stack_in b f.rest) (p : spent < fuel) where
+    on_top : h.ps ≡ (tree_in b f.left, tree_in b f.right) ∷ stack_in b f.rest
+    on_top = sym (pairs_are h.ps h.waits) ∙ t
 
-  pub holds_top : {r rest : ℕ} → 0 < waiting → r ≡ next_in b waiting → r < waiting → rest ≡ next_in b r → Top b.sheet.now b.work.now h.ps waiting r rest
-  holds_top {r} {rest} p e f g = top b.sheet.now b.arena.links h.ps waiting r p h.stack e h.waits rest (holds_right p e f).1 g
-
-  module _ {r rest : ℕ} (t : Top b.sheet.now b.work.now h.ps waiting r rest) (p : spent < fuel) where
     -- what the step takes and makes of it
     abbrev pub taken_step : Step
-    taken_step = step (tree_in b waiting) (tree_in b r) (stack_in b rest)
+    taken_step = step (tree_in b f.left) (tree_in b f.right) (stack_in b f.rest)
 
-    pub step_apart : ApartIn apart ((tree_in b waiting, tree_in b r) ∷ stack_in b rest)
-    step_apart = subst (ApartIn apart) (top_pairs t) h.differs
+    pub step_apart : ApartIn apart ((tree_in b f.left, tree_in b f.right) ∷ stack_in b f.rest)
+    step_apart = subst (ApartIn apart) on_top h.differs
 
-    pub step_room : Room b.work.now (b.free + load (tree_in b waiting) (tree_in b r) + 2)
-    step_room = let room = h.room in let weighs = top_weight t in (omega (arith, room.0), omega (arith, room.1))
+    weighs : weight h.ps ≡ load_in b f + weight (stack_in b f.rest)
+    weighs = top_weight (tree_in b f.left) (tree_in b f.right) (stack_in b f.rest) on_top
 
-    step_names : StepOver h.ns (step (tree_in b waiting) (tree_in b r) (stack_in b rest))
+    fits : Fit (tree_in b f.left) × Fit (tree_in b f.right) × FitPairs (stack_in b f.rest)
+    fits = top_fit (tree_in b f.left) (tree_in b f.right) (stack_in b f.rest) on_top h.fit
+
+    pub step_fit_front : FitFront b f
+    step_fit_front = (fits.0, fits.1)
+
+    pub step_room : FrontRoom b f
+    step_room = let room = h.room in (omega (arith, room.0, weighs), omega (arith, room.1, weighs))
+
+    step_names : StepOver h.ns taken_step
     step_names =
-        let o = subst (OverPairs h.ns) (top_pairs t) h.over in
-        step_over h.ns (tree_in b waiting) (tree_in b r) (stack_in b rest) o.0 o.1 o.2
+        let o = subst (OverPairs h.ns) on_top h.over in
+        step_over h.ns (tree_in b f.left) (tree_in b f.right) (stack_in b f.rest) o.0 o.1 o.2
 
-    step_fits : FitStep (step (tree_in b waiting) (tree_in b r) (stack_in b rest))
-    step_fits = let f = top_fit t h.fit in step_fit (tree_in b waiting) (tree_in b r) (stack_in b rest) f.0 f.1 f.2
+    step_fits : FitStep taken_step
+    step_fits = step_fit (tree_in b f.left) (tree_in b f.right) (stack_in b f.rest) fits.0 fits.1 fits.2
 
-    taken_run : (d : Step) → step (tree_in b waiting) (tree_in b r) (stack_in b rest) ≡ d → run fuel start ≡ resumed h.bs spent (after d (λ qs. run (fuel - spent - 1) qs))
+    taken_run : (d : Step) → taken_step ≡ d → run fuel start ≡ resumed h.bs spent (after d (λ qs. run (fuel - spent - 1) qs))
     taken_run d e =
-        h.ran ∙ ap (λ (qs : List Pair). resumed h.bs spent (run (fuel - spent) qs)) (top_pairs t)
-        ∙ ap (λ (x : Answer). resumed h.bs spent x) (run_step (fuel - spent) (tree_in b waiting) (tree_in b r) (stack_in b rest) (omega arith))
+        h.ran ∙ ap (λ (qs : List Pair). resumed h.bs spent (run (fuel - spent) qs)) on_top
+        ∙ ap (λ (x : Answer). resumed h.bs spent x) (run_step (fuel - spent) (tree_in b f.left) (tree_in b f.right) (stack_in b f.rest) (omega arith))
         ∙ ap (λ (d : Step). resumed h.bs spent (after d (λ qs. run (fuel - spent - 1) qs))) e
 
     left_is : fuel - spent - 1 ≡ fuel - (spent + 1)
@@ -142,19 +151,17 @@ module _ {a b : Area} {start : List Pair} {fuel spent waiting made : ℕ} {apart
     counted k = omega arith
 
     module _ {d : Area} where
-      pub holds_fails : (step (tree_in b waiting) (tree_in b r) (stack_in b rest) ≡ fails) × Grows b d → RunsIn a d (run fuel start) (record { verdict = Failed; spent = spent + 1 })
-      holds_fails g = record { grows = grows_then h.grows g.1; is = taken_run fails g.0; made = tt }
+      pub holds_over : (e : Ending) → (taken_step ≡ last_step e) × Grows b d → RunsIn a d (run fuel start) (record { verdict = Err e; spent = spent + 1 })
+      holds_over ending.Failed g = record { grows = grows_then h.grows g.1; is = taken_run fails g.0; made = tt }
+      holds_over ending.Unsupported g = record { grows = grows_then h.grows g.1; is = taken_run unknown g.0; made = tt }
 
-      pub holds_unknown : (step (tree_in b waiting) (tree_in b r) (stack_in b rest) ≡ unknown) × Grows b d → RunsIn a d (run fuel start) (record { verdict = Unsupported; spent = spent + 1 })
-      holds_unknown g = record { grows = grows_then h.grows g.1; is = taken_run unknown g.0; made = tt }
-
-      pub holds_next : {st : ℕ} {j : Option ℕ} → GoesOnIn b d (load (tree_in b waiting) (tree_in b r) + weight (stack_in b rest)) (step (tree_in b waiting) (tree_in b r) (stack_in b rest)) st j
+      pub holds_next : {st : ℕ} {j : Option ℕ} → GoesOnIn b d (load_in b f + weight (stack_in b f.rest)) taken_step st j
           → HoldsIn a d start fuel (spent + 1) st made j
       holds_next {st} {j} g =
           let k = g.waits in
           let x = run (fuel - spent - 1) g.pairs in
           let room = h.room in
-          let weighs = top_weight t in
+          let w = weighs in
           let used = g.used in
           let len = k.grows.below.len in
           record {
@@ -175,12 +182,12 @@ module _ {a b : Area} {start : List Pair} {fuel spent waiting made : ℕ} {apart
                 ∙ ap (λ (k : ℕ). resumed h.bs (spent + 1) (run k g.pairs)) left_is;
           }
 
-      module _ {key value st : ℕ} (g : BindsIn b d (step (tree_in b waiting) (tree_in b r) (stack_in b rest)) key value st) where
-        pub bind_room : (4 * (d.free + 2) ≤ length d.work.now) × (d.free + 2 < 2 ^ 32)
+      module _ {key value st : ℕ} (g : BindsIn b d taken_step key value st) where
+        pub bind_room : HasRoom d 2
         bind_room = let room = h.room in let used = g.used in let len = g.waits.grows.below.len in (omega (arith, room.0), omega (arith, room.1))
 
-        pub bind_cells : (0 < key) × (key < d.free) × (0 < value) × (value < d.free) × (made < d.free)
-        bind_cells = (g.cells.0, g.cells.1, g.cells.2, g.cells.3, omega (arith, h.list, g.waits.grows.grew))
+        pub bind_cells : CellIn d key × CellIn d value × (made < d.free)
+        bind_cells = (g.cells.0, g.cells.1, omega (arith, h.list, g.waits.grows.grew))
 
         pub holds_bind : {x : Area} {k : ℕ} → Lists d x k (more (tree_in d key) (more (tree_in d value) (trees_in d made))) → x.free ≡ d.free + 2 → HoldsIn a x start fuel (spent + 1) st k None
         unfolding flatten_bindings
@@ -194,7 +201,7 @@ module _ {a b : Area} {start : List Pair} {fuel spent waiting made : ℕ} {apart
             let small = g.small in
             let used = g.used in
             let fewer = o.fewer in
-            let weighs = weight_size g.pairs in
+            let heavy = weight_size g.pairs in
             let len = l.below.len ∙ k.grows.below.len in
             record {
               grows = grows_then (grows_then h.grows k.grows) l;
@@ -217,24 +224,28 @@ module _ {a b : Area} {start : List Pair} {fuel spent waiting made : ℕ} {apart
 
 -- ---- the bindings composed
 
-module _ {a b d : Area} {made spent : ℕ} (fuel : ℕ) (ps : List Pair) (r : RunsIn a b (run fuel ps) (record { verdict = Solved made; spent = spent })) where
-  pub composed_solved : {k : ℕ} → ComposedIn b d (bindings_in b made) k → AnswersIn a d (unify fuel ps) (record { verdict = Solved k; spent = spent })
+module _ {a b d : Area} {made spent : ℕ} (fuel : ℕ) (ps : List Pair) (r : RunsIn a b (run fuel ps) (record { verdict = Ok made; spent = spent })) where
+  composed_solved : {k : ℕ} → ComposedIn b d (bindings_in b made) k → AnswersIn a d (unify fuel ps) (record { verdict = Ok k; spent = spent })
   composed_solved j = record {
     grows = grows_then r.grows (adds_grows j.adds);
     is = finished fuel ps _ r.is ∙ ap (λ (o : Option (List Binding)). (composed o, spent)) j.composed;
     bound = record { inside = j.inside; chain = j.chain; room = omega (arith, r.made.room, j.used, j.adds.grown.len) };
   }
 
-  pub composed_over : (compose (reverse (bindings_in b made)) ≡ None) × WithinArea b d (4097 * length (bindings_in b made)) → AnswersIn a d (unify fuel ps) (record { verdict = Unsupported; spent = spent })
+  composed_over : (compose (reverse (bindings_in b made)) ≡ None) × WithinArea b d (4097 * length (bindings_in b made)) → AnswersIn a d (unify fuel ps) (record { verdict = Err ending.Unsupported; spent = spent })
   composed_over j = record {
     grows = grows_then r.grows (record { lent = j.1.lent; grew = j.1.grew; below = below_grown j.1.grown });
     is = finished fuel ps _ r.is ∙ ap (λ (o : Option (List Binding)). (composed o, spent)) j.0;
     bound = tt;
   }
 
+  pub composed_in : (o : Option ℕ) → ComposesIn b d (bindings_in b made) o → AnswersIn a d (unify fuel ps) (record { verdict = ok_or o ending.Unsupported; spent = spent })
+  composed_in (Some k) j = composed_solved j
+  composed_in None j = composed_over j
+
 -- a run that does not end solved
-pub answered_other : {a b : Area} (fuel : ℕ) (ps : List Pair) (v : Verdicts) (spent : ℕ) → RunsIn a b (run fuel ps) (record { verdict = v; spent = spent }) → ((k : ℕ) → v ≡ Solved k → ⊥)
+pub answered_other : {a b : Area} (fuel : ℕ) (ps : List Pair) (v : Result ℕ Ending) (spent : ℕ) → RunsIn a b (run fuel ps) (record { verdict = v; spent = spent }) → ((k : ℕ) → v ≡ Ok k → ⊥)
     → AnswersIn a b (unify fuel ps) (record { verdict = v; spent = spent })
-answered_other fuel ps (Solved k) spent r n = absurd (n k refl)
-answered_other fuel ps Failed spent r n = record { grows = r.grows; is = finished fuel ps _ r.is; bound = tt }
-answered_other fuel ps Unsupported spent r n = record { grows = r.grows; is = finished fuel ps _ r.is; bound = tt }
+answered_other fuel ps (Ok k) spent r n = absurd (n k refl)
+answered_other fuel ps (Err ending.Failed) spent r n = record { grows = r.grows; is = finished fuel ps _ r.is; bound = tt }
+answered_other fuel ps (Err ending.Unsupported) spent r n = record { grows = r.grows; is = finished fuel ps _ r.is; bound = tt }

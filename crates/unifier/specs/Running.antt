@@ -1,5 +1,5 @@
 -- What a run needs, and what it answers. Definitions only.
-use Rattle.std.specs.Prelude.{ℕ, ◌+◌, ◌*◌, ◌<◌, ◌≤◌, ◌^◌, ◌≡◌, List, reverse, length}
+use Rattle.std.specs.Prelude.{ℕ, ◌+◌, ◌*◌, List, length}
 use Rattle.rules.specs.Bytes.{Text}
 use Rattle.rules.specs.Substitution.{Pair}
 use Rattle.laws.specs.Memory.{OverPairs, weight}

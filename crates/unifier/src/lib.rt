@@ -1,5 +1,5 @@
 // Unification of the trees of an area (unifier.rs, `unify`).
 #![tactic(auto)]
 
-pub mod room; // room.rt: the room that a run needs
+mod room; // room.rt: the room that a run needs
 pub mod unifying; // unifying.rt: `unify`

@@ -10,28 +10,18 @@ ghost use Rattle.unifier.specs.Areas.{stack_in, NamesFew, spared_end, RunsIn, An
 
 use crate::room::{NAME_CELLS, STEP_WORDS};
 use elimination::Taken;
+use elimination::front::Front;
+use rules::Ending;
 use stepping::step;
+use substitution::answer::Answer;
 use substitution::pairing::push_pair;
 use substitution::solving::compose;
 use tree::area::Area;
 
-// The bindings of solved pairs are a list: the key and the value of each in turn.
-#[derive(Clone, Copy, Debug, PartialEq, Eq)]
-pub enum Verdict {
-    Solved(usize),
-    Failed,
-    Unsupported,
-}
-
-// A verdict with the number of pairs taken from the stack.
-#[derive(Clone, Copy, Debug, PartialEq, Eq)]
-pub struct Answer {
-    pub verdict: Verdict,
-    pub spent: usize,
-}
-
 // The run over the pairs from cell stack on: one after another is taken, until none is left or one ends the run. The bindings are not
 // composed, the last made first.
+// Each step pushes cells into the area, which an iterator over the pairs would hold. `matcher` has a loop like it: a trait for both would
+// have to state the invariants of the two and how each starts, goes on and ends, and be longer than they are.
 fn run(area: &mut Area, stack: usize, fuel: usize) -> Answer
     requires stack { (stack < area.old.free) × Whole (trees_in area.old stack) × FitPairs (stack_in area.old stack) }
     requires fuel { fuel ≤ 65536 }
@@ -42,18 +32,26 @@ fn run(area: &mut Area, stack: usize, fuel: usize) -> Answer
     let mut made = 0;
     let mut apart = None;
     for spent in 0..fuel {
-        if waiting == 0 {
+        let Some(front) = Front::top(area, waiting) else {
             return Answer {
-                verdict: Verdict::Solved(made),
+                verdict: Ok(made),
                 spent,
             };
-        }
-        let right = area.next_of(waiting);
-        let rest = area.next_of(right);
-        match step(area, waiting, right, rest, apart) {
-            Taken::Next { stack: s, apart: a } => {
-                waiting = s;
-                apart = a;
+        };
+        // The ending leaves first: in one match the arms would join under names that no proof can cite.
+        let taken = match step(area, front, apart) {
+            Ok(taken) => taken,
+            Err(ending) => {
+                return Answer {
+                    verdict: Err(ending),
+                    spent: spent + 1,
+                };
+            }
+        };
+        match taken {
+            Taken::Next(next) => {
+                waiting = next.stack;
+                apart = next.apart;
             }
             Taken::Bind {
                 key,
@@ -64,22 +62,10 @@ fn run(area: &mut Area, stack: usize, fuel: usize) -> Answer
                 made = push_pair(area, key, value, made);
                 apart = None;
             }
-            Taken::Fails => {
-                return Answer {
-                    verdict: Verdict::Failed,
-                    spent: spent + 1,
-                };
-            }
-            Taken::Unknown => {
-                return Answer {
-                    verdict: Verdict::Unsupported,
-                    spent: spent + 1,
-                };
-            }
         }
     }
     Answer {
-        verdict: Verdict::Unsupported,
+        verdict: Err(Ending::Unsupported),
         spent: fuel,
     }
 }
@@ -92,21 +78,18 @@ pub fn unify(area: &mut Area, stack: usize, fuel: usize) -> Answer
     ensures { AnswersIn area.old area.new (unify fuel (stack_in area.old stack)) result }
 {
     let ran = run(area, stack, fuel);
-    let Verdict::Solved(made) = ran.verdict else {
+    let Ok(made) = ran.verdict else {
         return ran;
     };
-    let verdict = match compose(area, made) {
-        Some(bindings) => Verdict::Solved(bindings),
-        None => Verdict::Unsupported,
-    };
     Answer {
-        verdict,
+        verdict: compose(area, made).ok_or(Ending::Unsupported),
         spent: ran.spent,
     }
 }
 
 // Unifies the pairs from cell stack on, which have so many nodes and at most so many names, in as many words as that may take: those after
 // them are left for what follows.
+// The nodes are counted by the caller: complete needs them for its fuel.
 pub fn unify_sparing(
     area: &mut Area,
     stack: usize,
@@ -122,6 +105,7 @@ pub fn unify_sparing(
     ensures ends { EndsIn area.new result.verdict (spared_end area.old.free nodes fuel names) }
 {
     let limit = 4 * (area.free + nodes + 2 * fuel + NAME_CELLS * names) + STEP_WORDS;
+    // Lent to a variable first: the words that come back of a field have no name that a proof can cite.
     let work = &mut *area.work;
     let (lent, _) = work.split_at_mut(limit);
     let mut part = Area {

@@ -10,14 +10,14 @@ use Rattle.rules.specs.Matching.{bound}
 use Rattle.rules.specs.Sheet.{Entry}
 use Rattle.rules.specs.Cover.{pair_at}
 use Rattle.sheet.specs.declared.Place.{Place}
+use Rattle.sheet.specs.declared.Read.{Read}
 use Rattle.sheet.specs.Lines.{lines_at}
 use Rattle.tree.specs.declared.area.Area.{Area}
 use Rattle.tree.specs.Areas.{name_in, trees_in, Grows}
 use Rattle.substitution.specs.Areas.{bindings_in}
 use Rattle.variables.specs.Areas.{names_in}
+use Rattle.variables.specs.declared.pairing.Solution.{Solution}
 use Rattle.values.specs.Values.{value_in, resumed, entry_of, EntriesThen, EntriesFrom, OneUnread}
-use Rattle.values.specs.declared.values.Bound.{Bound}
-use Rattle.values.specs.declared.members.Paired.{Paired}
 
 -- cell k is the variable x, which is one of ns
 pub record FoundVariable (a : Area) (ns : List Text) (x : Text) (k : ℕ) : Type 0 where
@@ -51,34 +51,34 @@ ReadsValueIn a b ns key value list (Some i) = ValuedIn a b ns key value list i
 ReadsValueIn a b ns key value list None = UnreadValue a b ns key value list
 
 -- the bindings of b from a cell on give each of ns the tree that the entries from `at` to a cursor give it
-pub record ValuesIn (a b : Area) (ns : List Text) (at : ℕ) (r : Bound) : Type 0 where
+pub record ValuesIn (a b : Area) (ns : List Text) (at : ℕ) (r : Read ℕ) : Type 0 where
   pub low : at ≤ r.next.at
   pub high : r.next.at ≤ length a.sheet.now
   pub ends : (es : List Entry) (rest : List Text) → EntriesThen a.sheet.now at es rest → lines_at a.sheet.now r.next.at ≡ Some rest
   pub grows : Grows a b
-  pub inside : r.bindings < b.free
+  pub inside : r.value < b.free
   pub used : b.free ≤ a.free + 2 * (r.next.at - at)
-  pub gives : (es : List Entry) → EntriesFrom a.sheet.now at es → (y : Text) → is_one_of ns y ≡ true → value_in es y ≡ Some (lookup (bindings_in b r.bindings) y)
+  pub gives : (es : List Entry) → EntriesFrom a.sheet.now at es → (y : Text) → is_one_of ns y ≡ true → value_in es y ≡ Some (lookup (bindings_in b r.value) y)
 
 -- or of one of them the value cannot be read
-abbrev pub ReadsValuesIn : Area → Area → List Text → ℕ → Option Bound → Type 0
+abbrev pub ReadsValuesIn : Area → Area → List Text → ℕ → Option (Read ℕ) → Type 0
 ReadsValuesIn a b ns at (Some r) = ValuesIn a b ns at r
 ReadsValuesIn a b ns at None = OneUnread a.sheet.now ns at × Grows a b
 
--- the list from a cell on in b is that of the pairs of a member with the entries from `at` to a cursor
-pub record MemberPairsIn (a b : Area) (names bindings at : ℕ) (p : Paired) : Type 0 where
+-- the list from a cell on in b is that of the pairs of a solution and a member with the entries from `at` to a cursor
+pub record MemberPairedIn (a b : Area) (s : Solution) (at : ℕ) (p : Read ℕ) : Type 0 where
   pub low : at ≤ p.next.at
   pub high : p.next.at ≤ length a.sheet.now
   pub ends : (es : List Entry) (rest : List Text) → EntriesThen a.sheet.now at es rest → lines_at a.sheet.now p.next.at ≡ Some rest
   pub ps : List Pair
-  pub are : (x : Text) (es : List Entry) → EntriesFrom a.sheet.now at es → every (map (pair_at (bindings_in a bindings) (x, es)) (names_in a names)) ≡ Some ps
+  pub are : (x : Text) (es : List Entry) → EntriesFrom a.sheet.now at es → every (map (pair_at (bindings_in a s.bindings) (x, es)) (names_in a s.names)) ≡ Some ps
   pub grows : Grows a b
-  pub inside : p.stack < b.free
-  pub trees : trees_in b p.stack ≡ flatten ps
-  pub used : b.free ≤ a.free + 2 * (p.next.at - at) + 2 * count (trees_in a names)
+  pub inside : p.value < b.free
+  pub trees : trees_in b p.value ≡ flatten ps
+  pub used : b.free ≤ a.free + 2 * (p.next.at - at) + 2 * count (trees_in a s.names)
 
 -- or one of its values cannot be read
-abbrev pub PairsMemberIn : Area → Area → ℕ → ℕ → ℕ → Option Paired → Type 0
-PairsMemberIn a b names bindings at (Some p) = MemberPairsIn a b names bindings at p
-PairsMemberIn a b names bindings at None =
-    ((x : Text) (es : List Entry) → EntriesFrom a.sheet.now at es → every (map (pair_at (bindings_in a bindings) (x, es)) (names_in a names)) ≡ None) × Grows a b
+abbrev pub PairsUpMemberIn : Area → Area → Solution → ℕ → Option (Read ℕ) → Type 0
+PairsUpMemberIn a b s at (Some p) = MemberPairedIn a b s at p
+PairsUpMemberIn a b s at None =
+    ((x : Text) (es : List Entry) → EntriesFrom a.sheet.now at es → every (map (pair_at (bindings_in a s.bindings) (x, es)) (names_in a s.names)) ≡ None) × Grows a b

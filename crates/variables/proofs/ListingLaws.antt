@@ -1,5 +1,5 @@
 -- The variables at places of an area, written as a list of its cells.
-use Prim.Native.Nat.{ℕ, ◌+◌, ◌*◌, ◌-◌, ◌/◌, ◌%◌, ◌<◌, ◌≤◌}
+use Prim.Native.Nat.{ℕ, ◌+◌, ◌*◌, ◌-◌, ◌<◌, ◌≤◌}
 use mathlib.Core.Path.{◌≡◌, refl, sym, ap, subst, ◌∙◌}
 use mathlib.Core.List.{List, [], ◌∷◌, map}
 use lib.ListN.{length, get_or}
@@ -9,10 +9,10 @@ use Rattle.rules.specs.Bytes.{Text}
 use Rattle.rules.specs.Tree.{variable}
 use Rattle.text.specs.Places.{text_at}
 use Rattle.text.proofs.Slices.{slice_none}
-use Rattle.sheet.specs.declared.Place.{Place}
+use Rattle.sheet.specs.Places.{place_of}
+use Rattle.sheet.proofs.Words.{text_of_place}
 use Rattle.tree.specs.declared.area.Area.{Area}
 use Rattle.tree.specs.Areas.{Pushes}
-use Rattle.tree.specs.Cells.{part}
 use Rattle.tree.specs.Spelled.{Spelled}
 use Rattle.tree.proofs.Decoding.{trees_none}
 use Rattle.tree.proofs.Keeping.{adds_same}
@@ -25,22 +25,17 @@ use Rattle.variables.specs.declared.gathering.Places.{Places}
 use Rattle.variables.proofs.Dropping.{first_word}
 use Rattle.variables.proofs.Listings.{second_byte, place_some}
 
--- the text at a place
-module _ (s : Text) (x : ℕ) (p : Place) (e : p.from ≡ x / 65536) (f : p.to ≡ x / 65536 + x % 65536) where
-  pub place_text : part s p.from (p.to - p.from) ≡ text_at s x
-  unfolding text_at
-  place_text = let g : p.to - p.from ≡ x % 65536 = omega arith in rw (g, e) refl
-
-  pub place_spelled : Variable s x → length s ≤ 65536 → Spelled s p
-  place_spelled v l =
-      let k = place_some s x v in
-      record {
-        some = omega arith;
-        inside = omega (arith, v.inside);
-        start = omega (arith, v.inside);
-        short = omega arith;
-        plain = λ h. second_byte (text_at s x) v.token (ap (λ (t : Text). get_or t 1 0) (sym place_text) ∙ h);
-      }
+-- the place of a variable spells its name
+pub place_spelled : (s : Text) (x : ℕ) → Variable s x → length s ≤ 65536 → Spelled s (place_of x)
+place_spelled s x v l =
+    let k = place_some s x v in
+    record {
+      some = omega arith;
+      inside = omega (arith, v.inside);
+      start = omega (arith, v.inside);
+      short = omega arith;
+      plain = λ h. second_byte (text_at s x) v.token (ap (λ (t : Text). get_or t 1 0) (sym (text_of_place s x)) ∙ h);
+    }
 
 -- the variables at the places from p.from to i are the list from a cell on, the last first
 pub record ListingIn (a b : Area) (p : Places) (i list : ℕ) : Type 0 where

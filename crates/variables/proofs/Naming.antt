@@ -4,26 +4,24 @@ use mathlib.Core.Path.{◌≡◌, refl, sym, ap, ap₂, subst, ◌∙◌}
 use mathlib.Core.Bool.{Bool, true, false, cond, false≢true}
 use mathlib.Core.List.Memᴰ
 use mathlib.Core.List.{List, [], ◌∷◌, ◌++◌, map, Memᴰ}
-use lib.ListN.{length, get_or, set, length-set}
-use lib.Seq.{slice, get_or-set_other}
+use lib.ListN.{length, get_or}
+use lib.Seq.{slice}
 use native.Mathlib.Omega.{arith}
 use native.Mathlib.Decide.{dec_lt}
 use Rattle.rules.specs.Bytes.{Text}
 use Rattle.rules.specs.Names.{variable_token}
 use Rattle.rules.specs.Tree.{Tree, apply, Trees, more, size, sizes, variable_names, variable_names_in}
 use Rattle.rules.specs.Tidy.{Built, Builts, both}
-use Rattle.equivalence.proofs.Comparing.{kept_none}
 use Rattle.laws.proofs.Sheets.BuiltRun.{name_token}
 use Rattle.laws.proofs.Equality.Building.{built_children}
 use Rattle.text.specs.Places.{text_at}
-use Rattle.text.specs.Sorting.{insert_by, sort_by}
-use Rattle.text.proofs.Slices.{slice_same, slice_set, slice_join, slice_none}
+use Rattle.text.specs.Sorting.{Wrote, insert_by, sort_by}
+use Rattle.text.proofs.Slices.{slice_same, slice_join, slice_none}
 use Rattle.tree.specs.Cells.{start_of, length_of, kind_of, first_of, next_of, fixed_name, name_at, tree_at, trees_at}
 use Rattle.tree.specs.Arena.{Cell, Arena}
-use Rattle.tree.proofs.Decoding.{Agree, same_next, trees_more, tree_variable, tree_atom, tree_apply, size_pos, size_apply, frame_tree}
+use Rattle.tree.proofs.Decoding.{trees_more, tree_variable, tree_atom, tree_apply, size_pos, size_apply}
 use Rattle.tree.proofs.FixedNames.{fixed_length}
 use Rattle.tree.proofs.Naming.{name_part, name_fixed}
-use Rattle.text.specs.Frames.{Outside}
 use Rattle.variables.specs.Variables.{Readable, ReadableAll, Variable, Variables, VariablePlaces}
 
 -- ---- lists of places
@@ -108,17 +106,6 @@ first_spelled {t} {ts} h =
 
 -- ---- gathering
 
--- an area of which only words after the cells changed
-module _ (s : Text) {w v : List ℕ} {n : ℕ} (a : Arena s w n) {at mid : ℕ} (l : 4 * n ≤ at) (g : Outside w v at mid) where
-  cells_kept : Agree w v n
-  cells_kept x h = sym (g.below x (omega arith))
-
-  pub tree_kept : (k : ℕ) → 0 < k → k < n → tree_at s w k ≡ tree_at s v k
-  tree_kept k p q = frame_tree s v a.links cells_kept k p q
-
-  pub next_kept : (k : ℕ) → k < n → next_of w k ≡ next_of v k
-  next_kept k q = same_next w v cells_kept k q
-
 -- one writer after another
 pub named_append : (s : Text) (w v u : List ℕ) (at mid end a b : ℕ) (ns ms : List Text) → VariablePlaces s w v at mid a ns → VariablePlaces s v u mid end b ms → at + a + b ≤ length w
     → VariablePlaces s w u at end (a + b) (ns ++ ms)
@@ -148,7 +135,7 @@ unfolding Variables
 named_empty s w at r most ns e f =
     let y : slice at r w ≡ [] = slice_none at r w (omega arith) in
     record {
-      kept = kept_none w at r;
+      kept = record { len = refl; below = λ p h. refl; above = λ p h. refl };
       grew = omega arith;
       most_is = omega arith;
       places = subst (Variables s) (sym y) tt;
@@ -156,33 +143,30 @@ named_empty s w at r most ns e f =
     }
 
 module _ (s : Text) (w : List ℕ) (i : ℕ) where
-  pub named_variable : {n : ℕ} (at r : ℕ) → Arena s w n → 0 < i → i < n → 0 < kind_of w i → kind_of w i < 7 → Readable (tree_at s w i) → at < length w → r ≡ at + 1
-      → VariablePlaces s w (set w at (get_or w (4 * i) 0)) at r (size (tree_at s w i)) (variable_names (tree_at s w i))
+  pub named_variable : {n : ℕ} {x : ℕ} {u v : List ℕ} (at r : ℕ) → Arena s w n → 0 < i → i < n → 0 < kind_of w i → kind_of w i < 7 → Readable (tree_at s w i) → x ≡ get_or w (4 * i) 0 → Wrote u v at (x ∷ []) → r ≡ at + 1
+      → VariablePlaces s u v at r (size (tree_at s w i)) (variable_names (tree_at s w i))
   unfolding Variables variable_names
-  named_variable at r a x y p q b room e =
-      let k = get_or w (4 * i) 0 in
-      let v = set w at k in
-      let c = a.cell i x y in
-      let z : slice at (at + 1) v ≡ k ∷ [] = slice_set at at w k (omega arith) room ∙ ap (λ (l : List ℕ). l ++ (k ∷ [])) (slice_none at at w (omega arith)) in
-      let f : slice at r v ≡ k ∷ [] = ap (λ (t : ℕ). slice at t v) e ∙ z in
+  named_variable {n} {x} {u} {v} at r a k l p q b f g e =
+      let c = a.cell i k l in
       let o = size_pos (tree_at s w i) in
+      let y : slice at r v ≡ get_or w (4 * i) 0 ∷ [] = ap (λ (t : ℕ). slice at t v) e ∙ g.words ∙ ap (λ (t : ℕ). t ∷ []) f in
       record {
-        kept = record { len = length-set w at k; below = λ x h. get_or-set_other w at x k 0 (λ g. omega arith); above = λ x h. get_or-set_other w at x k 0 (λ g. omega arith) };
+        kept = record { len = g.len; below = g.below; above = λ z h. g.above z (omega arith) };
         grew = omega arith;
         most_is = omega arith;
-        places = subst (Variables s) (sym f) (place_variable s w i c p q b, tt);
-        are = ap (map (text_at s)) f ∙ ap (λ (t : Text). t ∷ []) (place_text s w i c p q b) ∙ sym (ap variable_names (tree_variable s w i p q));
+        places = subst (Variables s) (sym y) (place_variable s w i c p q b, tt);
+        are = ap (map (text_at s)) y ∙ ap (λ (t : Text). t ∷ []) (place_text s w i c p q b) ∙ sym (ap variable_names (tree_variable s w i p q));
       }
 
-  pub named_atom : (at r : ℕ) → 7 ≤ kind_of w i → r ≡ at → VariablePlaces s w w at r (size (tree_at s w i)) (variable_names (tree_at s w i))
+  pub named_atom : (u : List ℕ) (at r : ℕ) → 7 ≤ kind_of w i → r ≡ at → VariablePlaces s u u at r (size (tree_at s w i)) (variable_names (tree_at s w i))
   unfolding variable_names
-  named_atom at r p e = named_empty s w at r (size (tree_at s w i)) (variable_names (tree_at s w i)) e (ap variable_names (tree_atom s w i p))
+  named_atom u at r p e = named_empty s u at r (size (tree_at s w i)) (variable_names (tree_at s w i)) e (ap variable_names (tree_atom s w i p))
 
   pub list_spelled : (j : ℕ) → kind_of w i ≡ 0 → j ≡ first_of w i → Readable (tree_at s w i) → ReadableAll (trees_at s w j)
   list_spelled j k e b = subst (λ (j : ℕ). ReadableAll (trees_at s w j)) (sym e) (children_spelled (subst Readable (tree_apply s w i k) b))
 
-  pub named_list : {v : List ℕ} {at end : ℕ} (j : ℕ) → kind_of w i ≡ 0 → j ≡ first_of w i → VariablePlaces s w v at end (sizes (trees_at s w j)) (variable_names_in (trees_at s w j))
-      → VariablePlaces s w v at end (size (tree_at s w i)) (variable_names (tree_at s w i))
+  pub named_list : {u v : List ℕ} {at end : ℕ} (j : ℕ) → kind_of w i ≡ 0 → j ≡ first_of w i → VariablePlaces s u v at end (sizes (trees_at s w j)) (variable_names_in (trees_at s w j))
+      → VariablePlaces s u v at end (size (tree_at s w i)) (variable_names (tree_at s w i))
   unfolding variable_names
   named_list j k e g =
       let z = size_apply s w i k in

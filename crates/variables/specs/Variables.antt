@@ -1,5 +1,5 @@
 -- The variables of trees as places in the work area. Definitions only.
-use Rattle.std.specs.Prelude.{ℕ, ◌+◌, ◌/◌, ◌%◌, ◌≤◌, ◌≡◌, Bool, true, false, length}
+use Rattle.std.specs.Prelude.{ℕ, ◌+◌, ◌/◌, ◌%◌, ◌≤◌, ◌≡◌, Bool, true, false, length, take}
 use mathlib.Core.List.{List, [], ◌∷◌, map, Memᴰ}
 use Rattle.std.proofs.Math.Seq.{slice}
 use Rattle.rules.specs.Bytes.{Text, same}
@@ -8,6 +8,7 @@ use Rattle.rules.specs.Tree.{Tree, Trees, variable_names, variable_names_in}
 use Rattle.rules.specs.Tidy.{Built, Builts}
 use Rattle.text.specs.Places.{text_at}
 use Rattle.text.specs.Frames.{Outside}
+use Rattle.flattening.specs.declared.writer.Writer.{Writer}
 use Rattle.variables.specs.Ordered.{ordered_once, unique}
 
 -- no name is longer than a sheet
@@ -40,6 +41,11 @@ pub record VariablePlaces (s : Text) (w v : List ℕ) (at end most : ℕ) (ns : 
   pub places : Variables s (slice at end v)
   pub are : map (text_at s) (slice at end v) ≡ ns
 
+-- y is x with the places of the variables ns, at most so many
+pub record PlacesWritten (s : Text) (x y : Writer) (most : ℕ) (ns : List Text) : Type 0 where
+  pub lent : y.words.ghost_name ≡ x.words.ghost_name
+  pub named : VariablePlaces s x.words.now y.words.now x.end y.end most ns
+
 -- the first of the texts is also the second
 unfoldable pub repeats : List Text → Bool
 unfolding same
@@ -47,13 +53,12 @@ repeats [] = false
 repeats (x ∷ []) = false
 repeats (x ∷ y ∷ l) = same x y
 
--- v is w, but the words from `at` to `end` are those of w without repeats, from `at` to r
-pub record Dropped (s : Text) (w v : List ℕ) (at end r : ℕ) : Type 0 where
-  pub kept : Outside w v at end
-  pub grew : at ≤ r
-  pub most_is : r ≤ end
-  pub places : Variables s (slice at end w) → Variables s (slice at r v)
-  pub are : map (text_at s) (slice at r v) ≡ unique (map (text_at s) (slice at end w))
+-- the first r words of v are the places w without repeats
+pub record Dropped (s : Text) (w v : List ℕ) (r : ℕ) : Type 0 where
+  pub len : length v ≡ length w
+  pub most_is : r ≤ length w
+  pub places : Variables s w → Variables s (take r v)
+  pub are : map (text_at s) (take r v) ≡ unique (map (text_at s) w)
 
 -- the places of the variables ns in byte order, each once, from `at` to r
 pub record Ordered (s : Text) (w v : List ℕ) (at r most : ℕ) (ns : List Text) : Type 0 where

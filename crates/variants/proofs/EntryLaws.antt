@@ -18,12 +18,12 @@ use Rattle.laws.proofs.Basics.Options.{bound}
 use Rattle.laws.proofs.Reading.Colons.{parse_size}
 use Rattle.sheet.specs.Lines.{part_of, lines_at, value_at}
 use Rattle.sheet.specs.Pairs.{two_lines_at, entries_by, entries_before}
-use Rattle.sheet.specs.declared.Line.{Line}
+use Rattle.sheet.specs.declared.Place.{Place}
+use Rattle.sheet.specs.declared.Read.{Read}
 use Rattle.sheet.specs.declared.Sides.{Sides}
 use Rattle.sheet.proofs.LineLaws.{keyed}
 use Rattle.forms.specs.Members.{members_at, Walks}
-use Rattle.forms.specs.Form.{text_of, Inside}
-use Rattle.forms.proofs.PairLaws.{paired}
+use Rattle.forms.specs.Form.{text_of}
 use Rattle.forms.proofs.WalkLaws.{two_there, two_end, member_end, member_next, members_later}
 use Rattle.variants.specs.Members.{nameable, binding_before}
 use Rattle.variants.specs.Areas.{UnreadEntries, UnreadMember}
@@ -45,25 +45,6 @@ with_size x t ts = go (nameable x)
     go true = omega (arith, binding_size x t ts)
     go false = omega arith
 
--- where two lines stand, and how many bytes there are beside the key and the value
-pub record Located (s : Text) (c : ℕ) (two : Sides) : Type 0 where
-  pub key : Inside s two.left
-  pub value : Inside s two.right
-  pub next : c + 12 + (two.left.to - two.left.from) + (two.right.to - two.right.from) ≡ two.next.at
-  pub within : two.next.at ≤ length s
-
-pub located : (s : Text) (c : ℕ) (two : Sides) → Some two ≡ two_lines_at (bytes "key=") (bytes "value=") s c → Located s c two
-located s c two e =
-    let h = paired (bytes "key=") (bytes "value=") s c two e in
-    let a : length (bytes "key=") ≡ 4 = refl in
-    let b : length (bytes "value=") ≡ 6 = refl in
-    record {
-      key = h.one.ends;
-      value = h.two.ends;
-      next = omega (arith, h.one.begins, h.one.ends, h.one.after, h.two.begins, h.two.ends, h.two.after);
-      within = omega (arith, h.two.ends, h.two.after);
-    }
-
 -- ---- entries in front of others
 
 parts_before : (es : List Entry) (p : List Entry × List Text) (fs : List Entry) (rest : List Text) → entries_before es p ≡ Some (fs, rest) → (es ++ p.0 ≡ fs) × (p.1 ≡ rest)
@@ -72,13 +53,13 @@ parts_before es (gs, ls) fs rest e =
     (ap (λ (q : List Entry × List Text). q.0) z, ap (λ (q : List Entry × List Text). q.1) z)
 
 -- an entry after those walked over has no readable value
-pub walk_unread : (s : Text) {at c : ℕ} (walk : Walks (bytes "key=") (bytes "value=") s at c) (two : Sides) → Some two ≡ two_lines_at (bytes "key=") (bytes "value=") s c → parse (text_of s two.right) ≡ None
+pub walk_unread : (s : Text) {at c : ℕ} (walk : Walks (bytes "key=") (bytes "value=") s at c) (two : Read Sides) → Some two ≡ two_lines_at (bytes "key=") (bytes "value=") s c → parse (text_of s two.value.right) ≡ None
     → UnreadEntries s at
 walk_unread s {at} {c} walk two e x es rest f =
     let (p, a, b) = bound (lines_at s c >>= entries_by (bytes "key=") (bytes "value=")) (entries_before walk.es) (es, rest) (sym walk.chain ∙ f) in
     let (fs, d, g) = two_there (bytes "key=") (bytes "value=") s c p.0 p.1 a two e in
     let z = (parts_before walk.es p es rest b).0 in
-    ap (λ (gs : List Entry). every (map read_entry gs)) (sym z ∙ ap (λ (gs : List Entry). walk.es ++ gs) d) ∙ entries_unread walk.es (text_of s two.left) (text_of s two.right) fs x
+    ap (λ (gs : List Entry). every (map read_entry gs)) (sym z ∙ ap (λ (gs : List Entry). walk.es ++ gs) d) ∙ entries_unread walk.es (text_of s two.value.left) (text_of s two.value.right) fs x
 
 -- ---- the definition by what its texts read as
 
@@ -105,7 +86,7 @@ line_none s at e m ms h =
     let y : ◌≡◌ {A = ℕ} 0 1 = cc in
     absurd (omega arith)
 
-module _ (s : Text) (at : ℕ) (line : Line) (e : Some line ≡ value_at s (bytes "member=") at) where
+module _ (s : Text) (at : ℕ) (line : Read Place) (e : Some line ≡ value_at s (bytes "member=") at) where
   -- the text of the line, and where it ends
   pub member_placed : (at < line.next.at) × (line.next.at ≤ length s) × (line.value.from ≤ line.value.to) × (line.value.to < length s) × (at + 8 + (line.value.to - line.value.from) ≡ line.next.at)
   member_placed =

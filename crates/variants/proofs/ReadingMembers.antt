@@ -17,7 +17,7 @@ use Rattle.laws.proofs.Reading.Builds.{reads_within}
 use Rattle.tree.specs.declared.area.Area.{Area}
 use Rattle.tree.specs.Areas.{tree_in, trees_in, Grows, Pushes}
 use Rattle.tree.specs.Spelled.{text_in, Spelled}
-use Rattle.tree.proofs.Keeping.{adds_grows, grows_same, grows_then, grows_length, grows_tree, grows_trees}
+use Rattle.tree.proofs.Keeping.{adds_grows, grows_same, grows_then, grows_tree, grows_trees}
 use Rattle.tree.proofs.Lists.{list_none}
 use Rattle.tree.proofs.Spelling.{text_lent}
 use Rattle.reading.specs.Areas.{Reads, UnreadIn, texts_end_in}
@@ -29,17 +29,17 @@ use Rattle.substitution.proofs.Chains.{chain_none}
 use Rattle.substitution.proofs.Listing.{lists_same, lists_push}
 use Rattle.sheet.specs.Lines.{value_at}
 use Rattle.sheet.specs.Pairs.{two_lines_at}
-use Rattle.sheet.specs.declared.Line.{Line}
 use Rattle.sheet.specs.declared.Place.{Place}
+use Rattle.sheet.specs.declared.Read.{Read}
 use Rattle.sheet.specs.declared.Sides.{Sides}
 use Rattle.forms.specs.Members.{members_at, Walks}
 use Rattle.forms.specs.Form.{Inside}
 use Rattle.forms.proofs.PairLaws.{walk_starts, walk_turn}
+use Rattle.forms.proofs.Located.{entry_located}
 use Rattle.variants.specs.Members.{nameable, binding_before, entry_end}
 use Rattle.variants.specs.Areas.{UnreadEntries, UnreadMember, ReadEntryIn, ReadEntriesIn, ReadMemberIn}
-use Rattle.variants.specs.declared.members.Entries.{Entries}
 use Rattle.variants.proofs.NameLaws.{part_some, nameable_some, nameable_plain}
-use Rattle.variants.proofs.EntryLaws.{part_size, with_size, located, walk_unread, member_placed, text_none, values_none, member_read}
+use Rattle.variants.proofs.EntryLaws.{part_size, with_size, walk_unread, member_placed, text_none, values_none, member_read}
 use Rattle.variants.proofs.Lookups.{Turned, turned_none, turned_more, turned_alike, bound_before, bindings_with, chain_with, entries_last}
 
 -- ---- one entry
@@ -110,7 +110,7 @@ entering_starts a at p = record {
 }
 
 module _ {a b : Area} {at c list : ℕ} (h : EnteringIn a at b c list) where
-  pub entering_ends : None ≡ two_lines_at (bytes "key=") (bytes "value=") b.sheet.now c → ReadEntriesIn a b at record { bindings = list; next = record { at = c } }
+  pub entering_ends : None ≡ two_lines_at (bytes "key=") (bytes "value=") b.sheet.now c → ReadEntriesIn a b at record { value = list; next = record { at = c } }
   entering_ends e = record {
     walk = h.walk;
     stops = subst (λ s. None ≡ two_lines_at (bytes "key=") (bytes "value=") s.now c) h.grows.lent.sheet e;
@@ -124,44 +124,45 @@ module _ {a b : Area} {at c list : ℕ} (h : EnteringIn a at b c list) where
     inside = h.inside;
   }
 
-  module _ (two : Sides) (e : Some two ≡ two_lines_at (bytes "key=") (bytes "value=") b.sheet.now c) where
+  module _ (two : Read Sides) (e : Some two ≡ two_lines_at (bytes "key=") (bytes "value=") b.sheet.now c) where
     here : Some two ≡ two_lines_at (bytes "key=") (bytes "value=") a.sheet.now c
     here = subst (λ s. Some two ≡ two_lines_at (bytes "key=") (bytes "value=") s.now c) h.grows.lent.sheet e
 
-    pub entering_room : (entry_end b.free two.right ≤ texts_end_in a at) × (length b.sheet.now ≡ length a.sheet.now) × (length b.work.now ≡ length a.work.now)
-    entering_room =
-        let x = located b.sheet.now c two e in
-        (omega (arith, h.used, h.walk.low, x.next, x.within, sheet_length h.grows.lent), sheet_length h.grows.lent, grows_length h.grows)
+    pub entering_inside : Inside b.sheet.now two.value.left × Inside b.sheet.now two.value.right × (list < b.free)
+    entering_inside = let x = entry_located b.sheet.now c two e in (x.left, x.right, h.inside)
 
-    pub entering_unread : {d : Area} → (parse (text_in b two.right) ≡ None) × Grows b d
+    pub entering_room : entry_end b.free two.value.right ≤ texts_end_in a at
+    entering_room = let x = entry_located b.sheet.now c two e in omega (arith, h.used, h.walk.low, x.next, x.within, sheet_length h.grows.lent)
+
+    pub entering_unread : {d : Area} → (parse (text_in b two.value.right) ≡ None) × Grows b d
         → UnreadEntries a.sheet.now at × Grows a d
-    entering_unread x = (walk_unread a.sheet.now h.walk two here (ap parse (sym (text_lent two.right h.grows.lent)) ∙ x.0), grows_then h.grows x.1)
+    entering_unread x = (walk_unread a.sheet.now h.walk two here (ap parse (sym (text_lent two.value.right h.grows.lent)) ∙ x.0), grows_then h.grows x.1)
 
-    pub entering_turn : {d : Area} {i : ℕ} → ReadEntryIn b d two list i → EnteringIn a at d two.next.at i
+    pub entering_turn : {d : Area} {i : ℕ} → ReadEntryIn b d two.value list i → EnteringIn a at d two.next.at i
     unfolding walk_turn
     entering_turn {d} {i} x =
-        let y = located b.sheet.now c two e in
-        let key = text_in a two.left in
-        let k = text_lent two.left h.grows.lent in
-        let r = ap parse (sym (text_lent two.right h.grows.lent)) ∙ x.read in
+        let y = entry_located b.sheet.now c two e in
+        let key = text_in a two.value.left in
+        let k = text_lent two.value.left h.grows.lent in
+        let r = ap parse (sym (text_lent two.value.right h.grows.lent)) ∙ x.read in
         let ts : trees_in d i ≡ binding_before key x.tree (trees_in b list) = x.trees ∙ ap (λ (n : Text). binding_before n x.tree (trees_in b list)) k in
         let bs : bindings_in d i ≡ bound_before key x.tree (bindings_in b list) = ap bindings_of ts ∙ bindings_with key x.tree (trees_in b list) in
         record {
           walk = walk_turn (bytes "key=") (bytes "value=") a.sheet.now at h.walk here;
           ds = h.ds ++ ((key, x.tree) ∷ []);
-          read = entries_last h.walk.es h.ds key (text_in a two.right) x.tree h.read r;
-          turned = rw bs (turned_more key (text_in a two.right) x.tree h.turned);
+          read = entries_last h.walk.es h.ds key (text_in a two.value.right) x.tree h.read r;
+          turned = rw bs (turned_more key (text_in a two.value.right) x.tree h.turned);
           chain = rw ts (chain_with key x.tree (trees_in b list) h.chain);
           grows = grows_then h.grows x.grows;
           used = omega (arith, h.used, x.used, y.next, h.walk.low);
-          light = omega (arith, ap sizes ts, with_size key x.tree (trees_in b list), part_size a.sheet.now two.right.from two.right.to x.tree r, h.light, y.next, h.walk.low);
+          light = omega (arith, ap sizes ts, with_size key x.tree (trees_in b list), part_size a.sheet.now two.value.right.from two.value.right.to x.tree r, h.light, y.next, h.walk.low);
           inside = x.inside;
           within = omega (arith, y.within, sheet_length x.grows.lent);
         }
 
 -- ---- a member
 
-module _ {a : Area} (at : ℕ) (line : Line) (e : Some line ≡ value_at a.sheet.now (bytes "member=") at) where
+module _ {a : Area} (at : ℕ) (line : Read Place) (e : Some line ≡ value_at a.sheet.now (bytes "member=") at) where
   pub text_unread : {b : Area} → UnreadIn a b line.value → UnreadMember a.sheet.now at × Grows a b
   text_unread h = (text_none a.sheet.now at line e h.unread, unread_grows h)
 
@@ -170,7 +171,7 @@ module _ {a : Area} (at : ℕ) (line : Line) (e : Some line ≡ value_at a.sheet
     values_unread x =
         (values_none a.sheet.now at line e (subst (λ s. UnreadEntries s.now line.next.at) one.lent.sheet x.0), grows_then (reads_grows one) x.1)
 
-    pub member_there : {b : Area} {r : Entries} → ReadEntriesIn m b line.next.at r → ReadMemberIn a b at record { value = value; bindings = r.bindings; next = r.next }
+    pub member_there : {b : Area} {r : Read ℕ} → ReadEntriesIn m b line.next.at r → ReadMemberIn a b at record { value = value; bindings = r.value; next = r.next }
     member_there {b} {r} x =
         let p = member_placed a.sheet.now at line e in
         let g = grows_then (reads_grows one) x.grows in

@@ -16,11 +16,11 @@ use Rattle.substitution.specs.Bindings.{Chain}
 use Rattle.substitution.specs.Areas.{bindings_in}
 use Rattle.sheet.specs.Lines.{lines_at}
 use Rattle.sheet.specs.Pairs.{two_lines_at, entries_by}
+use Rattle.sheet.specs.declared.Read.{Read}
 use Rattle.sheet.specs.declared.Sides.{Sides}
 use Rattle.forms.specs.Members.{members_at, Walks}
 use Rattle.variants.specs.Members.{Alike, binding_before, entry_end}
 use Rattle.variants.specs.Soundness.{reduces_to}
-use Rattle.variants.specs.declared.members.Entries.{Entries}
 use Rattle.variants.specs.declared.members.Variant.{Variant}
 
 -- a value of the entries from a position on is no term
@@ -46,20 +46,20 @@ ReadsEntryIn a b e list (Some i) = ReadEntryIn a b e list i
 ReadsEntryIn a b e list None = (parse (text_in a e.right) ≡ None) × Grows a b
 
 -- the entries from `at` on read as bs; the list of bindings gives every variable the same value as bs
-pub record ReadEntriesIn (a b : Area) (at : ℕ) (r : Entries) : Type 0 where
+pub record ReadEntriesIn (a b : Area) (at : ℕ) (r : Read ℕ) : Type 0 where
   pub walk : Walks (bytes "key=") (bytes "value=") a.sheet.now at r.next.at
   pub stops : None ≡ two_lines_at (bytes "key=") (bytes "value=") a.sheet.now r.next.at
   pub bs : List Binding
   pub read : every (map read_entry walk.es) ≡ Some bs
-  pub alike : distinct_keys walk.es [] ≡ true → Alike (bindings_in b r.bindings) bs
-  pub chain : Chain (trees_in b r.bindings)
+  pub alike : distinct_keys walk.es [] ≡ true → Alike (bindings_in b r.value) bs
+  pub chain : Chain (trees_in b r.value)
   pub grows : Grows a b
   pub used : b.free ≤ a.free + 2 * (r.next.at - at)
-  pub light : sizes (trees_in b r.bindings) ≤ r.next.at - at
-  pub inside : r.bindings < b.free
+  pub light : sizes (trees_in b r.value) ≤ r.next.at - at
+  pub inside : r.value < b.free
 
 -- or a value of them is unreadable
-abbrev pub ReadsEntriesIn : Area → Area → ℕ → Option Entries → Type 0
+abbrev pub ReadsEntriesIn : Area → Area → ℕ → Option (Read ℕ) → Type 0
 ReadsEntriesIn a b at (Some r) = ReadEntriesIn a b at r
 ReadsEntriesIn a b at None = UnreadEntries a.sheet.now at × Grows a b
 

@@ -1,7 +1,7 @@
 // A member's texts as trees of an area: its own, and the values of its keys, with the keys, as one list of bindings.
 ghost use Rattle.std.specs.Prelude.{◌≡◌, ◌+◌, ◌*◌, ◌<◌, ◌≤◌, ◌^◌, length};
 ghost use Rattle.forms.specs.Form.{Inside};
-ghost use Rattle.tree.specs.Areas.{tree_in, trees_in};
+ghost use Rattle.tree.specs.Areas.{CellIn, HasRoom, tree_in, trees_in};
 ghost use Rattle.tree.specs.Spelled.{text_in};
 ghost use Rattle.reading.specs.Areas.{TextsRoomIn};
 ghost use Rattle.substitution.specs.Areas.{Lists};
@@ -10,15 +10,8 @@ ghost use Rattle.variants.specs.Areas.{ReadsEntryIn, ReadsEntriesIn, ReadsMember
 
 use leaves::sorts::variable_sort;
 use reading::parse;
-use sheet::{Cursor, Place, Sides, next_entry, next_member, part};
+use sheet::{Cursor, Place, Read, Sides, next_entry, next_member};
 use tree::area::Area;
-
-// The bindings of a member, and where its entries end.
-#[derive(Clone, Copy, Debug, PartialEq, Eq)]
-struct Entries {
-    bindings: usize,
-    next: Cursor,
-}
 
 // A member: the cell of its tree, its bindings, and where it ends.
 #[derive(Clone, Copy, Debug, PartialEq, Eq)]
@@ -32,22 +25,18 @@ pub struct Variant {
 pub(crate) fn is_nameable(text: &[u8]) -> bool
     ensures { result ≡ nameable text.now }
 {
-    match text {
-        [] => false,
-        [_] => true,
-        [_, second, ..] => *second != b'(',
-    }
+    !matches!(text, [] | [_, b'(', ..])
 }
 
 // Puts a key and the tree of cell value before the list from cell `list` on. A key that no variable can have is left out.
 fn push_entry(area: &mut Area, key: Place, value: usize, list: usize) -> usize
     requires key { Inside area.old.sheet.now key × (length area.old.sheet.now ≤ 65536) }
-    requires cells { (0 < value) × (value < area.old.free) × (list < area.old.free) }
-    requires room { (4 * (area.old.free + 2) ≤ length area.old.work.now) × (area.old.free + 2 < 2 ^ 32) }
+    requires cells { CellIn area.old value × (list < area.old.free) }
+    requires room { HasRoom area.old 2 }
     ensures lists { Lists area.old area.new result (binding_before (text_in area.old key) (tree_in area.old value) (trees_in area.old list)) }
     ensures end { area.new.free ≤ area.old.free + 2 }
 {
-    let name = part(area.sheet, key.from, key.to);
+    let name = key.text(area.sheet);
     if !is_nameable(name) {
         return list;
     }
@@ -66,18 +55,22 @@ fn read_entry(area: &mut Area, entry: Sides, list: usize) -> Option<usize>
     Some(push_entry(area, entry.left, value, list))
 }
 
-// The entries of a member from a cursor on, the last first.
-fn read_entries(area: &mut Area, start: Cursor) -> Option<Entries>
+// The entries of a member from a cursor on as bindings, the last first.
+fn read_entries(area: &mut Area, start: Cursor) -> Option<Read<usize>>
     requires room { (start.at ≤ length area.old.sheet.now) × TextsRoomIn area.old start.at }
     ensures { ReadsEntriesIn area.old area.new start.at result }
 {
+    // Along a cursor by value, with an area that grows: one trait for this walk and those of pairs and values would be no plainer.
     let mut next = start;
     let mut bindings = 0;
     while let Some(entry) = next_entry(area.sheet, next) {
-        bindings = read_entry(area, entry, bindings)?;
+        bindings = read_entry(area, entry.value, bindings)?;
         next = entry.next;
     }
-    Some(Entries { bindings, next })
+    Some(Read {
+        value: bindings,
+        next,
+    })
 }
 
 // The member whose line is at the cursor, if its texts can be read.
@@ -91,7 +84,7 @@ pub fn read_member(area: &mut Area, start: Cursor) -> Option<Variant>
     let entries = read_entries(area, line.next)?;
     Some(Variant {
         value,
-        bindings: entries.bindings,
+        bindings: entries.value,
         next: entries.next,
     })
 }

@@ -1,7 +1,7 @@
 // Kind `sound` in an area: the instance of a term under a member's bindings, reduced, against the member's own tree.
 ghost use Rattle.std.specs.Prelude.{◌+◌, ◌*◌, ◌<◌, ◌≤◌, length};
 ghost use Rattle.rules.specs.Tree.{size};
-ghost use Rattle.tree.specs.Areas.{tree_in};
+ghost use Rattle.tree.specs.Areas.{CellIn, tree_in};
 ghost use Rattle.reading.specs.Areas.{texts_end_in};
 ghost use Rattle.variants.specs.Soundness.{OneMember};
 ghost use Rattle.variants.specs.Areas.{ClaimsInstanceIn, ClaimsSoundIn};
@@ -16,7 +16,7 @@ use tree::area::Area;
 // Whether the instance of the tree of cell term under a member's bindings reduces to the member's tree, up to the order of summands, if the
 // instance is not too large.
 fn reduces_to(area: &mut Area, term: usize, member: Variant) -> Option<bool>
-    requires cells { (0 < term) × (term < area.old.free) × (member.bindings < area.old.free) × (0 < member.value) × (member.value < area.old.free) }
+    requires cells { CellIn area.old term × CellIn area.old member.value × (member.bindings < area.old.free) }
     requires room { (size (tree_in area.old member.value) ≤ 4096) × (4 * area.old.free + 155648 ≤ length area.old.work.now) × (area.old.free < 1048576) }
     ensures { ClaimsInstanceIn area.old area.new term member result }
 {
@@ -28,7 +28,7 @@ fn reduces_to(area: &mut Area, term: usize, member: Variant) -> Option<bool>
 // Whether the one member at the cursor is a sound variant of the tree of cell term, if its texts can be read and the instance is not too
 // large.
 pub fn sound(area: &mut Area, term: usize, start: Cursor) -> Option<bool>
-    requires term { (0 < term) × (term < area.old.free) }
+    requires term { CellIn area.old term }
     requires room { (length area.old.sheet.now ≤ 65536) × (1048576 + 16 * length area.old.sheet.now ≤ length area.old.work.now) × (texts_end_in area.old start.at ≤ 1 + 4 * length area.old.sheet.now) }
     requires one_member { OneMember area.old.sheet.now start.at }
     ensures { ClaimsSoundIn area.old area.new term start.at result }

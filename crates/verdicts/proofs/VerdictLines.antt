@@ -1,7 +1,7 @@
 -- The lines of a verdict, one part after another.
 use Prim.Native.Nat.{ℕ, ◌<◌}
 use mathlib.Core.Path.{◌≡◌, refl, sym, ap, ◌∙◌}
-use mathlib.Core.List.{List, [], ◌++◌, append_assoc, append-nil}
+use mathlib.Core.List.{List, [], ◌∷◌, ◌++◌, append_assoc, append-nil}
 use Rattle.std.specs.Prelude.{Some, None}
 use native.Mathlib.Omega.{arith}
 use Rattle.rules.specs.Bytes.{Text}
@@ -9,28 +9,30 @@ use Rattle.rules.specs.Text.{bytes}
 use Rattle.rules.specs.Tree.{Tree}
 use Rattle.rules.specs.Writing.{render}
 use Rattle.rules.specs.Substitution.{Binding}
-use Rattle.rules.specs.Solving.{solved, failed, unsupported}
+use Rattle.rules.specs.Solving.{solved}
+use Rattle.rules.specs.declared.Ending.{Ending}
+use Rattle.rules.specs.declared.Ending.TheVariants as ending
 use Rattle.rules.specs.Answer.{line, binding_lines, verdict_lines}
 use Rattle.tree.specs.declared.area.Area.{Area}
 use Rattle.tree.specs.Areas.{next_in, tree_in, trees_in}
+use Rattle.tree.specs.Lists.{cells_from}
+use Rattle.substitution.proofs.ByCells.{cells_end, cells_step}
 use Rattle.printing.specs.Putting.{PutInto}
 use Rattle.printing.specs.declared.output.Output.{Output}
 use Rattle.printing.proofs.Puts.{puts_none, puts_then, puts_past, puts_as}
 use Rattle.substitution.specs.Bindings.{Chain}
 use Rattle.substitution.specs.Areas.{bindings_in}
+use Rattle.substitution.specs.Answers.{stopped}
 use Rattle.substitution.proofs.Keys.{bindings_none}
 use Rattle.substitution.proofs.Chains.{Entry, value_some, entry}
-use Rattle.verdicts.specs.Verdicts.{head_lines}
+use Rattle.verdicts.specs.Verdicts.{ending_line, head_lines}
 
 -- the verdicts by these parts
 
-pub failed_lines : (spent : ℕ) → verdict_lines (failed, spent) ≡ head_lines (bytes "verdict=failed\n") spent
+pub stopped_lines : (e : Ending) (spent : ℕ) → verdict_lines (stopped e, spent) ≡ head_lines (ending_line e) spent
 unfolding verdict_lines head_lines
-failed_lines spent = refl
-
-pub unsupported_lines : (spent : ℕ) → verdict_lines (unsupported, spent) ≡ head_lines (bytes "verdict=unsupported\n") spent
-unfolding verdict_lines head_lines
-unsupported_lines spent = refl
+stopped_lines ending.Failed spent = refl
+stopped_lines ending.Unsupported spent = refl
 
 pub solved_lines : (bs : List Binding) (spent : ℕ) → verdict_lines (solved bs, spent) ≡ head_lines (bytes "verdict=solved\n") spent ++ binding_lines bs
 unfolding verdict_lines head_lines
@@ -81,3 +83,68 @@ module _ {a b : Output} {whole rest : Text} (g : Begun a b whole rest) (t on : T
 
 pub begun_all : {a b : Output} {whole rest : Text} → Begun a b whole rest → rest ≡ [] → PutInto a b whole (Some (tt {0}))
 begun_all g e = puts_as (sym (append-nil g.done) ∙ ap (λ (z : Text). g.done ++ z) (sym e) ∙ g.split) g.put
+
+-- the lines of the bindings from a cell k on, whose list of cells is ks, are to come
+pub record Telling (a : Area) (x y : Output) (whole : Text) (ks : List ℕ) : Type 0 where
+  pub key : ℕ
+  pub inside : key < a.free
+  pub cells : ks ≡ cells_from a key
+  pub chain : Chain (trees_in a key)
+  pub begun : Begun x y whole (binding_lines (bindings_in a key))
+
+pub telling_all : (a : Area) (x : Output) (b : ℕ) {ks : List ℕ} → (b < a.free) × Chain (trees_in a b) → ks ≡ cells_from a b → Telling a x x (binding_lines (bindings_in a b)) ks
+telling_all a x b h e = record { key = b; inside = h.0; cells = e; chain = h.1; begun = begun_none x (binding_lines (bindings_in a b)) }
+
+module _ {a : Area} {x y : Output} {whole : Text} {ks : List ℕ} (h : Telling a x y whole ks) where
+  pub telling_end : ks ≡ [] → PutInto x y whole (Some (tt {0}))
+  telling_end e = begun_all h.begun (lines_none a h.key (cells_end a h.key h.inside (sym h.cells ∙ e)))
+
+  module _ {k : ℕ} {js : List ℕ} (e : ks ≡ k ∷ js) where
+    key_step : (0 < h.key) × (k ≡ h.key) × (js ≡ cells_from a (next_in a h.key)) × (next_in a h.key < a.free)
+    key_step = cells_step a h.key h.inside (sym h.cells ∙ e)
+
+    pub telling_key : (0 < k) × (k < a.free)
+    telling_key = let s = key_step in (omega (arith, s.0, s.1), omega (arith, h.inside, s.1))
+
+    pub telling_odd : js ≡ [] → ⊥
+    telling_odd f =
+        let s = key_step in
+        let v = value_cell a h.key (next_in a h.key) s.0 h.inside h.chain refl in
+        let z = cells_end a (next_in a h.key) s.3 (sym s.2 ∙ f) in
+        omega (arith, v.0, z)
+
+    module _ {v : ℕ} {is : List ℕ} (f : js ≡ v ∷ is) where
+      value_step : (0 < next_in a h.key) × (v ≡ next_in a h.key) × (is ≡ cells_from a (next_in a (next_in a h.key))) × (next_in a (next_in a h.key) < a.free)
+      value_step = cells_step a (next_in a h.key) key_step.3 (sym key_step.2 ∙ f)
+
+      pub telling_value : (0 < v) × (v < a.free)
+      telling_value = let s = key_step in let t = value_step in (omega (arith, t.0, t.1), omega (arith, s.3, t.1))
+
+      here_lines : binding_lines (bindings_in a h.key) ≡ line (bytes "key=") (render (tree_in a k)) ++ (line (bytes "value=") (render (tree_in a v)) ++ binding_lines (bindings_in a (next_in a (next_in a h.key))))
+      here_lines =
+          let s = key_step in
+          let t = value_step in
+          lines_more a h.key v s.0 h.inside h.chain t.1 (next_in a (next_in a h.key)) (ap (next_in a) (sym t.1))
+          ∙ ap (λ (i : ℕ). line (bytes "key=") (render (tree_in a i)) ++ (line (bytes "value=") (render (tree_in a v)) ++ binding_lines (bindings_in a (next_in a (next_in a h.key))))) (sym s.1)
+
+      pub key_past : {z : Output} → PutInto y z (line (bytes "key=") (render (tree_in a k))) None → PutInto x z whole None
+      key_past p = begun_past h.begun _ _ here_lines p
+
+      module _ {m : Output} (p : PutInto y m (line (bytes "key=") (render (tree_in a k))) (Some (tt {0}))) where
+        key_told : Begun x m whole (line (bytes "value=") (render (tree_in a v)) ++ binding_lines (bindings_in a (next_in a (next_in a h.key))))
+        key_told = begun_more h.begun _ _ here_lines p
+
+        pub value_past : {z : Output} → PutInto m z (line (bytes "value=") (render (tree_in a v))) None → PutInto x z whole None
+        value_past q = begun_past key_told _ _ refl q
+
+        pub telling_more : {z : Output} → PutInto m z (line (bytes "value=") (render (tree_in a v))) (Some (tt {0})) → Telling a x z whole is
+        telling_more q =
+            let s = key_step in
+            let t = value_step in
+            record {
+              key = next_in a (next_in a h.key);
+              inside = t.3;
+              cells = t.2;
+              chain = rest_chain a h.key v s.0 h.inside h.chain t.1 (next_in a (next_in a h.key)) (ap (next_in a) (sym t.1));
+              begun = begun_more key_told _ _ refl q;
+            }

@@ -2,19 +2,31 @@
 #![tactic(auto)]
 
 ghost use Rattle.std.specs.Prelude.{◌≡◌, ◌<◌};
-ghost use Rattle.rules.specs.Solving.{solved};
 ghost use Rattle.rules.specs.Answer.{binding_lines, verdict_lines};
 ghost use Rattle.tree.specs.Areas.{trees_in};
 ghost use Rattle.printing.specs.Putting.{PutInto};
 ghost use Rattle.substitution.specs.Areas.{bindings_in};
+ghost use Rattle.substitution.specs.Answers.{answer_in};
 ghost use Rattle.substitution.specs.Bindings.{Chain};
-ghost use Rattle.verdicts.specs.Verdicts.{head_lines};
+ghost use Rattle.verdicts.specs.Verdicts.{ending_line, head_lines, VerdictHeld};
 
 use printing::output::Output;
+use rules::Ending;
+use substitution::answer::Answer;
 use tree::area::Area;
 
+// The verdict's line of a run that ends without a solution. No Display: it would write twice through fmt.
+fn ending_line(ending: Ending) -> &'static [u8]
+    ensures { result.now ≡ ending_line ending }
+{
+    match ending {
+        Ending::Failed => b"verdict=failed\n",
+        Ending::Unsupported => b"verdict=unsupported\n",
+    }
+}
+
 // The verdict's line and the line `spent`.
-pub fn put_head(out: &mut Output, verdict: &[u8], spent: usize) -> Option<()>
+fn put_head(out: &mut Output, verdict: &[u8], spent: usize) -> Option<()>
     ensures { PutInto out.old out.new (head_lines verdict.now spent) result }
 {
     out.text(verdict)?;
@@ -23,26 +35,29 @@ pub fn put_head(out: &mut Output, verdict: &[u8], spent: usize) -> Option<()>
     out.text(b"\n")
 }
 
-// The lines `key` and `value` of the bindings from cell `list` on.
+// The lines `key` and `value` of the bindings from cell `list` on. Two cells a step: a key and its value.
 fn put_bindings(out: &mut Output, area: &Area, list: usize) -> Option<()>
     requires { (list < area.now.free) × Chain (trees_in area.now list) }
     ensures { PutInto out.old out.new (binding_lines (bindings_in area.now list)) result }
 {
-    let mut key = list;
-    while key != 0 {
-        let value = area.next_of(key);
+    let mut cells = area.list(list);
+    while let (Some(key), Some(value)) = (cells.next(), cells.next()) {
         out.line(b"key=", area, key)?;
         out.line(b"value=", area, value)?;
-        key = area.next_of(value);
     }
     Some(())
 }
 
-// Verdict `solved` with the bindings from cell `list` on.
-pub fn put_solved(out: &mut Output, area: &Area, list: usize, spent: usize) -> Option<()>
-    requires { (list < area.now.free) × Chain (trees_in area.now list) }
-    ensures { PutInto out.old out.new (verdict_lines (solved (bindings_in area.now list), spent)) result }
+// The lines of an answer: its verdict, the number of pairs taken, and the bindings where it is solved.
+pub fn put_answer(out: &mut Output, area: &Area, answer: Answer) -> Option<()>
+    requires { VerdictHeld area.now answer.verdict }
+    ensures { PutInto out.old out.new (verdict_lines (answer_in area.now answer)) result }
 {
-    put_head(out, b"verdict=solved\n", spent)?;
-    put_bindings(out, area, list)
+    match answer.verdict {
+        Ok(bindings) => {
+            put_head(out, b"verdict=solved\n", answer.spent)?;
+            put_bindings(out, area, bindings)
+        }
+        Err(ending) => put_head(out, ending_line(ending), answer.spent),
+    }
 }

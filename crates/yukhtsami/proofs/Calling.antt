@@ -1,7 +1,7 @@
 -- What was decided of a sheet is settled with the output, and answers the call.
 use mathlib.Core.Path.{◌≡◌, sym, subst, ap, ◌∙◌}
 use mathlib.Core.List.{List}
-use Prim.Native.Nat.{ℕ, ◌≤◌}
+use Prim.Native.Nat.{ℕ}
 use lib.ListN.{length}
 use Rattle.std.specs.Prelude.{Result, Err}
 use native.Mathlib.Omega.{arith}
@@ -19,9 +19,6 @@ use Rattle.answers.specs.declared.deciding.Lines.{Lines}
 use Rattle.rules.specs.declared.Refusal.{Refusal}
 use Rattle.rules.specs.RefusalNumbers.{number_for}
 use Rattle.kinds.specs.Outcomes.{DecidesForm}
-
-pub more_words : (s : Text) (f : Form) {n m : ℕ} → EnoughWords s f n → n ≤ m → EnoughWords s f m
-more_words s f h k = record { sheet = h.sheet; stands = h.stands; enough = (let e = h.enough in omega arith) }
 
 -- what was decided, with an output
 pub decided_held : (s : Text) (f : Form) {a b : Area} {d : Result Lines Refusal} → Decoded s f → DecidesForm (sheet_of s f) a b d → Standing b d

@@ -10,7 +10,6 @@ ghost use Rattle.rules.specs.RefusalNumbers.{number_for};
 ghost use Rattle.admission.specs.Admission.{Decoded};
 
 use admission::admit;
-use admission::clearing::clear;
 use answers::giving::{Reply, give};
 use forms::form::Form;
 use kinds::decide;
@@ -45,8 +44,9 @@ fn settle_and_clear(
     ensures settles_form { SettlesForm (sheet_of sheet.now form) output.old output.new result }
     ensures work_after { work.new ≡ zeroed needed work.old }
 {
-    let settled = settle(sheet, &mut work[..needed], output, form);
-    clear(work, needed);
+    let lent = &mut work[..needed];
+    let settled = settle(sheet, lent, output, form);
+    lent.fill(0);
     settled
 }
 
@@ -66,7 +66,7 @@ pub struct Called {
     pub written: usize,
 }
 
-// The number of a refusal.
+// The number of a refusal. The numbers stand here and in number_for: as discriminants they would be said once more.
 fn number_of(refusal: Refusal) -> u32
     ensures { result ≡ number_for refusal }
 {
@@ -80,19 +80,20 @@ fn number_of(refusal: Refusal) -> u32
     }
 }
 
-// A reply as two numbers.
-fn numbers_of(reply: Reply) -> Called
-    ensures { (result.refusal ≡ reply_number reply) × (result.written ≡ reply_count reply) }
-{
-    match reply {
-        Ok(count) => Called {
-            refusal: 0,
-            written: count,
-        },
-        Err(refusal) => Called {
-            refusal: number_of(refusal),
-            written: 0,
-        },
+impl From<Reply> for Called {
+    ghost from_gives = { λ reply called. (called.refusal ≡ reply_number reply) × (called.written ≡ reply_count reply) };
+
+    fn from(reply: Reply) -> Called {
+        match reply {
+            Ok(written) => Called {
+                refusal: 0,
+                written,
+            },
+            Err(refusal) => Called {
+                refusal: number_of(refusal),
+                written: 0,
+            },
+        }
     }
 }
 
@@ -100,6 +101,5 @@ fn numbers_of(reply: Reply) -> Called
 pub fn yukhtsami_answer(sheet: &[u8], work: &mut [u32], output: &mut [u8]) -> Called
     ensures { Calls sheet.now work.old work.new output.old output.new result.refusal result.written }
 {
-    let reply = answer(sheet, work, output);
-    numbers_of(reply)
+    Called::from(answer(sheet, work, output))
 }

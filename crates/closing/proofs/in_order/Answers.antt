@@ -1,17 +1,22 @@
-use Rattle.closing.proofs.Orders.{ordering_starts, ordering_over, ordering_room, ordering_turn, ordering_ends}
+use native.Mathlib.Omega.{arith}
+use Rattle.tree.proofs.Keeping.{adds_same}
+use Rattle.closing.proofs.Orders.{list_sizes}
 use Rattle.closing.proofs.in_order.Goals as goal
 
-pub loop-k-init : goal.loop-k-init
-loop-k-init c = ordering_starts c.args.area.now c.args.chain c.requires.chain
+pub nodes_in-nodes-requires : goal.nodes_in-nodes-requires
+nodes_in-nodes-requires c = (c.requires.chain, omega (arith, list_sizes c.args.area.now c.args.chain c.requires.chain, c.requires.room.1))
 
 pub returns-then-nodes-gt4095 : goal.returns-then-nodes-gt4095
-returns-then-nodes-gt4095 c = ordering_over c.loop-k.invariant c.loop-k-test.true c.count_of-nodes.ensures.count c.if-nodes-gt4095.true
-
-pub share-first-requires-clause-room : goal.share-first-requires-clause-room
-share-first-requires-clause-room c = ordering_room c.loop-k.invariant c.loop-k-test.true c.requires.room.0 c.requires.room.1
-
-pub loop-k-preserved : goal.loop-k-preserved
-loop-k-preserved c = ordering_turn c.loop-k.invariant c.loop-k-test.true c.count_of-nodes.ensures.count c.if-nodes-gt4095.false c.next_of-next.ensures.next c.next_of-next.ensures.below c.share-first.ensures
+returns-then-nodes-gt4095 c = (omega (arith, c.nodes_in-nodes.ensures), adds_same c.args.area.now, omega arith)
 
 pub returns : goal.returns
-returns c = ordering_ends c.loop-k.invariant c.loop-k-test.false
+returns c =
+    let h = c.reversed-first.ensures in
+    record {
+      adds = h.lists.adds;
+      used = omega (arith, h.end);
+      inside = h.lists.inside;
+      trees = h.lists.trees;
+      counted = c.nodes_in-nodes.ensures;
+      small = omega arith;
+    }

@@ -13,13 +13,15 @@ pub nest-requires-clause-tail : goal.nest-requires-clause-tail
 nest-requires-clause-tail c = tail_only (omega arith) c.requires.links.0 c.next_of-second.ensures.next c.share-tail.ensures c.next_of-second.ensures.below (omega arith)
 
 pub nest-requires-clause-room : goal.nest-requires-clause-room
-nest-requires-clause-room c = front_room (omega arith) c.requires.links.0 c.next_of-second.ensures.next c.share-tail.ensures c.next_of-second.ensures.below (omega arith) c.requires.room.0 c.requires.room.1
+nest-requires-clause-room c = front_room (omega arith) c.requires.links.0 c.next_of-second.ensures.next c.share-tail.ensures c.next_of-second.ensures.below (omega arith) c.requires.room
 
 pub returns-in_err-nested : goal.returns-in_err-nested
 returns-in_err-nested c = closes_none _ _ _ _ _ c.from_residual.ensures (sum_over (omega arith) c.requires.links.0 c.next_of-second.ensures.next c.share-tail.ensures c.next_of-second.ensures.below (omega arith) c.args.next c.in_err-nested.ensures)
 
 pub share-requires-clause-room : goal.share-requires-clause-room
-share-requires-clause-room c = sum_room (omega arith) c.requires.links.0 c.next_of-second.ensures.next c.share-tail.ensures c.next_of-second.ensures.below (omega arith) c.in_ok-nested.ensures c.requires.links.1 c.requires.room.0 c.requires.room.1
+share-requires-clause-room c =
+    let r = sum_room (omega arith) c.requires.links.0 c.next_of-second.ensures.next c.share-tail.ensures c.next_of-second.ensures.below (omega arith) c.in_ok-nested.ensures c.requires.links.1 c.requires.room in
+    (omega (arith, r.0), omega (arith, r.1))
 
 pub returns : goal.returns
 returns c = sum_shut (omega arith) c.requires.links.0 c.next_of-second.ensures.next c.share-tail.ensures c.next_of-second.ensures.below (omega arith) c.in_ok-nested.ensures c.requires.links.1 c.share.ensures

@@ -5,11 +5,18 @@ use Rattle.elimination.specs.Areas.{pairs_in}
 use Rattle.elimination.proofs.Eliminating.{swap_turned}
 use Rattle.elimination.proofs.swap.Goals as goal
 
-pub bind-requires-clause-key_variable : goal.bind-requires-clause-key_variable
-bind-requires-clause-key_variable c = variable_of_sort c.args.area.now c.args.value c.in-Some.own (sym c.sort_of.ensures ∙ c.in-Some.is)
+pub bind-requires-clause-front : goal.bind-requires-clause-front
+bind-requires-clause-front c =
+    let i = c.requires.front in
+    rw c.turned.ensures (i.1, i.0, i.2, i.3)
+
+pub bind-requires-clause-key : goal.bind-requires-clause-key
+bind-requires-clause-key c = rw c.turned.ensures (variable_of_sort c.args.area.now c.args.front.right c.in-Some.own (sym c.sort_of.ensures ∙ c.in-Some.is))
 
 pub returns-then-sorted : goal.returns-then-sorted
 returns-then-sorted c =
     let a = c.args.area.now in
+    let f = c.args.front in
     let e = sym c.sort_of.ensures ∙ c.in-Some.is in
-    rw (swap_turned c.args.sort (name_in a c.args.key) (pairs_in a c.args.rest) c.requires.key_variable (name_in a c.args.value) (variable_of_sort a c.args.value c.in-Some.own e) e (sym c.sorted.ensures ∙ c.if-sorted.true)) c.bind.ensures
+    rw (swap_turned c.args.sort (name_in a f.left) (pairs_in a f.rest) c.requires.key (name_in a f.right) (variable_of_sort a f.right c.in-Some.own e) e (sym c.sorted.ensures ∙ c.if-sorted.true))
+    (rw c.turned.ensures at c.bind.ensures)

@@ -21,8 +21,8 @@ same_canonical-requires-clause-small c =
     let a = c.args.area.now in
     let p = c.split_at_mut-cells.ensures in
     let q = c.requires.cells in
-    let x = cells_tree a (parted _ _ _ _ p.value p.front_len) c.args.i q.0 q.1 in
-    let y = cells_tree a (parted _ _ _ _ p.value p.front_len) c.args.j q.2 q.3 in
+    let x = cells_tree a (parted _ _ _ _ p.value p.front_len) c.args.i q.0.0 q.0.1 in
+    let y = cells_tree a (parted _ _ _ _ p.value p.front_len) c.args.j q.1.0 q.1.1 in
     rw (x, y) c.requires.small
 
 pub same_canonical-requires-clause-room : goal.same_canonical-requires-clause-room
@@ -30,8 +30,8 @@ same_canonical-requires-clause-room c =
     let a = c.args.area.now in
     let p = c.split_at_mut-cells.ensures in
     let q = c.requires.cells in
-    let x = cells_tree a (parted _ _ _ _ p.value p.front_len) c.args.i q.0 q.1 in
-    let y = cells_tree a (parted _ _ _ _ p.value p.front_len) c.args.j q.2 q.3 in
+    let x = cells_tree a (parted _ _ _ _ p.value p.front_len) c.args.i q.0.0 q.0.1 in
+    let y = cells_tree a (parted _ _ _ _ p.value p.front_len) c.args.j q.1.0 q.1.1 in
     rw (x, y) (omega (arith, c.requires.room, p.back_len))
 
 pub invariant_of-area : goal.invariant_of-area
@@ -44,8 +44,8 @@ returns-clause-value c =
     let a = c.args.area.now in
     let p = c.split_at_mut-cells.ensures in
     let q = c.requires.cells in
-    let x = cells_tree a (parted _ _ _ _ p.value p.front_len) c.args.i q.0 q.1 in
-    let y = cells_tree a (parted _ _ _ _ p.value p.front_len) c.args.j q.2 q.3 in
+    let x = cells_tree a (parted _ _ _ _ p.value p.front_len) c.args.i q.0.0 q.0.1 in
+    let y = cells_tree a (parted _ _ _ _ p.value p.front_len) c.args.j q.1.0 q.1.1 in
     rw (x, y) at c.same_canonical.ensures.value
 
 pub returns-clause-outside : goal.returns-clause-outside
@@ -53,6 +53,6 @@ returns-clause-outside c =
     let a = c.args.area.now in
     let p = c.split_at_mut-cells.ensures in
     let q = c.requires.cells in
-    let x = cells_tree a (parted _ _ _ _ p.value p.front_len) c.args.i q.0 q.1 in
-    let y = cells_tree a (parted _ _ _ _ p.value p.front_len) c.args.j q.2 q.3 in
+    let x = cells_tree a (parted _ _ _ _ p.value p.front_len) c.args.i q.0.0 q.0.1 in
+    let y = cells_tree a (parted _ _ _ _ p.value p.front_len) c.args.j q.1.0 q.1.1 in
     joined_outside (parted _ _ _ _ p.value p.front_len) c.same_canonical.ensures.outside (omega arith) (omega (arith, ap size x, ap size y))

@@ -1,16 +1,21 @@
 use native.Mathlib.Omega.{arith}
-use Rattle.equivalence.proofs.TwoTexts.{texts_inside, first_tokens, texts_told, texts_kept}
+use Rattle.std.proofs.Common.{rules}
+use Rattle.equivalence.proofs.TwoTexts.{first_tokens, second_tokens, texts_told, texts_kept}
 use Rattle.equivalence.proofs.same_canonical.Goals as goal
 
-pub same_text-requires : goal.same_text-requires
-same_text-requires c =
-    let g = c.tree_words-mid.ensures in
-    let h = c.tree_words-end.ensures in
-    let k = texts_inside g h (omega (arith, c.requires.room)) in
-    record { from_le_to = k.0; start_le_end = k.1; tokens = first_tokens g h (omega (arith, c.requires.room)); tokens_2 = h.tokens }
+pub one_text-requires : goal.one_text-requires
+one_text-requires c =
+    let g = c.tree_words.ensures.canon in
+    let h = c.tree_words-2.ensures.canon in
+    let k = c.split_at.ensures in
+    record { left_tokens = first_tokens g h (omega (arith, c.requires.room)) c.since.ensures k.front k.back; right_tokens = second_tokens g h (omega (arith, c.requires.room)) c.since.ensures k.front k.back }
 
 pub returns : goal.returns
 returns c =
-    let g = c.tree_words-mid.ensures in
-    let h = c.tree_words-end.ensures in
-    record { value = texts_told g h (omega (arith, c.requires.room)) c.same_text.ensures; outside = texts_kept g h (omega (arith, c.requires.room)) }
+    let g = c.tree_words.ensures.canon in
+    let h = c.tree_words-2.ensures.canon in
+    let k = c.split_at.ensures in
+    record {
+      value = texts_told g h (omega (arith, c.requires.room)) c.since.ensures k.front k.back c.one_text.ensures;
+      outside = texts_kept g h (omega (arith, c.requires.room)) (search rules);
+    }

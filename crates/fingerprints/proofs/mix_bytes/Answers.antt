@@ -1,14 +1,12 @@
-use mathlib.Core.Path.{sym, ap, ◌∙◌}
-use lib.ListN.{get_or}
-use Rattle.fingerprints.specs.Fingerprints.{mixed_byte}
-use Rattle.fingerprints.proofs.Fingerprinting.{mixed_none, mixed_more}
+use Rattle.std.proofs.Common.{◌≡◌, subst, rules}
+use Rattle.std.proofs.lemmas.Fn.{fold_over, slice_gives, fronts}
+use Rattle.fingerprints.specs.Fingerprints.{mixed}
+use Rattle.fingerprints.proofs.Fingerprinting.{mixed_none, mixed_push}
 use Rattle.fingerprints.proofs.mix_bytes.Goals as goal
 
-pub loop-b-init : goal.loop-b-init
-loop-b-init c = mixed_none c.args.h
-
-pub loop-b-preserved : goal.loop-b-preserved
-loop-b-preserved c =
-    let a = c.args in
-    let i = c.loop-b.b-index in
-    c.mix_byte-mixed.ensures ∙ ap (λ m. mixed_byte m (get_or a.text.now i 0)) c.loop-b.invariant ∙ sym (mixed_more a.h a.text.now i c.loop-b-test.true)
+pub returns : goal.returns
+returns c =
+    let h = c.args.h in
+    subst (λ l. c.fold.result ≡ mixed h l) c.iter.ensures.rest
+    (fold_over fronts (λ y. y.now) _ (λ ys n. n ≡ mixed h ys) _ (λ ys a x b f' j k. let more = mixed_push h ys x.now in search rules)
+    _ _ _ _ (slice_gives c.iter.result) (mixed_none h) c.fold.ensures.ran)

@@ -15,7 +15,7 @@ pub overflow_add-named : goal.overflow_add-named
 overflow_add-named c =
     let s = c.read_term.new.area.sheet.now in
     let short : length s ≤ 65536 = rw c.in_ok-index.ensures.lent.sheet c.requires.asked.short in
-    omega (arith, part_count_bound 40 s c.args.term.from c.args.term.to short c.part-text.ensures c.count_of-2.ensures, part_count_bound 58 s c.args.term.from c.args.term.to short c.part-text.ensures c.count_of.ensures)
+    omega (arith, part_count_bound 40 s c.args.term.from c.args.term.to short c.text-text.ensures c.count_of-2.ensures, part_count_bound 58 s c.args.term.from c.args.term.to short c.text-text.ensures c.count_of.ensures)
 
 pub returns : goal.returns
 returns c = complete_decided c.requires.asked c.requires.ready.no_cells c.in_ok-index.ensures c.complete-claim.ensures

@@ -6,8 +6,8 @@ pub returns-in_err-read : goal.returns-in_err-read
 returns-in_err-read c =
     let p = err_from_is_err_and c.from_residual.result c.from_residual.ensures.1 in
     let k = c.requires.asked in
-    let u = c.in_err-read.ensures.1 k.entries k.rest k.lines in
-    rw (p.1, p.2, c.in_err-read.ensures.0) (cover_unread k u.0 u.1.lent)
+    let u = c.in_err-read.ensures.1 in
+    rw (p.1, p.2, c.in_err-read.ensures.0) (cover_unread k (u.0 k.entries k.rest k.lines) u.1.lent)
 
 pub covered-claim-requires : goal.covered-claim-requires
 covered-claim-requires c =

@@ -1,20 +1,14 @@
-use Rattle.kinds.proofs.Solves.{unify_asked, match_asked}
+use Rattle.kinds.proofs.Solves.{solve_asked}
 use Rattle.kinds.proofs.Covers.{cover_asked}
 use Rattle.kinds.proofs.Completes.{complete_asked}
 use Rattle.kinds.proofs.KindLaws.{form_decided, colon_words, complete_words, sound_asked}
 use Rattle.kinds.proofs.decide.Goals as goal
 
-pub unify_pairs-requires-clause-asked : goal.unify_pairs-requires-clause-asked
-unify_pairs-requires-clause-asked c = unify_asked _ _ _ c.args.form c.in-Unify.is c.requires.decoded
+pub solve_pairs-requires-clause-asked : goal.solve_pairs-requires-clause-asked
+solve_pairs-requires-clause-asked c = solve_asked _ _ _ _ c.args.form c.in-Solve.is c.requires.decoded
 
-pub unify_pairs-requires-clause-words : goal.unify_pairs-requires-clause-words
-unify_pairs-requires-clause-words c = colon_words _ c.args.form c.requires.enough_words
-
-pub match_pairs-requires-clause-asked : goal.match_pairs-requires-clause-asked
-match_pairs-requires-clause-asked c = match_asked _ _ _ c.args.form c.in-Match.is c.requires.decoded
-
-pub match_pairs-requires-clause-words : goal.match_pairs-requires-clause-words
-match_pairs-requires-clause-words c = colon_words _ c.args.form c.requires.enough_words
+pub solve_pairs-requires-clause-words : goal.solve_pairs-requires-clause-words
+solve_pairs-requires-clause-words c = colon_words _ c.args.form c.requires.enough_words
 
 pub sound_of-requires-clause-one_member : goal.sound_of-requires-clause-one_member
 sound_of-requires-clause-one_member c = sound_asked _ _ _ c.args.form c.in-Sound.is c.requires.decoded
@@ -37,11 +31,8 @@ returns-in-Equal c = rw c.in-Equal.is c.equal.ensures
 pub returns-in-Reduce : goal.returns-in-Reduce
 returns-in-Reduce c = rw c.in-Reduce.is c.reduce.ensures
 
-pub returns-in-Unify : goal.returns-in-Unify
-returns-in-Unify c = form_decided _ c.args.form c.requires.decoded c.unify_pairs.ensures
-
-pub returns-in-Match : goal.returns-in-Match
-returns-in-Match c = form_decided _ c.args.form c.requires.decoded c.match_pairs.ensures
+pub returns-in-Solve : goal.returns-in-Solve
+returns-in-Solve c = form_decided _ c.args.form c.requires.decoded c.solve_pairs.ensures
 
 pub returns-in-Sound : goal.returns-in-Sound
 returns-in-Sound c = rw c.in-Sound.is c.sound_of.ensures

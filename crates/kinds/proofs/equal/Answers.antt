@@ -10,7 +10,7 @@ returns-in_err-same c =
     let o = c.in_err-same.ensures in
     let m = rw o.ok_part at o.value in
     let e : c.in_err-same.field-0.0 ≡ UnreadableTerm = cc in
-    rw (p.1, p.2, e) (equal_unread c.args.left c.args.right (record { work = refl; sheet = refl }) (rw o.ok_part at c.equivalent_texts.ensures.value))
+    rw (p.1, p.2, e) (equal_unread c.args.left c.args.right (record { work = refl; sheet = refl }) (rw o.ok_part at c.equivalent.ensures.value))
 
 pub returns : goal.returns
-returns c = equal_decided c.args.left c.args.right (record { work = refl; sheet = refl }) (rw c.in_ok-same.ensures.ok_part at c.equivalent_texts.ensures.value)
+returns c = equal_decided c.args.left c.args.right (record { work = refl; sheet = refl }) (rw c.in_ok-same.ensures.ok_part at c.equivalent.ensures.value)

@@ -23,14 +23,19 @@ equivalent-requires-clause-room c =
 pub returns-then-equivalent : goal.returns-then-equivalent
 returns-then-equivalent c =
     let a = c.args.area.now in
-    let i = c.requires.cells in
+    let f = c.args.front in
+    let i = c.requires.front in
+    let m = c.requires.made in
     let e = c.equivalent.ensures in
-    onwards_same c.args.rest c.args.made i.4 i.5 c.requires.lists.0 c.requires.lists.1 (grows_keeps e.keeps) e.keeps.end
-    (bound_agrees (tree_in a c.in-Some.old) (name_in a c.args.key) (tree_in a c.args.value) (pairs_in a c.args.rest) (bindings_in a c.args.made) c.in-Some.ensures.is_bound (sym e.value ∙ c.if-equivalent.true))
+    onwards_same f.rest c.args.made i.2 m.0 i.3 m.1 (grows_keeps e.keeps) e.keeps.end
+    (bound_agrees (tree_in a c.in-Some.old) (name_in a f.left) (tree_in a f.right) (pairs_in a f.rest) (bindings_in a c.args.made) c.in-Some.ensures.is_bound (sym e.value ∙ c.if-equivalent.true))
 
 pub returns : goal.returns
 returns c =
     let a = c.args.area.now in
-    let s = c.in-Some-sort_of in
-    onwards_bound c.args.key c.args.rest c.args.made c.requires.cells.4 c.requires.lists.0 c.requires.lists.1 c.requires.key_variable c.push_pair-bindings.ensures.lists c.push_pair-bindings.ensures.end
-    (new_sorted (name_in a c.args.key) (tree_in a c.args.value) (pairs_in a c.args.rest) (bindings_in a c.args.made) c.in_default.ensures.0 c.requires.key_variable c.sort_of.ensures s.sort s.is (sym c.sorted.ensures ∙ c.if-not-sorted.false))
+    let f = c.args.front in
+    let i = c.requires.front in
+    let m = c.requires.made in
+    let s = c.in_ok-sort in
+    onwards_bound f.left f.rest c.args.made i.2 i.3 m.1 c.requires.key c.push_pair-bindings.ensures.lists c.push_pair-bindings.ensures.end
+    (new_sorted (name_in a f.left) (tree_in a f.right) (pairs_in a f.rest) (bindings_in a c.args.made) c.in_default.ensures.0 c.requires.key c.sort_of.ensures s.sort s.ensures.ok_part (sym c.sorted.ensures ∙ c.if-not-sorted.false))

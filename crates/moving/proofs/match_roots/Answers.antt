@@ -1,20 +1,11 @@
 use Rattle.tree.specs.Areas.{tree_in}
-use Rattle.substitution.specs.Areas.{bindings_in}
 use Rattle.elimination.specs.Areas.{pairs_in}
-use Rattle.moving.proofs.MovingInAreas.{moves_rooted, onwards_rooted}
+use Rattle.moving.proofs.MovingInAreas.{onwards_rooted}
 use Rattle.moving.proofs.match_roots.Goals as goal
 
-pub returns-in-Next : goal.returns-in-Next
-returns-in-Next c =
+pub returns : goal.returns
+returns c =
     let a = c.args.area.now in
-    onwards_rooted c.args.made c.requires.cells.5 c.requires.lists.1 (tree_in a c.args.left) (tree_in a c.args.right) (pairs_in a c.args.rest) c.in-Next.ensures
-
-pub returns-in-Clash : goal.returns-in-Clash
-returns-in-Clash c =
-    let a = c.args.area.now in
-    (moves_rooted (tree_in a c.args.left) (tree_in a c.args.right) (pairs_in a c.args.rest) (bindings_in a c.args.made) c.in-Clash.ensures.0, c.in-Clash.ensures.1)
-
-pub returns-in-Stuck : goal.returns-in-Stuck
-returns-in-Stuck c =
-    let a = c.args.area.now in
-    (moves_rooted (tree_in a c.args.left) (tree_in a c.args.right) (pairs_in a c.args.rest) (bindings_in a c.args.made) c.in-Stuck.ensures.0, c.in-Stuck.ensures.1)
+    let f = c.args.front in
+    let m = c.requires.made in
+    onwards_rooted c.args.made m.0 m.1 (tree_in a f.left) (tree_in a f.right) (pairs_in a f.rest) c.in_ok-next.ensures

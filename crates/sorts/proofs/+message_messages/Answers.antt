@@ -1,9 +1,10 @@
 use mathlib.Core.Path.{refl, sym, ap, ◌∙◌}
 use native.Mathlib.Omega.{arith}
+use Rattle.std.proofs.Common.{rules}
 use Rattle.rules.specs.Sorts.{message as one, messages as all}
 use Rattle.std.specs.Prelude.{Some, None}
 use Rattle.tree.specs.declared.kinds.Kind.TheVariants.{Variable}
-use Rattle.tree.proofs.Walking.{all_none, all_rest, all_refused}
+use Rattle.sorts.proofs.Walks.{every_asked, every_tree}
 use Rattle.sorts.proofs.Testing.{same_sorts, message_variable}
 use Rattle.rules.specs.declared.Sort.TheVariants.{Node}
 use mathlib.Core.Bool.{not}
@@ -19,14 +20,9 @@ message-returns-in-Variable-None t c =
     let v = c.in-Variable-None in
     sym (message_variable c.args.area.now c.args.i None (sym c.kind.ensures ∙ v.is ∙ ap Variable v.field-0-is) c.requires.0 c.requires.1)
 
-pub messages-returns-then-not-message : goal.messages-returns-then-not-message
-unfolding one
-messages-returns-then-not-message t c = let h = all_refused (one) (all) c.args.area.now c.loop-i.i refl (λ t ts. refl) (omega arith) (omega arith) in grind arith
-
-pub messages-loop-i-preserved : goal.messages-loop-i-preserved
-unfolding one
-messages-loop-i-preserved t c = let h = all_rest (one) (all) c.args.area.now c.loop-i.i refl (λ t ts. refl) (omega arith) (omega arith) in (omega arith, grind arith)
+pub messages-all-requires-clause-callable : goal.messages-all-requires-clause-callable
+messages-all-requires-clause-callable t c = every_asked c.args.area.now c.args.list c.requires c.list.ensures (λ x q h. search rules) (λ x p l. (search rules, (p, omega arith)))
 
 pub messages-returns : goal.messages-returns
 unfolding one
-messages-returns t c = let h = all_none (one) (all) c.args.area.now c.loop-i.i refl (λ t ts. refl) in grind arith
+messages-returns t c = every_tree c.args.area.now c.args.list c.requires c.list.ensures c.all.new.self _ one all refl (λ u us. refl) c.all.result c.all.ensures.ran (λ x b q h. search rules)

@@ -1,7 +1,8 @@
 use mathlib.Core.Path.{refl, sym, ◌∙◌}
 use native.Mathlib.Omega.{arith}
+use Rattle.std.proofs.Common.{rules}
 use Rattle.rules.specs.Sorts.{natural as one, naturals as all}
-use Rattle.tree.proofs.Walking.{all_none, all_rest, all_refused}
+use Rattle.sorts.proofs.Walks.{every_asked, every_tree}
 use Rattle.sorts.proofs.Testing.{same_some, natural_variable}
 use Rattle.rules.specs.declared.Sort.TheVariants.{TamNat}
 use Rattle.sorts.proofs.+natural_naturals.Goals as goal
@@ -11,14 +12,9 @@ natural-returns-in-Variable t c =
     let v = c.in-Variable in
     c.eq.ensures ∙ same_some v.sort TamNat ∙ sym (natural_variable c.args.area.now c.args.i v.sort (sym c.kind.ensures ∙ v.is) c.requires.0 c.requires.1)
 
-pub naturals-returns-then-not-natural : goal.naturals-returns-then-not-natural
-unfolding one
-naturals-returns-then-not-natural t c = let h = all_refused (one) (all) c.args.area.now c.loop-i.i refl (λ t ts. refl) (omega arith) (omega arith) in grind arith
-
-pub naturals-loop-i-preserved : goal.naturals-loop-i-preserved
-unfolding one
-naturals-loop-i-preserved t c = let h = all_rest (one) (all) c.args.area.now c.loop-i.i refl (λ t ts. refl) (omega arith) (omega arith) in (omega arith, grind arith)
+pub naturals-all-requires-clause-callable : goal.naturals-all-requires-clause-callable
+naturals-all-requires-clause-callable t c = every_asked c.args.area.now c.args.list c.requires c.list.ensures (λ x q h. search rules) (λ x p l. (search rules, (p, omega arith)))
 
 pub naturals-returns : goal.naturals-returns
 unfolding one
-naturals-returns t c = let h = all_none (one) (all) c.args.area.now c.loop-i.i refl (λ t ts. refl) in grind arith
+naturals-returns t c = every_tree c.args.area.now c.args.list c.requires c.list.ensures c.all.new.self _ one all refl (λ u us. refl) c.all.result c.all.ensures.ran (λ x b q h. search rules)

@@ -14,13 +14,13 @@ share-requires-clause-k_cell c =
     let q = c.requires.words in
     let r = sum_room h (omega (arith, c.loop-k-test.true)) q.1 q.2 in
     let i = cell_inside h (omega (arith, c.loop-k-test.true)) q.1 q.2 c.word-cell.ensures.0 (omega (arith, c.if-cell-ne0.true)) c.requires.cells in
-    (omega (arith, c.if-cell-ne0.true), omega (arith, i, r.2), c.loop-k.area.arena.links.some)
+    ((omega (arith, c.if-cell-ne0.true), omega (arith, i, r.2)), c.loop-k.area.arena.links.some)
 
 pub share-requires-clause-room : goal.share-requires-clause-room
 share-requires-clause-room c = let q = c.requires.words in let r = sum_room c.loop-k.invariant (omega (arith, c.loop-k-test.true)) q.1 q.2 in (omega (arith, r.0), omega (arith, r.1, q.3))
 
 pub add-requires-clause-like_cell : goal.add-requires-clause-like_cell
-add-requires-clause-like_cell c = let l = c.requires.like_cell in like_stays c.loop-k.invariant l.0 l.1 l.2
+add-requires-clause-like_cell c = let l = c.requires.like_cell in like_stays c.loop-k.invariant l.0.0 l.0.1 l.1
 
 pub add-requires-clause-cells : goal.add-requires-clause-cells
 add-requires-clause-cells c =
@@ -29,7 +29,7 @@ add-requires-clause-cells c =
     let r = sum_room h (omega (arith, c.loop-k-test.true)) q.1 q.2 in
     let i = cell_inside h (omega (arith, c.loop-k-test.true)) q.1 q.2 c.word-cell.ensures.0 (omega (arith, c.if-cell-ne0.true)) c.requires.cells in
     let s = rw c.in-Some.is at h.summed.sum in
-    (omega (arith, c.if-cell-ne0.true), omega (arith, i, r.2), s.some_cell, s.inside, s.link)
+    ((omega (arith, c.if-cell-ne0.true), omega (arith, i, r.2)), (s.some_cell, s.inside), s.link)
 
 pub add-requires-clause-room : goal.add-requires-clause-room
 add-requires-clause-room c = let q = c.requires.words in let r = sum_room c.loop-k.invariant (omega (arith, c.loop-k-test.true)) q.1 q.2 in (r.0, omega (arith, r.1, q.3))

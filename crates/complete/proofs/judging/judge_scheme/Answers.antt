@@ -1,3 +1,4 @@
+use Rattle.std.proofs.Common.{rules}
 use Rattle.complete.proofs.RunsIn.{stack_inside, enough_bound, run_stack, fuel_most, run_counts, run_room, solved_asks, solved_room, solved_matched, judged_unsupported, judged_failed, judged_settled, judged_solved}
 use Rattle.complete.proofs.judging.judge_scheme.Goals as goal
 
@@ -21,30 +22,30 @@ unify_sparing-answer-requires-clause-room c = run_room c.requires.asks c.require
 
 pub judge_solved-requires-clause-asks : goal.judge_solved-requires-clause-asks
 judge_solved-requires-clause-asks c =
-    solved_asks c.requires.asks c.requires.can_judge c.system_at-system.ensures _ _ c.nodes_in-nodes.ensures c.enough-fuel.ensures c.unify_sparing-answer.ensures.answers c.args.before _ c.in-Solved.is
+    solved_asks c.requires.asks c.requires.can_judge c.system_at-system.ensures _ _ c.nodes_in-nodes.ensures c.enough-fuel.ensures c.unify_sparing-answer.ensures.answers c.args.before _ c.in-Ok.is
 
 pub judge_solved-requires-clause-room : goal.judge_solved-requires-clause-room
 judge_solved-requires-clause-room c =
     let y = c.unify_sparing-answer.ensures in
-    solved_room c.requires.asks c.requires.can_judge c.system_at-system.ensures _ _ c.nodes_in-nodes.ensures c.enough-fuel.ensures y.answers c.args.before _ c.in-Solved.is y.ends
+    solved_room c.requires.asks c.requires.can_judge c.system_at-system.ensures _ _ c.nodes_in-nodes.ensures c.enough-fuel.ensures y.answers c.args.before _ c.in-Ok.is y.ends
 
 pub judge_solved-requires-clause-matched : goal.judge_solved-requires-clause-matched
 judge_solved-requires-clause-matched c =
     let y = c.unify_sparing-answer.ensures in
-    solved_matched c.requires.asks c.requires.can_judge c.system_at-system.ensures _ _ c.nodes_in-nodes.ensures c.enough-fuel.ensures y.answers c.args.before _ c.in-Solved.is y.ends
+    solved_matched c.requires.asks c.requires.can_judge c.system_at-system.ensures _ _ c.nodes_in-nodes.ensures c.enough-fuel.ensures y.answers c.args.before _ c.in-Ok.is y.ends
 
-pub returns-in-Unsupported : goal.returns-in-Unsupported
-returns-in-Unsupported c =
-    judged_unsupported c.requires.asks c.requires.can_judge c.system_at-system.ensures _ _ c.nodes_in-nodes.ensures c.enough-fuel.ensures c.unify_sparing-answer.ensures.answers c.args.before c.in-Unsupported.is
+pub returns-in-Err-Unsupported : goal.returns-in-Err-Unsupported
+returns-in-Err-Unsupported c =
+    judged_unsupported c.requires.asks c.requires.can_judge c.system_at-system.ensures _ _ c.nodes_in-nodes.ensures c.enough-fuel.ensures c.unify_sparing-answer.ensures.answers c.args.before (search rules)
 
-pub returns-in-Failed : goal.returns-in-Failed
-returns-in-Failed c =
-    judged_failed c.requires.asks c.requires.can_judge c.system_at-system.ensures _ _ c.nodes_in-nodes.ensures c.enough-fuel.ensures c.unify_sparing-answer.ensures.answers c.args.before c.in-Failed.is
+pub returns-in-Err-Failed : goal.returns-in-Err-Failed
+returns-in-Err-Failed c =
+    judged_failed c.requires.asks c.requires.can_judge c.system_at-system.ensures _ _ c.nodes_in-nodes.ensures c.enough-fuel.ensures c.unify_sparing-answer.ensures.answers c.args.before (search rules)
 
 pub returns-in-Pending : goal.returns-in-Pending
 returns-in-Pending c =
-    judged_solved c.requires.asks c.requires.can_judge c.system_at-system.ensures _ _ c.nodes_in-nodes.ensures c.enough-fuel.ensures c.unify_sparing-answer.ensures.answers c.args.before _ c.in-Solved.is c.in-Pending.is c.judge_solved.ensures.value c.judge_solved.ensures.grows
+    judged_solved c.requires.asks c.requires.can_judge c.system_at-system.ensures _ _ c.nodes_in-nodes.ensures c.enough-fuel.ensures c.unify_sparing-answer.ensures.answers c.args.before _ c.in-Ok.is c.in-Pending.is c.judge_solved.ensures.value c.judge_solved.ensures.grows
 
 pub returns-in-Missing : goal.returns-in-Missing
 returns-in-Missing c =
-    judged_settled c.requires.asks c.requires.can_judge c.system_at-system.ensures _ _ c.nodes_in-nodes.ensures c.enough-fuel.ensures c.unify_sparing-answer.ensures.answers c.args.before _ c.in-Solved.is c.in-Missing.is
+    judged_settled c.requires.asks c.requires.can_judge c.system_at-system.ensures _ _ c.nodes_in-nodes.ensures c.enough-fuel.ensures c.unify_sparing-answer.ensures.answers c.args.before _ c.in-Ok.is c.in-Missing.is

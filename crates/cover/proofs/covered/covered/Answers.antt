@@ -1,6 +1,6 @@
 use native.Mathlib.Omega.{arith}
 use Rattle.cover.proofs.Rooms.{asked_nodes, asked_spelled, asked_few}
-use Rattle.cover.proofs.SolvingIn.{nodes_inside, run_stack, run_counts, run_room, unsolved, names_variables, all_room, all_matchable, claimed}
+use Rattle.cover.proofs.SolvingIn.{nodes_inside, run_stack, run_counts, run_room, unsolved, solution_there, all_room, all_matchable, claimed}
 use Rattle.cover.proofs.covered.covered.Goals as goal
 
 pub names_of-names-requires-clause-stack : goal.names_of-names-requires-clause-stack
@@ -21,31 +21,31 @@ unify_sparing-answer-requires-clause-counts c = run_counts c.requires.stack.0 c.
 pub unify_sparing-answer-requires-clause-room : goal.unify_sparing-answer-requires-clause-room
 unify_sparing-answer-requires-clause-room c = run_room c.requires.stack.0 c.requires.stack.1 c.names_of-names.ensures _ _ c.nodes_in-nodes.ensures c.count_of-colons.ensures
 
-pub any_covers-requires-clause-of_variables : goal.any_covers-requires-clause-of_variables
-any_covers-requires-clause-of_variables c =
+pub any_covers-requires-clause-solution : goal.any_covers-requires-clause-solution
+any_covers-requires-clause-solution c =
     let k = c.requires.stack in
     let y = c.unify_sparing-answer.ensures in
-    names_variables k.0 k.1 c.names_of-names.ensures _ _ c.nodes_in-nodes.ensures c.count_of-colons.ensures y.answers _ c.in-Solved.is y.ends
+    solution_there k.0 k.1 c.names_of-names.ensures _ _ c.nodes_in-nodes.ensures c.count_of-colons.ensures y.answers _ c.in-Ok.is y.ends
 
 pub any_covers-requires-clause-room : goal.any_covers-requires-clause-room
 any_covers-requires-clause-room c =
     let k = c.requires.stack in
     let y = c.unify_sparing-answer.ensures in
-    all_room k.0 k.1 c.names_of-names.ensures _ _ c.nodes_in-nodes.ensures c.count_of-colons.ensures y.answers _ c.in-Solved.is y.ends
+    all_room k.0 k.1 c.names_of-names.ensures _ _ c.nodes_in-nodes.ensures c.count_of-colons.ensures y.answers _ c.in-Ok.is y.ends
 
 pub any_covers-requires-clause-matchable : goal.any_covers-requires-clause-matchable
 any_covers-requires-clause-matchable c =
     let k = c.requires.stack in
     let y = c.unify_sparing-answer.ensures in
-    all_matchable k.0 k.1 c.names_of-names.ensures _ _ c.nodes_in-nodes.ensures c.count_of-colons.ensures y.answers _ c.in-Solved.is y.ends
+    all_matchable k.0 k.1 c.names_of-names.ensures _ _ c.nodes_in-nodes.ensures c.count_of-colons.ensures y.answers _ c.in-Ok.is y.ends
 
-pub returns-in-Solved : goal.returns-in-Solved
-returns-in-Solved c =
+pub returns-in-Ok : goal.returns-in-Ok
+returns-in-Ok c =
     let k = c.requires.stack in
     let y = c.unify_sparing-answer.ensures in
-    claimed k.0 k.1 c.names_of-names.ensures _ _ c.nodes_in-nodes.ensures c.count_of-colons.ensures y.answers _ c.in-Solved.is y.ends _ c.any_covers.ensures
+    claimed k.0 k.1 c.names_of-names.ensures _ _ c.nodes_in-nodes.ensures c.count_of-colons.ensures y.answers _ c.in-Ok.is y.ends _ c.any_covers.ensures
 
-pub returns-in-Failed : goal.returns-in-Failed
-returns-in-Failed c =
+pub returns-in-Err : goal.returns-in-Err
+returns-in-Err c =
     let k = c.requires.stack in
-    unsolved k.0 k.1 c.names_of-names.ensures _ _ c.nodes_in-nodes.ensures c.count_of-colons.ensures c.unify_sparing-answer.ensures.answers c.in-Failed.is
+    unsolved k.0 k.1 c.names_of-names.ensures _ _ c.nodes_in-nodes.ensures c.count_of-colons.ensures c.unify_sparing-answer.ensures.answers _ c.in-Err.is

@@ -12,7 +12,7 @@ use Rattle.cover.proofs.covering.any_covers.Given as goal
 abbrev pub invariant-loop-line : goal.invariant-loop-line
 invariant-loop-line l =
     KeepsCells l.initial.area l.area × (l.free ≡ l.initial.area.free)
-    × ((ms : List Member) → members_at l.initial.area.sheet.now l.initial.cursor.at ≡ Some ms → DecidingIn l.initial.area l.names l.bindings ms l.initial.cursor.at l.cursor.at)
+    × ((ms : List Member) → members_at l.initial.area.sheet.now l.initial.cursor.at ≡ Some ms → DecidingIn l.initial.area l.solution ms l.initial.cursor.at l.cursor.at)
 
 abbrev pub decreases-loop-line : goal.decreases-loop-line
 decreases-loop-line l = length l.initial.area.sheet.now - l.cursor.at

@@ -1,18 +1,28 @@
 use Rattle.std.proofs.Common.{rules}
-use Rattle.cover.proofs.DecidingIn.{unread_covers, match_stack, match_room, failed_passes, other_covers}
+use Rattle.matching.proofs.Matches.{match_stack, match_room}
+use Rattle.cover.proofs.DecidingIn.{unread_covers, matched, used_most, failed_passes, other_covers}
 use Rattle.cover.proofs.covering.pass_member.Goals as goal
 
 pub returns-in_err-pairs : goal.returns-in_err-pairs
-returns-in_err-pairs c = rw c.from_residual.ensures (unread_covers c.args.names c.args.bindings c.args.start.at c.in_err-pairs.ensures)
+returns-in_err-pairs c = rw c.from_residual.ensures (unread_covers c.args.solution c.args.start.at c.in_err-pairs.ensures)
 
 pub matcher-answer-requires-clause-stack : goal.matcher-answer-requires-clause-stack
-matcher-answer-requires-clause-stack c = match_stack c.in_ok-pairs.ensures c.requires.matchable
+matcher-answer-requires-clause-stack c =
+    let h = c.in_ok-pairs.ensures in
+    let k = c.requires.matchable in
+    match_stack h.grows h.inside h.trees (used_most h k) (matched h k)
 
 pub matcher-answer-requires-clause-room : goal.matcher-answer-requires-clause-room
-matcher-answer-requires-clause-room c = match_room c.in_ok-pairs.ensures c.requires.matchable
+matcher-answer-requires-clause-room c =
+    let h = c.in_ok-pairs.ensures in
+    let k = c.requires.matchable in
+    match_room h.grows h.inside h.trees (used_most h k) (matched h k)
 
-pub returns-in-Failed : goal.returns-in-Failed
-returns-in-Failed c = failed_passes c.in_ok-pairs.ensures c.requires.matchable c.requires.start.1 c.matcher-answer.ensures c.in-Failed.is
+pub returns-in-Err-Failed : goal.returns-in-Err-Failed
+returns-in-Err-Failed c = failed_passes c.in_ok-pairs.ensures c.requires.matchable c.requires.start.1 c.matcher-answer.ensures (search rules)
 
 pub returns-in_default : goal.returns-in_default
 returns-in_default c = other_covers c.in_ok-pairs.ensures c.requires.matchable c.requires.start.1 c.matcher-answer.ensures (λ e. search rules)
+
+pub returns-in_default-2 : goal.returns-in_default-2
+returns-in_default-2 c = other_covers c.in_ok-pairs.ensures c.requires.matchable c.requires.start.1 c.matcher-answer.ensures (λ e. search rules)

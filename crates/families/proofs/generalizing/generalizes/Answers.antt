@@ -1,39 +1,46 @@
-use mathlib.Core.Logic.{inl, inr}
-use Rattle.tree.proofs.Keeping.{grows_then}
+use Rattle.std.proofs.Common.{rules, sym}
+use native.Mathlib.Omega.{arith}
+use Rattle.tree.proofs.Keeping.{adds_grows}
+use Rattle.variables.proofs.Listed.{solution_grown}
+use Rattle.matching.proofs.Matches.{match_stack, match_room, match_fails, match_covers}
 use Rattle.families.proofs.Generals.{own_some, own_inside}
-use Rattle.families.proofs.GeneralPairs.{variables_kept, pairs_room, paired_up, match_stack, match_room, match_says}
+use Rattle.families.proofs.GeneralPairs.{pairs_room, paired_up}
 use Rattle.families.proofs.generalizing.generalizes.Goals as goal
 
 pub next_of-entries-requires : goal.next_of-entries-requires
 next_of-entries-requires c =
     let a = c.args.area.now in
-    let m = c.requires.cells in
+    let m = c.requires.cells.0 in
     let e = c.first_of-own.ensures.first in
-    (own_some c.args.member a.arena m.0 m.1 c.requires.trees.0 _ e, own_inside c.args.member a.arena m.0 m.1 c.requires.trees.0 _ e)
+    (own_some c.args.member a.arena m.0 m.1 c.requires.member _ e, own_inside c.args.member a.arena m.0 m.1 c.requires.member _ e)
 
-pub pair_variables-pairs-requires-clause-of_variables : goal.pair_variables-pairs-requires-clause-of_variables
-pair_variables-pairs-requires-clause-of_variables c = variables_kept _ _ c.push_pair-last.ensures.lists c.requires.links.0 c.requires.trees.1
+pub pair_values-pairs-requires-clause-solution : goal.pair_values-pairs-requires-clause-solution
+pair_values-pairs-requires-clause-solution c = solution_grown (adds_grows c.push_pair-last.ensures.lists.adds) c.requires.solution
 
-pub pair_variables-pairs-requires-clause-room : goal.pair_variables-pairs-requires-clause-room
-pair_variables-pairs-requires-clause-room c = pairs_room _ _ c.push_pair-last.ensures.lists c.requires.links.0 c.args.member c.args.bindings c.requires.matched c.push_pair-last.ensures.end
+pub pair_values-pairs-requires-clause-room : goal.pair_values-pairs-requires-clause-room
+pair_values-pairs-requires-clause-room c = pairs_room _ _ c.push_pair-last.ensures.lists c.requires.solution c.args.member c.requires.matched c.push_pair-last.ensures.end
 
 pub matcher-answer-requires-clause-stack : goal.matcher-answer-requires-clause-stack
 matcher-answer-requires-clause-stack c =
-    let h = paired_up c.args.member _ _ c.args.names c.args.bindings c.args.value c.requires.trees.0 c.requires.cells.0 c.requires.cells.1 c.first_of-own.ensures.first c.next_of-entries.ensures.next c.requires.links.0 c.requires.links.1 c.push_pair-last.ensures.lists c.push_pair-last.ensures.end c.pair_variables-pairs.ensures in
-    match_stack h c.requires.matched
+    let h = paired_up c.args.member _ _ c.args.solution c.args.value c.requires.member c.requires.cells.0 c.first_of-own.ensures.first c.next_of-entries.ensures.next c.requires.solution c.push_pair-last.ensures.lists c.push_pair-last.ensures.end c.pair_values-pairs.ensures in
+    match_stack h.grows h.inside h.trees (omega (arith, h.used)) c.requires.matched
 
 pub matcher-answer-requires-clause-room : goal.matcher-answer-requires-clause-room
 matcher-answer-requires-clause-room c =
-    let h = paired_up c.args.member _ _ c.args.names c.args.bindings c.args.value c.requires.trees.0 c.requires.cells.0 c.requires.cells.1 c.first_of-own.ensures.first c.next_of-entries.ensures.next c.requires.links.0 c.requires.links.1 c.push_pair-last.ensures.lists c.push_pair-last.ensures.end c.pair_variables-pairs.ensures in
-    match_room h c.requires.matched
+    let h = paired_up c.args.member _ _ c.args.solution c.args.value c.requires.member c.requires.cells.0 c.first_of-own.ensures.first c.next_of-entries.ensures.next c.requires.solution c.push_pair-last.ensures.lists c.push_pair-last.ensures.end c.pair_values-pairs.ensures in
+    match_room h.grows h.inside h.trees (omega (arith, h.used)) c.requires.matched
 
-pub returns-in-Failed-clause-value : goal.returns-in-Failed-clause-value
-returns-in-Failed-clause-value c =
-    let h = paired_up c.args.member _ _ c.args.names c.args.bindings c.args.value c.requires.trees.0 c.requires.cells.0 c.requires.cells.1 c.first_of-own.ensures.first c.next_of-entries.ensures.next c.requires.links.0 c.requires.links.1 c.push_pair-last.ensures.lists c.push_pair-last.ensures.end c.pair_variables-pairs.ensures in
-    rw c.in-Failed.is at (match_says h c.requires.matched c.requires.short c.matcher-answer.ensures)
+pub returns-in-Err-Failed-clause-value : goal.returns-in-Err-Failed-clause-value
+returns-in-Err-Failed-clause-value c =
+    let h = paired_up c.args.member _ _ c.args.solution c.args.value c.requires.member c.requires.cells.0 c.first_of-own.ensures.first c.next_of-entries.ensures.next c.requires.solution c.push_pair-last.ensures.lists c.push_pair-last.ensures.end c.pair_values-pairs.ensures in
+    sym (match_fails h.grows h.inside h.trees (omega (arith, h.used)) c.requires.matched c.requires.short c.matcher-answer.ensures (search rules))
 
-pub returns-in-Solved : goal.returns-in-Solved
-returns-in-Solved c =
-    let h = paired_up c.args.member _ _ c.args.names c.args.bindings c.args.value c.requires.trees.0 c.requires.cells.0 c.requires.cells.1 c.first_of-own.ensures.first c.next_of-entries.ensures.next c.requires.links.0 c.requires.links.1 c.push_pair-last.ensures.lists c.push_pair-last.ensures.end c.pair_variables-pairs.ensures in
-    let y = match_says h c.requires.matched c.requires.short c.matcher-answer.ensures in
-    record { value = elim c.in-Solved.is [ inl e ↦ rw e.1 at y | inr e ↦ rw e at y ]; grows = grows_then h.grows c.matcher-answer.ensures.grows }
+pub returns-in_default-clause-value : goal.returns-in_default-clause-value
+returns-in_default-clause-value c =
+    let h = paired_up c.args.member _ _ c.args.solution c.args.value c.requires.member c.requires.cells.0 c.first_of-own.ensures.first c.next_of-entries.ensures.next c.requires.solution c.push_pair-last.ensures.lists c.push_pair-last.ensures.end c.pair_values-pairs.ensures in
+    sym (match_covers h.grows h.inside h.trees (omega (arith, h.used)) c.requires.matched c.requires.short c.matcher-answer.ensures (λ e. search rules))
+
+pub returns-in_default-2-clause-value : goal.returns-in_default-2-clause-value
+returns-in_default-2-clause-value c =
+    let h = paired_up c.args.member _ _ c.args.solution c.args.value c.requires.member c.requires.cells.0 c.first_of-own.ensures.first c.next_of-entries.ensures.next c.requires.solution c.push_pair-last.ensures.lists c.push_pair-last.ensures.end c.pair_values-pairs.ensures in
+    sym (match_covers h.grows h.inside h.trees (omega (arith, h.used)) c.requires.matched c.requires.short c.matcher-answer.ensures (λ e. search rules))

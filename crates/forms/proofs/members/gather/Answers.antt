@@ -5,8 +5,8 @@ use Rattle.forms.proofs.members.gather.Goals as goal
 pub loop-entry-init : goal.loop-entry-init
 loop-entry-init c = record { few = omega arith; all = gathers_none c.args.sheet.now c.args.start.at c.args.words.now }
 
-pub word_of-requires : goal.word_of-requires
-word_of-requires c = word_fits _ _ _ _ c.loop-entry.invariant.all c.in-Some.ensures c.requires.0
+pub word-requires : goal.word-requires
+word-requires c = word_fits _ _ _ _ c.loop-entry.invariant.all c.in-Some.ensures c.requires.0
 
 pub loop-entry-smaller : goal.loop-entry-smaller
 loop-entry-smaller c = omega (arith, gathers_room _ _ _ _ c.loop-entry.invariant.all c.in-Some.ensures c.requires.0)
@@ -14,4 +14,4 @@ loop-entry-smaller c = omega (arith, gathers_room _ _ _ _ c.loop-entry.invariant
 pub loop-entry-preserved : goal.loop-entry-preserved
 loop-entry-preserved c =
     let room = gathers_room _ _ _ _ c.loop-entry.invariant.all c.in-Some.ensures c.requires.0 in
-    record { few = omega arith; all = gathers_more _ _ _ _ c.loop-entry.invariant.all c.in-Some.ensures c.requires.0 _ (omega arith) c.word_of.ensures }
+    record { few = omega arith; all = gathers_more _ _ _ _ c.loop-entry.invariant.all c.in-Some.ensures c.requires.0 _ (omega arith) c.word.ensures }

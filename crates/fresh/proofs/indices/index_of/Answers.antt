@@ -1,13 +1,14 @@
-use Rattle.std.proofs.Common.{rules}
-use mathlib.Core.Path.{sym, ◌∙◌}
+use mathlib.Core.Path.{◌∙◌}
 use Rattle.fresh.proofs.Indexing.{unindexed, led_by_x, index_read, digits_inside}
 use Rattle.fresh.proofs.indices.index_of.Goals as goal
 
-pub returns-then-not-starts_with : goal.returns-then-not-starts_with
-returns-then-not-starts_with c = unindexed c.args.name.now (sym c.if-not-starts_with.ensures.value)
+pub returns-in_err-rest : goal.returns-in_err-rest
+returns-in_err-rest c = c.from_residual.ensures ∙ unindexed c.args.name.now c.in_err-rest.ensures.cases
 
-pub part-requires : goal.part-requires
-part-requires c = let h = c.if-not-starts_with.ensures in digits_inside c.args.name.now c.run_end-end.result (search rules) c.run_end-end.ensures
+pub slice_bounds-number_up_to-end : goal.slice_bounds-number_up_to-end
+slice_bounds-number_up_to-end c = digits_inside c.in_ok-rest.rest.now c.run_end-end.result c.run_end-end.ensures
 
 pub returns : goal.returns
-returns c = c.number_up_to.ensures ∙ index_read c.args.name.now c.part.result.now c.run_end-end.result c.run_end-end.ensures c.part.ensures (led_by_x c.args.name.now (sym c.if-not-starts_with.ensures.value))
+returns c =
+    let r = c.in_ok-rest in
+    c.number_up_to.ensures ∙ index_read c.args.name.now r.rest.now c.run_end-end.result c.run_end-end.ensures r.ensures.cases.1 (led_by_x c.args.name.now r.ensures.cases.0)

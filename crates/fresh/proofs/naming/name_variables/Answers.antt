@@ -4,7 +4,7 @@ use Rattle.fresh.proofs.TermLaws.{one_readable, one_small, no_base, places_withi
 use Rattle.fresh.proofs.naming.name_variables.Goals as goal
 
 pub variables_of-places-requires-clause-list : goal.variables_of-places-requires-clause-list
-variables_of-places-requires-clause-list c = (pushed_inside c.share-list.ensures, one_readable c.args.term c.share-list.ensures c.requires.term.2)
+variables_of-places-requires-clause-list c = (pushed_inside c.share-list.ensures, one_readable c.args.term c.share-list.ensures c.requires.term.1)
 
 pub variables_of-places-requires-clause-few : goal.variables_of-places-requires-clause-few
 variables_of-places-requires-clause-few c = one_small c.args.term c.share-list.ensures c.requires.few.0

@@ -6,7 +6,7 @@ use Rattle.fresh.proofs.FreshCells.{width_within, fresh_length, fresh_some, prin
 use Rattle.fresh.proofs.searching.find_fresh.Goals as goal
 
 pub part-requires : goal.part-requires
-part-requires c = (omega arith, omega (arith, fresh_length c.args.n, width_within c.args.n (omega arith), c.print_fresh-end.ensures.end, c.name_bytes-name.ensures))
+part-requires c = (omega arith, omega (arith, fresh_length c.args.n, width_within c.args.n (omega arith), c.print_fresh-end.ensures.end))
 
 pub find_text-requires : goal.find_text-requires
 find_text-requires c = rw (c.part.ensures ∙ printed_front c.print_fresh-end.ensures) (fresh_some c.args.n)

@@ -13,10 +13,10 @@ normalize-normalize_list-first-requires t c =
     let r = c.requires in
     let z = application_size c.args.area.now c.args.i c.first_of-children.result (sym c.in-Application.ensures) c.first_of-children.ensures.first in
     let b = c.first_of-children.ensures.below in
-    (omega (arith, c.decreases, b), (omega (arith, b, r.cells.1), (omega (arith, z, r.small), (omega (arith, z, r.room.0), omega (arith, z, r.room.1)))))
+    (omega (arith, c.decreases, b), (omega (arith, b, r.cells.0.1), (omega (arith, z, r.small), (omega (arith, z, r.room.0), omega (arith, z, r.room.1)))))
 
 pub normalize-root-requires-clause-application : goal.normalize-root-requires-clause-application
-normalize-root-requires-clause-application t c = grows_kind c.normalize_list-first.ensures.grows c.args.i c.requires.cells.1 ∙ sym c.in-Application.ensures
+normalize-root-requires-clause-application t c = grows_kind c.normalize_list-first.ensures.grows c.args.i c.requires.cells.0.1 ∙ sym c.in-Application.ensures
 
 pub normalize-root-requires-clause-small : goal.normalize-root-requires-clause-small
 normalize-root-requires-clause-small t c =
@@ -37,7 +37,7 @@ normalize-keep-requires t c =
 
 pub normalize-returns-in-Application : goal.normalize-returns-in-Application
 normalize-returns-in-Application t c =
-    becomes_root c.args.area.now c.args.i c.first_of-children.result (sym c.in-Application.ensures) c.first_of-children.ensures.first c.normalize_list-first.ensures c.requires.cells.1 c.requires.cells.2 c.root.ensures
+    becomes_root c.args.area.now c.args.i c.first_of-children.result (sym c.in-Application.ensures) c.first_of-children.ensures.first c.normalize_list-first.ensures c.requires.cells.0.1 c.requires.cells.1 c.root.ensures
 
 pub normalize-returns-in-Variable : goal.normalize-returns-in-Variable
 normalize-returns-in-Variable t c =
@@ -60,7 +60,7 @@ normalize_list-normalize-requires t c =
     let z = list_size c.args.area.now c.args.list c.next_of-rest.result p r.list c.next_of-rest.ensures.next in
     let d = c.normalize_list-next.ensures in
     let y = ap size (later_tree c.args.area.now c.args.list c.next_of-rest.result p r.list c.next_of-rest.ensures.next d) in
-    (omega (arith, c.decreases), ((p, omega (arith, d.grows.grew, r.list), d.inside), (omega (arith, y, z.0, r.small), (omega (arith, y, z.0, d.used, grows_length d.grows, r.room.0), omega (arith, y, z.0, d.used, r.room.1)))))
+    (omega (arith, c.decreases), (((p, omega (arith, d.grows.grew, r.list)), d.inside), (omega (arith, y, z.0, r.small), (omega (arith, y, z.0, d.used, grows_length d.grows, r.room.0), omega (arith, y, z.0, d.used, r.room.1)))))
 
 pub normalize_list-returns : goal.normalize_list-returns
 normalize_list-returns t c =

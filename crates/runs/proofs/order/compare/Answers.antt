@@ -1,7 +1,7 @@
 use Rattle.std.proofs.Common.{get_or, refl, sym, ◌∙◌, arith}
 use Rattle.std.specs.Ordering.{nat_cmp}
 use mathlib.Core.Path.{ap₂}
-use Rattle.runs.proofs.WordTexts.{width_pos, width_small, word_at, byte_at}
+use Rattle.runs.proofs.WordTexts.{width_bounds, word_at, byte_at}
 use Rattle.runs.proofs.Comparing.{ended, skip, skip_falls, told_less, told_greater, told, goes_on, falls}
 use Rattle.runs.proofs.order.compare.Goals as goal
 use Rattle.runs.proofs.order.compare.Goals.{then-loop-i-test+else-j-right, else-loop-i-test}
@@ -9,8 +9,8 @@ use Rattle.runs.proofs.order.compare.Goals.{then-loop-i-test+else-j-right, else-
 pub loop-i-init : goal.loop-i-init
 loop-i-init c =
     let a = c.args in (
-      record { inside = omega arith; within = λ h. width_pos (get_or a.left.now 0 0); over = λ h. refl },
-      record { inside = omega arith; within = λ h. width_pos (get_or a.right.now 0 0); over = λ h. refl },
+      record { inside = omega arith; within = λ h. (width_bounds (get_or a.left.now 0 0)).0; over = λ h. refl },
+      record { inside = omega arith; within = λ h. (width_bounds (get_or a.right.now 0 0)).0; over = λ h. refl },
       refl,
     )
 
@@ -58,12 +58,12 @@ returns-then-is_ne c =
 pub next_byte-i-requires : goal.next_byte-i-requires
 next_byte-i-requires c =
     let l = c.loop-i in
-    omega (arith, l.invariant.0.within c.loop-i-test.true, width_small (get_or c.args.left.now l.i.word 0))
+    omega (arith, l.invariant.0.within c.loop-i-test.true, width_bounds (get_or c.args.left.now l.i.word 0))
 
 pub next_byte-j-requires : goal.next_byte-j-requires
 next_byte-j-requires c =
     let l = c.loop-i in
-    omega (arith, l.invariant.1.within c.if-j-right.true, width_small (get_or c.args.right.now l.j.word 0))
+    omega (arith, l.invariant.1.within c.if-j-right.true, width_bounds (get_or c.args.right.now l.j.word 0))
 
 pub loop-i-smaller : goal.loop-i-smaller
 loop-i-smaller c =

@@ -13,13 +13,13 @@ pub unseal-equations-requires-clause-cells : goal.unseal-equations-requires-clau
 unseal-equations-requires-clause-cells c =
     let x = two_in c.args.area.now c.args.below.values c.args.choice c.requires.cells.0 c.requires.choice.0 (rw c.in-Sdec.is at c.requires.choice.1) in
     let g = c.plain-pattern.ensures.puts in
-    (x.0, omega (arith, c.requires.cells.0, g.adds.grew), omega (arith, x.1, grows_next (adds_grows g.adds) c.args.below.values c.requires.cells.0), g.some_cell, g.inside)
+    ((x.0, omega (arith, c.requires.cells.0, g.adds.grew)), omega (arith, x.1, grows_next (adds_grows g.adds) c.args.below.values c.requires.cells.0), (g.some_cell, g.inside))
 
 pub unseal-equations-requires-in-Kdec-clause-cells : goal.unseal-equations-requires-in-Kdec-clause-cells
 unseal-equations-requires-in-Kdec-clause-cells c =
     let x = two_in c.args.area.now c.args.below.values c.args.choice c.requires.cells.0 c.requires.choice.0 (rw c.in-Kdec.is at c.requires.choice.1) in
     let g = c.boxed-pattern.ensures.puts in
-    (x.0, omega (arith, c.requires.cells.0, g.adds.grew), omega (arith, x.1, grows_next (adds_grows g.adds) c.args.below.values c.requires.cells.0), g.some_cell, g.inside)
+    ((x.0, omega (arith, c.requires.cells.0, g.adds.grew)), omega (arith, x.1, grows_next (adds_grows g.adds) c.args.below.values c.requires.cells.0), (g.some_cell, g.inside))
 
 pub returns-in-Fst : goal.returns-in-Fst
 returns-in-Fst c =

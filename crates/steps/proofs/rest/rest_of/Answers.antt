@@ -7,7 +7,7 @@ pub settle-requires-clause-like_cell : goal.settle-requires-clause-like_cell
 settle-requires-clause-like_cell c =
     let k = c.requires.cells in
     let h = c.prepare-split.ensures.keeps in
-    (k.0, omega (arith, k.1, h.end), sum_kept c.args.left h k.0 k.1 c.requires.sums.0)
+    ((k.0.0, omega (arith, k.0.1, h.end)), sum_kept c.args.left h k.0.0 k.0.1 c.requires.sums.0)
 
 pub settle-requires-clause-left : goal.settle-requires-clause-left
 settle-requires-clause-left c = left_summable c.requires.room c.requires.fit c.prepare-split.ensures

@@ -10,36 +10,36 @@ use Rattle.steps.proofs.roots.take_roots.Goals as goal
 pub returns-then-not-same_head : goal.returns-then-not-same_head
 returns-then-not-same_head c =
     let a = c.args.area.now in
-    (roots_unlike c.args.cancelling (tree_in a c.args.left) (tree_in a c.args.right) (pairs_in a c.args.rest) (sym c.same_head.ensures ∙ c.if-not-same_head.true), grows_same a)
+    (roots_unlike c.args.cancelling (tree_in a c.args.front.left) (tree_in a c.args.front.right) (pairs_in a c.args.front.rest) (sym c.same_head.ensures ∙ c.if-not-same_head.true), grows_same a)
 
 pub take_sums-requires-clause-sums : goal.take_sums-requires-clause-sums
 take_sums-requires-clause-sums c =
     let a = c.args.area.now in
     let e = sym c.is_sum.ensures ∙ c.if-is_sum.true in
-    (e, same_sum (tree_in a c.args.left) (tree_in a c.args.right) c.requires.whole.2.built (sym c.same_head.ensures ∙ c.if-not-same_head.false) e)
+    (e, same_sum (tree_in a c.args.front.left) (tree_in a c.args.front.right) c.requires.fit.1.built (sym c.same_head.ensures ∙ c.if-not-same_head.false) e)
 
 pub returns-then-is_sum : goal.returns-then-is_sum
 returns-then-is_sum c =
     let a = c.args.area.now in
-    let l = tree_in a c.args.left in
-    rw (roots_sums c.args.cancelling l (tree_in a c.args.right) (pairs_in a c.args.rest) (sym c.same_head.ensures ∙ c.if-not-same_head.false) (sum_head l (sym c.is_sum.ensures ∙ c.if-is_sum.true))) c.take_sums.ensures
+    let l = tree_in a c.args.front.left in
+    rw (roots_sums c.args.cancelling l (tree_in a c.args.front.right) (pairs_in a c.args.front.rest) (sym c.same_head.ensures ∙ c.if-not-same_head.false) (sum_head l (sym c.is_sum.ensures ∙ c.if-is_sum.true))) c.take_sums.ensures
 
 pub push_children-stack-requires-clause-room : goal.push_children-stack-requires-clause-room
 push_children-stack-requires-clause-room c =
     let a = c.args.area.now in
-    children_room a (tree_in a c.args.left) (tree_in a c.args.right) c.child_of-a.result c.child_of-b.result c.child_of-a.ensures.children c.child_of-b.ensures.children (sym c.same_head.ensures ∙ c.if-not-same_head.false) c.requires.room
+    children_room a (tree_in a c.args.front.left) (tree_in a c.args.front.right) c.child_of-a.result c.child_of-b.result c.child_of-a.ensures.children c.child_of-b.ensures.children (sym c.same_head.ensures ∙ c.if-not-same_head.false) c.requires.room
 
 pub returns : goal.returns
 returns c =
     let a = c.args.area.now in
-    let l = tree_in a c.args.left in
-    let r = tree_in a c.args.right in
-    let ps = pairs_in a c.args.rest in
+    let l = tree_in a c.args.front.left in
+    let r = tree_in a c.args.front.right in
+    let ps = pairs_in a c.args.front.rest in
     let x = c.child_of-a.result in
     let y = c.child_of-b.result in
     let e = c.child_of-a.ensures.children in
     let f = c.child_of-b.ensures.children in
     let h = sym c.same_head.ensures ∙ c.if-not-same_head.false in
-    let n = no_sum_head c.requires.whole.1.built (sym c.is_sum.ensures ∙ c.if-is_sum.false) in
-    children_wait a l r x y e f h c.args.cancelling c.args.rest c.requires.whole.0 (roots_children c.args.cancelling l r ps h n) c.push_children-stack.ensures.lists c.push_children-stack.ensures.end
+    let n = no_sum_head c.requires.fit.0.built (sym c.is_sum.ensures ∙ c.if-is_sum.false) in
+    children_wait a l r x y e f h c.args.cancelling c.args.front.rest c.requires.front.3 (roots_children c.args.cancelling l r ps h n) c.push_children-stack.ensures.lists c.push_children-stack.ensures.end
     (rw c.paired-apart.ensures (λ d. apart_pairs _ _ (differing_pushed l r ps _ e f h d (common_both _ _ _ refl))))

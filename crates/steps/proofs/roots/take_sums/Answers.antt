@@ -8,13 +8,17 @@ use Rattle.steps.proofs.roots.take_sums.Goals as goal
 pub push_pair-stack-requires-clause-room : goal.push_pair-stack-requires-clause-room
 push_pair-stack-requires-clause-room c =
     let o = c.args.cancelling in
-    pair_room (every_cancels o) (test_of o) (c.requires.whole.1, c.requires.whole.2) c.requires.sums c.in-Equation.ensures c.requires.room
+    pair_room (every_cancels o) (test_of o) c.requires.fit c.requires.sums (rw c.in-Some.is at c.in_ok-rest_of.ensures) c.requires.room
 
-pub returns-in-Emptied : goal.returns-in-Emptied
-returns-in-Emptied c = sums_emptied c.args.rest c.requires.cells.4 c.requires.whole.0 (omega arith) c.in-Emptied.ensures
+pub returns-in-None : goal.returns-in-None
+returns-in-None c =
+    let i = c.requires.front in
+    sums_emptied c.args.front.rest i.2 i.3 (omega arith) (rw c.in-None.is at c.in_ok-rest_of.ensures)
 
-pub returns-in-Equation : goal.returns-in-Equation
-returns-in-Equation c =
-    let a = c.args in
+pub returns-in-Some : goal.returns-in-Some
+returns-in-Some c =
+    let a = c.args.area.now in
+    let f = c.args.front in
+    let i = c.requires.front in
     let o = c.args.cancelling in
-    sums_paired (every_cancels o) (test_of o) (c.requires.whole.1, c.requires.whole.2) c.requires.sums c.in-Equation.ensures a.rest (same_tree (tree_in a.area.now a.left) (tree_in a.area.now a.right)) c.requires.cells.4 c.requires.whole.0 c.push_pair-stack.ensures.lists c.push_pair-stack.ensures.end
+    sums_paired (every_cancels o) (test_of o) c.requires.fit c.requires.sums (rw c.in-Some.is at c.in_ok-rest_of.ensures) f.rest (same_tree (tree_in a f.left) (tree_in a f.right)) i.2 i.3 c.push_pair-stack.ensures.lists c.push_pair-stack.ensures.end

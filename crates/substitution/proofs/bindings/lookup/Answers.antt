@@ -1,22 +1,28 @@
 use mathlib.Core.Path.{sym, ◌∙◌}
-use native.Mathlib.Omega.{arith}
-use Rattle.substitution.proofs.Searching.{finds_none, finds_odd, finds_here, finds_on}
+use Rattle.tree.specs.Areas.{name_in}
+use Rattle.substitution.proofs.Searching.{searched_all, searched_none, searched_cell, searched_odd, searched_here, searched_on}
 use Rattle.substitution.proofs.bindings.lookup.Goals as goal
 
-pub returns-then-value-eq0 : goal.returns-then-value-eq0
-returns-then-value-eq0 c =
-    let i = c.loop-key.invariant in
-    finds_odd c.args.area.now _ _ _ i.1 _ (omega arith) i.0 c.next_of-value.ensures.next c.if-value-eq0.true
+pub loop-key-init : goal.loop-key-init
+loop-key-init c =
+    let a = c.args in
+    searched_all a.area.now (name_in a.area.now a.x) a.b c.requires.b_link c.list-cells.ensures
+
+pub same_name-requires-clause-i_cell : goal.same_name-requires-clause-i_cell
+same_name-requires-clause-i_cell c = searched_cell c.loop-key.invariant c.in-Some-Some.ensures.steps
 
 pub returns-then-same_name : goal.returns-then-same_name
 returns-then-same_name c =
-    let i = c.loop-key.invariant in
-    finds_here c.args.area.now _ _ _ i.1 _ (omega arith) i.0 c.next_of-value.ensures.next (omega arith) (sym c.same_name.ensures ∙ c.if-same_name.true)
+    let v = c.in-Some-Some in
+    searched_here c.loop-key.invariant v.ensures.steps v.ensures'.steps (sym c.same_name.ensures ∙ c.if-same_name.true)
 
 pub loop-key-preserved : goal.loop-key-preserved
 loop-key-preserved c =
-    let i = c.loop-key.invariant in
-    (omega arith, finds_on c.args.area.now _ _ _ i.1 _ (omega arith) i.0 c.next_of-value.ensures.next (omega arith) _ c.next_of-key.ensures.next (sym c.same_name.ensures ∙ c.if-same_name.false))
+    let v = c.in-Some-Some in
+    searched_on c.loop-key.invariant v.ensures.steps v.ensures'.steps (sym c.same_name.ensures ∙ c.if-same_name.false)
 
-pub returns : goal.returns
-returns c = finds_none c.args.area.now _ _ _ c.loop-key.invariant.1 c.loop-key-test.false
+pub returns-in_default : goal.returns-in_default
+returns-in_default c = searched_odd c.loop-key.invariant c.in_default.ensures.steps c.in_default.ensures'.steps.0
+
+pub returns-in_default-2 : goal.returns-in_default-2
+returns-in_default-2 c = searched_none c.loop-key.invariant (rw c.in_default.is-0 at c.next.ensures.steps).0

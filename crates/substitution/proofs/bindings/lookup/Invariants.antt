@@ -1,13 +1,8 @@
-use Prim.Native.Nat.{◌<◌}
-use mathlib.Core.Path.{◌≡◌}
-use Rattle.rules.specs.Matching.{bound}
 use Rattle.tree.specs.Areas.{name_in}
-use Rattle.substitution.specs.Areas.{bindings_in}
+use Rattle.tree.specs.Lists.{cells_left}
+use Rattle.substitution.proofs.Searching.{Searched}
 use Rattle.substitution.proofs.bindings.lookup.Given as goal
 
--- the bindings from the key on answer for all
+-- the bindings from the next cell on answer for all
 abbrev pub invariant-loop-key : goal.invariant-loop-key
-invariant-loop-key l = (l.key < l.area.free) × (bound (name_in l.area l.x) (bindings_in l.area l.b) ≡ bound (name_in l.area l.x) (bindings_in l.area l.key))
-
-abbrev pub decreases-loop-key : goal.decreases-loop-key
-decreases-loop-key l = l.key
+invariant-loop-key l = Searched l.area (name_in l.area l.x) l.b (cells_left l.cells)

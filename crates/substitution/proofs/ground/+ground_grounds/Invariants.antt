@@ -1,18 +1,11 @@
-use Prim.Native.Nat.{◌+◌, ◌*◌, ◌≤◌}
-use mathlib.Core.Path.{◌≡◌}
-use Rattle.rules.specs.Tree.{grounds as all}
-use Rattle.tree.specs.Areas.{trees_in}
+use Prim.Native.Nat.{◌+◌, ◌*◌}
 use Rattle.substitution.proofs.ground.+ground_grounds.Given as goal
 
 abbrev pub decreases-ground : goal.decreases-ground
-decreases-ground l = 2 * l.i
+decreases-ground l = 3 * l.i
 
 abbrev pub decreases-grounds : goal.decreases-grounds
-decreases-grounds l = 2 * l.list + 1
+decreases-grounds l = 3 * l.list + 2
 
--- the list from cell i on answers for the whole
-abbrev pub invariant-grounds-loop-i : goal.invariant-grounds-loop-i
-invariant-grounds-loop-i l = (l.i ≤ l.list) × (all (trees_in l.area l.list) ≡ all (trees_in l.area l.i))
-
-abbrev pub decreases-grounds-loop-i : goal.decreases-grounds-loop-i
-decreases-grounds-loop-i l = l.i
+abbrev pub decreases-grounds-all : goal.decreases-grounds-all
+decreases-grounds-all l = 3 * l.i + 1

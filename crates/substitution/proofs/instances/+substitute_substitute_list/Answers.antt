@@ -1,12 +1,13 @@
 use native.Mathlib.Omega.{arith}
-use mathlib.Core.Path.{◌≡◌, refl, sym, ap, ◌∙◌}
+use mathlib.Core.Path.{◌≡◌, refl, sym, ◌∙◌}
 use Prim.Native.Nat.{◌<◌}
 use Rattle.tree.specs.declared.kinds.Kind.TheVariants.{Application}
-use Rattle.tree.specs.Areas.{cell_kind, next_in, name_in, tree_in}
+use Rattle.tree.specs.Areas.{cell_kind, next_in, name_in}
+use Rattle.tree.proofs.ByKind.{tree_a_variable}
 use Rattle.tree.proofs.Keeping.{adds_grows}
 use Rattle.substitution.specs.Areas.{instance_in, instances_in}
 use Rattle.substitution.proofs.Listing.{puts_push, kind_later, over_same, over_new, over_tree, over_list, listed_none, places_over, builds_more, over_apply, over_more}
-use Rattle.substitution.proofs.Instantiating.{instance_application, instance_atom, instance_found, instances_none, instances_more, instance_later}
+use Rattle.substitution.proofs.Instantiating.{instance_application, instance_atom, instance_variable, instances_none, instances_more, instance_later}
 use Rattle.substitution.proofs.instances.+substitute_substitute_list.Goals as goal
 
 pub substitute-returns-in_err-left-in-Application : goal.substitute-returns-in_err-left-in-Application
@@ -26,7 +27,7 @@ pub substitute-push_like-index-requires-clause-k_cell : goal.substitute-push_lik
 substitute-push_like-index-requires-clause-k_cell t c =
     let h = c.in_ok-children-in-Application.ensures in
     let i = c.requires.cells in
-    (i.0, omega (arith, i.1, h.lists.adds.grew), kind_later h.lists c.args.i i.0 i.1 (sym c.kind.ensures ∙ c.in-Application.is))
+    ((i.0.0, omega (arith, i.0.1, h.lists.adds.grew)), kind_later h.lists c.args.i i.0.0 i.0.1 (sym c.kind.ensures ∙ c.in-Application.is))
 
 pub substitute-returns-then-children-first : goal.substitute-returns-then-children-first
 substitute-returns-then-children-first t c =
@@ -37,7 +38,7 @@ substitute-returns-then-children-first t c =
     let k : cell_kind a c.args.i ≡ Application = sym c.kind.ensures ∙ c.in-Application.is in
     let f = c.first_of-first.ensures.first in
     rw (instance_application a c.args.b c.args.i c.first_of-first.result f k)
-    (places_over h (omega arith) (name_in a c.args.i) i.3 c.keep-index.ensures.puts c.keep-index.ensures.end (over_same h.lists c.args.i i.0 i.1 k (c.if-children-first.true ∙ f)))
+    (places_over h (omega arith) (name_in a c.args.i) i.2 c.keep-index.ensures.puts c.keep-index.ensures.end (over_same h.lists c.args.i i.0.0 i.0.1 k (c.if-children-first.true ∙ f)))
 
 pub substitute-returns-else-children-first : goal.substitute-returns-else-children-first
 substitute-returns-else-children-first t c =
@@ -48,14 +49,18 @@ substitute-returns-else-children-first t c =
     let k : cell_kind a c.args.i ≡ Application = sym c.kind.ensures ∙ c.in-Application.is in
     let g = c.push_like-index.ensures in
     rw (instance_application a c.args.b c.args.i c.first_of-first.result c.first_of-first.ensures.first k)
-    (places_over h (omega arith) (name_in a c.args.i) i.3 (puts_push g) (omega (arith, g.end)) (over_new h.lists c.args.i i.0 i.1 k))
+    (places_over h (omega arith) (name_in a c.args.i) i.2 (puts_push g) (omega (arith, g.end)) (over_new h.lists c.args.i i.0.0 i.0.1 k))
+
+pub substitute-image-value-requires-clause-x_cell : goal.substitute-image-value-requires-clause-x_cell
+substitute-image-value-requires-clause-x_cell t c =
+    let v = c.in-Variable in
+    (c.requires.cells.0, tree_a_variable c.args.area.now c.args.i v.field-0 (sym c.kind.ensures ∙ v.is))
 
 pub substitute-returns-in-Variable : goal.substitute-returns-in-Variable
 substitute-returns-in-Variable t c =
     let a = c.args.area.now in
     let v = c.in-Variable in
-    let e : tree_in a c.unwrap_or-image.result ≡ instance_in a c.args.b c.args.i = ap (tree_in a) c.unwrap_or-image.ensures ∙ instance_found a c.args.b c.args.i v.field-0 c.lookup.result (sym c.kind.ensures ∙ v.is) c.lookup.ensures in
-    rw e at c.place.ensures
+    rw (c.image-value.ensures.value ∙ sym (instance_variable a c.args.b c.args.i v.field-0 (sym c.kind.ensures ∙ v.is))) at c.place.ensures
 
 pub substitute-returns-in-Atom : goal.substitute-returns-in-Atom
 substitute-returns-in-Atom t c =

@@ -14,7 +14,7 @@ pub substitute-requires-clause-room : goal.substitute-requires-clause-room
 substitute-requires-clause-room c =
     let h = c.loop-left.invariant in
     let room = holds_room h c.next_of-value.result (omega arith) c.next_of-value.ensures.next c.next_of-rest.result c.next_of-rest.ensures.next in
-    (omega (arith, room, h.adds.grown.len), omega (arith, room), omega arith)
+    (omega (arith, room, h.adds.grown.len), omega (arith, room))
 
 pub returns-in_err-built : goal.returns-in_err-built
 returns-in_err-built c =

@@ -1,5 +1,6 @@
 use Prim.Native.Nat.{◌+◌, ◌*◌}
-use Rattle.sums.proofs.Collecting.{Gathering}
+use Rattle.tree.specs.Lists.{cells_left}
+use Rattle.sums.proofs.Collecting.{GatheringCells}
 use Rattle.sums.proofs.gathering.+gather_gather_list.Given as goal
 
 abbrev pub decreases-gather : goal.decreases-gather
@@ -9,7 +10,4 @@ abbrev pub decreases-gather_list : goal.decreases-gather_list
 decreases-gather_list l = 2 * l.list + 1
 
 abbrev pub invariant-gather_list-loop-i : goal.invariant-gather_list-loop-i
-invariant-gather_list-loop-i l = Gathering l.area l.fn.words l.words l.at l.end l.list l.i
-
-abbrev pub decreases-gather_list-loop-i : goal.decreases-gather_list-loop-i
-decreases-gather_list-loop-i l = l.i
+invariant-gather_list-loop-i l = GatheringCells l.area l.initial.out l.out l.list (cells_left l.i-iterator)

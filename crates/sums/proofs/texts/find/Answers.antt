@@ -1,38 +1,28 @@
+use Rattle.std.proofs.Common.{rules, ◌≡◌, ◌+◌, ◌<◌, length}
 use native.Mathlib.Omega.{arith}
-use mathlib.Core.Path.{sym, ◌∙◌}
-use lib.ListN.{get_or}
-use Rattle.tree.specs.Areas.{tree_in}
-use Rattle.sums.proofs.Labelling.{first_text, texts_differ}
-use Rattle.sums.proofs.Removing.{finding_starts, finding_ends, finding_zero, finding_other, finding_finds}
+use Rattle.std.proofs.lemmas.Iterator.{YieldsList-from_slice, IsFirst-from_position}
+use Rattle.std.proofs.lemmas.Iterator.Adapters.{serves_from_places}
+use Rattle.std.proofs.lemmas.Iterator.Consumers.{YieldsList-from_enumerate}
+use Rattle.sums.specs.Summands.{TextFits}
+use Rattle.sums.proofs.Labelling.{texts_differ}
+use Rattle.sums.proofs.Removing.{item_place, Partner, Other, finds_partner}
 use Rattle.sums.proofs.texts.find.Goals as goal
-use Rattle.sums.proofs.texts.find.Goals.{else-cell-ne0-via-then-cell-ne0+then-texts-q+else-same, else-cell-ne0-via-then-cell-ne0+else-texts-q, else-cell-ne0-via-else-cell-ne0}
 
-pub bounds-texts-p : goal.bounds-texts-p
-bounds-texts-p c = (first_text c.args.area.now c.args.lefts.now c.args.p c.requires.texts.0 c.requires.cell.0 c.requires.cell.1).0.marked
-
-pub loop-k-init : goal.loop-k-init
-loop-k-init c = finding_starts c.args.area.now (tree_in c.args.area.now (get_or c.args.lefts.now c.args.p 0)) c.args.rights.now
-
-pub bounds-texts-q : goal.bounds-texts-q
-bounds-texts-q c = (c.requires.texts.1 c.loop-k.k c.loop-k-test.true (omega arith)).0.marked
-
-pub same-requires : goal.same-requires
-same-requires c = ((first_text c.args.area.now c.args.lefts.now c.args.p c.requires.texts.0 c.requires.cell.0 c.requires.cell.1).0, (c.requires.texts.1 c.loop-k.k c.loop-k-test.true (omega arith)).0)
-
-pub returns-then-same : goal.returns-then-same
-returns-then-same c =
-    let t = (first_text c.args.area.now c.args.lefts.now c.args.p c.requires.texts.0 c.requires.cell.0 c.requires.cell.1).1 in
-    let u = (c.requires.texts.1 c.loop-k.k c.loop-k-test.true (omega arith)).1 in
-    finding_finds _ _ c.loop-k.invariant c.loop-k-test.true c.if-cell-ne0.true (sym (c.same.ensures _ _ t u) ∙ c.if-same.true)
-
-pub loop-k-preserved : goal.loop-k-preserved
-loop-k-preserved c =
-    let t = (first_text c.args.area.now c.args.lefts.now c.args.p c.requires.texts.0 c.requires.cell.0 c.requires.cell.1).1 in
-    elim c.else-cell-ne0.branch [
-      | else-cell-ne0-via-then-cell-ne0+then-texts-q+else-same w ↦ finding_other _ _ c.loop-k.invariant c.loop-k-test.true w.if-cell-ne0.true (sym (w.same.ensures _ _ t (c.requires.texts.1 c.loop-k.k c.loop-k-test.true (omega (arith, w.if-cell-ne0.true))).1) ∙ w.if-same.false)
-      | else-cell-ne0-via-then-cell-ne0+else-texts-q w ↦ finding_other _ _ c.loop-k.invariant c.loop-k-test.true w.if-cell-ne0.true (texts_differ t (c.requires.texts.1 c.loop-k.k c.loop-k-test.true (omega (arith, w.if-cell-ne0.true))).1 w.if-texts-q.false)
-      | else-cell-ne0-via-else-cell-ne0 w ↦ finding_zero _ _ c.loop-k.invariant c.loop-k-test.true w.if-cell-ne0.false
-    ]
+pub position-requires-clause-callable : goal.position-requires-clause-callable
+position-requires-clause-callable c =
+    let a = c.args in
+    let p = c.requires.text in
+    serves_from_places (YieldsList-from_enumerate (YieldsList-from_slice a.rights.now cc) c.enumerate.ensures.count) (λ x q h. search rules) (λ x k l e.
+    let i = item_place a.rights.now k x.0 x.1.now l e in
+    let q : (x.1.now ≡ 0 → ⊥) → TextFits a.area.now.sheet.now a.texts.starts.now a.texts.words.now (a.first + x.0) = λ m. (c.requires.texts x.0 i.0 (omega (arith, i.1))).0 in
+    let m : (x.1.now ≡ 0 → ⊥) → a.first + x.0 < length a.texts.words.now = λ m. (q m).marked in
+    (omega (arith, m, c.ranges.texts), omega (arith, m, c.ranges.texts), search m, omega (arith, m, c.ranges.texts), search (p, q)))
 
 pub returns : goal.returns
-returns c = finding_ends _ _ c.loop-k.invariant (omega (arith, c.loop-k-test.false))
+returns c =
+    let a = c.args in
+    let s = a.area.now.sheet.now in
+    let starts = a.texts.starts.now in
+    let words = a.texts.words.now in
+    λ t u. finds_partner a.area.now t a.p a.rights.now a.first u c.requires.texts c.position.result
+    (IsFirst-from_position _ _ c.position.result (Partner s starts words a.p a.first) (Other s starts words a.p a.first) c.position.ensures.ran (YieldsList-from_enumerate (YieldsList-from_slice a.rights.now cc) c.enumerate.ensures.count) (λ x q h. (search rules, λ t u k l. search rules)) (λ x q h. (search rules, λ m t u k l. search (rules, texts_differ k l))))

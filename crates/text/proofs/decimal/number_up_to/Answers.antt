@@ -4,14 +4,13 @@ use Rattle.text.proofs.Loops.{all_pass, all_fail, all_end}
 use Rattle.rules.specs.Names.{digit}
 use native.Mathlib.Omega.{arith}
 use mathlib.Core.Path.{sym, ◌∙◌}
-use Rattle.std.proofs.Common.{rules}
+use Rattle.std.proofs.lemmas.Bool.Decides.{nat_tests}
 use Rattle.text.proofs.decimal.number_up_to.Goals as goal
 
-pub returns-in-empty : goal.returns-in-empty
-returns-in-empty c = number_unled c.args.bound c.args.text.now (led_none c.args.text.now (omega arith))
-
-pub returns-in-48 : goal.returns-in-48
-returns-in-48 c = number_unled c.args.bound c.args.text.now (led_zero c.args.text.now (omega arith) (search rules))
+pub returns-then-matches : goal.returns-then-matches
+returns-then-matches c =
+    let s = c.args.text.now in
+    number_unled c.args.bound s (grind (arith, nat_tests, led_none s, led_zero s))
 
 pub returns-then-not-is_digit : goal.returns-then-not-is_digit
 returns-then-not-is_digit c =

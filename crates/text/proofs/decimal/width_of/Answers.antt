@@ -1,9 +1,8 @@
-use Rattle.text.proofs.Decimals.{width_more, width_one}
-use native.Mathlib.Omega.{arith}
+use Rattle.std.proofs.Common.{rules}
+use Rattle.text.proofs.Decimals.{width_told}
 use Rattle.text.proofs.decimal.width_of.Goals as goal
 
-pub loop-m-preserved : goal.loop-m-preserved
-loop-m-preserved c = let h = width_more c.loop-m.m (omega arith) in (omega arith, omega arith)
-
 pub returns : goal.returns
-returns c = omega (arith, width_one c.loop-m.m (omega arith))
+returns c =
+    let l = c.checked_ilog10.ensures in
+    width_told c.args.n c.checked_ilog10.result _ l.none l.power_le l.next_power_gt c.map_or.ensures (λ k h. search rules)

@@ -1,77 +1,47 @@
 use native.Mathlib.Omega.{arith}
-use Rattle.unifier.proofs.Tops.{top_whole, top_fit}
-use Rattle.unifier.proofs.Taking.{holds_start, holds_solved, holds_spent, holds_right, holds_top, step_room, step_apart, bind_cells, bind_room, holds_fails, holds_unknown, holds_next, holds_bind}
+use Rattle.elimination.proofs.Tops.{whole_are}
+use Rattle.unifier.proofs.Taking.{holds_start, holds_solved, holds_spent, step_fit_front, step_room, step_apart, bind_cells, bind_room, holds_over, holds_next, holds_bind}
 use Rattle.unifier.proofs.unifying.run.Goals as goal
 use Rattle.unifier.proofs.unifying.run.Goals.{in-Next, in-Bind}
 
 pub loop-spent-init : goal.loop-spent-init
 loop-spent-init c = holds_start c.requires.stack.0 c.requires.stack.1 c.requires.stack.2 c.requires.room
 
-pub returns-then-waiting-eq0 : goal.returns-then-waiting-eq0
-returns-then-waiting-eq0 c = holds_solved c.loop-spent.invariant c.loop-spent-test.true c.if-waiting-eq0.true
+pub top-requires : goal.top-requires
+top-requires c = let h = c.loop-spent.invariant in (h.stack, whole_are h.ps h.waits)
 
-pub next_of-rest-requires : goal.next_of-rest-requires
-next_of-rest-requires c = let e = c.next_of-right.ensures in holds_right c.loop-spent.invariant (omega arith) e.next e.below
+pub returns-in_default : goal.returns-in_default
+returns-in_default c = holds_solved c.loop-spent.invariant c.loop-spent-test.true c.in_default.ensures
 
-pub step-requires-clause-cells : goal.step-requires-clause-cells
-step-requires-clause-cells c =
+pub step-requires : goal.step-requires
+step-requires c =
     let h = c.loop-spent.invariant in
-    let e = c.next_of-right.ensures in
-    let r = holds_right h (omega arith) e.next e.below in
-    (omega arith, h.stack, r.0, r.1, omega (arith, r.1, c.next_of-rest.ensures.below))
+    let f = c.in-Some.front in
+    let t = c.in-Some.ensures in
+    let q = c.loop-spent-test.true in
+    record { front = t.0; fit = step_fit_front h f t.1 q; room = step_room h f t.1 q; differing = step_apart h f t.1 q }
 
-pub step-requires-clause-whole : goal.step-requires-clause-whole
-step-requires-clause-whole c =
-    let h = c.loop-spent.invariant in
-    let e = c.next_of-right.ensures in
-    let t = holds_top h (omega arith) e.next e.below c.next_of-rest.ensures.next in
-    let f = top_fit t h.fit in
-    (top_whole t, f.0, f.1)
+pub returns-in-Err : goal.returns-in-Err
+returns-in-Err c = holds_over c.loop-spent.invariant c.in-Some.front c.in-Some.ensures.1 c.loop-spent-test.true c.in-Err.ending c.in-Err.ensures
 
-pub step-requires-clause-room : goal.step-requires-clause-room
-step-requires-clause-room c =
+pub push_pair-made-requires : goal.push_pair-made-requires
+push_pair-made-requires c =
     let h = c.loop-spent.invariant in
-    let e = c.next_of-right.ensures in
-    step_room h (holds_top h (omega arith) e.next e.below c.next_of-rest.ensures.next) c.loop-spent-test.true
-
-pub step-requires-clause-differing : goal.step-requires-clause-differing
-step-requires-clause-differing c =
-    let h = c.loop-spent.invariant in
-    let e = c.next_of-right.ensures in
-    step_apart h (holds_top h (omega arith) e.next e.below c.next_of-rest.ensures.next) c.loop-spent-test.true
-
-pub push_pair-made-requires-clause-cells : goal.push_pair-made-requires-clause-cells
-push_pair-made-requires-clause-cells c =
-    let h = c.loop-spent.invariant in
-    let e = c.next_of-right.ensures in
-    bind_cells h (holds_top h (omega arith) e.next e.below c.next_of-rest.ensures.next) c.loop-spent-test.true c.in-Bind.ensures
-
-pub push_pair-made-requires-clause-room : goal.push_pair-made-requires-clause-room
-push_pair-made-requires-clause-room c =
-    let h = c.loop-spent.invariant in
-    let e = c.next_of-right.ensures in
-    bind_room h (holds_top h (omega arith) e.next e.below c.next_of-rest.ensures.next) c.loop-spent-test.true c.in-Bind.ensures
-
-pub returns-in-Fails : goal.returns-in-Fails
-returns-in-Fails c =
-    let h = c.loop-spent.invariant in
-    let e = c.next_of-right.ensures in
-    holds_fails h (holds_top h (omega arith) e.next e.below c.next_of-rest.ensures.next) c.loop-spent-test.true c.in-Fails.ensures
-
-pub returns-in-Unknown : goal.returns-in-Unknown
-returns-in-Unknown c =
-    let h = c.loop-spent.invariant in
-    let e = c.next_of-right.ensures in
-    holds_unknown h (holds_top h (omega arith) e.next e.below c.next_of-rest.ensures.next) c.loop-spent-test.true c.in-Unknown.ensures
+    let f = c.in-Some.front in
+    let t = c.in-Some.ensures.1 in
+    let q = c.loop-spent-test.true in
+    let g = rw c.in-Bind.is at c.in-Ok.ensures in
+    record { cells = bind_cells h f t q g; room = bind_room h f t q g }
 
 pub loop-spent-preserved : goal.loop-spent-preserved
 loop-spent-preserved c =
     let h = c.loop-spent.invariant in
-    let e = c.next_of-right.ensures in
-    let t = holds_top h (omega arith) e.next e.below c.next_of-rest.ensures.next in
-    elim c.match-step.branch [
-      | in-Next w ↦ rw (w.area-is, w.waiting-is, w.made-is, w.apart-is) (holds_next h t c.loop-spent-test.true w.in-Next.ensures)
-      | in-Bind w ↦ rw (w.area-is, w.waiting-is, w.made-is, w.apart-is) (holds_bind h t c.loop-spent-test.true w.in-Bind.ensures w.push_pair-made.ensures.lists w.push_pair-made.ensures.end)
+    let f = c.in-Some.front in
+    let t = c.in-Some.ensures.1 in
+    let q = c.loop-spent-test.true in
+    elim c.match-taken.branch [
+      | in-Next w ↦ rw (w.area-is, w.waiting-is, w.made-is, w.apart-is) (holds_next h f t q (rw w.in-Next.is at c.in-Ok.ensures))
+      | in-Bind w ↦ rw (w.area-is, w.waiting-is, w.made-is, w.apart-is) (holds_bind h f t q (rw w.in-Bind.is at c.in-Ok.ensures) w.push_pair-made.ensures.lists w.push_pair-made.ensures.end)
     ]
 
 pub returns : goal.returns

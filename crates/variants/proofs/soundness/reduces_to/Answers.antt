@@ -19,13 +19,13 @@ pub equivalent-requires-clause-cells : goal.equivalent-requires-clause-cells
 equivalent-requires-clause-cells c =
     let two = c.normalize-normal.ensures in
     let q = c.requires.cells in
-    let z = reduced_sizes c.args.term c.args.member c.in_ok-instance.ensures two q.3 q.4 c.requires.room.0 in
-    (two.some_cell, two.inside, q.3, omega (arith, q.4, z))
+    let z = reduced_sizes c.args.term c.args.member c.in_ok-instance.ensures two q.1.0 q.1.1 c.requires.room.0 in
+    ((two.some_cell, two.inside), (q.1.0, omega (arith, q.1.1, z)))
 
 pub equivalent-requires-clause-small : goal.equivalent-requires-clause-small
 equivalent-requires-clause-small c =
     let q = c.requires.cells in
-    let z = reduced_sizes c.args.term c.args.member c.in_ok-instance.ensures c.normalize-normal.ensures q.3 q.4 c.requires.room.0 in
+    let z = reduced_sizes c.args.term c.args.member c.in_ok-instance.ensures c.normalize-normal.ensures q.1.0 q.1.1 c.requires.room.0 in
     (omega (arith, z), omega (arith, z))
 
 pub equivalent-requires-clause-room : goal.equivalent-requires-clause-room
@@ -33,10 +33,10 @@ equivalent-requires-clause-room c =
     let one = c.in_ok-instance.ensures in
     let two = c.normalize-normal.ensures in
     let q = c.requires.cells in
-    let z = reduced_sizes c.args.term c.args.member one two q.3 q.4 c.requires.room.0 in
+    let z = reduced_sizes c.args.term c.args.member one two q.1.0 q.1.1 c.requires.room.0 in
     omega (arith, z, c.requires.room, grows_length (adds_grows one.puts.adds), grows_length two.grows)
 
 pub returns : goal.returns
 returns c =
     let q = c.requires.cells in
-    reduced_claim c.args.term c.args.member c.in_ok-instance.ensures c.normalize-normal.ensures q.3 q.4 c.equivalent.ensures.keeps c.equivalent.result c.equivalent.ensures.value
+    reduced_claim c.args.term c.args.member c.in_ok-instance.ensures c.normalize-normal.ensures q.1.0 q.1.1 c.equivalent.ensures.keeps c.equivalent.result c.equivalent.ensures.value

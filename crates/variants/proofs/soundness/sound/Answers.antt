@@ -17,7 +17,7 @@ returns-in_err-member c = rw c.from_residual.ensures (unread_claims c.args.term 
 pub reduces_to-requires-clause-cells : goal.reduces_to-requires-clause-cells
 reduces_to-requires-clause-cells c =
     let x = c.in_ok-member.ensures in
-    (c.requires.term.0, omega (arith, c.requires.term, x.grows.grew), x.inside, x.placed.0, x.placed.1)
+    ((c.requires.term.0, omega (arith, c.requires.term, x.grows.grew)), x.placed, x.inside)
 
 pub reduces_to-requires-clause-room : goal.reduces_to-requires-clause-room
 reduces_to-requires-clause-room c =

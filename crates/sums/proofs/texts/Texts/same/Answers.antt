@@ -5,4 +5,4 @@ use Rattle.sums.proofs.texts.Texts.same.Goals as goal
 
 pub returns : goal.returns
 unfolding equivalent
-returns c = λ t u h k. c.same_text.ensures ∙ rw (c.wide.ensures.0, c.wide-2.ensures.0, c.wide-3.ensures.0, c.wide-4.ensures.0) (ap₂ same h.text k.text)
+returns c = λ t u h k. c.one_text.ensures ∙ rw (c.text.ensures, c.text-2.ensures) (ap₂ same h.text k.text)

@@ -1,14 +1,10 @@
-use mathlib.Core.Path.{refl}
-use Rattle.tree.proofs.Spelling.{linked_application}
+use Rattle.tree.specs.Areas.{trees_in}
+use Rattle.tree.proofs.Fitting.{word_spelled, apply_fits, apply_tree, pushes_as}
 use Rattle.tree.proofs.area.Area.push_application.Goals as goal
 
-pub invariant_of-self : goal.invariant_of-self
-invariant_of-self c = record { arena = rw c.push_cell-end.ensures.0 (linked_application _ c.requires.name c.args.self.now.arena c.push_cell-end.ensures.1 c.requires.room.0 c.requires.links.0 c.requires.links.1 c.requires.count.0).arena }
+pub push-requires-clause-fits : goal.push-requires-clause-fits
+push-requires-clause-fits c =
+    apply_fits (word_spelled c.args.self.now.sheet.now c.args.name c.requires.name c.word.ensures) c.requires.name.plain c.requires.links.0 c.requires.links.1 c.requires.count.0 c.requires.count.1
 
 pub returns : goal.returns
-returns c = record {
-  lent = record { work = refl; sheet = refl };
-  cell = refl;
-  end = c.push_cell-end.ensures.0;
-  linked = linked_application _ c.requires.name c.args.self.now.arena c.push_cell-end.ensures.1 c.requires.room.0 c.requires.links.0 c.requires.links.1 c.requires.count.0;
-}
+returns c = pushes_as (apply_tree (word_spelled c.args.self.now.sheet.now c.args.name c.requires.name c.word.ensures) (trees_in c.args.self.now c.args.first)) c.push.ensures

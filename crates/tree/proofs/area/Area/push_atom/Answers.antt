@@ -1,18 +1,9 @@
-use mathlib.Core.Path.{refl}
-use Rattle.tree.proofs.Spelling.{linked_atom}
+use Rattle.tree.specs.Areas.{trees_in}
+use Rattle.tree.proofs.Fitting.{word_cell, atom_fits, atom_tree, pushes_as}
 use Rattle.tree.proofs.area.Area.push_atom.Goals as goal
 
-pub invariant_of-self : goal.invariant_of-self
-invariant_of-self c =
-    let k = c.requires.k_cell in
-    record { arena = rw c.push_cell-end.ensures.0 (linked_atom _ c.args.k c.args.self.now.arena k.0 k.1 c.requires.letter c.ranges.letter.fits c.wide-name.ensures.0 c.push_cell-end.ensures.1 c.requires.room.0 k.2).arena }
+pub push-requires-clause-fits : goal.push-requires-clause-fits
+push-requires-clause-fits c = let k = c.requires.k_cell in atom_fits (word_cell c.args.self.now c.args.k k.0.0 k.0.1) c.requires.letter k.1
 
 pub returns : goal.returns
-returns c =
-    let k = c.requires.k_cell in
-    record {
-      lent = record { work = refl; sheet = refl };
-      cell = refl;
-      end = c.push_cell-end.ensures.0;
-      linked = linked_atom _ c.args.k c.args.self.now.arena k.0 k.1 c.requires.letter c.ranges.letter.fits c.wide-name.ensures.0 c.push_cell-end.ensures.1 c.requires.room.0 k.2;
-    }
+returns c = let k = c.requires.k_cell in pushes_as (atom_tree (word_cell c.args.self.now c.args.k k.0.0 k.0.1) (trees_in c.args.self.now 0) c.requires.letter) c.push.ensures

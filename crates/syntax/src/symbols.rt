@@ -1,0 +1,35 @@
+// The next symbol of a text: a bracket, a comma or a name.
+ghost use Rattle.std.specs.Prelude.{◌≡◌};
+ghost use Rattle.syntax.specs.Next.{next_symbol};
+
+use crate::{Blank, run_end, token_end};
+use sheet::Place;
+
+// A symbol: a bracket or a comma by where it ends, a name by its place, or the end of the text.
+// The end is one of them: an Option in the Option would be one arm more wherever it is matched.
+#[derive(Clone, Copy, Debug, PartialEq, Eq)]
+pub enum Symbol {
+    Begin(usize),
+    Shut(usize),
+    Comma(usize),
+    Name(Place),
+    Stop,
+}
+
+// The next symbol, if there is a token or the text ends.
+#[tactic(auto, unfolding(crate::specs::Next::next_symbol))]
+pub fn next_symbol(text: &[u8], at: usize) -> Option<Symbol>
+    ensures { result ≡ next_symbol text.now at }
+{
+    let from = run_end::<Blank>(text, at);
+    let Some(b) = text.get(from) else {
+        return Some(Symbol::Stop);
+    };
+    let to = token_end(text, from)?;
+    Some(match *b {
+        b'(' => Symbol::Begin(to),
+        b')' => Symbol::Shut(to),
+        b',' => Symbol::Comma(to),
+        _ => Symbol::Name(Place { from, to }),
+    })
+}

@@ -1,6 +1,0 @@
-use Rattle.tree.specs.Cells.{start_of, length_of, kind_of}
-use Rattle.tree.proofs.cells.push_like.Goals as goal
-
-pub returns : goal.returns
-unfolding start_of length_of kind_of
-returns c = (c.push_cell.ensures.0, rw (c.wide-place.ensures.0, c.wide-mark.ensures.0) at c.push_cell.ensures.1)

@@ -1,8 +1,0 @@
-use Rattle.variables.proofs.Pairs.{PairingIn}
-use Rattle.variables.proofs.pairing.pair_variables.Given as goal
-
-abbrev pub invariant-loop-k : goal.invariant-loop-k
-invariant-loop-k l = PairingIn l.initial.area l.area l.names l.values l.bindings l.rest l.k l.list
-
-abbrev pub decreases-loop-k : goal.decreases-loop-k
-decreases-loop-k l = l.k
