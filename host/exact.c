@@ -12,23 +12,17 @@
 #include <sys/mman.h>
 #include <valgrind/memcheck.h>
 
+#include "../include/yukhtsami.h"
+
 #define STACK (2u << 20)
 #define PART 4096u
 #define PAINT 0xa5
-
-struct called {
-    uint32_t refusal;
-    size_t written;
-};
-
-struct called yukhtsami_answer(const uint8_t *sheet, size_t sheet_len, uint32_t *work,
-                               size_t work_len, uint8_t *output, size_t output_len);
 
 struct call {
     uint8_t *sheet, *output;
     uint32_t *work;
     size_t length, words, room;
-    struct called gave;
+    struct yukhtsami_reply gave;
 };
 
 static void *called(void *argument) {
@@ -92,27 +86,16 @@ static int unwritten(const uint8_t *from, size_t count) {
     return 1;
 }
 
-static size_t count(const uint8_t *in, size_t length, char byte) {
-    size_t found = 0;
-    for (size_t i = 0; i < length; i++) found += in[i] == (uint8_t)byte;
-    return found;
-}
-
-static size_t needed(const uint8_t *sheet, size_t length) {
-    static const char complete[] = "kind=complete\nterm=";
-    size_t colons = count(sheet, length, ':'), front = sizeof complete - 1;
-    if (length > front && !memcmp(sheet, complete, front)) {
-        const uint8_t *term = sheet + front, *end = memchr(term, '\n', length - front);
-        colons += 2 * count(term, (size_t)(end - term), '(');
-    }
-    return 65536 * (colons + 16) + 16 * length;
+// Whether a refusal leaves the work area as it was.
+static int untouched(uint32_t refusal) {
+    return refusal == YUKHTSAMI_TOO_LONG || refusal == YUKHTSAMI_FOREIGN_BYTE ||
+           refusal == YUKHTSAMI_LINE_OUT_OF_PLACE || refusal == YUKHTSAMI_SHORT_WORK_AREA;
 }
 
 // Whether the needed words are zero, or none where the call must leave them, and the rest unwritten.
 static int work_right(const struct call *c) {
-    uint32_t refusal = c->gave.refusal;
-    int untouched = refusal == 1 || refusal == 2 || refusal == 3 || refusal == 11;
-    size_t cleared = untouched ? 0 : needed(c->sheet, c->length);
+    uint64_t needed = yukhtsami_words_needed(c->sheet, c->length);
+    uint64_t cleared = untouched(c->gave.refusal) ? 0 : needed;
     if (cleared > c->words) return 0;
     for (size_t i = 0; i < cleared; i++)
         if (c->work[i] != 0) return 0;

@@ -88,10 +88,7 @@ fn record(label: String, text: String) -> Record {
     let room = 64 * LONGEST;
     let (mut work, mut output) = (vec![0; words as usize], vec![0; room]);
     let called = lent::call(&label, &sheet, &mut work, &mut output);
-    let reply = match called.refusal {
-        0 => Reply::Answer(output[..called.written].to_vec()),
-        refusal => Reply::Refused(refusal),
-    };
+    let reply = Reply::given(called, &output);
     Record {
         label,
         sheet,

@@ -2,6 +2,8 @@
 // for every few rows that the definitions give the same.
 use std::{collections::BTreeMap, collections::BTreeSet, fmt::Write};
 
+use yukhtsami::Refusal;
+
 use crate::{
     deep, examples,
     generate::{self, Case, Size},
@@ -81,7 +83,7 @@ fn text(bytes: &[u8]) -> String {
 
 fn row(sheet: &str, words: u64, room: usize, reply: &Reply) -> String {
     let reply = match reply {
-        Reply::Refused(refusal) => format!("refused {refusal}"),
+        Reply::Refused(refusal) => format!("refused {}", refusal.number()),
         Reply::Answer(answer) => format!("passed ({})", text(answer)),
     };
     format!("record {{ sheet = {sheet}; words = {words}; room = {room}; reply = {reply} }}")
@@ -107,7 +109,7 @@ pub fn module(cases: &[Case], chunk: usize) -> String {
     for (index, rows) in rows.chunks(chunk).enumerate() {
         theorem(&mut out, &format!("rows{}", index + 1), rows);
     }
-    let long = |count: usize, refusal: u32| {
+    let long = |count: usize, refusal: Refusal| {
         row(
             &format!("replicate {count} 97"),
             0,
@@ -115,7 +117,14 @@ pub fn module(cases: &[Case], chunk: usize) -> String {
             &Reply::Refused(refusal),
         )
     };
-    theorem(&mut out, "long_rows", &[long(65_537, 1), long(65_536, 3)]);
+    theorem(
+        &mut out,
+        "long_rows",
+        &[
+            long(65_537, Refusal::TooLong),
+            long(65_536, Refusal::LineOutOfPlace),
+        ],
+    );
     out
 }
 

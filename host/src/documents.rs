@@ -6,6 +6,8 @@
 // whose first heading is `taken` shows the pairs that the sheet before it takes, one in a row.
 use std::{fs, path::PathBuf};
 
+use yukhtsami::Refusal;
+
 use crate::reference::Reply;
 
 /// A sheet with its answer, and what is lent where the document says so.
@@ -177,14 +179,19 @@ fn reply(place: String, sheet: Vec<u8>, text: &str) -> Result<Worked, String> {
         word.parse::<u32>()
             .map_err(|_| format!("'{word}' is no number"))
     };
+    let refused = |word: &str| {
+        let refusal = Refusal::of(number(word)?);
+        let reply = refusal.map(Reply::Refused);
+        reply.ok_or_else(|| "0 is no refusal".to_owned())
+    };
     match refusal.split_whitespace().collect::<Vec<_>>().as_slice() {
-        [refusal] => worked.reply = Reply::Refused(number(refusal)?),
+        [refusal] => worked.reply = refused(refusal)?,
         [refusal, "with", count, "words"] => {
-            worked.reply = Reply::Refused(number(refusal)?);
+            worked.reply = refused(refusal)?;
             worked.words = Some(number(count)?.into());
         }
         [refusal, "with", count, "bytes"] => {
-            worked.reply = Reply::Refused(number(refusal)?);
+            worked.reply = refused(refusal)?;
             worked.room = Some(number(count)? as usize);
         }
         _ => return Err(format!("'{}' is no refusal", text.trim())),

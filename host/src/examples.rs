@@ -7,6 +7,8 @@ mod lines;
 mod solving;
 mod variants;
 
+use yukhtsami::Refusal::{self, ShortOutput, ShortWorkArea};
+
 use crate::reference::Reply;
 
 pub struct Example {
@@ -36,7 +38,7 @@ fn answered(label: &'static str, sheet: &str, answer: &str) -> Example {
 }
 
 /// A refused sheet, whose text is whole.
-fn refused(label: &'static str, sheet: &str, refusal: u32) -> Example {
+fn refused(label: &'static str, sheet: &str, refusal: Refusal) -> Example {
     let reply = Reply::Refused(refusal);
     Example {
         label,
@@ -127,8 +129,12 @@ pub fn of_document() -> Vec<Example> {
             1_048_864,
             23,
         ),
-        lent(refused("one-word-less", empty, 11), 1_048_863, 23),
-        lent(refused("one-byte-less", empty, 12), 1_048_864, 22),
+        lent(
+            refused("one-word-less", empty, ShortWorkArea),
+            1_048_863,
+            23,
+        ),
+        lent(refused("one-byte-less", empty, ShortOutput), 1_048_864, 22),
         answered(
             "untidy-g",
             "kind=unify|fuel=9|left=g|right=g(c(0))",

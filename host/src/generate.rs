@@ -8,6 +8,8 @@ mod pairs;
 mod spelling;
 mod terms;
 
+use yukhtsami::Refusal;
+
 use crate::{
     kinds::{self, KINDS, Kind},
     reference::{self, Admitted, Reply},
@@ -112,7 +114,7 @@ pub fn lend(rng: &mut Rng, sheet: Vec<u8>) -> Case {
     let words = words(rng, words_needed);
     let room = room(rng, answer.as_ref().map_or(100, Vec::len));
     let reply = if words < words_needed {
-        Reply::Refused(11)
+        Reply::Refused(Refusal::ShortWorkArea)
     } else {
         reference::settled(answer, room)
     };

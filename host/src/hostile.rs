@@ -3,6 +3,8 @@
 mod bound;
 pub mod change;
 
+use yukhtsami::Refusal;
+
 use crate::{
     linked::Comparison,
     reference::{self, Reply},
@@ -113,7 +115,7 @@ impl Hostile {
         let words = choice.words(needed);
         if words < needed {
             let room = choice.room(SOME_ROOM);
-            let reply = Reply::Refused(11);
+            let reply = Reply::Refused(Refusal::ShortWorkArea);
             return self.compared.add(NAME, bytes, words, room, reply);
         }
         if !bound::soon(bytes, &read) {

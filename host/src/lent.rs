@@ -117,10 +117,7 @@ impl Lent {
         (words, room): (usize, usize),
     ) -> (Reply, Vec<String>) {
         let called = self.lend(name, bytes, (words, room));
-        let reply = match called.refusal {
-            0 => Reply::Answer(self.output[..called.written.min(room)].to_vec()),
-            refusal => Reply::Refused(refusal),
-        };
+        let reply = Reply::given(called, &self.output[..room]);
         let found = self.left(bytes, (words, room), called, &reply);
         (reply, found)
     }
@@ -185,7 +182,7 @@ fn changed(bytes: &[u8], words: usize) -> usize {
 // The two numbers that the call gave against those of the reply.
 fn said(called: Called, reply: &Reply) -> Vec<String> {
     let (refusal, written) = match reply {
-        Reply::Refused(refusal) => (*refusal, 0),
+        Reply::Refused(refusal) => (refusal.number(), 0),
         Reply::Answer(answer) => (0, answer.len()),
     };
     let mut found = Vec::new();

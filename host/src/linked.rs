@@ -1,6 +1,8 @@
 // The linked library against the reference, on generated sheets and the stored list.
 use std::fmt;
 
+use yukhtsami::Refusal;
+
 use crate::{
     generate::{self, Case, Size},
     kinds::Kind,
@@ -36,7 +38,9 @@ pub struct Comparison {
 /// The reply with so many words, from the reference's with as many as are asked for.
 pub fn with_words(bytes: &[u8], words: usize, reply: Reply) -> Reply {
     match sheet::read(bytes) {
-        Ok(sheet) if sheet::words_needed(bytes, &sheet) > words as u64 => Reply::Refused(11),
+        Ok(sheet) if sheet::words_needed(bytes, &sheet) > words as u64 => {
+            Reply::Refused(Refusal::ShortWorkArea)
+        }
         _ => reply,
     }
 }
@@ -55,7 +59,9 @@ impl Comparison {
     pub fn add_unjudged(&mut self, name: &str, bytes: &[u8], words: u64, room: usize) {
         let words = words.min(MOST_WORDS as u64) as usize;
         let (reply, mut found) = self.lent.unjudged(name, bytes, (words, room));
-        if matches!(reply, Reply::Refused(refusal) if ![4, 12].contains(&refusal)) {
+        if matches!(reply, Reply::Refused(refusal)
+            if !matches!(refusal, Refusal::UnreadableTerm | Refusal::ShortOutput))
+        {
             found.push("a sheet whose lines and words are right is refused".to_owned());
         }
         self.count(name, bytes, (words, room), reply, found);
@@ -122,7 +128,7 @@ impl Comparison {
 impl fmt::Display for Difference {
     fn fmt(&self, out: &mut fmt::Formatter) -> fmt::Result {
         let reply = match &self.reply {
-            Reply::Refused(refusal) => format!("refusal {refusal}"),
+            Reply::Refused(refusal) => format!("refusal {}, {refusal}", refusal.number()),
             Reply::Answer(answer) => String::from_utf8_lossy(answer).into_owned(),
         };
         writeln!(out, "{}: {}", self.name, self.found.join("; "))?;

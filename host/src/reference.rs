@@ -3,6 +3,8 @@
 pub(crate) mod by_model;
 pub(crate) mod by_rust;
 
+use yukhtsami::{Called, Refusal};
+
 use crate::{
     deep, model,
     sheet::{self, Sheet},
@@ -10,8 +12,18 @@ use crate::{
 
 #[derive(Clone, Debug, PartialEq, Eq)]
 pub enum Reply {
-    Refused(u32),
+    Refused(Refusal),
     Answer(Vec<u8>),
+}
+
+impl Reply {
+    /// The reply that a call gave, with what stands at the front of the output.
+    pub fn given(called: Called, output: &[u8]) -> Self {
+        match Refusal::of(called.refusal) {
+            Some(refusal) => Reply::Refused(refusal),
+            None => Reply::Answer(output[..called.written.min(output.len())].to_vec()),
+        }
+    }
 }
 
 /// What a call gives, whatever the output lent, once refusals 1, 2 and 3 are passed.
@@ -19,7 +31,7 @@ pub enum Reply {
 pub struct Admitted {
     pub kind: &'static str,
     pub words_needed: u64,
-    /// None where a term is unreadable (refusal 4).
+    /// None where a term is unreadable.
     pub answer: Option<Vec<u8>>,
 }
 
@@ -27,7 +39,9 @@ pub struct Admitted {
 pub fn call(bytes: &[u8], words: u64, room: usize) -> Reply {
     match sheet::read(bytes) {
         Err(refusal) => Reply::Refused(refusal),
-        Ok(sheet) if sheet::words_needed(bytes, &sheet) > words => Reply::Refused(11),
+        Ok(sheet) if sheet::words_needed(bytes, &sheet) > words => {
+            Reply::Refused(Refusal::ShortWorkArea)
+        }
         Ok(sheet) => settled(answer(bytes, &sheet), room),
     }
 }
@@ -35,14 +49,14 @@ pub fn call(bytes: &[u8], words: u64, room: usize) -> Reply {
 /// The reply from an answer that is known.
 pub fn settled(answer: Option<Vec<u8>>, room: usize) -> Reply {
     match answer {
-        None => Reply::Refused(4),
-        Some(answer) if answer.len() > room => Reply::Refused(12),
+        None => Reply::Refused(Refusal::UnreadableTerm),
+        Some(answer) if answer.len() > room => Reply::Refused(Refusal::ShortOutput),
         Some(answer) => Reply::Answer(answer),
     }
 }
 
 /// The sheet's kind, needed words and answer, or refusal 1, 2 or 3.
-pub fn admit(bytes: &[u8]) -> Result<Admitted, u32> {
+pub fn admit(bytes: &[u8]) -> Result<Admitted, Refusal> {
     let sheet = sheet::read(bytes)?;
     Ok(Admitted {
         kind: sheet.kind.name,
@@ -58,13 +72,17 @@ fn answer(bytes: &[u8], sheet: &Sheet) -> Option<Vec<u8>> {
             return modelled.map(String::into_bytes);
         }
         let spent = modelled.as_deref().map_or("", spent);
+        let shown = |answer: &Option<String>| match answer {
+            Some(answer) => answer.clone(),
+            None => Refusal::UnreadableTerm.to_string(),
+        };
         let told = asked(sheet).map(|told| with_spent(sheet, told, spent));
         assert!(
             told == modelled,
             "the model and the Rust disagree\nsheet:\n{}\nmodel:\n{}\nRust:\n{}",
             String::from_utf8_lossy(bytes),
-            modelled.as_deref().unwrap_or("refusal 4"),
-            told.as_deref().unwrap_or("refusal 4"),
+            shown(&modelled),
+            shown(&told),
         );
         told.map(String::into_bytes)
     })

@@ -1,5 +1,7 @@
 // Reading of sheets (01, "A sheet comes in"): refusals 1, 2 and 3, the lines of each form, and the
 // words that a sheet needs.
+use yukhtsami::Refusal;
+
 use crate::kinds::{self, Form, Kind};
 
 pub const LONGEST: usize = 65_536;
@@ -109,15 +111,15 @@ fn lines(text: &str) -> Option<Sheet<'_>> {
 }
 
 /// The sheet, or refusal 1, 2 or 3.
-pub fn read(bytes: &[u8]) -> Result<Sheet<'_>, u32> {
+pub fn read(bytes: &[u8]) -> Result<Sheet<'_>, Refusal> {
     if bytes.len() > LONGEST {
-        return Err(1);
+        return Err(Refusal::TooLong);
     }
     if !bytes.iter().all(|byte| matches!(byte, 10 | 32..=126)) {
-        return Err(2);
+        return Err(Refusal::ForeignByte);
     }
     let text = std::str::from_utf8(bytes).expect("plain bytes");
-    lines(text).ok_or(3)
+    lines(text).ok_or(Refusal::LineOutOfPlace)
 }
 
 fn count(byte: u8, of: &[u8]) -> u64 {

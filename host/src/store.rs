@@ -5,6 +5,8 @@ use std::{
     path::PathBuf,
 };
 
+use yukhtsami::Refusal;
+
 use crate::{
     deep, examples,
     generate::{self, Case, Size},
@@ -144,7 +146,7 @@ pub fn written(records: &[Record]) -> Vec<u8> {
     } in records
     {
         let (refusal, answer): (u32, &[u8]) = match reply {
-            Reply::Refused(refusal) => (*refusal, &[]),
+            Reply::Refused(refusal) => (refusal.number(), &[]),
             Reply::Answer(answer) => (0, answer),
         };
         let (length, written) = (sheet.len(), answer.len());
@@ -193,10 +195,9 @@ fn record(text: &str, rest: &mut &[u8]) -> Result<Record, String> {
     if taken(rest, 1)? != b"\n" || words.next().is_some() || refusal != 0 && written != 0 {
         return Err(format!("a record out of form: {text}"));
     }
-    let reply = if refusal == 0 {
-        Reply::Answer(answer)
-    } else {
-        Reply::Refused(refusal)
+    let reply = match Refusal::of(refusal) {
+        None => Reply::Answer(answer),
+        Some(refusal) => Reply::Refused(refusal),
     };
     Ok(Record {
         label,

@@ -1,13 +1,13 @@
 // A tally of replies: how many of each kind, verdict, claim and refusal.
 use std::{collections::BTreeMap, fmt};
 
+use yukhtsami::Refusal;
+
 use crate::{
     kinds::{KINDS, Kind},
     reference::Reply,
     sheet,
 };
-
-pub const REFUSALS: [u32; 6] = [1, 2, 3, 4, 11, 12];
 
 #[derive(Default)]
 pub struct Tally(BTreeMap<String, usize>);
@@ -16,8 +16,8 @@ fn answer_name(kind: &str, word: &str) -> String {
     format!("{kind} {word}")
 }
 
-fn refusal_name(refusal: u32) -> String {
-    format!("refusal {refusal:>2}")
+fn refusal_name(refusal: Refusal) -> String {
+    format!("refusal {:>2}", refusal.number())
 }
 
 // What an answer begins with: its first line, or the key where a term follows.
@@ -58,7 +58,7 @@ impl Tally {
             .unwrap_or_default()
     }
 
-    pub fn refused(&self, refusal: u32) -> usize {
+    pub fn refused(&self, refusal: Refusal) -> usize {
         self.0
             .get(&refusal_name(refusal))
             .copied()
@@ -70,7 +70,7 @@ impl Tally {
         let named =
             |kind: &'static Kind| kind.answers.iter().map(|word| answer_name(kind.name, word));
         let answers = KINDS.iter().flat_map(named);
-        let refusals = REFUSALS.map(refusal_name);
+        let refusals = Refusal::ALL.map(refusal_name);
         answers
             .chain(refusals)
             .filter(|name| !self.0.contains_key(name))

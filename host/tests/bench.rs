@@ -15,10 +15,7 @@ fn replied(name: &str, text: &str) -> Reply {
     let mut work = vec![1; sheet::words_needed(bytes, &read) as usize];
     let mut output = vec![0; 8 * sheet::LONGEST];
     let called = lent::call(name, bytes, &mut work, &mut output);
-    match called.refusal {
-        0 => Reply::Answer(output[..called.written].to_vec()),
-        refusal => Reply::Refused(refusal),
-    }
+    Reply::given(called, &output)
 }
 
 fn is_answered(name: &str, text: &str) {

@@ -5,6 +5,7 @@ use host::{
     reference::{self, Reply, output_right, work_right},
     sheet,
 };
+use yukhtsami::Refusal;
 
 fn check(list: Vec<examples::Example>) {
     notice::absent("the model answered alone");
@@ -61,8 +62,16 @@ fn the_output_keeps_what_is_not_written() {
     assert!(!output_right(&answer, b"xyz", b"aby"));
     assert!(!output_right(&answer, b"xyz", b"xbz"));
     assert!(!output_right(&answer, b"xyz", b"ab"));
-    assert!(output_right(&Reply::Refused(12), b"xyz", b"xyz"));
-    assert!(!output_right(&Reply::Refused(12), b"xyz", b"ayz"));
+    assert!(output_right(
+        &Reply::Refused(Refusal::ShortOutput),
+        b"xyz",
+        b"xyz"
+    ));
+    assert!(!output_right(
+        &Reply::Refused(Refusal::ShortOutput),
+        b"xyz",
+        b"ayz"
+    ));
 }
 
 #[test]

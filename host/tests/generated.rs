@@ -6,8 +6,9 @@ use host::{
     model, notice,
     reference::Reply,
     rng::Rng,
-    tally::{REFUSALS, Tally},
+    tally::Tally,
 };
+use yukhtsami::Refusal;
 
 fn generated(count: usize, seed: u64) -> Tally {
     notice::absent("generated sheets were not compared with the Rust");
@@ -45,7 +46,11 @@ fn every_kind_verdict_and_refusal_comes_up() {
         assert!(tally.count(kind, "verdict=solved") > unsupported);
         assert!(tally.count(kind, "verdict=failed") > unsupported);
     }
-    assert!(REFUSALS.iter().all(|refusal| tally.refused(*refusal) > 0));
+    assert!(
+        Refusal::ALL
+            .iter()
+            .all(|refusal| tally.refused(*refusal) > 0)
+    );
 }
 
 #[test]

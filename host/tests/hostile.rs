@@ -6,8 +6,8 @@ use host::{
     notice,
     rng::Rng,
     store,
-    tally::REFUSALS,
 };
+use yukhtsami::Refusal;
 
 const CALLS: usize = 2_000;
 const LONGEST: usize = 2_000;
@@ -46,7 +46,7 @@ fn the_library_replies_to_hostile_inputs() {
     let hostile = deep::run(|| tried(CALLS));
     let compared = &hostile.compared;
     assert_eq!((compared.calls, compared.differences), (CALLS, 0));
-    let refused: usize = REFUSALS
+    let refused: usize = Refusal::ALL
         .map(|refusal| compared.tally.refused(refusal))
         .iter()
         .sum();

@@ -96,7 +96,13 @@ fn a_difference_is_found_and_the_smallest_sheet_kept() {
     let words = u64::from(u32::MAX);
     let wrong = || Reply::Answer(b"equal=no\n".to_vec());
     let longer = [SHEET, b" "].concat();
-    comparison.add("lines", &longer, words, 99, Reply::Refused(2));
+    comparison.add(
+        "lines",
+        &longer,
+        words,
+        99,
+        Reply::Refused(Refusal::ForeignByte),
+    );
     comparison.add("wrong", SHEET, words, 99, wrong());
     let right = Reply::Answer(b"equal=yes\n".to_vec());
     comparison.add("right", SHEET, words, 99, right);

@@ -3,6 +3,7 @@ use host::{
     kinds,
     sheet::{Member, Sheet, read, words_needed},
 };
+use yukhtsami::Refusal::{self, ForeignByte, LineOutOfPlace, TooLong};
 
 fn empty(kind: &str) -> Sheet<'static> {
     Sheet::empty(kinds::named(kind.as_bytes()).unwrap())
@@ -16,7 +17,7 @@ fn with_terms<'a>(kind: &str, terms: &[&'a str]) -> Sheet<'a> {
     }
 }
 
-fn refusal(text: &str) -> Option<u32> {
+fn refusal(text: &str) -> Option<Refusal> {
     read(text.as_bytes()).err()
 }
 
@@ -29,7 +30,7 @@ fn a_key_ends_at_the_first_equals_sign() {
         " kind=unify\nfuel=1\n",
         "kind =unify\nfuel=1\n",
     ] {
-        assert_eq!(refusal(text), Some(3), "{text}");
+        assert_eq!(refusal(text), Some(LineOutOfPlace), "{text}");
     }
 }
 
@@ -55,7 +56,7 @@ fn an_empty_value_is_a_value() {
             ..with_terms("sound", &["a"])
         })
     );
-    assert_eq!(refusal("kind=unify\nfuel=\n"), Some(3));
+    assert_eq!(refusal("kind=unify\nfuel=\n"), Some(LineOutOfPlace));
 }
 
 #[test]
@@ -65,8 +66,11 @@ fn members_come_in_the_numbers_allowed() {
         read(b"kind=complete\nterm=a\n"),
         Ok(with_terms("complete", &["a"]))
     );
-    assert_eq!(refusal("kind=sound\nterm=a\n"), Some(3));
-    assert_eq!(refusal("kind=sound\nterm=a\nmember=\nmember=\n"), Some(3));
+    assert_eq!(refusal("kind=sound\nterm=a\n"), Some(LineOutOfPlace));
+    assert_eq!(
+        refusal("kind=sound\nterm=a\nmember=\nmember=\n"),
+        Some(LineOutOfPlace)
+    );
 }
 
 #[test]
@@ -86,7 +90,7 @@ fn a_key_is_repeated_within_one_member_only() {
     for kind in ["cover", "sound\nterm=a", "complete\nterm=a"] {
         let text =
             format!("kind={kind}\nmember=\nkey=k\nvalue=a\nkey=j\nvalue=a\nkey=k\nvalue=b\n");
-        assert_eq!(refusal(&text), Some(3), "{text}");
+        assert_eq!(refusal(&text), Some(LineOutOfPlace), "{text}");
     }
 }
 
@@ -105,7 +109,7 @@ fn lines_out_of_place_are_refused() {
         "kind=cover\nkey=a\nvalue=a\n",
         "kind=variants\nterm=a\n",
     ] {
-        assert_eq!(refusal(text), Some(3), "{text}");
+        assert_eq!(refusal(text), Some(LineOutOfPlace), "{text}");
     }
 }
 
@@ -126,22 +130,26 @@ fn fuel_is_a_number_without_leading_zeros() {
     ] {
         assert_eq!(
             refusal(&format!("kind=match\nfuel={text}\n")),
-            Some(3),
+            Some(LineOutOfPlace),
             "{text}"
         );
     }
-    assert_eq!(refusal("kind=match\nfuel=18446744073709551617\n"), Some(3));
+    assert_eq!(
+        refusal("kind=match\nfuel=18446744073709551617\n"),
+        Some(LineOutOfPlace)
+    );
 }
 
 #[test]
 fn refusals_come_in_their_order() {
     let mut long = vec![0; 65_537];
-    assert_eq!(read(&long).err(), Some(1));
+    assert_eq!(read(&long).err(), Some(TooLong));
     long.pop();
-    assert_eq!(read(&long).err(), Some(2));
+    assert_eq!(read(&long).err(), Some(ForeignByte));
     for byte in 0..=255 {
-        let foreign = byte != 10 && !(32..=126).contains(&byte);
-        assert_eq!(read(&[byte]).err(), Some(if foreign { 2 } else { 3 }));
+        let plain = matches!(byte, 10 | 32..=126);
+        let refusal = if plain { LineOutOfPlace } else { ForeignByte };
+        assert_eq!(read(&[byte]).err(), Some(refusal));
     }
 }
 

@@ -9,6 +9,7 @@ use host::{
     sheet::{self, Sheet},
     store,
 };
+use yukhtsami::Refusal::{self, ForeignByte, LineOutOfPlace, TooLong, UnreadableTerm};
 
 // `|` ends a line.
 fn bytes(text: &str) -> Vec<u8> {
@@ -235,23 +236,26 @@ fn readable(sheet: &Sheet) -> bool {
 }
 
 // The walks find a place exactly where the sheet is at fault. What the sheet is refused with.
-fn agree(bytes: &[u8]) -> u32 {
+fn agree(bytes: &[u8]) -> Option<Refusal> {
     let text = String::from_utf8_lossy(bytes);
     let refusal = match sheet::read(bytes) {
-        Err(refusal) => refusal,
+        Err(refusal) => Some(refusal),
         Ok(sheet) => {
             let needed = sheet::words_needed(bytes, &sheet);
             assert_eq!(yukhtsami::words_needed(bytes), needed, "{text}");
-            if readable(&sheet) { 0 } else { 4 }
+            (!readable(&sheet)).then_some(UnreadableTerm)
         }
     };
-    assert_eq!(place::long(bytes, None).is_some(), refusal == 1, "{text}");
-    if refusal != 1 {
-        assert_eq!(place::foreign(bytes).is_some(), refusal == 2, "{text}");
+    let is = |other| refusal == Some(other);
+    let (long, foreign) = (is(TooLong), is(ForeignByte));
+    assert_eq!(place::long(bytes, None).is_some(), long, "{text}");
+    if !long {
+        assert_eq!(place::foreign(bytes).is_some(), foreign, "{text}");
     }
-    if !matches!(refusal, 1 | 2) {
-        assert_eq!(lines::out_of_place(bytes).is_some(), refusal == 3, "{text}");
-        assert_eq!(terms::unreadable(bytes).is_some(), refusal == 4, "{text}");
+    if !(long || foreign) {
+        let (line, term) = (lines::out_of_place(bytes), terms::unreadable(bytes));
+        assert_eq!(line.is_some(), is(LineOutOfPlace), "{text}");
+        assert_eq!(term.is_some(), is(UnreadableTerm), "{text}");
     }
     refusal
 }
@@ -259,17 +263,18 @@ fn agree(bytes: &[u8]) -> u32 {
 #[test]
 fn places_are_found_exactly_where_sheets_are_refused() {
     let found = deep::run(|| {
-        let mut found = [0; 5];
         let mut rng = Rng::new(31);
-        for _ in 0..40_000 {
-            found[agree(&generate::sheet(&mut rng, Size::Any)) as usize] += 1;
-        }
-        for record in store::stored().unwrap() {
-            found[agree(&record.sheet) as usize] += 1;
-        }
+        let generated = (0..40_000).map(|_| agree(&generate::sheet(&mut rng, Size::Any)));
+        let mut found: Vec<_> = generated.collect();
+        let stored = store::stored().unwrap();
+        found.extend(stored.iter().map(|record| agree(&record.sheet)));
         found
     });
-    assert!(found.iter().all(|count| *count >= 10), "{found:?}");
+    let refusals = [TooLong, ForeignByte, LineOutOfPlace, UnreadableTerm].map(Some);
+    for refusal in refusals.into_iter().chain([None]) {
+        let count = found.iter().filter(|found| **found == refusal).count();
+        assert!(count >= 10, "{refusal:?}: {count}");
+    }
 }
 
 #[test]
@@ -278,5 +283,5 @@ fn every_cut_of_a_sheet_has_its_place() {
     for end in 0..whole.len() {
         agree(&whole[..end]);
     }
-    assert_eq!(agree(&whole), 0);
+    assert_eq!(agree(&whole), None);
 }

@@ -7,6 +7,7 @@ use host::{
     store::{self, MODEST_WORDS},
     tally::Tally,
 };
+use yukhtsami::Refusal;
 
 #[test]
 fn the_list_has_every_kind_verdict_and_refusal() {
@@ -59,7 +60,7 @@ fn a_wrong_reply_is_found() {
     records.truncate(2);
     records[1].reply = Reply::Answer(b"verdict=unsupported\nspent=4\n".to_vec());
     assert_eq!(store::wrong(&records).len(), 1);
-    records[1].reply = Reply::Refused(4);
+    records[1].reply = Reply::Refused(Refusal::UnreadableTerm);
     assert_eq!(store::wrong(&records).len(), 1);
 }
 

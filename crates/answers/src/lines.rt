@@ -1,4 +1,4 @@
-// The line of a key and of what is claimed.
+// The line of a claim.
 ghost use Rattle.std.specs.Prelude.{◌≡◌};
 ghost use Rattle.rules.specs.Answer.{line, claim as word_of};
 ghost use Rattle.printing.specs.Putting.{PutInto};

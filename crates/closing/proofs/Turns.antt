@@ -1,5 +1,4 @@
--- The turns of the term reader: what a symbol makes of the machine's state, the trees of a state that stay, and what refuses. Assumes
--- nothing.
+-- The turns of the term reader: what a symbol makes of the machine's state, the trees of a state that stay, and what refuses.
 use Prim.Native.Nat.{ℕ, ◌+◌, ◌-◌, ◌≤◌, ◌<◌}
 use native.Mathlib.Omega.{arith}
 use mathlib.Core.Path.{◌≡◌, refl, sym, ap, ◌∙◌}

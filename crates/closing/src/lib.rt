@@ -92,6 +92,7 @@ fn sum(area: &mut Area, plus: Place, chain: usize, next: usize) -> Option<usize>
 }
 
 // Whether the list at cell k is one application of digits, without children.
+#[tactic(auto, using(crate::proofs::Numbers::alone_none, crate::proofs::Numbers::alone_several, crate::proofs::Numbers::alone_other, crate::proofs::Numbers::alone_children))]
 fn is_number(area: &Area, k: usize) -> bool
     requires { k < area.now.free }
     ensures { AloneIn area.now k result }
@@ -100,7 +101,7 @@ fn is_number(area: &Area, k: usize) -> bool
         && area.next_of(k) == 0
         && matches!(area.kind(k), Kind::Application)
         && area.first_of(k) == 0
-        && area.spelled(k).is_some_and(|name| all_digits(name))
+        && area.spelled(k).is_some_and(all_digits)
 }
 
 // An atom: a letter around digits.

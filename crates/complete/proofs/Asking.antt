@@ -36,6 +36,7 @@ use Rattle.laws.proofs.Variants.CompleteRoom.{complete_room}
 use Rattle.tree.specs.Cells.{tree_at}
 use Rattle.forms.proofs.WordLaws.{count_bound}
 use Rattle.elimination.specs.Stack.{FitPairs}
+use Rattle.elimination.specs.declared.room.TheConstants.{NAME_CELLS}
 use Rattle.elimination.specs.Area.{Room}
 use Rattle.unifier.specs.Matched.{Matched}
 use Rattle.steps.proofs.Fitting.{fit_sides}
@@ -131,7 +132,7 @@ module _ {s : Text} {w : List ℕ} {free term named at : ℕ} (k : CompleteInput
     abbrev top : ℕ
     top = solved_end name stop tree named i
 
-    top_is : top ≤ 26 + length (variables tree []) + 2 * length s + 2 * size tree + 1024 + nodes + 2 * fuel_for nodes named + 12293 * (count_of 58 k.text + 2 * count_of 40 k.text)
+    top_is : top ≤ 26 + length (variables tree []) + 2 * length s + 2 * size tree + 1024 + nodes + 2 * fuel_for nodes named + NAME_CELLS * (count_of 58 k.text + 2 * count_of 40 k.text)
     top_is = omega (arith, ends, k.named_is)
 
     fuel_is : fuel_for nodes named ≤ nodes + 4096 * (count_of 58 k.text + 2 * count_of 40 k.text) + 1

@@ -14,7 +14,7 @@ use Rattle.laws.proofs.Reduction.Sizes.{normalize_size}
 use Rattle.tree.specs.declared.area.Area.{Area}
 use Rattle.tree.specs.Areas.{tree_in, trees_in, KeepsCells, Grows}
 use Rattle.tree.proofs.Keeping.{adds_grows, grows_then, grows_keeps, grows_length, grows_tree, grows_trees}
-use Rattle.reduction.specs.Areas.{Becomes}
+use Rattle.reduction.specs.Areas.{Becomes, InstanceRoom}
 use Rattle.substitution.specs.Areas.{bindings_in, instance_in, Places, BuildsTreeIn}
 use Rattle.substitution.specs.declared.instances.Built.{Built}
 use Rattle.variables.specs.Areas.{names_in, SolutionIn}
@@ -58,8 +58,8 @@ module _ {a b : Area} (q : Question) (value bindings : ℕ) {built : Built} (k :
     pub solved_small : (5 * size (tree_in d built.index) < 65536) × (5 * size (tree_in d normal) < 65536)
     solved_small = let s = sizes_few in (omega (arith, s.0), omega (arith, s.1))
 
-    pub solved_room : 4 * a.free + 155648 ≤ length a.work.now → 4 * d.free + 15 * (size (tree_in d built.index) + size (tree_in d normal)) ≤ length d.work.now
-    solved_room r = let s = sizes_few in omega (arith, r, s.0, s.1, s.2, grows_length (grows_then start two.grows))
+    pub solved_room : InstanceRoom a → 4 * d.free + 15 * (size (tree_in d built.index) + size (tree_in d normal)) ≤ length d.work.now
+    solved_room r = let s = sizes_few in omega (arith, r.0, s.0, s.1, s.2, grows_length (grows_then start two.grows))
 
     normal_is : (r : Bool) → r ≡ equivalent (tree_in d built.index) (tree_in d normal) → equivalent made (normalize made) ≡ r
     normal_is r e = sym (e ∙ ap₂ equivalent made_now normal_now)

@@ -6,6 +6,7 @@ use lib.Dec.{leb}
 use native.Mathlib.Omega.{arith}
 use native.Mathlib.Decide.{dec_lt}
 use Rattle.laws.proofs.Basics.Tests.{leb_true, leb_false}
+use Rattle.elimination.specs.declared.room.TheConstants.{STEP_WORDS, NAME_CELLS}
 use Rattle.complete.specs.Judging.{fuel_for}
 
 pub fuel_few : (nodes named : ℕ) → (fuel_for nodes named ≤ 65536) × (fuel_for nodes named ≤ nodes + 4096 * named + 1)
@@ -44,7 +45,7 @@ text_words : (size t b : ℕ) → size ≤ 4096 → size + t < b → b ≤ 65536
 text_words size t b h g i = omega arith
 
 -- the end of the run
-run_words : (x b size n d p f top : ℕ) → n ≤ 4 * size + 4100 * p → 8 * f ≤ 462742 + 16352 * d + 16328 * p → top ≤ 26 + x + 2 * b + 2 * size + 1024 + n + 2 * f + 12293 * (d + 2 * p)
+run_words : (x b size n d p f top : ℕ) → n ≤ 4 * size + 4100 * p → 8 * f ≤ 462742 + 16352 * d + 16328 * p → top ≤ 26 + x + 2 * b + 2 * size + 1024 + n + 2 * f + NAME_CELLS * (d + 2 * p)
     → 4 * top ≤ 466942 + 4 * x + 8 * b + 24 * size + 65524 * d + 131072 * p
 run_words x b size n d p f top h g i = omega arith
 
@@ -52,27 +53,27 @@ key_words : (t k weigh : ℕ) → weigh ≤ t + 4095 * k + 4095 → 4 * weigh �
 key_words t k weigh h = omega arith
 
 sum_words : (b c t k weigh size x d p top : ℕ) → 4 * top ≤ 466942 + 4 * x + 8 * b + 24 * size + 65524 * d + 131072 * p → 4 * weigh ≤ 4 * t + 65536 * k + 16380
-    → 24 * size + 4 * t ≤ 344060 → x ≤ d → d + k ≤ c → 4 * (top + 4098 + 2 * x + weigh + 2 * b) + 204802 ≤ 65536 * (c + 2 * p + 16) + 16 * b
+    → 24 * size + 4 * t ≤ 344060 → x ≤ d → d + k ≤ c → 4 * (top + 4098 + 2 * x + weigh + 2 * b) + STEP_WORDS ≤ 65536 * (c + 2 * p + 16) + 16 * b
 sum_words b c t k weigh size x d p top h g i j l = omega arith
 
 module _ (b c t k weigh size x d p q n f top : ℕ) (short : b ≤ 65536) (colons : d + k ≤ c) (bytes : size + t < b) (weighs : weigh ≤ t + 4095 * k + 4095)
     (small : size ≤ 4096) (names : x ≤ d) (sites : q ≤ p) (nodes : n ≤ 4 * size + 4100 * q) (fuel : f ≤ 65536) (fuel_by : f ≤ n + 4096 * (d + 2 * p) + 1)
-    (ends : top ≤ 26 + x + 2 * b + 2 * size + 1024 + n + 2 * f + 12293 * (d + 2 * p)) where
+    (ends : top ≤ 26 + x + 2 * b + 2 * size + 1024 + n + 2 * f + NAME_CELLS * (d + 2 * p)) where
   most : n ≤ 4 * size + 4100 * p
   most = system_most size p q n nodes sites
 
   most_small : (m : ℕ) → m ≤ 4 * size + 4100 * p → m ≤ 16384 + 4100 * p
   most_small m h = omega (arith, small, h)
 
-  pub match_words : 4 * (top + 4098 + 2 * x + weigh + 2 * b) + 204802 ≤ 65536 * (c + 2 * p + 16) + 16 * b
+  pub match_words : 4 * (top + 4098 + 2 * x + weigh + 2 * b) + STEP_WORDS ≤ 65536 * (c + 2 * p + 16) + 16 * b
   match_words =
       sum_words b c t k weigh size x d p top (run_words x b size n d p f top most (fuel_words n d p f (most_small n most) fuel fuel_by) ends)
       (key_words t k weigh weighs) (text_words size t b small bytes short) names colons
 
-cells_few : (c p b m : ℕ) → 4 * m + 204802 ≤ 65536 * (c + 2 * p + 16) + 16 * b → c ≤ 65536 → p ≤ 65536 → b ≤ 65536 → m + 65536 < 2 ^ 32
+cells_few : (c p b m : ℕ) → 4 * m + STEP_WORDS ≤ 65536 * (c + 2 * p + 16) + 16 * b → c ≤ 65536 → p ≤ 65536 → b ≤ 65536 → m + 65536 < 2 ^ 32
 cells_few c p b m h g i j = omega arith
 
 -- the room of a match
-pub match_room : (b c p m length : ℕ) → 4 * m + 204802 ≤ 65536 * (c + 2 * p + 16) + 16 * b → c ≤ 65536 → p ≤ 65536 → b ≤ 65536 → 65536 * (c + 2 * p + 16) + 16 * b ≤ length
-    → (4 * m + 204802 ≤ length) × (m + 65536 < 2 ^ 32)
+pub match_room : (b c p m length : ℕ) → 4 * m + STEP_WORDS ≤ 65536 * (c + 2 * p + 16) + 16 * b → c ≤ 65536 → p ≤ 65536 → b ≤ 65536 → 65536 * (c + 2 * p + 16) + 16 * b ≤ length
+    → (4 * m + STEP_WORDS ≤ length) × (m + 65536 < 2 ^ 32)
 match_room b c p m length h g i j l = (omega (arith, h, l), cells_few c p b m h g i j)

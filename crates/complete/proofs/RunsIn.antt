@@ -17,6 +17,7 @@ use Rattle.tree.specs.declared.area.Area.{Area}
 use Rattle.tree.specs.Areas.{tree_in, trees_in, Grows}
 use Rattle.tree.proofs.Keeping.{grows_then, grows_length, grows_tree}
 use Rattle.substitution.specs.Areas.{bindings_in}
+use Rattle.reduction.specs.Areas.{InstanceRoom}
 use Rattle.schemes.specs.Areas.{FreshIn, SystemIn}
 use Rattle.schemes.specs.declared.systems.System.{System}
 use Rattle.elimination.specs.Stack.{Whole, FitPairs}
@@ -136,7 +137,7 @@ module _ {a b : Area} {q : Question} {i : ℕ} (asks : Asks a q) (k : CanJudgeIn
               solved_few : e.free ≤ solved_end k.name a.free (tree_in a q.schemes.term) q.named i
               solved_few = let f : e.free ≤ spared_end b.free nodes fuel q.named = subst (λ w. EndsIn e w (spared_end b.free nodes fuel q.named)) v z in omega (arith, f, end_few)
 
-              pub solved_room : (4 * e.free + 155648 ≤ length e.work.now) × (e.free < 4294959104)
+              pub solved_room : InstanceRoom e
               solved_room = let r = k.scheme.room in (omega (arith, r.0, solved_few, grows_length all_grows), omega (arith, r.1, solved_few))
 
               pub solved_matched : InstanceMatched e q c.value bindings

@@ -8,6 +8,7 @@ use Rattle.rules.specs.Variants.{system}
 use Rattle.laws.specs.Schemes.{scheme_at}
 use Rattle.laws.specs.Memory.{OverPairs}
 use Rattle.elimination.specs.Stack.{FitPairs}
+use Rattle.elimination.specs.declared.room.TheConstants.{NAME_CELLS}
 use Rattle.elimination.specs.Area.{Room}
 use Rattle.families.specs.Generalizing.{AllMatched}
 
@@ -17,7 +18,7 @@ fuel_for nodes named = cond (leb (nodes + 4096 * named + 1) 65535) (nodes + 4096
 
 -- the cells of a run from the free end n on end at most here
 abbrev pub run_end : ℕ → ℕ → ℕ → ℕ
-run_end n nodes named = n + nodes + 2 * fuel_for nodes named + 12293 * named
+run_end n nodes named = n + nodes + 2 * fuel_for nodes named + NAME_CELLS * named
 
 -- by the names of the fresh variables
 module _ (name : ℕ → Text) where

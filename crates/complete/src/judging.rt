@@ -6,6 +6,7 @@ ghost use Rattle.tree.specs.Areas.{tree_in, CellIn, Grows};
 ghost use Rattle.substitution.specs.Areas.{bindings_in};
 ghost use Rattle.variables.specs.Areas.{names_in};
 ghost use Rattle.families.specs.Areas.{variants_in};
+ghost use Rattle.reduction.specs.Areas.{InstanceRoom};
 ghost use Rattle.complete.specs.Judging.{fuel_for};
 ghost use Rattle.complete.specs.Areas.{judged_as, Asks, InstanceMatched, CanJudgeIn, CanJudgeAllIn, JudgesIn, JudgesAllIn};
 
@@ -23,10 +24,10 @@ use variables::pairing::Solution;
 // `members` on.
 #[derive(Clone, Copy, Debug, PartialEq, Eq)]
 pub(crate) struct Question {
-    pub schemes: Schemes,
-    pub named: usize,
-    pub names: usize,
-    pub members: usize,
+    pub(crate) schemes: Schemes,
+    pub(crate) named: usize,
+    pub(crate) names: usize,
+    pub(crate) members: usize,
 }
 
 // What the schemes so far decide: nothing yet, that one has no member, or that the instance of one is over 4,096 nodes. An Option<bool>
@@ -55,7 +56,7 @@ impl Judged {
 fn judge_solved(area: &mut Area, asked: Question, value: usize, bindings: usize) -> Judged
     requires asks { Asks area.old asked }
     requires cells { CellIn area.old value × (bindings < area.old.free) }
-    requires room { (4 * area.old.free + 155648 ≤ length area.old.work.now) × (area.old.free < 4294959104) }
+    requires room { InstanceRoom area.old }
     requires matched { InstanceMatched area.old asked value bindings }
     ensures value { judged_as result ≡ judge (names_in area.old asked.names) (variants_in area.old asked.members) (bindings_in area.old bindings) (tree_in area.old value) pending }
     ensures grows { Grows area.old area.new }

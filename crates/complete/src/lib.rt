@@ -2,4 +2,4 @@
 #![tactic(auto)]
 
 pub mod completing; // completing.rt: kind `complete` over an area
-pub mod judging; // judging.rt: what the schemes decide, over an area
+mod judging; // judging.rt: what the schemes decide, over an area

@@ -1,9 +1,10 @@
 -- Whether a member covers, from the match of its pairs in an area; and the loop over all members.
 use Prim.Native.Nat.{ℕ, ◌+◌, ◌*◌, ◌<◌, ◌≤◌}
 use mathlib.Core.Path.{◌≡◌, refl, sym, ap, subst, ◌∙◌}
-use mathlib.Core.Bool.{Bool, true, false}
+use mathlib.Core.Bool.{Bool, true, false, not}
 use mathlib.Core.List.{List, Memᴰ}
-use Rattle.std.specs.Prelude.{Some, None, Err}
+use Rattle.std.specs.Prelude.{Some, None}
+use Rattle.std.specs.Bool.{then_some}
 use lib.ListN.{length}
 use native.Mathlib.Omega.{arith}
 use Rattle.rules.specs.Bytes.{Text}
@@ -23,17 +24,15 @@ use Rattle.sheet.specs.declared.Cursor.{Cursor}
 use Rattle.sheet.specs.declared.Place.{Place}
 use Rattle.sheet.specs.declared.Read.{Read}
 use Rattle.sheet.proofs.LineLaws.{keyed}
-use Rattle.forms.specs.Members.{members_at}
+use Rattle.forms.specs.Members.{members_at, EntriesFrom, EntriesThen}
 use Rattle.forms.specs.Form.{text_of}
 use Rattle.forms.proofs.WalkLaws.{FirstMember, member_end, member_next, members_later}
 use Rattle.unifier.specs.Matched.{Matched}
 use Rattle.unifier.specs.Areas.{stack_in, AnswersIn}
-use Rattle.matching.proofs.Matches.{match_fails, match_covers}
-use Rattle.rules.specs.declared.Ending.TheVariants.{Failed}
+use Rattle.matching.proofs.Matches.{has_failed, match_says}
 use Rattle.substitution.specs.declared.answer.Answer.{Answer}
 use Rattle.variables.specs.Areas.{names_in, SolutionIn}
 use Rattle.variables.specs.declared.pairing.Solution.{Solution}
-use Rattle.values.specs.Values.{EntriesFrom, EntriesThen}
 use Rattle.values.specs.Areas.{MemberPairedIn, PairsUpMemberIn}
 use Rattle.values.proofs.CoverLaws.{covers_read, covers_unread}
 use Rattle.cover.specs.Covering.{PairsOf}
@@ -55,15 +54,13 @@ module _ {a d : Area} {s : Solution} {at : ℕ} {p : Read ℕ} (h : MemberPaired
     covers_as : (t : Text) (es : List Entry) → EntriesFrom a.sheet.now at es → {r : Bool} → covering h.ps ≡ r → covers (names_in a s.names) (bindings_in a s.bindings) (t, es) ≡ r
     covers_as t es f e = covers_read t es (bindings_in a s.bindings) (names_in a s.names) h.ps (h.are t es f) ∙ e
 
-    -- a match that fails
-    pub failed_passes : x.verdict ≡ Err Failed → PassesMemberIn a m s at (Some p.next)
-    failed_passes e =
-        let z = match_fails h.grows h.inside h.trees used_most matched short y e in
-        (record { low = h.low; high = h.high; ends = h.ends; is = λ t es f. covers_as t es f z }, grows_then h.grows y.grows)
-
-    -- one that does not
-    pub other_covers : (x.verdict ≡ Err Failed → ⊥) → PassesMemberIn a m s at None
-    other_covers o = ((λ t es f. covers_as t es f (match_covers h.grows h.inside h.trees used_most matched short y o)), grows_then h.grows y.grows)
+    -- by whether the match fails
+    pub passes : (b : Bool) → b ≡ has_failed x.verdict → PassesMemberIn a m s at (then_some b p.next)
+    passes b e = go b (match_says h.grows h.inside h.trees used_most matched short y ∙ ap not (sym e))
+      where
+        go : (b : Bool) → covering h.ps ≡ not b → PassesMemberIn a m s at (then_some b p.next)
+        go true z = (record { low = h.low; high = h.high; ends = h.ends; is = λ t es f. covers_as t es f z }, grows_then h.grows y.grows)
+        go false z = ((λ t es f. covers_as t es f z), grows_then h.grows y.grows)
 
 -- ---- all members
 

@@ -39,6 +39,7 @@ use Rattle.laws.proofs.Variants.VariableNames.{variables_of_length}
 use Rattle.laws.proofs.Variants.CoverRoom.{texts_within, cover_room}
 use Rattle.tree.specs.Cells.{trees_at}
 use Rattle.forms.proofs.WordLaws.{count_bound}
+use Rattle.elimination.specs.declared.room.TheConstants.{STEP_WORDS, NAME_CELLS}
 use Rattle.elimination.specs.Stack.{pairs_at}
 use Rattle.steps.proofs.Fitting.{fit_sides}
 use Rattle.variables.proofs.Shortness.{short_read}
@@ -81,17 +82,17 @@ texts_bytes = pairs_read_by (λ es ps. size_pairs ps ≤ total length (side_text
 
 -- the cells of the run over the pairs end below these words
 abbrev pub run_end : ℕ → ℕ → ℕ → ℕ → ℕ
-run_end at x n c = 1 + 2 * at + x + n + 131072 + 12293 * c
+run_end at x n c = 1 + 2 * at + x + n + 131072 + NAME_CELLS * c
 
 module _ (x t k n c b at top weigh : ℕ) (colons : x + k ≤ c) (texts : n + t < b) (short : b ≤ 65536) (inside : at ≤ b) (by_keys : weigh ≤ t + 4095 * k) (by_names : weigh ≤ t + 4095 * x)
     (used : top ≤ run_end at x n c) where
-  fewer_keys : k ≤ x → 4 * (top + 2 * (b - at) + 2 * x + weigh + 2 * b) + 204802 ≤ 65536 * (c + 16) + 16 * b
+  fewer_keys : k ≤ x → 4 * (top + 2 * (b - at) + 2 * x + weigh + 2 * b) + STEP_WORDS ≤ 65536 * (c + 16) + 16 * b
   fewer_keys h = omega arith
 
-  fewer_names : x < k → 4 * (top + 2 * (b - at) + 2 * x + weigh + 2 * b) + 204802 ≤ 65536 * (c + 16) + 16 * b
+  fewer_names : x < k → 4 * (top + 2 * (b - at) + 2 * x + weigh + 2 * b) + STEP_WORDS ≤ 65536 * (c + 16) + 16 * b
   fewer_names h = omega arith
 
-  match_words : 4 * (top + 2 * (b - at) + 2 * x + weigh + 2 * b) + 204802 ≤ 65536 * (c + 16) + 16 * b
+  match_words : 4 * (top + 2 * (b - at) + 2 * x + weigh + 2 * b) + STEP_WORDS ≤ 65536 * (c + 16) + 16 * b
   match_words = elim (dec_lt x k) [ yes h ↦ fewer_names h | no h ↦ fewer_keys (omega arith) ]
 
   match_cells : c ≤ 65536 → top + 2 * (b - at) + 2 * x + weigh + 2 * b + 65536 < 2 ^ 32
@@ -156,7 +157,7 @@ module _ {s : Text} {w : List ℕ} {free stack at : ℕ} (k : CoverInput s w fre
       let by_keys : weight qs ≤ t + 4095 * keys = omega (arith, r.weighs) in
       let words = match_words x t keys (size_pairs ps) (count_of 58 s) (length s) at top (weight qs) r.colons (asked_bytes m l) k.short k.inside by_keys by_names u in
       let cells = match_cells x t keys (size_pairs ps) (count_of 58 s) (length s) at top (weight qs) r.colons (asked_bytes m l) k.short k.inside by_keys by_names u asked_colons in
-      let enough : 4 * (n + weight qs + 2 * length s) + 204802 ≤ length v = omega (arith, words, f, z, k.words) in
+      let enough : 4 * (n + weight qs + 2 * length s) + STEP_WORDS ≤ length v = omega (arith, words, f, z, k.words) in
       let fits : n + weight qs + 2 * length s + 65536 < 2 ^ 32 = omega (arith, cells, f) in
       record {
         fit = fit_sides qs r.built r.within;

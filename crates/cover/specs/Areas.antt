@@ -8,11 +8,10 @@ use Rattle.tree.specs.declared.area.Area.{Area}
 use Rattle.tree.specs.Areas.{trees_in, Grows}
 use Rattle.substitution.specs.Areas.{bindings_in}
 use Rattle.sheet.specs.declared.Cursor.{Cursor}
-use Rattle.forms.specs.Members.{members_at}
+use Rattle.forms.specs.Members.{members_at, EntriesFrom}
 use Rattle.unifier.specs.Areas.{stack_in}
 use Rattle.variables.specs.Areas.{names_in, VariablesIn}
 use Rattle.variables.specs.declared.pairing.Solution.{Solution}
-use Rattle.values.specs.Values.{EntriesFrom}
 use Rattle.cover.specs.Covering.{Matchable, AllMatchable, Uncovered}
 use Rattle.cover.specs.Covered.{CoverInput}
 

@@ -9,10 +9,9 @@ use Rattle.rules.specs.Sheet.{Entry, Member}
 use Rattle.rules.specs.Cover.{pair_at, covers}
 use Rattle.substitution.specs.Bindings.{bindings_at}
 use Rattle.sheet.specs.Lines.{lines_at}
-use Rattle.forms.specs.Members.{members_at}
+use Rattle.forms.specs.Members.{members_at, EntriesThen, EntriesFrom}
 use Rattle.unifier.specs.Matched.{Matched}
 use Rattle.variables.specs.Pairing.{names_at}
-use Rattle.values.specs.Values.{EntriesThen, EntriesFrom}
 
 abbrev pub PairsOf : Text → List ℕ → ℕ → ℕ → Member → List Pair → Type 0
 PairsOf s w names bindings m qs = every (map (pair_at (bindings_at s w bindings) m) (names_at s w names)) ≡ Some qs

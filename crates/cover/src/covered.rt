@@ -22,7 +22,7 @@ fn names_of(area: &mut Area, stack: usize) -> usize
     requires room { (4 * (area.old.free + length area.old.sheet.now) + 2 * length area.old.sheet.now ≤ length area.old.work.now) × (area.old.free + length area.old.sheet.now < 2 ^ 32) }
     ensures { NamesIn area.old area.new stack result }
 {
-    // For one term, in fresh, the base is found between the two calls.
+    // `fresh::name_variables` has the same two calls, with the base found between them.
     let places = variables_of(area, stack);
     list_variables(area, places)
 }
@@ -37,9 +37,6 @@ pub fn covered(area: &mut Area, stack: usize, members: Cursor) -> Option<bool>
     let nodes = area.nodes_in(stack);
     let colons = count_of(area.sheet, b':');
     let answer = unify_sparing(area, stack, 65536, nodes, colons);
-    // Tried with ok()?: the search gives up on the two goals that are left.
-    match answer.verdict {
-        Ok(bindings) => Some(any_covers(area, Solution { names, bindings }, members)),
-        Err(_) => None,
-    }
+    let bindings = answer.verdict.ok()?;
+    Some(any_covers(area, Solution { names, bindings }, members))
 }

@@ -25,10 +25,8 @@ fn pass_member(area: &mut Area, solution: Solution, start: Cursor) -> Option<Cur
     let pairs = pair_member(area, solution, start)?;
     let fuel = area.sheet.len();
     let answer = matcher(area, pairs.value, fuel);
-    match answer.verdict {
-        Err(Ending::Failed) => Some(pairs.next),
-        _ => None,
-    }
+    let failed = answer.verdict == Err(Ending::Failed);
+    failed.then_some(pairs.next)
 }
 
 // Whether one of the members from a cursor on covers.

@@ -2,4 +2,4 @@
 #![tactic(auto)]
 
 pub mod covered; // covered.rt: the pairs unified, and the members, over an area
-pub mod covering; // covering.rt: whether one of the members covers, over an area
+mod covering; // covering.rt: whether one of the members covers, over an area

@@ -2,6 +2,7 @@
 #![tactic(auto)]
 
 pub mod front; // front.rt: the pair on top of the stack
+pub mod room; // room.rt: the room that steps need
 
 ghost use Rattle.rules.specs.Solving.{bind_into, swap_key, eliminate};
 ghost use Rattle.tree.specs.Areas.{name_in, tree_in};
@@ -59,16 +60,11 @@ fn swap(area: &mut Area, front: Front, sort: Sort) -> Result<Taken, Ending>
     requires room { Room area.old.work.now area.old.free }
     ensures { TakenIn area.old area.new 0 (swap_key sort (name_in area.old front.left) (tree_in area.old front.right) (pairs_in area.old front.rest)) result }
 {
-    // Nested: the proof cites the sort by its name, which `is_some_and` does not give.
-    if let Some(own) = area.sort_of(front.right) {
-        if sorted(area, own, front.left) {
-            return bind(area, front.turned());
-        }
+    match area.sort_of(front.right) {
+        Some(own) if sorted(area, own, front.left) => bind(area, front.turned()),
+        _ if refinable(area, sort, front.right) => Err(Ending::Unsupported),
+        _ => Err(Ending::Failed),
     }
-    if refinable(area, sort, front.right) {
-        return Err(Ending::Unsupported);
-    }
-    Err(Ending::Failed)
 }
 
 // Eliminates the left tree, a variable, by the right one.

@@ -15,6 +15,8 @@ use Rattle.tree.specs.Areas.{cell_kind, next_in, name_in, tree_in, trees_in, sum
 use Rattle.tree.proofs.ByKind.{number_atom, atom_kind, tree_an_atom}
 use Rattle.tree.proofs.Decoding.{Kind, application, a_variable, an_atom, kind, trees_none, trees_more, tree_variable, tree_apply, size_pos}
 use Rattle.tree.proofs.Lists.{list_size}
+use Rattle.runs.specs.declared.TheConstants.{SPAN, OPEN, SHUT, COMMA}
+use Rattle.runs.specs.declared.order.TheConstants.{BYTES}
 use Rattle.runs.specs.Texts.{word_text}
 use Rattle.flattening.specs.Terms.{node, none, more}
 use Rattle.flattening.specs.declared.brackets.Bracket.{Bracket}
@@ -41,14 +43,14 @@ alone_written {s} {y} {z} {x} {t} b h g =
       short = omega (arith, size_pos t);
     }
 
-letters_written : {s : Text} {a c : Writer} {l x : ℕ} {d : Text} (b : Bool) → l < 256 → Word s x → word_text s x ≡ d → Appended a c ((512 + l) * 65536 ∷ 2621440 ∷ x ∷ 2686976 ∷ []) → TermWritten s b (atom l d) a c
+letters_written : {s : Text} {a c : Writer} {l x : ℕ} {d : Text} (b : Bool) → l < 256 → Word s x → word_text s x ≡ d → Appended a c ((BYTES + l) * SPAN ∷ OPEN ∷ x ∷ SHUT ∷ []) → TermWritten s b (atom l d) a c
 letters_written {s} {a} {c} {l} {x} {d} b m h e g =
-    let y = (512 + l) * 65536 in
+    let y = (BYTES + l) * SPAN in
     let lw = letter_word s l y refl m in
     let lt = letter_text s l y refl m in
     let t = node y (more (node x none) none) in
-    let z : y ∷ 2621440 ∷ x ∷ 2686976 ∷ [] ≡ term_words s b t =
-    ap (λ (m : List ℕ). y ∷ 2621440 ∷ (m ++ (2686976 ∷ []))) (sym (one_words s false (node x none) ∙ leaf_words s false x)) ∙ node_words s false b y (node x none) none (atom_adds s y x l d lw lt e) in
+    let z : y ∷ OPEN ∷ x ∷ SHUT ∷ [] ≡ term_words s b t =
+    ap (λ (m : List ℕ). y ∷ OPEN ∷ (m ++ (SHUT ∷ []))) (sym (one_words s false (node x none) ∙ leaf_words s false x)) ∙ node_words s false b y (node x none) none (atom_adds s y x l d lw lt e) in
     let k : 4 ≡ length (term_words s b t) = ap length z in
     record {
       term = t;
@@ -75,7 +77,7 @@ module _ (a : Area) (i : ℕ) {x : ℕ} (h : Word a.sheet.now x) (e : word_text 
       → TermWritten a.sheet.now b (tree_in a i) y z
   leaf_written {first = first} {b = b} z f n g = alone_written b (name_spells first z f n) g
 
-  pub atom_written : {y z : Writer} {l : ℕ} {b : Bool} → 0 < i → i < a.free → cell_kind a i ≡ Atom l → Appended y z ((512 + l) * 65536 ∷ 2621440 ∷ x ∷ 2686976 ∷ [])
+  pub atom_written : {y z : Writer} {l : ℕ} {b : Bool} → 0 < i → i < a.free → cell_kind a i ≡ Atom l → Appended y z ((BYTES + l) * SPAN ∷ OPEN ∷ x ∷ SHUT ∷ [])
       → TermWritten a.sheet.now b (tree_in a i) y z
   atom_written {l = l} {b = b} p q k g =
       let m : l < 256 = omega (arith, (number_atom (kind_of a.work.now i) l k).1, (a.arena.cell i p q).small) in
@@ -156,16 +158,16 @@ one_written {s} {x} {y} {t} {b} g =
       short = omega arith;
     }
 
-pub more_written : {s : Text} {x y z u : Writer} {t : Tree} {ts : Trees} {b : Bool} → TermWritten s b t x y → Appended y z (2883584 ∷ []) → TermsWritten s b ts z u → x.end + 5 * sizes (T.more t ts) ≤ length x.words.now
+pub more_written : {s : Text} {x y z u : Writer} {t : Tree} {ts : Trees} {b : Bool} → TermWritten s b t x y → Appended y z (COMMA ∷ []) → TermsWritten s b ts z u → x.end + 5 * sizes (T.more t ts) ≤ length x.words.now
     → TermsWritten s b (T.more t ts) x u
 unfolding size
 more_written {s} {x} {y} {z} {u} {t} {ts} {b} g c d room =
     let o = term_words s b g.term in
     let m = list_words s b d.term d.terms in
-    let i : (o ++ (2883584 ∷ [])) ++ m ≡ list_words s b g.term (more d.term d.terms) = append_assoc o (2883584 ∷ []) m ∙ sym (more_words s b g.term d.term d.terms) in
-    let li : length ((o ++ (2883584 ∷ [])) ++ m) ≡ length (list_words s b g.term (more d.term d.terms)) = ap length i in
-    let l₁ = length-append (o ++ (2883584 ∷ [])) m in
-    let l₂ = length-append o (2883584 ∷ []) in
+    let i : (o ++ (COMMA ∷ [])) ++ m ≡ list_words s b g.term (more d.term d.terms) = append_assoc o (COMMA ∷ []) m ∙ sym (more_words s b g.term d.term d.terms) in
+    let li : length ((o ++ (COMMA ∷ [])) ++ m) ≡ length (list_words s b g.term (more d.term d.terms)) = ap length i in
+    let l₁ = length-append (o ++ (COMMA ∷ [])) m in
+    let l₂ = length-append o (COMMA ∷ []) in
     let e₁ = g.words.end in
     let e₂ = g.short in
     let e₃ = c.end in

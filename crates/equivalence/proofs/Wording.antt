@@ -8,6 +8,8 @@ use borrow.Author.Tests.{eq-eqb, ne_eqb}
 use Rattle.rules.specs.Bytes.{Text}
 use Rattle.tree.specs.Cells.{start_of, length_of, fixed_name, named, name_at}
 use Rattle.tree.specs.Arena.{Cell}
+use Rattle.runs.specs.declared.TheConstants.{SPAN, PLUS}
+use Rattle.runs.specs.declared.order.TheConstants.{BYTES}
 use Rattle.runs.specs.Texts.{word_text}
 use Rattle.flattening.specs.Spelling.{Word}
 use Rattle.runs.proofs.Pieces.{name_fixed}
@@ -41,7 +43,7 @@ module _ (s : Text) (w : List ℕ) (k x : ℕ) (h : Cell s w k) (e : x ≡ get_o
   unfolding start_of length_of
   code_small z = rw e (h.placed.code (ap (λ (x : ℕ). x % 65536) (sym e) ∙ z))
 
-  pub word_coded : (y : ℕ) → y ≡ x + 16777216 → x % 65536 ≡ 0 → Word s y × (word_text s y ≡ name_at s w k)
+  pub word_coded : (y : ℕ) → y ≡ x + PLUS → x % 65536 ≡ 0 → Word s y × (word_text s y ≡ name_at s w k)
   unfolding start_of length_of name_at named
   word_coded y f z =
       let c = code_small z in
@@ -55,13 +57,13 @@ module _ (s : Text) (w : List ℕ) (k x : ℕ) (h : Cell s w k) (e : x ≡ get_o
       (code_word s (a + 256) y g (omega arith), text_mark s y m ∙ rw d ((code_named (a + 256) (omega arith) (omega arith)).0 ∙ rw b (name_fixed a (omega arith) ∙ sym n)))
 
 -- a letter
-module _ (s : Text) (k x : ℕ) (e : x ≡ (512 + k) * 65536) (h : k < 256) where
+module _ (s : Text) (k x : ℕ) (e : x ≡ (BYTES + k) * SPAN) (h : k < 256) where
   pub letter_word : Word s x
-  letter_word = code_word s (512 + k) x e (omega arith)
+  letter_word = code_word s (BYTES + k) x e (omega arith)
 
   pub letter_text : word_text s x ≡ k ∷ []
   letter_text =
       let m : x % 65536 ≡ 0 = omega arith in
-      let d : x / 65536 ≡ 512 + k = omega arith in
-      let b : (512 + k) % 256 ≡ k = omega arith in
-      text_mark s x m ∙ rw d ((code_byte (512 + k) (omega arith)).0 ∙ rw b)
+      let d : x / 65536 ≡ BYTES + k = omega arith in
+      let b : (BYTES + k) % 256 ≡ k = omega arith in
+      text_mark s x m ∙ rw d ((code_byte (BYTES + k) (omega arith)).0 ∙ rw b)

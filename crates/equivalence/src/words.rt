@@ -18,7 +18,8 @@ use settling::sort_sums;
 use tree::area::Area;
 use tree::kinds::Kind;
 
-// The word of the name of cell k: its place, or after that of sums the code of a fixed name. The name itself would not tell its place.
+// The word of the name of cell k: its place, or for a name by its code that code, after the word of sums. The name itself would not tell
+// its place.
 fn word_of(area: &Area, k: usize) -> u32
     requires { CellIn area.now k }
     ensures { Word area.now.sheet.now result × (word_text area.now.sheet.now result ≡ name_in area.now k) }
@@ -33,7 +34,7 @@ fn word_of(area: &Area, k: usize) -> u32
 // Writes the words of an atom: its letter, and the word of its digits in brackets.
 fn put_atom(letter: u8, digits: u32, out: &mut Writer)
     requires { out.old.end + 4 ≤ length out.old.words.now }
-    ensures { Appended out.old out.new ((512 + letter) * 65536 ∷ 2621440 ∷ digits ∷ 2686976 ∷ []) }
+    ensures { Appended out.old out.new ((BYTES + letter) * SPAN ∷ OPEN ∷ digits ∷ SHUT ∷ []) }
 {
     out.push((BYTES as u32 + u32::from(letter)) * SPAN);
     out.push(OPEN);

@@ -31,11 +31,7 @@ fn generalizes(area: &mut Area, member: usize, solution: Solution, value: usize)
     let pairs = pair_values(area, entries, solution, last);
     let fuel = area.sheet.len();
     let answer = matcher(area, pairs, fuel);
-    // Tried with !matches!: the search gives up on the one goal that is left.
-    match answer.verdict {
-        Err(Ending::Failed) => false,
-        _ => true,
-    }
+    answer.verdict != Err(Ending::Failed)
 }
 
 // Whether one of the members of the list from cell `members` on does.

@@ -13,8 +13,9 @@ ghost use Rattle.fingerprints.specs.Fingerprints.{mixed_byte, mixed, fingerprint
 use equivalence::words::tree_words;
 use flattening::writer::Writer;
 use rules::SUM;
-use runs::order::{Piece, ZEROS, piece_of};
+use runs::order::{Piece, piece_of};
 use tree::area::Area;
+use tree::names::ZEROS;
 
 // The fingerprint of no bytes, what it is multiplied by at each byte, and what a zero adds to it.
 const BASIS: u32 = 2166136261;

@@ -134,32 +134,32 @@ module _ {s : Text} {text : Place} {v k : List ℕ} (area : TextRoom s text v k)
 
     -- ---- what is read is there, and there is room for what is written
 
+    -- a symbol that ends at t
+    room_until : {m : Mode} → State out stack at m → {t : ℕ} → at < t → t ≤ length read
+        → (t ≤ text.to) × (out.end < length out.words.now) × (out.end + 1 + text.from ≤ t) × (stack.depth + text.from < t) × (stack.depth < length stack.words.now)
+    room_until h p q =
+        let l = read_length in
+        let a = h.kept.len in
+        let b = h.stack_kept.len in
+        let c = h.since in
+        let d = h.room in
+        let f = h.deep in
+        (omega arith, omega arith, omega arith, omega arith, omega arith)
+
     pub name_room : State out stack at wanting → {p : Place} → Some (Name p) ≡ next_symbol read at
         → (p.from < p.to) × (at < p.to) × (p.to ≤ text.to) × (out.end < length out.words.now) × (out.end + 1 + text.from ≤ p.to) × (stack.depth + text.from < p.to) × (stack.depth < length stack.words.now)
     name_room h {p} e =
         let n = means_is read at e (Some (Name p)) refl in
-        let l = read_length in
-        let a = h.kept.len in
-        let b = h.stack_kept.len in
-        let c = h.since in
-        let d = h.room in
-        let f = h.deep in
         let g = n.past in
         let i = n.some_bytes in
-        let j = n.within in
-        (omega arith, omega arith, omega arith, omega arith, omega arith, omega arith, omega arith)
+        let past : at < p.to = omega arith in
+        let r = room_until h past n.within in
+        (omega arith, past, r.0, r.1, r.2, r.3, r.4)
 
     pub mark_room : {m : Mode} → State out stack at m → {t : ℕ} {c : Text} → Marks read at t c → (at < t) × (t ≤ text.to) × (out.end < length out.words.now) × (stack.depth ≤ length stack.words.now)
     mark_room h n =
-        let l = read_length in
-        let a = h.kept.len in
-        let b = h.stack_kept.len in
-        let c = h.since in
-        let d = h.room in
-        let f = h.deep in
-        let g = n.past in
-        let j = n.within in
-        (omega arith, omega arith, omega arith, omega arith)
+        let r = room_until h n.past n.within in
+        (n.past, r.0, r.1, omega (arith, r.4))
 
     pub open_room : State out stack at wanting → {p : Place} {u : ℕ} → Some (Name p) ≡ next_symbol read at → Some (Begin u) ≡ next_symbol read p.to → (p.to < u) × (u ≤ text.to) × (out.end + 2 ≤ length out.words.now)
     open_room h {p} {u} e₁ e₂ =

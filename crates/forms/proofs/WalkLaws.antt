@@ -15,7 +15,7 @@ use Rattle.laws.proofs.Sheets.SheetTexts.{the_member}
 use Rattle.laws.proofs.Basics.Somes.{none_ne_some}
 use Rattle.sheet.specs.Lines.{lines_at, value_at}
 use Rattle.sheet.specs.Pairs.{two_lines_at, entries_by, entries_before}
-use Rattle.forms.specs.Members.{members_at}
+use Rattle.forms.specs.Members.{members_at, EntriesThen}
 use Rattle.forms.specs.Form.{text_of, asks_by, sheet_of, Walked}
 use Rattle.sheet.specs.declared.Cursor.{Cursor}
 use Rattle.sheet.specs.declared.Place.{Place}
@@ -111,7 +111,7 @@ pub record FirstMember (s : Text) (value : Text) (next : ℕ) (ms : List Member)
   pub rest : List Text
   pub others : List Member
   pub members : ms ≡ (value, es) ∷ others
-  pub entries : (lines_at s next >>= entries_by (bytes "key=") (bytes "value=")) ≡ Some (es, rest)
+  pub entries : EntriesThen s next es rest
   pub distinct : distinct_keys es [] ≡ true
   pub later : none_waiting (members_from rest) ≡ Some others
 

@@ -1,5 +1,5 @@
 -- The kinds of sheet as the code reads them: what a form stands for, and the words that it needs. Definitions only.
-use Rattle.std.specs.Prelude.{ℕ, ◌≤◌, ◌<◌, ◌≡◌, List, length}
+use Rattle.std.specs.Prelude.{ℕ, ◌+◌, ◌*◌, ◌≤◌, ◌<◌, ◌≡◌, List, length}
 use Rattle.std.specs.Prelude.{Option, Some, None, Result, MatchResult}
 use Rattle.rules.specs.Bytes.{Text}
 use Rattle.rules.specs.Text.{bytes}
@@ -38,6 +38,10 @@ read_named name s at = kind_in kinds name >>= λ kind. read_kind_at kind s at
 
 abbrev pub text_of : Text → Place → Text
 text_of s p = part_of p.from p.to s
+
+-- the texts of two lines
+abbrev pub entry_of : Text → Place → Place → Entry
+entry_of s l r = (text_of s l, text_of s r)
 
 -- the sheet that a form stands for
 unfoldable pub sheet_of : Text → Form → Option Sheet
@@ -96,6 +100,10 @@ pub record TermThen (s : Text) (at : ℕ) (t : Place) (c : ℕ) (count : ℕ) : 
 
 abbrev pub ReadsTermMembers : Text → ℕ → Result TermMembers Refusal → Type 0
 ReadsTermMembers s at r = MatchResult r (λ t. TermThen s at t.term t.members.at t.count) (λ refusal. (refusal ≡ LineOutOfPlace) × (term_members s at ≡ None))
+
+-- the words that a sheet of any kind needs at least
+abbrev pub fewest_words : Text → ℕ
+fewest_words s = 65536 * 16 + 16 * length s
 
 -- n is the raise of the sheet that a form stands for
 abbrev pub RaisesBy : Text → Form → ℕ → Type 0

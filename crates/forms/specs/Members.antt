@@ -1,6 +1,6 @@
 -- The members of a sheet from a position on, and their keys. Definitions only.
 use Rattle.std.specs.Prelude.{ℕ, ◌+◌, ◌*◌, ◌≤◌, ◌≡◌, List, [], ◌∷◌, map, Bool, true, not, ◌&&◌, length, take}
-use Rattle.std.specs.Prelude.{Option, None, option_map}
+use Rattle.std.specs.Prelude.{Option, Some, None, option_map}
 use Rattle.rules.specs.Bytes.{Text, same}
 use Rattle.rules.specs.Text.{bytes, is_one_of}
 use Rattle.rules.specs.Maybe.{◌>>=◌}
@@ -11,6 +11,19 @@ use Rattle.sheet.specs.Pairs.{two_lines_at, entries_by, entries_before}
 
 unfoldable pub members_at : Text → ℕ → Option (List Member)
 members_at s at = lines_at s at >>= λ ls. none_waiting (members_from ls)
+
+-- es are the entries from a position on, and rest the lines after them
+abbrev pub EntriesThen : Text → ℕ → List Entry → List Text → Type 0
+EntriesThen s at es rest = (lines_at s at >>= entries_by (bytes "key=") (bytes "value=")) ≡ Some (es, rest)
+
+-- es are the entries from a position on
+abbrev pub EntriesFrom : Text → ℕ → List Entry → Type 0
+EntriesFrom s at es = (rest : List Text) × EntriesThen s at es rest
+
+-- entries stand from a position on, or none, and then other lines
+pub record EntriesThere (s : Text) (at : ℕ) : Type 0 where
+  pub entries : List Entry
+  pub are : EntriesFrom s at entries
 
 -- how many members there are after n others, if they read
 abbrev pub counted : ℕ → Option (List Member) → Option ℕ

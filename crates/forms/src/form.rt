@@ -1,7 +1,7 @@
 // The kinds of sheet: what a sheet asks, as places and cursors, and the words of the work area that it needs.
 ghost use Rattle.std.specs.Prelude.{◌≡◌, ◌≤◌, ◌<◌, length, OnOk, IfErr};
 ghost use Rattle.rules.specs.Sheet.{Equal, Reduce, Cover, Sound, Complete, read_sheet};
-ghost use Rattle.forms.specs.Form.{solving, Walked, read_kind_at, read_named, ReadsTermMembers, ReadsAs, Within, RaisesBy, NeedsWords};
+ghost use Rattle.forms.specs.Form.{solving, Walked, read_kind_at, read_named, ReadsTermMembers, ReadsAs, FormStands, RaisesBy, NeedsWords};
 
 use crate::members::members;
 use rules::Refusal;
@@ -73,11 +73,14 @@ fn at_end(sheet: &[u8], cursor: Cursor) -> Result<(), Refusal>
     Ok(())
 }
 
+// Kind `equal`. Where a line is missing a `let .. else` ends the reading, here and below: a form that document 01 names.
 #[tactic(auto, using(crate::proofs::SheetLaws::reads_equal))]
 fn read_equal(sheet: &[u8], start: Cursor) -> Result<Form, Refusal>
     ensures { ReadsAs sheet.now (read_kind_at Equal sheet.now start.at) result }
 {
-    let pair = next_pair(sheet, start).ok_or(Refusal::LineOutOfPlace)?;
+    let Some(pair) = next_pair(sheet, start) else {
+        return Err(Refusal::LineOutOfPlace);
+    };
     at_end(sheet, pair.next)?;
     let Sides { left, right } = pair.value;
     Ok(Form::Equal { left, right })
@@ -88,7 +91,9 @@ fn read_equal(sheet: &[u8], start: Cursor) -> Result<Form, Refusal>
 fn read_solving(sheet: &[u8], start: Cursor, solver: Solver) -> Result<Form, Refusal>
     ensures { ReadsAs sheet.now (read_kind_at (solving solver) sheet.now start.at) result }
 {
-    let line = start.keyed(sheet, b"fuel=").ok_or(Refusal::LineOutOfPlace)?;
+    let Some(line) = start.keyed(sheet, b"fuel=") else {
+        return Err(Refusal::LineOutOfPlace);
+    };
     let text = line.value.text(sheet);
     let fuel = number_up_to(text, MOST_FUEL).ok_or(Refusal::LineOutOfPlace)?;
     let pairs = line.next;
@@ -104,7 +109,9 @@ fn read_solving(sheet: &[u8], start: Cursor, solver: Solver) -> Result<Form, Ref
 fn read_reduce(sheet: &[u8], start: Cursor) -> Result<Form, Refusal>
     ensures { ReadsAs sheet.now (read_kind_at Reduce sheet.now start.at) result }
 {
-    let line = start.keyed(sheet, b"term=").ok_or(Refusal::LineOutOfPlace)?;
+    let Some(line) = start.keyed(sheet, b"term=") else {
+        return Err(Refusal::LineOutOfPlace);
+    };
     at_end(sheet, line.next)?;
     Ok(Form::Reduce { term: line.value })
 }
@@ -115,7 +122,9 @@ fn read_cover(sheet: &[u8], start: Cursor) -> Result<Form, Refusal>
     ensures { ReadsAs sheet.now (read_kind_at Cover sheet.now start.at) result }
 {
     let end = after_pairs(sheet, start);
-    members(sheet, end).ok_or(Refusal::LineOutOfPlace)?;
+    let Some(_) = members(sheet, end) else {
+        return Err(Refusal::LineOutOfPlace);
+    };
     Ok(Form::Cover {
         pairs: start,
         members: end,
@@ -136,8 +145,12 @@ fn term_then_members(sheet: &[u8], start: Cursor) -> Result<TermMembers, Refusal
     requires { length sheet.now ≤ 65536 }
     ensures { ReadsTermMembers sheet.now start.at result }
 {
-    let line = start.keyed(sheet, b"term=").ok_or(Refusal::LineOutOfPlace)?;
-    let count = members(sheet, line.next).ok_or(Refusal::LineOutOfPlace)?;
+    let Some(line) = start.keyed(sheet, b"term=") else {
+        return Err(Refusal::LineOutOfPlace);
+    };
+    let Some(count) = members(sheet, line.next) else {
+        return Err(Refusal::LineOutOfPlace);
+    };
     Ok(TermMembers {
         term: line.value,
         members: line.next,
@@ -192,7 +205,7 @@ fn read_kind(sheet: &[u8], kind: &[u8], start: Cursor) -> Result<Form, Refusal>
     }
 }
 
-// What a sheet asks. Where its first line is missing a `let .. else` ends the reading: a form that document 01 names.
+// What a sheet asks.
 #[tactic(auto, using(crate::proofs::SheetLaws::reads_whole))]
 pub fn read_sheet(sheet: &[u8]) -> Result<Form, Refusal>
     requires { length sheet.now ≤ 65536 }
@@ -209,7 +222,7 @@ pub fn read_sheet(sheet: &[u8]) -> Result<Form, Refusal>
 #[tactic(auto, using(crate::proofs::WordLaws::raises))]
 fn raise_of(sheet: &[u8], form: Form) -> usize
     requires sheet_len_bound { length sheet.now ≤ 65536 }
-    requires within { Within sheet.now form }
+    requires stands { FormStands sheet.now (read_sheet sheet.now) form }
     ensures { RaisesBy sheet.now form result × (result ≤ 131072) }
 {
     let Form::Complete { term, .. } = form else {
@@ -222,7 +235,7 @@ fn raise_of(sheet: &[u8], form: Form) -> usize
 #[tactic(auto, using(crate::proofs::WordLaws::count_small), unfolding(rules::specs::Sheet::words_needed))]
 pub fn words_needed(sheet: &[u8], form: Form) -> usize
     requires sheet_len_bound { length sheet.now ≤ 65536 }
-    requires within { Within sheet.now form }
+    requires stands { FormStands sheet.now (read_sheet sheet.now) form }
     ensures { NeedsWords sheet.now form result }
 {
     BLOCK * (count_of(sheet, b':') + raise_of(sheet, form) + 16) + 16 * sheet.len()

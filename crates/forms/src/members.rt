@@ -48,12 +48,13 @@ fn all_distinct(sheet: &[u8], words: &mut [u32], count: usize) -> bool
     all_apart(sheet, keys)
 }
 
-// How many members stand from a cursor to the sheet's end, if nothing else does and none repeats a key.
+// How many members stand from a cursor to the sheet's end, if nothing else does and none repeats a key. The keys of each are gathered in
+// lent words.
 fn count_members(sheet: &[u8], start: Cursor, words: &mut [u32]) -> Option<usize>
     requires { (length sheet.now ≤ 65536) × (16384 ≤ length words.old) }
     ensures { result ≡ counted 0 (members_at sheet.now start.at) }
 {
-    // Along the same cursor.
+    // Along a cursor by value, as in `gather`.
     let mut n = 0;
     let mut cursor = start;
     while cursor.at < sheet.len() {
@@ -68,7 +69,7 @@ fn count_members(sheet: &[u8], start: Cursor, words: &mut [u32]) -> Option<usize
     Some(n)
 }
 
-// How many members stand from a cursor to the sheet's end, if nothing else does and none repeats a key.
+// The same in words of its own.
 pub(crate) fn members(sheet: &[u8], start: Cursor) -> Option<usize>
     requires { length sheet.now ≤ 65536 }
     ensures { result ≡ counted 0 (members_at sheet.now start.at) }

@@ -1,5 +1,5 @@
 -- The fresh variables as cells of an area.
-use Prim.Native.Nat.{ℕ, ◌+◌, ◌-◌, ◌<◌, ◌≤◌, ◌^◌}
+use Prim.Native.Nat.{ℕ, ◌+◌, ◌<◌, ◌≤◌, ◌^◌}
 use mathlib.Core.Path.{◌≡◌, refl, sym, ap, subst, ◌∙◌}
 use mathlib.Core.Bool.{false}
 use mathlib.Core.Logic.{◌⊎◌, inl, inr}
@@ -8,7 +8,6 @@ use native.Mathlib.Omega.{arith}
 use native.Mathlib.Decide.{dec_lt}
 use Rattle.std.specs.Prelude.{Some}
 use Rattle.rules.specs.Bytes.{Text}
-use Rattle.rules.specs.Decimal.{decimal}
 use Rattle.rules.specs.declared.Sort.TheVariants.{Msg}
 use Rattle.rules.specs.Sorts.{variable_sort}
 use Rattle.rules.specs.Tree.{variable}
@@ -34,27 +33,24 @@ module _ (a : Area) (base n : ℕ) where
   chosen_unspelled {b} {k} e h = subst (λ (y : Text). Pushes a b k 0 (variable y)) (sym (unchosen a.sheet.now base n e)) h
 
   -- a name that the sheet spells
-  module _ (p : Place) (x : SpelledAt a.sheet.now (fresh_name (base + n)) p.from) (f : p.to ≡ p.from + 5 + length (decimal (base + n))) where
-    its_text : text_in a p ≡ fresh_name (base + n)
-    its_text = let g : p.to - p.from ≡ length (fresh_name (base + n)) = omega (arith, fresh_length (base + n)) in rw g x.part
-
+  module _ {p : Place} (x : SpelledAt a.sheet.now (fresh_name (base + n)) p) where
     pub chosen_sort : Some Msg ≡ variable_sort (text_in a p)
-    chosen_sort = sym (ap variable_sort its_text ∙ fresh_sort (base + n))
+    chosen_sort = sym (ap variable_sort x.part ∙ fresh_sort (base + n))
 
     pub chosen_place : length a.sheet.now ≤ 65536 → base + n < 2 ^ 64 → Spelled a.sheet.now p
     chosen_place l m =
         let k = fresh_length (base + n) in
         let w = width_within (base + n) m in
         record {
-          some = omega arith;
-          inside = omega (arith, x.inside);
-          start = omega (arith, x.inside);
-          short = omega arith;
-          plain = λ h. second_byte (fresh_name (base + n)) (fresh_tokens base n) (ap (λ (t : Text). get_or t 1 0) (sym its_text) ∙ h);
+          some = omega (arith, x.end);
+          inside = x.inside;
+          start = omega (arith, x.end, x.inside);
+          short = omega (arith, x.end);
+          plain = λ h. second_byte (fresh_name (base + n)) (fresh_tokens base n) (ap (λ (t : Text). get_or t 1 0) (sym x.part) ∙ h);
         }
 
     pub chosen_spelled : {b : Area} {k : ℕ} → Pushes a b k 0 (variable (text_in a p)) → Pushes a b k 0 (variable (chosen_in a.sheet.now base n))
-    chosen_spelled {b} {k} h = subst (λ (y : Text). Pushes a b k 0 (variable y)) (its_text ∙ sym (as_chosen a.sheet.now base n x.spelled)) h
+    chosen_spelled {b} {k} h = subst (λ (y : Text). Pushes a b k 0 (variable y)) (x.part ∙ sym (as_chosen a.sheet.now base n x.spelled)) h
 
 -- ---- the loop over them
 

@@ -1,5 +1,5 @@
--- The search for a text in a sheet: the turns of the loop, and what is spelled is a part of the sheet.
-use Prim.Native.Nat.{ℕ, zero, suc, ◌+◌, ◌<◌, ◌≤◌}
+-- The search for a text in a sheet by its windows, and what is spelled is a part of the sheet.
+use Prim.Native.Nat.{ℕ, zero, suc, ◌+◌, ◌-◌, ◌<◌, ◌≤◌}
 use mathlib.Core.Path.{◌≡◌, refl, sym, ap, ap₂, ◌∙◌}
 use mathlib.Core.Bool.{Bool, true, false, ◌||◌, false≢true}
 use mathlib.Core.List.{[], ◌∷◌}
@@ -13,7 +13,7 @@ use Rattle.rules.specs.Bytes.{Text}
 use Rattle.laws.specs.Parts.{PartOf}
 use Rattle.laws.proofs.Basics.Tests.{and_left, and_right, and_both, or_left, or_right}
 use Rattle.text.specs.Prefix.{begins_with}
-use Rattle.fresh.specs.Searching.{spells, FindsText}
+use Rattle.fresh.specs.Searching.{spells, SpelledAt}
 
 -- ---- a text that begins another
 
@@ -65,21 +65,24 @@ pub part_is_spelled : (s x : Text) → PartOf s x → spells s x ≡ true
 part_is_spelled s x (a, n, e) = ap (spells s) (sym e) ∙ every_part s a n
 
 -- by the windows of the sheet, of which none is the text before the one that is found
-pub found : {A : Type 0} (s x : Text) (window : ℕ → Option A) (r : Option ℕ) → 0 < length x → ((i : ℕ) → r ≡ Some i → Stands s x i)
-    → ((i k : ℕ) → r ≡ Some i → k < i → Stands s x k → IsSomeAnd (window k) (λ w. ⊥)) → ((k : ℕ) → r ≡ None → Stands s x k → IsSomeAnd (window k) (λ w. ⊥)) → FindsText s x r
-found {A} s x window r some here before never = go r refl
-  where
-    empty : (o : Option A) → IsSomeAnd o (λ w. ⊥) → ⊥
-    empty None h = h
-    empty (Some w) h = h
+module _ {A : Type 0} (s x : Text) (window : ℕ → Option A) (some : 0 < length x) where
+  not_there : (k : ℕ) → (Stands s x k → IsSomeAnd (window k) (λ w. ⊥)) → begins_with x (drop k s) ≡ false
+  not_there k h = not_begun s x k some (λ e. empty (window k) (h e))
+    where
+      empty : (o : Option A) → IsSomeAnd o (λ w. ⊥) → ⊥
+      empty None h = h
+      empty (Some w) h = h
 
-    go : (o : Option ℕ) → r ≡ o → FindsText s x o
-    go None e = begun_nowhere s x (λ k. not_begun s x k some (λ h. empty (window k) (never k e h)))
-    go (Some i) e =
-        let h = here i e in
-        record {
-          inside = h.0;
-          part = h.1;
-          spelled = part_is_spelled s x (i, length x, h.1);
-          first = λ k p. not_begun s x k some (λ h. empty (window k) (before i k e p h));
-        }
+  pub not_found : ((k : ℕ) → Stands s x k → IsSomeAnd (window k) (λ w. ⊥)) → spells s x ≡ false
+  not_found never = begun_nowhere s x (λ k. not_there k (never k))
+
+  pub found : (i : ℕ) → Stands s x i → ((k : ℕ) → k < i → Stands s x k → IsSomeAnd (window k) (λ w. ⊥)) → SpelledAt s x (record { from = i; to = i + length x })
+  found i h before =
+      let l : i + length x - i ≡ length x = omega arith in
+      record {
+        end = refl;
+        inside = h.0;
+        part = rw l h.1;
+        spelled = part_is_spelled s x (i, length x, h.1);
+        first = λ k p. not_there k (before k p);
+      }

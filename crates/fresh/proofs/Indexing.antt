@@ -24,7 +24,6 @@ use Rattle.text.specs.Places.{text_at}
 use Rattle.text.proofs.Slices.{drop_take}
 use Rattle.text.proofs.Loops.{drop_next}
 use Rattle.syntax.proofs.Runs.{run_le}
-use Rattle.sheet.specs.Lines.{part_of}
 use Rattle.variables.specs.Ordered.{inserted, ordered_once}
 use Rattle.fresh.specs.Indices.{names_base_from, names_base}
 

@@ -1,8 +1,10 @@
 -- Whether a text is spelled somewhere in a sheet, and what a search for it answers. Definitions only.
-use Rattle.std.specs.Prelude.{ℕ, ◌+◌, ◌<◌, ◌≤◌, ◌≡◌, Bool, true, false, ◌||◌, [], ◌∷◌, length, take, drop}
+use Rattle.std.specs.Prelude.{ℕ, ◌+◌, ◌<◌, ◌≤◌, ◌≡◌, Bool, true, false, ◌||◌, [], ◌∷◌, length, drop}
 use Rattle.std.specs.Prelude.{Option, Some, None}
 use Rattle.rules.specs.Bytes.{Text}
 use Rattle.text.specs.Prefix.{begins_with}
+use Rattle.sheet.specs.Lines.{part_of}
+use Rattle.sheet.specs.declared.Place.{Place}
 
 -- the sheet s spells x
 unfoldable pub spells : Text → Text → Bool
@@ -10,13 +12,14 @@ unfolding begins_with
 spells [] x = begins_with x []
 spells (b ∷ s) x = begins_with x (b ∷ s) || spells s x
 
--- it does from `at` on, and nowhere before
-pub record SpelledAt (s x : Text) (at : ℕ) : Type 0 where
-  pub inside : at + length x ≤ length s
-  pub part : take (length x) (drop at s) ≡ x
+-- it does at a place, and nowhere before
+pub record SpelledAt (s x : Text) (p : Place) : Type 0 where
+  pub end : p.to ≡ p.from + length x
+  pub inside : p.to ≤ length s
+  pub part : part_of p.from p.to s ≡ x
   pub spelled : spells s x ≡ true
-  pub first : (p : ℕ) → p < at → begins_with x (drop p s) ≡ false
+  pub first : (k : ℕ) → k < p.from → begins_with x (drop k s) ≡ false
 
-abbrev pub FindsText : Text → Text → Option ℕ → Type 0
-FindsText s x (Some at) = SpelledAt s x at
+abbrev pub FindsText : Text → Text → Option Place → Type 0
+FindsText s x (Some p) = SpelledAt s x p
 FindsText s x None = spells s x ≡ false

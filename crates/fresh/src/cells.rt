@@ -8,8 +8,6 @@ ghost use Rattle.fresh.specs.Areas.{WritesFreshIn};
 
 use crate::searching::find_fresh;
 use rules::Sort;
-use sheet::Place;
-use text::decimal::width_of;
 use tree::area::Area;
 
 // Writes the n-th fresh variable, and answers its cell.
@@ -19,12 +17,10 @@ fn push_fresh(area: &mut Area, base: usize, n: usize) -> usize
     requires room { HasRoom area.old 1 }
     ensures { Pushes area.old area.new result 0 (variable (chosen_in area.old.sheet.now base n)) }
 {
-    let number = base + n;
-    let Some(from) = find_fresh(area.sheet, number) else {
+    let Some(name) = find_fresh(area.sheet, base + n) else {
         return area.push_unspelled(n, 0);
     };
-    let to = from + 5 + width_of(number);
-    area.push_variable(Place { from, to }, Some(Sort::Msg), 0)
+    area.push_variable(name, Some(Sort::Msg), 0)
 }
 
 // Writes the 24 fresh variables as new cells, and answers the first of them.

@@ -4,16 +4,18 @@ ghost use Rattle.rules.specs.Variants.{fresh_name};
 ghost use Rattle.text.specs.Printing.{Printed};
 ghost use Rattle.fresh.specs.Searching.{FindsText};
 
-use sheet::part;
+use sheet::{Place, part};
 use text::decimal::print;
 use tree::names::print_text;
 
 // The first place in the sheet where a text is spelled.
-fn find_text(sheet: &[u8], text: &[u8]) -> Option<usize>
+fn find_text(sheet: &[u8], text: &[u8]) -> Option<Place>
     requires { 0 < length text.now }
     ensures { FindsText sheet.now text.now result }
 {
-    sheet.windows(text.len()).position(|window| window == text)
+    let from = sheet.windows(text.len()).position(|window| window == text)?;
+    let to = from + text.len();
+    Some(Place { from, to })
 }
 
 // Writes the name x<n>:Msg from the front of out on, and returns where it ends. Into lent bytes: there is no heap.
@@ -26,8 +28,8 @@ fn print_fresh(n: usize, out: &mut [u8]) -> usize
     print_text(out, end, b":Msg")
 }
 
-// Where the sheet spells x<n>:Msg. The start alone: where the name ends follows from its number.
-pub(crate) fn find_fresh(sheet: &[u8], n: usize) -> Option<usize>
+// The first place in the sheet where x<n>:Msg is spelled.
+pub(crate) fn find_fresh(sheet: &[u8], n: usize) -> Option<Place>
     ensures { FindsText sheet.now (fresh_name n) result }
 {
     let mut name = [0u8; 32];

@@ -17,7 +17,7 @@ use Rattle.tree.specs.declared.area.Area.{Area}
 use Rattle.tree.specs.Areas.{Lent}
 use Rattle.sheet.specs.declared.Cursor.{Cursor}
 use Rattle.sheet.specs.declared.Place.{Place}
-use Rattle.forms.specs.Form.{text_of, sheet_of, EnoughWords}
+use Rattle.forms.specs.Form.{text_of, sheet_of, EnoughWords, fewest_words}
 use Rattle.forms.specs.declared.form.Form.{Form}
 use Rattle.forms.specs.declared.form.Form.TheVariants as form
 use Rattle.forms.proofs.WordLaws.{raise_counted}
@@ -56,7 +56,7 @@ unfolding sheet_of
 sound_sheet s t c o = rw o.is
 
 -- every kind has the words of what is read and of one step, and those of its colons
-pub least_words : (s : Text) (f : Form) {n : ℕ} → EnoughWords s f n → 1048576 + 16 * length s ≤ n
+pub least_words : (s : Text) (f : Form) {n : ℕ} → EnoughWords s f n → fewest_words s ≤ n
 unfolding words_needed
 least_words s f h = let k = h.enough in omega arith
 

@@ -1,5 +1,5 @@
 -- The words that a sheet needs are enough for the run over its pairs: what is read, the weight of the pairs, two cells for each pair
--- taken, and 12,293 cells for each name.
+-- taken, and NAME_CELLS for each name.
 use mathlib.Core.Path.{◌≡◌, refl}
 use mathlib.Core.List.{List}
 use Rattle.std.specs.Prelude.{Some}
@@ -12,6 +12,7 @@ use Rattle.rules.specs.Sheet.{Sheet, read_sheet}
 use Rattle.rules.specs.Substitution.{Pair}
 use Rattle.rules.specs.Answer.{read_pairs}
 use Rattle.laws.specs.Memory.{OverPairs, weight, sheet_pairs}
+use Rattle.elimination.specs.declared.room.TheConstants.{STEP_WORDS, NAME_CELLS}
 use Rattle.forms.proofs.WordLaws.{count_bound}
 use Rattle.laws.proofs.Solving.Weights.{weight_size}
 use Rattle.laws.proofs.Sheets.NamesRead.{sheet_names, sides_held, pairs_over, pairs_sizes}
@@ -23,8 +24,8 @@ module _ (s : Text) (sheet : Sheet) (reads : read_sheet s ≡ Some sheet) (ps : 
       let (ns, l, h) = sheet_names s sheet reads in
       (ns, l, pairs_over ns (sheet_pairs sheet) ps pairs (sides_held ns sheet h))
 
-  pub run_words : (n : ℕ) → n ≤ count_of 58 s → 4 * (free + weight ps + 2 * fuel + 12293 * n) + 204802 ≤ words
+  pub run_words : (n : ℕ) → n ≤ count_of 58 s → 4 * (free + weight ps + 2 * fuel + NAME_CELLS * n) + STEP_WORDS ≤ words
   run_words n l = omega (arith, weight_size ps, pairs_sizes s sheet reads ps pairs)
 
-  pub run_cells : (n : ℕ) → n ≤ count_of 58 s → free + weight ps + 2 * fuel + 12293 * n + 65536 < 2 ^ 32
+  pub run_cells : (n : ℕ) → n ≤ count_of 58 s → free + weight ps + 2 * fuel + NAME_CELLS * n + 65536 < 2 ^ 32
   run_cells n l = omega (arith, weight_size ps, pairs_sizes s sheet reads ps pairs, count_bound 58 s short refl)

@@ -1,5 +1,5 @@
 -- What a sheet of kind `unify`, `match`, `cover` or `complete` asks, what is read of its pairs, and what is decided. Definitions only.
-use Rattle.std.specs.Prelude.{ℕ, ◌+◌, ◌*◌, ◌≤◌, ◌≡◌, List, [], length, Option, Some, Result}
+use Rattle.std.specs.Prelude.{ℕ, ◌≤◌, ◌≡◌, List, [], length, Option, Some, Result}
 use Rattle.rules.specs.Bytes.{Text}
 use Rattle.rules.specs.Substitution.{Pair}
 use Rattle.rules.specs.Solving as rules
@@ -16,7 +16,7 @@ use Rattle.tree.specs.Areas.{Lent}
 use Rattle.sheet.specs.Lines.{lines_at}
 use Rattle.sheet.specs.declared.Place.{Place}
 use Rattle.forms.specs.Members.{members_at}
-use Rattle.forms.specs.Form.{text_of, Inside}
+use Rattle.forms.specs.Form.{text_of, Inside, fewest_words}
 use Rattle.forms.specs.declared.form.Solver.{Solver}
 use Rattle.forms.specs.declared.form.Solver.TheVariants as solver
 use Rattle.answers.specs.Deciding.{DecisionIs}
@@ -26,7 +26,7 @@ use Rattle.answers.specs.declared.deciding.Lines.{Lines}
 pub record Ready (a : Area) : Type 0 where
   pub no_cells : a.free ≡ 1
   pub short : length a.sheet.now ≤ 65536
-  pub words : 1048576 + 16 * length a.sheet.now ≤ length a.work.now
+  pub words : fewest_words a.sheet.now ≤ length a.work.now
 
 -- the sheet asks, in one way or the other, for its pairs to be solved, which stand from a position on
 pub record Asked (s : Text) (asks : ℕ → List Entry → Sheet) (fuel at : ℕ) : Type 0 where

@@ -1,6 +1,6 @@
 // One function for each kind of sheet: it decides, and writes no output. The area that it is lent has no cell yet and the words that the
-// sheet needs; a decision tells which of its cells are a term or bindings. A kind is read, one call and its line: no shared form is
-// plainer.
+// sheet needs; a decision tells which of its cells are a term or bindings. What each reads, the call that decides and the
+// line are its kind's own: no shared form is plainer.
 #![tactic(auto)]
 
 ghost use Rattle.std.specs.Prelude.{◌≡◌, ◌+◌, ◌*◌, ◌<◌, ◌≤◌, length, MatchResult, Some, None};
@@ -84,7 +84,7 @@ fn reduce(area: &mut Area, term: Place) -> Decision
     })
 }
 
-// Solves the pairs of a list of cells.
+// Solves the pairs of a list of cells. An arm to a solver: it is matched once.
 fn solve(area: &mut Area, solver: Solver, stack: usize, fuel: usize) -> Answer
     requires stack { (stack < area.old.free) × Whole (trees_in area.old stack) × FitPairs (stack_in area.old stack) }
     requires fuel { fuel ≤ 65536 }

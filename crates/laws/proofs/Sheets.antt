@@ -17,5 +17,6 @@ pub mod NamesRead
 pub mod Derivations
 pub mod Alike
 pub mod Table
+pub mod MoreRows
 pub mod RefusalRows
 mod Example

@@ -1,5 +1,6 @@
 -- Variants: the count of schemes, and the schemes one at a time; what the answers of sound, cover and complete mean, and complete
--- in one pass; the names that schemes and covers use, how large the equations of a scheme are, and the pairs that are matched.
+-- in one pass; the variables and names that schemes and covers use, how large the equations of a scheme are, and the pairs that are
+-- matched.
 pub mod SchemeCount
 pub mod SchemeAt
 pub mod Readable
@@ -13,6 +14,7 @@ pub mod Sites
 pub mod FreshNames
 pub mod SystemRoom
 pub mod VariableNames
+pub mod Variables
 pub mod VariableOrder
 pub mod CoverRoom
 pub mod CompleteRoom

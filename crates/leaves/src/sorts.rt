@@ -20,7 +20,7 @@ fn sort_named(name: &[u8]) -> Option<Sort>
     }
 }
 
-// Where the first colon of a name stands.
+// Where the first colon of a name stands. One call of the library: a function for any byte is no plainer.
 fn colon(name: &[u8]) -> Option<usize>
     ensures { result ≡ colon_in name.now }
 {

@@ -1,9 +1,12 @@
 -- What the match of pairs says that can be matched with the fuel and the room there are.
 use Prim.Native.Nat.{ℕ, ◌+◌, ◌*◌, ◌<◌, ◌≤◌}
 use mathlib.Core.Path.{◌≡◌, refl, sym, ap, subst, ◌∙◌}
-use mathlib.Core.Bool.{true, false, not}
+use mathlib.Core.Bool.{Bool, not}
 use mathlib.Core.List.{List}
+use denote.Enum.Bare.{sameb}
 use Rattle.std.specs.Prelude.{Result, Ok, Err}
+use Rattle.std.specs.Result.{result_eq}
+use lib.Dec.{eqb}
 use lib.ListN.{length}
 use native.Mathlib.Omega.{arith}
 use Rattle.rules.specs.Substitution.{Pair, flatten}
@@ -12,6 +15,7 @@ use Rattle.rules.specs.Matching.{matcher}
 use Rattle.rules.specs.Cover.{is_failed, covering}
 use Rattle.rules.specs.declared.Ending.{Ending}
 use Rattle.rules.specs.declared.Ending.TheVariants as ending
+use Rattle.rules.specs.contracts.Ending.{the_type}
 use Rattle.laws.specs.Memory.{weight}
 use Rattle.laws.proofs.Solving.MatchFuel.{matcher_enough}
 use Rattle.tree.specs.declared.area.Area.{Area}
@@ -24,6 +28,15 @@ use Rattle.elimination.specs.Area.{Room}
 use Rattle.elimination.proofs.Tops.{pairs_are, whole_are}
 use Rattle.unifier.specs.Areas.{stack_in, AnswersIn}
 use Rattle.unifier.specs.Matched.{Matched}
+
+-- the test of a verdict, as the code has it
+abbrev pub has_failed : Result ℕ Ending → Bool
+has_failed v = result_eq eqb (sameb the_type) v (Err ending.Failed)
+
+says_failed : (m : Area) (v : Result ℕ Ending) → is_failed (verdict_in m v) ≡ has_failed v
+says_failed m (Ok b) = refl
+says_failed m (Err ending.Failed) = refl
+says_failed m (Err ending.Unsupported) = refl
 
 -- the list from cell i of d on is that of the pairs qs, which can be matched after n cells
 module _ {a d : Area} {qs : List Pair} {n i : ℕ} (grows : Grows a d) (inside : i < d.free) (trees : trees_in d i ≡ flatten qs) (used : d.free ≤ n) (k : Matched a.sheet.now a.work.now n qs) where
@@ -44,21 +57,9 @@ module _ {a d : Area} {qs : List Pair} {n i : ℕ} (grows : Grows a d) (inside :
       (omega (arith, used, k.room.0), omega (arith, used, k.room.1))
 
   module _ {m : Area} {x : Answered} (short : length a.sheet.now ≤ 65536) (y : AnswersIn d m (matcher (length d.sheet.now) (stack_in d i)) x) where
-    match_says : covering qs ≡ not (is_failed (verdict_in m x.verdict))
+    pub match_says : covering qs ≡ not (has_failed x.verdict)
     unfolding covering
     match_says =
         ap (λ (b : Answer). not (is_failed b.0))
         (matcher_enough 65536 (length d.sheet.now) qs (omega (arith, k.few)) (omega (arith, k.few, same_sheet)) ∙ ap (matcher (length d.sheet.now)) (sym pairs) ∙ y.is)
-
-    -- a match that fails
-    pub match_fails : x.verdict ≡ Err ending.Failed → covering qs ≡ false
-    match_fails e = match_says ∙ ap (λ v. not (is_failed (verdict_in m v))) e
-
-    -- one that does not
-    pub match_covers : (x.verdict ≡ Err ending.Failed → ⊥) → covering qs ≡ true
-    match_covers o = match_says ∙ go x.verdict o
-      where
-        go : (v : Result ℕ Ending) → (v ≡ Err ending.Failed → ⊥) → not (is_failed (verdict_in m v)) ≡ true
-        go (Ok b) n = refl
-        go (Err ending.Failed) n = absurd (n refl)
-        go (Err ending.Unsupported) n = refl
+        ∙ ap not (says_failed m x.verdict)

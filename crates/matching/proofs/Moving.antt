@@ -7,7 +7,7 @@ use Rattle.std.specs.Prelude.{Ok, Err}
 use Rattle.rules.specs.declared.Ending.{Ending}
 use Rattle.rules.specs.declared.Ending.TheVariants as ending
 use Rattle.rules.specs.Substitution.{Binding, Pair, flatten}
-use Rattle.rules.specs.Solving.{solved, unsupported, Answer}
+use Rattle.rules.specs.Solving.{solved, failed, unsupported, Answer}
 use Rattle.rules.specs.Matching.{Move, onward, clash, beyond, move, moved, matching, matcher}
 use Rattle.laws.specs.Memory.{weight}
 use Rattle.tree.specs.declared.area.Area.{Area}
@@ -27,26 +27,26 @@ use Rattle.steps.proofs.Fitting.{FitMove, move_fit}
 use Rattle.unifier.specs.Areas.{stack_in, AnswersIn}
 use Rattle.matching.proofs.Answering.{later, matching_end, matching_step, matching_spent, matcher_start}
 
--- at the head of the loop: the pairs ps wait from cell waiting on, the bindings bs are from cell made on
-pub record HoldsIn (a b : Area) (start : List Pair) (fuel spent waiting made : ℕ) : Type 0 where
+-- at the head of the loop, with so much fuel left: the pairs ps wait from cell waiting on, the bindings bs are from cell made on
+pub record HoldsIn (a b : Area) (start : List Pair) (fuel left waiting made : ℕ) : Type 0 where
   pub grows : Grows a b
   pub stack : waiting < b.free
   pub list : made < b.free
-  pub within : spent ≤ fuel
+  pub within : left ≤ fuel
   pub ps : List Pair
   pub bs : List Binding
   pub waits : trees_in b waiting ≡ flatten ps
   pub binds : trees_in b made ≡ flatten_bindings bs
   pub fit : FitPairs ps
   pub values : FitBindings bs
-  pub room : Room b.work.now (b.free + weight ps + 2 * (fuel - spent))
-  pub ran : matcher fuel start ≡ later spent (matching (fuel - spent) ps bs)
+  pub room : Room b.work.now (b.free + weight ps + 2 * left)
+  pub ran : matcher fuel start ≡ later (fuel - left) (matching left ps bs)
 
 pub holds_start : {a : Area} {stack fuel : ℕ} → stack < a.free → Whole (trees_in a stack) → FitPairs (stack_in a stack) → Room a.work.now (a.free + weight (stack_in a stack) + 2 * fuel)
-    → HoldsIn a a (stack_in a stack) fuel 0 stack 0
+    → HoldsIn a a (stack_in a stack) fuel fuel stack 0
 unfolding flatten_bindings
 holds_start {a} {stack} {fuel} q whole fit room =
-    let y : fuel ≡ fuel - 0 = omega arith in
+    let y : 0 ≡ fuel - fuel = omega arith in
     record {
       grows = grows_same a;
       stack = q;
@@ -59,10 +59,10 @@ holds_start {a} {stack} {fuel} q whole fit room =
       fit = fit;
       values = tt;
       room = (omega (arith, room.0), omega (arith, room.1));
-      ran = matcher_start fuel (stack_in a stack) ∙ ap (λ (k : ℕ). later 0 (matching k (stack_in a stack) [])) y;
+      ran = matcher_start fuel (stack_in a stack) ∙ ap (λ (k : ℕ). later k (matching fuel (stack_in a stack) [])) y;
     }
 
-module _ {a b : Area} {start : List Pair} {fuel spent waiting made : ℕ} (h : HoldsIn a b start fuel spent waiting made) where
+module _ {a b : Area} {start : List Pair} {fuel left waiting made : ℕ} (h : HoldsIn a b start fuel left waiting made) where
   -- the bindings, as the cells have them
   made_are : bindings_in b made ≡ h.bs
   made_are = ap bindings_of h.binds ∙ bindings_flatten h.bs
@@ -75,32 +75,32 @@ module _ {a b : Area} {start : List Pair} {fuel spent waiting made : ℕ} (h : H
 
   -- The ends
 
-  pub holds_solved : spent < fuel → stack_in b waiting ≡ [] → AnswersIn a b (matcher fuel start) (record { verdict = Ok made; spent = spent })
+  pub holds_solved : 0 < left → stack_in b waiting ≡ [] → AnswersIn a b (matcher fuel start) (record { verdict = Ok made; spent = fuel - (left - 1) - 1 })
   holds_solved p e =
       let empty = sym (pairs_are h.ps h.waits) ∙ e in
-      let z : spent + 0 ≡ spent = omega arith in
+      let z : fuel - left + 0 ≡ fuel - (left - 1) - 1 = omega arith in
       let room = h.room in
       record {
         grows = h.grows;
         is = h.ran
-            ∙ ap (λ (qs : List Pair). later spent (matching (fuel - spent) qs h.bs)) empty
-            ∙ ap (λ (x : Answer). later spent x) (matching_end (fuel - spent) h.bs (omega arith))
+            ∙ ap (λ (qs : List Pair). later (fuel - left) (matching left qs h.bs)) empty
+            ∙ ap (λ (x : Answer). later (fuel - left) x) (matching_end left h.bs p)
             ∙ ap₂ (λ (cs : List Binding) (k : ℕ). (solved cs, k)) (sym made_are) z;
         bound = record { inside = h.list; chain = made_chain; room = omega (arith, room.0) };
       }
 
-  pub holds_spent : fuel ≤ spent → AnswersIn a b (matcher fuel start) (record { verdict = Err ending.Unsupported; spent = fuel })
+  pub holds_spent : left ≡ 0 → AnswersIn a b (matcher fuel start) (record { verdict = Err ending.Unsupported; spent = fuel })
   holds_spent e =
-      let z : spent + 0 ≡ fuel = omega (arith, h.within) in
+      let z : fuel - left + 0 ≡ fuel = omega arith in
       record {
         grows = h.grows;
-        is = h.ran ∙ ap (λ (x : Answer). later spent x) (matching_spent (fuel - spent) h.ps h.bs (omega arith)) ∙ ap (λ (k : ℕ). (unsupported, k)) z;
+        is = h.ran ∙ ap (λ (x : Answer). later (fuel - left) x) (matching_spent left h.ps h.bs e) ∙ ap (λ (k : ℕ). (unsupported, k)) z;
         bound = tt;
       }
 
   -- The pair on top
 
-  module _ (f : Front) (t : stack_in b waiting ≡ (tree_in b f.left, tree_in b f.right) ∷ stack_in b f.rest) (p : spent < fuel) where
+  module _ (f : Front) (t : stack_in b waiting ≡ (tree_in b f.left, tree_in b f.right) ∷ stack_in b f.rest) (p : 0 < left) where
     on_top : h.ps ≡ (tree_in b f.left, tree_in b f.right) ∷ stack_in b f.rest
     on_top = sym (pairs_are h.ps h.waits) ∙ t
 
@@ -127,28 +127,28 @@ module _ {a b : Area} {start : List Pair} {fuel spent waiting made : ℕ} (h : H
     stays_fit : FitMove taken_move
     stays_fit = move_fit (tree_in b f.left) (tree_in b f.right) (stack_in b f.rest) (bindings_in b made) fits.0 fits.1 fits.2 made_fit
 
-    taken_run : (d : Move) → taken_move ≡ d → matcher fuel start ≡ later spent (moved d (λ qs cs. matching (fuel - spent - 1) qs cs))
+    taken_run : (d : Move) → taken_move ≡ d → matcher fuel start ≡ later (fuel - left) (moved d (λ qs cs. matching (left - 1) qs cs))
     taken_run d e =
         h.ran
-        ∙ ap₂ (λ (qs : List Pair) (cs : List Binding). later spent (matching (fuel - spent) qs cs)) on_top (sym made_are)
-        ∙ ap (λ (x : Answer). later spent x) (matching_step (fuel - spent) (tree_in b f.left) (tree_in b f.right) (stack_in b f.rest) (bindings_in b made) (omega arith))
-        ∙ ap (λ (d : Move). later spent (moved d (λ qs cs. matching (fuel - spent - 1) qs cs))) e
+        ∙ ap₂ (λ (qs : List Pair) (cs : List Binding). later (fuel - left) (matching left qs cs)) on_top (sym made_are)
+        ∙ ap (λ (x : Answer). later (fuel - left) x) (matching_step left (tree_in b f.left) (tree_in b f.right) (stack_in b f.rest) (bindings_in b made) p)
+        ∙ ap (λ (d : Move). later (fuel - left) (moved d (λ qs cs. matching (left - 1) qs cs))) e
 
-    left_is : fuel - spent - 1 ≡ fuel - (spent + 1)
-    left_is = omega arith
+    counted : (k : ℕ) → fuel - left + (1 + k) ≡ fuel - (left - 1) + k
+    counted k = omega (arith, h.within)
 
-    counted : (k : ℕ) → spent + (1 + k) ≡ spent + 1 + k
-    counted k = omega arith
+    last : fuel - left + 1 ≡ fuel - (left - 1)
+    last = omega (arith, h.within)
 
     module _ {d : Area} where
-      pub holds_over : (e : Ending) → (taken_move ≡ last_move e) × Grows b d → AnswersIn a d (matcher fuel start) (record { verdict = Err e; spent = spent + 1 })
-      holds_over ending.Failed g = record { grows = grows_then h.grows g.1; is = taken_run clash g.0; bound = tt }
-      holds_over ending.Unsupported g = record { grows = grows_then h.grows g.1; is = taken_run beyond g.0; bound = tt }
+      pub holds_over : (e : Ending) → (taken_move ≡ last_move e) × Grows b d → AnswersIn a d (matcher fuel start) (record { verdict = Err e; spent = fuel - (left - 1) })
+      holds_over ending.Failed g = record { grows = grows_then h.grows g.1; is = taken_run clash g.0 ∙ ap (λ (k : ℕ). (failed, k)) last; bound = tt }
+      holds_over ending.Unsupported g = record { grows = grows_then h.grows g.1; is = taken_run beyond g.0 ∙ ap (λ (k : ℕ). (unsupported, k)) last; bound = tt }
 
       pub holds_onward : {st k : ℕ} → OnwardsIn b d (load_in b f + weight (stack_in b f.rest)) taken_move st k
-          → HoldsIn a d start fuel (spent + 1) st k
+          → HoldsIn a d start fuel (left - 1) st k
       holds_onward {st} {k} g =
-          let x = matching (fuel - spent - 1) g.pairs g.bindings in
+          let x = matching (left - 1) g.pairs g.bindings in
           let k = subst FitMove g.is stays_fit in
           let room = h.room in
           let w = weighs in
@@ -158,7 +158,7 @@ module _ {a b : Area} {start : List Pair} {fuel spent waiting made : ℕ} (h : H
             grows = grows_then h.grows g.waits.grows;
             stack = g.waits.inside;
             list = g.list_inside;
-            within = omega arith;
+            within = omega (arith, h.within);
             ps = g.pairs;
             bs = g.bindings;
             waits = g.waits.trees;
@@ -166,6 +166,5 @@ module _ {a b : Area} {start : List Pair} {fuel spent waiting made : ℕ} (h : H
             fit = k.0;
             values = k.1;
             room = (omega (arith, room.0), omega (arith, room.1));
-            ran = taken_run (onward g.pairs g.bindings) g.is ∙ ap (λ (j : ℕ). (x.0, j)) (counted x.1)
-                ∙ ap (λ (k : ℕ). later (spent + 1) (matching k g.pairs g.bindings)) left_is;
+            ran = taken_run (onward g.pairs g.bindings) g.is ∙ ap (λ (j : ℕ). (x.0, j)) (counted x.1);
           }

@@ -16,7 +16,8 @@ use rules::Ending;
 use substitution::answer::Answer;
 use tree::area::Area;
 
-// Matches the pairs from cell stack on: the left sides are patterns, the right ones subjects.
+// Matches the pairs from cell stack on: the left sides are patterns, the right ones subjects. Fuel is counted down: `left` is what is left
+// once a pair is taken.
 // Each step pushes cells into the area, which an iterator over the pairs would hold.
 pub fn matcher(area: &mut Area, stack: usize, fuel: usize) -> Answer
     requires stack { (stack < area.old.free) × Whole (trees_in area.old stack) × FitPairs (stack_in area.old stack) }
@@ -26,11 +27,11 @@ pub fn matcher(area: &mut Area, stack: usize, fuel: usize) -> Answer
 {
     let mut waiting = stack;
     let mut made = 0;
-    for spent in 0..fuel {
+    for left in (0..fuel).rev() {
         let Some(front) = Front::top(area, waiting) else {
             return Answer {
                 verdict: Ok(made),
-                spent,
+                spent: fuel - left - 1,
             };
         };
         match advance(area, front, made) {
@@ -41,7 +42,7 @@ pub fn matcher(area: &mut Area, stack: usize, fuel: usize) -> Answer
             Err(ending) => {
                 return Answer {
                     verdict: Err(ending),
-                    spent: spent + 1,
+                    spent: fuel - left,
                 };
             }
         }

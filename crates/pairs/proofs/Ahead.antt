@@ -16,7 +16,8 @@ use Rattle.sheet.specs.Pairs.{two_lines_at}
 use Rattle.sheet.specs.declared.Read.{Read}
 use Rattle.sheet.specs.declared.Sides.{Sides}
 use Rattle.forms.proofs.WalkLaws.{pairs_by, two_there, two_end}
-use Rattle.pairs.specs.Pairs.{sides, PairsFrom}
+use Rattle.forms.specs.Form.{entry_of}
+use Rattle.pairs.specs.Pairs.{PairsFrom}
 
 -- a pair, by what its left side reads as
 pub left_first : (e : Entry) (o : Option Tree) → parse e.0 ≡ o → read_pair e ≡ (o >>= λ l. parse e.1 >>= λ r. Some (l, r))
@@ -38,7 +39,7 @@ pub record Ahead (s : Text) (c : ℕ) (es : List Entry) (rest : List Text) (ps :
 
 module _ {s : Text} {c : ℕ} {es : List Entry} {rest : List Text} {ps : List Pair} (h : Ahead s c es rest ps) where
   ahead_next : (two : Read Sides) → Some two ≡ two_lines_at (bytes "left=") (bytes "right=") s c
-      → (fs : List Entry) × (h.later ≡ sides s two.value.left two.value.right ∷ fs) × PairsFrom s two.next.at fs rest
+      → (fs : List Entry) × (h.later ≡ entry_of s two.value.left two.value.right ∷ fs) × PairsFrom s two.next.at fs rest
   ahead_next two e =
       let (fs, d, g) = two_there (bytes "left=") (bytes "right=") s c h.later rest (sym (pairs_by s c) ∙ h.from) two e in
       (fs, d, pairs_by s two.next.at ∙ g)
@@ -46,24 +47,24 @@ module _ {s : Text} {c : ℕ} {es : List Entry} {rest : List Text} {ps : List Pa
   ahead_read : (fs : List Entry) → h.later ≡ fs → read_pairs es ≡ (read_pairs fs >>= λ qs. Some (ps ++ qs))
   ahead_read fs d = h.read ∙ ap (λ (fs : List Entry). read_pairs fs >>= λ qs. Some (ps ++ qs)) d
 
-  pub ahead_turn : (two : Read Sides) (p : Pair) → Some two ≡ two_lines_at (bytes "left=") (bytes "right=") s c → read_pair (sides s two.value.left two.value.right) ≡ Some p → Ahead s two.next.at es rest (ps ++ (p ∷ []))
+  pub ahead_turn : (two : Read Sides) (p : Pair) → Some two ≡ two_lines_at (bytes "left=") (bytes "right=") s c → read_pair (entry_of s two.value.left two.value.right) ≡ Some p → Ahead s two.next.at es rest (ps ++ (p ∷ []))
   ahead_turn two p e g =
       let (fs, d, k) = ahead_next two e in
       record {
         later = fs;
         from = k;
         read =
-            ahead_read (sides s two.value.left two.value.right ∷ fs) d ∙ ap (λ (o : Option (List Pair)). o >>= λ qs. Some (ps ++ qs)) (read_first (sides s two.value.left two.value.right) fs (Some p) g) ∙ go (read_pairs fs);
+            ahead_read (entry_of s two.value.left two.value.right ∷ fs) d ∙ ap (λ (o : Option (List Pair)). o >>= λ qs. Some (ps ++ qs)) (read_first (entry_of s two.value.left two.value.right) fs (Some p) g) ∙ go (read_pairs fs);
       }
     where
       go : (o : Option (List Pair)) → ((o >>= λ qs. Some (p ∷ qs)) >>= λ qs. Some (ps ++ qs)) ≡ (o >>= λ qs. Some ((ps ++ (p ∷ [])) ++ qs))
       go None = refl
       go (Some qs) = ap Some (sym (append_assoc ps (p ∷ []) qs))
 
-  pub ahead_unread : (two : Read Sides) → Some two ≡ two_lines_at (bytes "left=") (bytes "right=") s c → read_pair (sides s two.value.left two.value.right) ≡ None → read_pairs es ≡ None
+  pub ahead_unread : (two : Read Sides) → Some two ≡ two_lines_at (bytes "left=") (bytes "right=") s c → read_pair (entry_of s two.value.left two.value.right) ≡ None → read_pairs es ≡ None
   ahead_unread two e g =
       let (fs, d, k) = ahead_next two e in
-      ahead_read (sides s two.value.left two.value.right ∷ fs) d ∙ ap (λ (o : Option (List Pair)). o >>= λ qs. Some (ps ++ qs)) (read_first (sides s two.value.left two.value.right) fs None g)
+      ahead_read (entry_of s two.value.left two.value.right ∷ fs) d ∙ ap (λ (o : Option (List Pair)). o >>= λ qs. Some (ps ++ qs)) (read_first (entry_of s two.value.left two.value.right) fs None g)
 
   module _ (e : None ≡ two_lines_at (bytes "left=") (bytes "right=") s c) where
     pub none_later : (h.later ≡ []) × (lines_at s c ≡ Some rest)

@@ -26,24 +26,24 @@ use Rattle.sheet.specs.Lines.{lines_at}
 use Rattle.sheet.specs.Pairs.{two_lines_at}
 use Rattle.sheet.specs.declared.Read.{Read}
 use Rattle.sheet.specs.declared.Sides.{Sides}
-use Rattle.forms.specs.Form.{Inside}
+use Rattle.forms.specs.Form.{entry_of, Inside}
 use Rattle.forms.proofs.Located.{pair_located}
-use Rattle.pairs.specs.Pairs.{sides, pair_end, PairsFrom}
+use Rattle.pairs.specs.Pairs.{pair_end, PairsFrom}
 use Rattle.pairs.specs.Areas.{ReadPairIn, ReversedIn, InOrder}
 use Rattle.pairs.proofs.Ahead.{left_first, Ahead, ahead_none, ahead_turn, ahead_unread, none_later, ahead_end}
 
 -- ---- one pair
 
-pub left_unread : {a b : Area} (p : Sides) → UnreadIn a b p.left → (read_pair (sides a.sheet.now p.left p.right) ≡ None) × Grows a b
-left_unread {a} p h = (left_first (sides a.sheet.now p.left p.right) None h.unread, unread_grows h)
+pub left_unread : {a b : Area} (p : Sides) → UnreadIn a b p.left → (read_pair (entry_of a.sheet.now p.left p.right) ≡ None) × Grows a b
+left_unread {a} p h = (left_first (entry_of a.sheet.now p.left p.right) None h.unread, unread_grows h)
 
 module _ {a m : Area} (p : Sides) {left : ℕ} (one : Reads a m p.left left) where
-  then_right : (o : Option Tree) → parse (text_in m p.right) ≡ o → read_pair (sides a.sheet.now p.left p.right) ≡ (o >>= λ t. Some (tree_in m left, t))
+  then_right : (o : Option Tree) → parse (text_in m p.right) ≡ o → read_pair (entry_of a.sheet.now p.left p.right) ≡ (o >>= λ t. Some (tree_in m left, t))
   then_right o h =
-      left_first (sides a.sheet.now p.left p.right) (Some (tree_in m left)) one.reads
+      left_first (entry_of a.sheet.now p.left p.right) (Some (tree_in m left)) one.reads
       ∙ ap (λ (o : Option Tree). o >>= λ t. Some (tree_in m left, t)) (ap parse (sym (text_lent p.right one.lent)) ∙ h)
 
-  pub right_unread : {b : Area} → UnreadIn m b p.right → (read_pair (sides a.sheet.now p.left p.right) ≡ None) × Grows a b
+  pub right_unread : {b : Area} → UnreadIn m b p.right → (read_pair (entry_of a.sheet.now p.left p.right) ≡ None) × Grows a b
   right_unread h = (then_right None h.unread, grows_then (reads_grows one) (unread_grows h))
 
   pub pair_there : {d b : Area} {right list i : ℕ} → list < a.free → Reads m d p.right right → Lists d b i (more (tree_in d right) (more (tree_in d left) (trees_in d list))) → b.free ≡ d.free + 2
@@ -113,17 +113,17 @@ module _ {a b : Area} {at c list : ℕ} (h : ReadingIn a at b c list) where
     pub reading_room : pair_end b.free two.value.left two.value.right ≤ texts_end_in a at
     reading_room = let x = pair_located b.sheet.now c two e in omega (arith, h.used, h.onward, x.next, x.within, sheet_length h.grows.lent)
 
-    pub reading_unread : {d : Area} → (read_pair (sides b.sheet.now two.value.left two.value.right) ≡ None) × Grows b d
+    pub reading_unread : {d : Area} → (read_pair (entry_of b.sheet.now two.value.left two.value.right) ≡ None) × Grows b d
         → ((es : List Entry) (rest : List Text) → PairsFrom a.sheet.now at es rest → read_pairs es ≡ None) × Grows a d
     reading_unread x =
-        let u = subst (λ s. read_pair (sides s.now two.value.left two.value.right) ≡ None) h.grows.lent.sheet x.0 in
+        let u = subst (λ s. read_pair (entry_of s.now two.value.left two.value.right) ≡ None) h.grows.lent.sheet x.0 in
         ((λ es rest k. ahead_unread (h.ahead es rest k) two here u), grows_then h.grows x.1)
 
     pub reading_turn : {d : Area} {i : ℕ} → ReadPairIn b d two.value list i → ReadingIn a at d two.next.at i
     unfolding flatten back
     reading_turn {d} {i} x =
         let y = pair_located b.sheet.now c two e in
-        let r = subst (λ s. read_pair (sides s.now two.value.left two.value.right) ≡ Some x.pair) h.grows.lent.sheet x.read in
+        let r = subst (λ s. read_pair (entry_of s.now two.value.left two.value.right) ≡ Some x.pair) h.grows.lent.sheet x.read in
         record {
           ps = h.ps ++ (x.pair ∷ []);
           ahead = λ es rest k. ahead_turn (h.ahead es rest k) two x.pair here r;

@@ -11,12 +11,13 @@ use Rattle.tree.specs.Lists.{back}
 use Rattle.sheet.specs.Lines.{lines_at}
 use Rattle.sheet.specs.declared.Read.{Read}
 use Rattle.sheet.specs.declared.Sides.{Sides}
-use Rattle.pairs.specs.Pairs.{sides, pair_end, PairsFrom}
+use Rattle.forms.specs.Form.{entry_of}
+use Rattle.pairs.specs.Pairs.{pair_end, PairsFrom}
 
 -- the sides of a pair, the right one first, before the list from cell `list` on
 pub record ReadPairIn (a b : Area) (p : Sides) (list i : ℕ) : Type 0 where
   pub pair : Pair
-  pub read : read_pair (sides a.sheet.now p.left p.right) ≡ Some pair
+  pub read : read_pair (entry_of a.sheet.now p.left p.right) ≡ Some pair
   pub grows : Grows a b
   pub inside : i < b.free
   pub trees : trees_in b i ≡ more pair.1 (more pair.0 (trees_in a list))
@@ -25,7 +26,7 @@ pub record ReadPairIn (a b : Area) (p : Sides) (list i : ℕ) : Type 0 where
 -- or one of them is unreadable
 abbrev pub ReadsPairIn : Area → Area → Sides → ℕ → Option ℕ → Type 0
 ReadsPairIn a b p list (Some i) = ReadPairIn a b p list i
-ReadsPairIn a b p list None = (read_pair (sides a.sheet.now p.left p.right) ≡ None) × Grows a b
+ReadsPairIn a b p list None = (read_pair (entry_of a.sheet.now p.left p.right) ≡ None) × Grows a b
 
 -- the list of all pairs from a position on, backwards. Two cells for each byte of them are enough for this list and for turning it round
 pub record ReversedIn (a b : Area) (at : ℕ) (r : Read ℕ) : Type 0 where

@@ -1,15 +1,10 @@
--- The pairs of lines `left`, `right` of a sheet: their texts, the room that they take, and where they stand. Definitions only.
+-- The pairs of lines `left`, `right` of a sheet: the room that they take, and where they stand. Definitions only.
 use Rattle.std.specs.Prelude.{ℕ, ◌+◌, ◌*◌, ◌-◌, ◌≡◌, List, Some}
 use Rattle.rules.specs.Bytes.{Text}
 use Rattle.rules.specs.Maybe.{◌>>=◌}
 use Rattle.rules.specs.Sheet.{Entry, pairs}
 use Rattle.sheet.specs.Lines.{lines_at}
-use Rattle.forms.specs.Form.{text_of}
 use Rattle.sheet.specs.declared.Place.{Place}
-
--- the texts of a pair
-abbrev pub sides : Text → Place → Place → Entry
-sides s l r = (text_of s l, text_of s r)
 
 -- the cells end at most here after a pair: two for each byte of its sides, and two for the list
 abbrev pub pair_end : ℕ → Place → Place → ℕ

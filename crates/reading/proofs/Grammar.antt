@@ -1,5 +1,4 @@
--- The machine reads what the grammar reads: from a state that wants a term it goes on with the term that the grammar reads. Assumes
--- nothing.
+-- The machine reads what the grammar reads: from a state that wants a term it goes on with the term that the grammar reads.
 use Prim.Native.Nat.{ℕ, zero, suc, ◌≤◌, ◌<◌}
 use native.Mathlib.Omega.{arith}
 use mathlib.Core.Path.{◌≡◌, refl, ◌∙◌}

@@ -1,7 +1,7 @@
 // The term reader over a work area.
 #![tactic(auto)]
 
-pub mod stack; // stack.rt: the stack of open lists over a work area
+mod stack; // stack.rt: the stack of open lists over a work area
 
 ghost use Rattle.std.specs.Prelude.{◌≡◌, ◌+◌, ◌*◌, ◌<◌, ◌≤◌, ◌^◌, length, get_or, take};
 ghost use Rattle.syntax.specs.Next.{next_symbol};

@@ -15,8 +15,8 @@ use tree::area::Area;
 // beside the area that closing writes to is a loan through a struct with a ghost field, which has no proof.
 #[derive(Clone, Copy, Debug, PartialEq, Eq)]
 pub(crate) struct Stack {
-    pub limit: usize,
-    pub depth: usize,
+    pub(crate) limit: usize,
+    pub(crate) depth: usize,
 }
 
 // A leaf before the list at `next`.

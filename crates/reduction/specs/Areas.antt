@@ -1,5 +1,6 @@
--- What the functions that write a tree before a list of an area answer. Definitions only.
-use Rattle.std.specs.Prelude.{ℕ, ◌+◌, ◌<◌, ◌≤◌, ◌≡◌}
+-- What the functions that write a tree before a list of an area answer, and the room that an instance and its normal form need.
+-- Definitions only.
+use Rattle.std.specs.Prelude.{ℕ, ◌+◌, ◌*◌, ◌<◌, ◌≤◌, ◌^◌, ◌≡◌, length}
 use Rattle.rules.specs.Tree.{Tree, Trees, more}
 use Rattle.tree.specs.declared.area.Area.{Area}
 use Rattle.tree.specs.Areas.{tree_in, trees_in, Grows}
@@ -19,3 +20,11 @@ pub record BecomesList (a b : Area) (m : ℕ) (ts : Trees) (i : ℕ) : Type 0 wh
   pub used : b.free ≤ a.free + m
   pub inside : i < b.free
   pub trees : trees_in b i ≡ ts
+
+-- the nodes of an instance and of its normal form, 4,096 each
+abbrev pub instance_nodes : ℕ
+instance_nodes = 8192
+
+-- room for their cells, and for comparing them, which takes fifteen words for each node
+abbrev pub InstanceRoom : Area → Type 0
+InstanceRoom a = (4 * a.free + (4 + 15) * instance_nodes ≤ length a.work.now) × (a.free + instance_nodes < 2 ^ 32)

@@ -1,11 +1,13 @@
 // Normal forms of trees of an area: a list's later trees first, then a tree's children, then one step at its root.
-ghost use Rattle.std.specs.Prelude.{◌≡◌, ◌+◌, ◌*◌, ◌<◌, ◌≤◌, ◌^◌, length};
+ghost use Rattle.std.specs.Prelude.{◌≡◌, ◌+◌, ◌*◌, ◌<◌, ◌≤◌, ◌^◌, length, IfSome, option_map};
+ghost use Rattle.rules.specs.Maybe.{otherwise};
 ghost use Rattle.rules.specs.Tree.{apply, size, sizes};
 ghost use Rattle.rules.specs.Reduction.{root, normalize, normalizes};
 ghost use Rattle.tree.specs.declared.kinds.Kind.TheVariants.{Application};
 ghost use Rattle.tree.specs.Arena.{Grown};
-ghost use Rattle.tree.specs.Areas.{cell_kind, name_in, tree_in, trees_in, CellIn, HasRoom};
+ghost use Rattle.tree.specs.Areas.{cell_kind, name_in, tree_in, trees_in, CellIn, HasRoom, KeepsCells};
 ghost use Rattle.rewriting.specs.Building.{key_room};
+ghost use Rattle.rewriting.specs.Values.{value_tree, ValueIn};
 ghost use Rattle.reduction.specs.Areas.{Becomes, BecomesList};
 
 use rewriting::firing::{Value, fire};
@@ -26,12 +28,24 @@ pub fn stay(area: &mut Area, i: usize, first: usize, next: usize) -> usize
     if area.first_of(i) == first {
         return keep(area, i, next);
     }
-    area.push_like(i, first, next, 1 + area.nodes_in(first))
+    area.push_like(i, first, next, 1 + area.nodes_below(first))
 }
 
-// One step at the root: the name of cell i over the list from cell first on. The words above the cells are scratch. A name without a
-// rule stays, which writes a cell: no `?` says that.
-// Tried with `and_then`: the area after a closure that changes it has no name that a proof can cite.
+// What the rule of the name of cell i makes of the list from cell first on, if there is one and it fires. The words above the cells are
+// scratch.
+fn fired(area: &mut Area, i: usize, first: usize) -> Option<Value>
+    requires cells { CellIn area.old i × (first < area.old.free) }
+    requires small { sizes (trees_in area.old first) ≤ 4096 }
+    requires room { 4 * area.old.free + key_room ≤ length area.old.work.now }
+    ensures fires { root (name_in area.old i) (trees_in area.old first) ≡ otherwise (option_map (value_tree area.old) result) (apply (name_in area.old i) (trees_in area.old first)) }
+    ensures value { IfSome result (ValueIn area.old) }
+    ensures keeps { KeepsCells area.old area.new }
+{
+    let rule = rule_named(area, i)?;
+    fire(area, rule, first)
+}
+
+// One step at the root: the name of cell i over the list from cell first on. The words above the cells are scratch.
 fn root(area: &mut Area, i: usize, first: usize, next: usize) -> usize
     requires cells { CellIn area.old i × (first < area.old.free) × (next < area.old.free) }
     requires application { cell_kind area.old i ≡ Application }
@@ -39,10 +53,7 @@ fn root(area: &mut Area, i: usize, first: usize, next: usize) -> usize
     requires room { (4 * area.old.free + 4 + key_room ≤ length area.old.work.now) × (area.old.free < 2 ^ 32) }
     ensures { Becomes area.old area.new 1 next (root (name_in area.old i) (trees_in area.old first)) result }
 {
-    let Some(rule) = rule_named(area, i) else {
-        return stay(area, i, first, next);
-    };
-    match fire(area, rule, first) {
+    match fired(area, i, first) {
         Some(Value::Cell(k)) => keep(area, k, next),
         Some(Value::Name(name)) => area.push_fixed(name, 0, next, 1),
         None => stay(area, i, first, next),

@@ -5,15 +5,16 @@ ghost use Rattle.replay.specs.Replaying.{lends, Compares, Replays};
 
 use yukhtsami::yukhtsami_answer;
 
-// A record: the words and bytes of output lent, the refusal, and its label with the byte 10 after it.
+// A record: the words and bytes of output lent, the refusal, its label with the byte 10 after it, the sheet and the answer. The
+// refusal is a number, as the list has it.
 #[derive(Clone, Copy)]
 pub(crate) struct Record<'a> {
-    pub words: usize,
-    pub room: usize,
-    pub refusal: usize,
-    pub label: &'a [u8],
-    pub sheet: &'a [u8],
-    pub answer: &'a [u8],
+    pub(crate) words: usize,
+    pub(crate) room: usize,
+    pub(crate) refusal: usize,
+    pub(crate) label: &'a [u8],
+    pub(crate) sheet: &'a [u8],
+    pub(crate) answer: &'a [u8],
 }
 
 impl Record<'_> {

@@ -8,7 +8,7 @@ use text::is_digit;
 // What is left of the list.
 #[derive(Clone, Copy)]
 pub(crate) struct Reader<'a> {
-    pub rest: &'a [u8],
+    pub(crate) rest: &'a [u8],
 }
 
 // The number with one more digit. A number above a thousand million stays as it is, where number_up_to would give none.
@@ -38,7 +38,7 @@ impl<'a> Reader<'a> {
         front
     }
 
-    // The bytes up to the next byte 10, that one too, or all that are left.
+    // The bytes up to the next byte 10, that one too, or all that are left. One call of the library: a function for any byte is no plainer.
     fn line(&mut self) -> &'a [u8]
         ensures { self.old.rest.now ≡ result.now ++ self.new.rest.now }
     {

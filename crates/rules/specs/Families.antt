@@ -2,7 +2,7 @@
 -- and variants").
 use Rattle.std.specs.Prelude.{◌≡◌, Bool, true, false, ℕ, ◌≤◌, ◌<◌, Option, Some, None}
 use mathlib.Core.List.{List, [], ◌∷◌, ◌++◌, map, Memᴰ}
-use Rattle.rules.specs.Bytes.{Text}
+use Rattle.rules.specs.Bytes.{Text, upto}
 use Rattle.rules.specs.Maybe.{every}
 use Rattle.rules.specs.Tree.{Tree, size, variable_names}
 use Rattle.rules.specs.Substitution.{Binding, Pair, lookup, instantiate}
@@ -20,6 +20,11 @@ use Rattle.rules.specs.Variants.{Variant, read_member, index_of, fresh_base, fre
 pub data Unreadable : List Text → Type 0 where
   this : {s : Text} {ss : List Text} → parse s ≡ None → Unreadable (s ∷ ss)
   later : {s : Text} {ss : List Text} → Unreadable ss → Unreadable (s ∷ ss)
+
+-- in byte order, each once: no text is up to one before it
+abbrev pub Ascending : List Text → Type 0
+Ascending [] = Unit {0}
+Ascending (x ∷ xs) = ((y : Text) → Memᴰ y xs → upto y x ≡ false) × Ascending xs
 
 -- Sound
 

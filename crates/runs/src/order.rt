@@ -7,6 +7,7 @@ use crate::SPAN;
 use rules::SUM;
 use std::cmp::Ordering;
 use tree::fixed::{Fixed, UNSPELLED};
+use tree::names::ZEROS;
 
 // What a word stands for: a place of the sheet, a byte or a name.
 #[derive(Clone, Copy, Debug, PartialEq, Eq)]
@@ -20,13 +21,11 @@ pub enum Piece {
     Unspelled(u8),
 }
 
-// Codes from NAMES on are names, and those from BYTES on are bytes that are no mark. The codes below are marks, which are bytes too.
+// Codes from NAMES on are names, and those from BYTES on are bytes that are no mark. The codes below are marks, which are bytes too. In lent
+// words: an enum is what piece_of makes of them.
 const NAMES: usize = 256;
 
 pub const BYTES: usize = 512;
-
-// How many zeros the first name has that no sheet spells.
-pub const ZEROS: usize = 65536;
 
 // What the word x stands for.
 pub fn piece_of(x: u32) -> Piece
@@ -107,8 +106,8 @@ fn zeros_of(x: u32) -> Option<usize>
 // A word of a run, and a byte of its text.
 #[derive(Clone, Copy, Debug, PartialEq, Eq)]
 struct Spot {
-    pub word: usize,
-    pub byte: usize,
+    word: usize,
+    byte: usize,
 }
 
 impl Spot {

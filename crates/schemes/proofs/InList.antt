@@ -124,6 +124,7 @@ module _ {a : Area} {fresh : ℕ} {w : Draw} (i first : ℕ) (d : ReadyIn a fres
           inside = omega (arith, d.inside, chosen.grows.grew);
           values = chosen.values.inside;
           equations = chosen.equations.inside;
+          pairs = record { pairs = new_children.equations; list = chosen.equations.trees };
           small = omega (arith, ap sizes chosen.values.trees, x.nodes, g, z, d.small);
           shared = shared_as ways_are chosen.ways chosen.index splits.rest;
           names = omega (arith, chosen.next, x.names, ap site ways_are, h, y, d.names);

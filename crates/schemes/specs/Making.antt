@@ -1,16 +1,19 @@
 -- What the functions that make schemes at the free end of an area answer. Definitions only.
-use Rattle.std.specs.Prelude.{ℕ, ◌+◌, ◌*◌, ◌/◌, ◌%◌, ◌<◌, ◌≤◌, ◌^◌, ◌≡◌, List, ◌⊎◌, length}
+use Rattle.std.specs.Prelude.{ℕ, ◌+◌, ◌*◌, ◌/◌, ◌%◌, ◌<◌, ◌≤◌, ◌^◌, ◌≡◌, List, ◌⊎◌, Some, length}
 use Rattle.rules.specs.Bytes.{Text}
 use Rattle.rules.specs.Tree.{Tree, Trees, more, children, count, size, sizes}
 use Rattle.rules.specs.Substitution.{Pair, flatten}
+use Rattle.rules.specs.declared.Rule.{Rule}
+use Rattle.rules.specs.Reduction.{rule_named}
 use Rattle.rules.specs.Variants.{Scheme, scheme_counts}
-use Rattle.laws.specs.Schemes.{joined_at}
+use Rattle.laws.specs.Schemes.{root_at, joined_at}
 use Rattle.laws.specs.Memory.{site, sites_in}
 use Rattle.tree.specs.declared.area.Area.{Area}
 use Rattle.tree.specs.Areas.{tree_in, trees_in, Grows, Adds}
 use Rattle.tree.specs.Lists.{Lists}
+use Rattle.substitution.specs.Areas.{PairsIn}
 use Rattle.schemes.specs.Choices.{over, appended, ways_of, root_of, Shared, joined_as}
-use Rattle.schemes.specs.Areas.{Has, HasList, SomeFreshIn}
+use Rattle.schemes.specs.Areas.{Has, HasList, FreshIn, SomeFreshIn}
 use Rattle.schemes.specs.declared.firing.Fired.{Fired}
 use Rattle.schemes.specs.declared.firing.Draw.{Draw}
 use Rattle.schemes.specs.declared.firing.Chosen.{Chosen}
@@ -33,6 +36,12 @@ pub record FiredIn (a b : Area) (x : Scheme) (r : Fired) : Type 0 where
   pub equations : HasList b r.equations (flatten x.equations)
   pub next : r.next ≡ x.next
 
+-- that scheme is the root's, by any text that names the rule and any names of the fresh variables: a choice after those of the children
+abbrev pub FiresIn : Area → Area → Rule → ℕ → ℕ → Chosen → Fired → Type 0
+FiresIn a b rule choice fresh below r =
+    (f : Text) → rule_named f ≡ Some rule → (name : ℕ → Text) → FreshIn a fresh name → (es : List Pair) → trees_in a below.equations ≡ flatten es
+    → FiredIn a b (root_at name f (joined_as (trees_in a below.values) es below.left.next) choice) r
+
 -- the choices for the list from cell i on can be made: its trees are small, the index is below the ways, and names and cells suffice
 pub record ReadyIn (a : Area) (fresh : ℕ) (d : Draw) (i : ℕ) : Type 0 where
   pub named : SomeFreshIn a fresh
@@ -50,6 +59,7 @@ pub record RootReadyIn (a : Area) (fresh : ℕ) (below : Chosen) (i : ℕ) : Typ
   pub inside : i < a.free
   pub values : below.values < a.free
   pub equations : below.equations < a.free
+  pub pairs : PairsIn a below.equations
   pub small : sizes (trees_in a below.values) ≤ 4096
   pub shared : Shared (ways_of (over (tree_in a i) (trees_in a below.values))) below.left.ways below.left.index
   pub names : below.left.next + 2 * site (ways_of (over (tree_in a i) (trees_in a below.values))) ≤ 24

@@ -60,8 +60,16 @@ fn times(count: usize, ways: usize) -> Option<usize>
     (product <= 4096).then_some(product)
 }
 
-// The count of schemes of the trees of the list from cell i on, times another count. One frame for each node: a term may be 4,096 deep, and
-// a function of the tree, for the lines that count_schemes has too, would be a second frame at each level.
+// How many choices there are at the root of cell i.
+fn ways_at(area: &Area, i: usize) -> usize
+    requires { CellIn area.now i }
+    ensures { result ≡ ways_of (tree_in area.now i) }
+{
+    choices(rule_at(area, i, area.child_of(i)))
+}
+
+// The count of schemes of the trees of the list from cell i on, times another count. What it does with each tree stands in count_schemes
+// too: a function of the tree that calls this one would be a second frame at each level of a term, which may be 4,096 deep.
 fn count_list(area: &Area, i: usize, count: usize) -> Option<usize>
     requires { (i < area.now.free) × (count ≤ 4096) }
     ensures { result ≡ counted_in (count * scheme_counts (trees_in area.now i)) }
@@ -69,12 +77,9 @@ fn count_list(area: &Area, i: usize, count: usize) -> Option<usize>
     if i == 0 {
         return Some(count);
     }
-    let first = area.child_of(i);
-    let below = count_list(area, first, count)?;
-    let ways = choices(rule_at(area, i, first));
-    let here = times(below, ways)?;
-    let later = area.next_of(i);
-    count_list(area, later, here)
+    let below = count_list(area, area.child_of(i), count)?;
+    let here = times(below, ways_at(area, i))?;
+    count_list(area, area.next_of(i), here)
 }
 
 // The count of schemes of the tree of cell i, if it is at most 4,096.
@@ -82,8 +87,6 @@ pub fn count_schemes(area: &Area, i: usize) -> Option<usize>
     requires { CellIn area.now i }
     ensures { result ≡ counted_in (scheme_count (tree_in area.now i)) }
 {
-    let first = area.child_of(i);
-    let below = count_list(area, first, 1)?;
-    let ways = choices(rule_at(area, i, first));
-    times(below, ways)
+    let below = count_list(area, area.child_of(i), 1)?;
+    times(below, ways_at(area, i))
 }

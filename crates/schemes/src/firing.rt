@@ -1,18 +1,16 @@
 // A rule that fires in an area: its value and its equations, over fresh variables.
-ghost use Rattle.std.specs.Prelude.{◌≡◌, List, ◌∷◌, ℕ, ◌+◌, ◌<◌, Some};
-ghost use Rattle.rules.specs.Bytes.{Text};
+ghost use Rattle.std.specs.Prelude.{◌≡◌, List, ◌∷◌, ◌+◌, ◌<◌, Some};
 ghost use Rattle.rules.specs.Tree.{more};
 ghost use Rattle.rules.specs.Substitution.{Pair, flatten};
-ghost use Rattle.rules.specs.Reduction.{rule_named, two, constant};
+ghost use Rattle.rules.specs.Reduction.{two, constant};
 ghost use Rattle.rules.specs.Variants.{scheme, firing_count};
-ghost use Rattle.laws.specs.Schemes.{root_at};
 ghost use Rattle.tree.specs.Areas.{next_in, tree_in, trees_in, CellIn, HasRoom};
 ghost use Rattle.tree.specs.Lists.{Lists};
 ghost use Rattle.tree.specs.Names.{fixed_text};
 ghost use Rattle.tree.specs.declared.fixed.Fixed.TheVariants.{Pair as pair_name};
-ghost use Rattle.schemes.specs.Choices.{joined_as};
-ghost use Rattle.schemes.specs.Areas.{FreshIn, SomeFreshIn};
-ghost use Rattle.schemes.specs.Making.{LeafIn, FiredIn};
+ghost use Rattle.substitution.specs.Areas.{PairsIn};
+ghost use Rattle.schemes.specs.Areas.{SomeFreshIn};
+ghost use Rattle.schemes.specs.Making.{LeafIn, FiredIn, FiresIn};
 
 use crate::patterns::{boxed, plain};
 use rules::Rule;
@@ -23,25 +21,25 @@ use tree::fixed::Fixed;
 // What choices are made by: the next fresh variable, and what is left of the index and of the number of ways.
 #[derive(Clone, Copy, Debug, PartialEq, Eq)]
 pub(crate) struct Draw {
-    pub next: usize,
-    pub index: usize,
-    pub ways: usize,
+    pub(crate) next: usize,
+    pub(crate) index: usize,
+    pub(crate) ways: usize,
 }
 
 // Values and equations, and what is left to choose by.
 #[derive(Clone, Copy, Debug, PartialEq, Eq)]
 pub(crate) struct Chosen {
-    pub values: usize,
-    pub equations: usize,
-    pub left: Draw,
+    pub(crate) values: usize,
+    pub(crate) equations: usize,
+    pub(crate) left: Draw,
 }
 
 // What a rule makes of a root: the value, the equations and the next fresh variable.
 #[derive(Clone, Copy, Debug, PartialEq, Eq)]
 pub(crate) struct Fired {
-    pub value: usize,
-    pub equations: usize,
-    pub next: usize,
+    pub(crate) value: usize,
+    pub(crate) equations: usize,
+    pub(crate) next: usize,
 }
 
 // The list from cell `list` on after the equation of the tree of cell i and the pair of the leaves of cells x and y.
@@ -73,6 +71,7 @@ fn unseal(area: &mut Area, i: usize, pattern: usize, y: usize, list: usize) -> u
 #[tactic(auto, using(crate::proofs::Leaves::no_sizes))]
 fn flip(area: &mut Area, role: Fixed, other: Fixed, below: Chosen) -> Fired
     requires cells { CellIn area.old below.values × (below.equations < area.old.free) }
+    requires pairs { PairsIn area.old below.equations }
     requires room { HasRoom area.old 4 }
     ensures { (es : List Pair) → trees_in area.old below.equations ≡ flatten es → FiredIn area.old area.new (scheme (constant (fixed_text other)) ((tree_in area.old below.values, constant (fixed_text role)) ∷ es) below.left.next) result }
 {
@@ -93,8 +92,9 @@ pub(crate) fn fire(area: &mut Area, rule: Rule, choice: usize, fresh: usize, bel
     requires fresh { SomeFreshIn area.old fresh × (below.left.next + 1 < 24) }
     requires cells { (below.values < area.old.free) × (below.equations < area.old.free) }
     requires choice { (0 < choice) × (choice < 1 + firing_count (Some rule) (trees_in area.old below.values)) }
+    requires pairs { PairsIn area.old below.equations }
     requires room { HasRoom area.old 10 }
-    ensures { (f : Text) → rule_named f ≡ Some rule → (name : ℕ → Text) → FreshIn area.old fresh name → (es : List Pair) → trees_in area.old below.equations ≡ flatten es → FiredIn area.old area.new (root_at name f (joined_as (trees_in area.old below.values) es below.left.next) choice) result }
+    ensures { FiresIn area.old area.new rule choice fresh below result }
 {
     let x = fresh + below.left.next;
     let y = fresh + (below.left.next + 1);

@@ -1,3 +1,2 @@
 pub mod Symbols
 pub mod Testing
-pub mod Walks

@@ -27,7 +27,7 @@ fn meets(a: Sort, b: Sort) -> bool
     MEETS[a as usize][b as usize]
 }
 
-// What a name stands for.
+// What a name means for the sort of a term.
 #[derive(Clone, Copy, Debug, PartialEq, Eq)]
 enum Symbol {
     Addition,
@@ -79,18 +79,16 @@ pub fn natural(area: &Area, i: usize) -> bool
     }
 }
 
-// Whether every tree of the list from cell `list` on is natural.
+// Whether every tree of the list from cell i on is natural.
 #[cycle(natural_naturals)]
-fn naturals(area: &Area, list: usize) -> bool
-    requires { list < area.now.free }
-    ensures { result ≡ naturals (trees_in area.now list) }
+fn naturals(area: &Area, i: usize) -> bool
+    requires { i < area.now.free }
+    ensures { result ≡ naturals (trees_in area.now i) }
 {
-    area.list(list).all(
-        |i|
-            requires { CellIn area.now i }
-            ensures { result ≡ natural (tree_in area.entry.now i) }
-        { natural(area, i) },
-    )
+    if i == 0 {
+        return true;
+    }
+    naturals(area, area.next_of(i)) && natural(area, i)
 }
 
 // Whether the tree of cell i is a message.
@@ -112,18 +110,16 @@ pub fn message(area: &Area, i: usize) -> bool
     }
 }
 
-// Whether every tree of the list from cell `list` on is a message.
+// Whether every tree of the list from cell i on is a message.
 #[cycle(message_messages)]
-fn messages(area: &Area, list: usize) -> bool
-    requires { list < area.now.free }
-    ensures { result ≡ messages (trees_in area.now list) }
+fn messages(area: &Area, i: usize) -> bool
+    requires { i < area.now.free }
+    ensures { result ≡ messages (trees_in area.now i) }
 {
-    area.list(list).all(
-        |i|
-            requires { CellIn area.now i }
-            ensures { result ≡ message (tree_in area.entry.now i) }
-        { message(area, i) },
-    )
+    if i == 0 {
+        return true;
+    }
+    messages(area, area.next_of(i)) && message(area, i)
 }
 
 // Whether the tree of cell i is a variable of the sort or an atom of the letter.
@@ -184,16 +180,14 @@ pub fn refinable(area: &Area, sort: Sort, i: usize) -> bool
     }
 }
 
-// Whether every tree of the list from cell `list` on may have an instance of the sort.
+// Whether every tree of the list from cell i on may have an instance of the sort.
 #[cycle(refinable_refinables)]
-fn refinables(area: &Area, sort: Sort, list: usize) -> bool
-    requires { list < area.now.free }
-    ensures { result ≡ refinables sort (trees_in area.now list) }
+fn refinables(area: &Area, sort: Sort, i: usize) -> bool
+    requires { i < area.now.free }
+    ensures { result ≡ refinables sort (trees_in area.now i) }
 {
-    area.list(list).all(
-        |i|
-            requires { CellIn area.now i }
-            ensures { result ≡ refinable sort (tree_in area.entry.now i) }
-        { refinable(area, sort, i) },
-    )
+    if i == 0 {
+        return true;
+    }
+    refinables(area, sort, area.next_of(i)) && refinable(area, sort, i)
 }

@@ -4,12 +4,13 @@ use mathlib.Core.Path.{◌≡◌, refl, sym, ap, subst, ◌∙◌}
 use mathlib.Core.Bool.{Bool, true, false, ◌&&◌, true≢false}
 use mathlib.Core.List.{List, ◌∷◌}
 use native.Mathlib.Omega.{arith}
-use Rattle.std.specs.Prelude.{Option, Some, None, MatchOption, IsSomeAnd, Result, Ok, Err}
+use Rattle.std.specs.Prelude.{Option, Some, None, MatchOption, IsSomeAnd, Result, Ok, Err, MatchResult, IsOkAnd}
 use Rattle.rules.specs.Bytes.{Text, same}
 use Rattle.rules.specs.Tree.{Tree, variable, atom, apply, head, same_tree, tamtplus}
 use Rattle.rules.specs.Substitution.{Pair}
 use Rattle.rules.specs.Sums.{equivalent}
 use Rattle.rules.specs.declared.Ending.{Ending}
+use Rattle.rules.specs.declared.Ending.TheVariants as ending
 use Rattle.rules.specs.declared.Sort.{Sort}
 use Rattle.rules.specs.Sorts.{sort_refuted}
 use Rattle.rules.specs.Solving.{Rest, emptied, mismatch, stuck, equation, Step, goes_on, fails, cancel_sums, if_refuted, sum_step, decompose_at, decompose, step_at, step, eliminate}
@@ -23,12 +24,13 @@ use Rattle.tree.proofs.ByKind.{variable_kind}
 use Rattle.elimination.specs.Stack.{Whole}
 use Rattle.elimination.specs.Differing.{all_same}
 use Rattle.elimination.specs.Areas.{pairs_in, ApartIn, GoesOnIn, TakenIn}
+use Rattle.elimination.specs.declared.Next.{Next}
 use Rattle.elimination.specs.declared.Taken.{Taken}
 use Rattle.elimination.specs.declared.Taken.TheVariants as taken
 use Rattle.elimination.proofs.Eliminating.{waits_stay}
 use Rattle.laws.specs.Memory.{weight}
 use Rattle.sums.specs.declared.striking.Cancelling.TheVariants.{Every}
-use Rattle.steps.specs.Areas.{Rooted, waiting, unlike, undecided, rest_rooted, roots_at, roots, WaitingIn}
+use Rattle.steps.specs.Areas.{Rooted, waiting, unlike, undecided, rest_rooted, roots_at, roots, WaitingIn, RootsIn}
 
 -- Roots
 
@@ -66,6 +68,15 @@ pub stuck_rooted : {a b : Area} {t : Bool} (l r : ℕ) (ps : List Pair) → Cell
 stuck_rooted {a} l r ps i g e f =
     let z = rw (grows_tree g l i.0.1 i.0.0, grows_tree g r i.1.1 i.1.0) at f in
     decomposed (tree_in a l) (tree_in a r) ps e ∙ ap if_refuted z
+
+-- where it refutes nothing, or is not asked
+pub decomposed_as : {Q : Next → Taken → Type 0} (a b : Area) (h l r : ℕ) (ps : List Pair) (x : Result Next Ending) (y : Result Taken Ending) → CellIn a l × CellIn a r → same_tree (tree_in a l) (tree_in a r) ≡ false
+    → RootsIn a b h (same_tree (tree_in a l) (tree_in a r)) (roots Every (tree_in a l) (tree_in a r) ps) x → (x ≡ Err ending.Unsupported → sort_refuted (tree_in b l) (tree_in b r) ≡ false)
+    → MatchResult x (λ n. IsOkAnd y (Q n)) (λ e. y ≡ Err e) → ((n : Next) (t : Taken) → Q n t → t ≡ taken.Next n) → TakenIn a b h (decompose (tree_in a l) (tree_in a r) ps) y
+decomposed_as a b h l r ps (Ok n) (Ok z) i e w t m q = rw (q n z m) (goes_rooted (tree_in a l) (tree_in a r) ps e w)
+decomposed_as a b h l r ps (Ok n) (Err d) i e w t m q = absurd m
+decomposed_as a b h l r ps (Err ending.Unsupported) y i e w t m q = rw m (stuck_rooted l r ps i w.1 w.0 (t refl), w.1)
+decomposed_as a b h l r ps (Err ending.Failed) y i e w t m q = rw m (decomposed (tree_in a l) (tree_in a r) ps w.0, w.1)
 
 -- Pairs that are known to differ
 

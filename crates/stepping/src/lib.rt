@@ -37,13 +37,11 @@ fn decompose(area: &mut Area, front: Front) -> Result<Taken, Ending>
     requires differ { same_tree (tree_in area.old front.left) (tree_in area.old front.right) ≡ false }
     ensures { TakenIn area.old area.new (load_in area.old front + weight (pairs_in area.old front.rest)) (decompose (tree_in area.old front.left) (tree_in area.old front.right) (pairs_in area.old front.rest)) result }
 {
-    // An arm for each ending: where two ways meet no fact tells them apart.
-    match take_roots(area, front, Cancelling::Every) {
-        Ok(next) => Ok(Taken::Next(next)),
-        Err(Ending::Unsupported) if refuted(area, front.left, front.right) => Err(Ending::Failed),
-        Err(Ending::Unsupported) => Err(Ending::Unsupported),
-        Err(Ending::Failed) => Err(Ending::Failed),
+    let rooted = take_roots(area, front, Cancelling::Every);
+    if rooted == Err(Ending::Unsupported) && refuted(area, front.left, front.right) {
+        return Err(Ending::Failed);
     }
+    rooted.map(Taken::Next)
 }
 
 // Whether the two trees are equal. If `apart` is 1, they are known to differ.

@@ -1,19 +1,15 @@
 -- How many pairs are known not to be all of one tree twice, after children are pushed.
-use Prim.Native.Nat.{ℕ, zero, suc, ◌+◌, ◌<◌, ◌≤◌}
+use Prim.Native.Nat.{ℕ, ◌<◌}
 use mathlib.Core.Path.{◌≡◌, refl, sym, ap, subst, ◌∙◌}
 use mathlib.Core.Bool.{Bool, true, false, cond, ◌&&◌, true≢false}
-use mathlib.Core.Logic.{◌⊎◌, inl, inr}
 use lib.Dec.{eqb}
-use borrow.Author.Tests.{eq-eqb, ne_eqb, eqb-true}
+use borrow.Author.Tests.{eqb-true}
 use mathlib.Core.List.{List}
 use native.Mathlib.Omega.{arith}
-use Rattle.rules.specs.Bytes.{Text, same}
+use Rattle.rules.specs.Bytes.{same}
 use Rattle.rules.specs.Tree.{Tree, variable, atom, apply, Trees, none, more, head, children, count, same_tree, same_trees}
 use Rattle.rules.specs.Substitution.{Pair}
 use Rattle.rules.specs.Solving.{push_children}
-use Rattle.tree.specs.Cells.{next_of, trees_at}
-use Rattle.tree.specs.Arena.{Links}
-use Rattle.tree.proofs.Decoding.{trees_none, trees_more}
 use Rattle.elimination.specs.Differing.{all_same, Differing, common_count}
 
 -- Children

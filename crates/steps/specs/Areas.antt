@@ -1,7 +1,7 @@
 -- What is left of two sums of an area, and what the roots of two of its trees leave of their pair. Definitions only.
 use Rattle.std.specs.Prelude.{ℕ, zero, suc, ◌+◌, ◌-◌, ◌*◌, ◌<◌, ◌≤◌, ◌^◌, ◌≡◌, Bool, true, false, List, [], ◌∷◌, Option, Some, None, Result, Ok, Err, length, get_or}
 use Rattle.rules.specs.Bytes.{same}
-use Rattle.rules.specs.Tree.{Tree, head, children, tamtplus}
+use Rattle.rules.specs.Tree.{Tree, head, children, same_tree, tamtplus}
 use Rattle.rules.specs.Substitution.{Pair}
 use Rattle.rules.specs.Solving.{cancel_sums, push_children}
 use Rattle.rules.specs.Solving as rules
@@ -15,7 +15,9 @@ use Rattle.sums.specs.Summands.{every_cancels, test_of}
 use Rattle.sums.specs.declared.striking.Cancelling.{Cancelling}
 use Rattle.sums.specs.Areas.{remaining_in}
 use Rattle.elimination.specs.declared.Next.{Next}
-use Rattle.elimination.specs.Areas.{ApartIn, WaitsIn}
+use Rattle.elimination.specs.declared.front.Front.{Front}
+use Rattle.elimination.specs.Areas.{pairs_in, ApartIn, WaitsIn}
+use Rattle.elimination.specs.Fronts.{load_in}
 use Rattle.steps.specs.Resting.{Several}
 use Rattle.steps.specs.declared.rest.Equation.{Equation}
 
@@ -103,3 +105,11 @@ rooted_at_end ending.Unsupported = undecided
 abbrev pub RootsIn : Area → Area → ℕ → Bool → Rooted → Result Next Ending → Type 0
 RootsIn a b h same d (Ok n) = WaitingIn a b h same d n.stack n.apart
 RootsIn a b h same d (Err e) = (d ≡ rooted_at_end e) × Grows a b
+
+-- two sums on top leave what is left of them when their summands have cancelled
+abbrev pub SumsIn : Area → Area → Front → Cancelling → Result Next Ending → Type 0
+SumsIn a b f c r =
+    let x = tree_in a f.left in
+    let y = tree_in a f.right in
+    let ps = pairs_in a f.rest in
+    RootsIn a b (load_in a f + weight ps) (same_tree x y) (rest_rooted (cancel_sums (every_cancels c) (test_of c) x y) ps) r

@@ -16,7 +16,10 @@ pub(crate) fn paired(area: &Area, left: usize, right: usize) -> Option<usize>
     ensures { result ≡ some_pairs (common_count (trees_in area.now left) (trees_in area.now right)) }
 {
     let pairs = area.list(left).count();
-    (0 < pairs && pairs == area.list(right).count()).then_some(pairs)
+    if pairs == 0 {
+        return None;
+    }
+    (pairs == area.list(right).count()).then_some(pairs)
 }
 
 // Puts the trees of the lists from cells left and right on, pairwise as far as both go, before the list from cell `stack` on, and answers

@@ -15,7 +15,7 @@ use sums::striking::Cancelling;
 use sums::{Summands, prepare, rebuild};
 use tree::area::Area;
 
-// The first two of the cells in the words from `at` to `end` that are not taken out.
+// The first two of the cells in the words from `at` to `end` that are not taken out. Those are 0, in lent words.
 fn first_two(area: &Area, at: usize, end: usize) -> (Option<usize>, Option<usize>)
     requires words { (at ≤ end) × (end ≤ length area.now.work.now) }
     requires cells { (p : ℕ) → at ≤ p → p < end → get_or area.now.work.now p 0 < area.now.free }
@@ -26,7 +26,8 @@ fn first_two(area: &Area, at: usize, end: usize) -> (Option<usize>, Option<usize
         .iter()
         .filter(|word| **word != 0)
         .map(|word| *word as usize);
-    (left.next(), left.next())
+    let first = left.next();
+    (first, left.next())
 }
 
 // Two trees that are to be paired.

@@ -1,13 +1,11 @@
 // What the roots of two trees of an area leave of their pair: the children pairwise, or what is left of two sums.
 ghost use Rattle.std.specs.Prelude.{◌≡◌, true, ◌+◌};
 ghost use Rattle.rules.specs.Tree.{same_tree};
-ghost use Rattle.rules.specs.Solving.{cancel_sums};
 ghost use Rattle.laws.specs.Memory.{weight};
 ghost use Rattle.tree.specs.Areas.{tree_in, sum_in};
-ghost use Rattle.sums.specs.Summands.{every_cancels, test_of};
 ghost use Rattle.elimination.specs.Areas.{pairs_in};
 ghost use Rattle.elimination.specs.Fronts.{FrontIn, FitFront, load_in, FrontRoom};
-ghost use Rattle.steps.specs.Areas.{rest_rooted, roots, RootsIn};
+ghost use Rattle.steps.specs.Areas.{roots, RootsIn, SumsIn};
 
 use crate::pushing::{paired, push_children};
 use crate::rest::rest_of;
@@ -24,7 +22,7 @@ fn take_sums(area: &mut Area, front: Front, cancelling: Cancelling) -> Result<Ne
     requires sums { (sum_in (tree_in area.old front.left) ≡ true) × (sum_in (tree_in area.old front.right) ≡ true) }
     requires fit { FitFront area.old front }
     requires room { FrontRoom area.old front }
-    ensures { RootsIn area.old area.new (load_in area.old front + weight (pairs_in area.old front.rest)) (same_tree (tree_in area.old front.left) (tree_in area.old front.right)) (rest_rooted (cancel_sums (every_cancels cancelling) (test_of cancelling) (tree_in area.old front.left) (tree_in area.old front.right)) (pairs_in area.old front.rest)) result }
+    ensures { SumsIn area.old area.new front cancelling result }
 {
     let stack = match rest_of(area, front.left, front.right, cancelling)? {
         None => front.rest,

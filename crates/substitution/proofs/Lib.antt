@@ -7,4 +7,3 @@ pub mod Searching
 pub mod Instantiating
 pub mod Putting
 pub mod Chaining
-pub mod Walks

@@ -4,13 +4,13 @@ use Rattle.rules.specs.Bytes.{Text}
 use Rattle.rules.specs.Tree.{Tree, variable, Trees, more, size, sizes}
 use Rattle.rules.specs.Substitution.{Binding, Pair, lookup, instantiate, substitutes, size_pairs, flatten}
 use Rattle.rules.specs.Matching.{bound}
+use Rattle.rules.specs.Inference.{put}
 use Rattle.rules.specs.Solving.{bind, unknown, bind_into, compose}
 use Rattle.tree.specs.declared.area.Area.{Area}
 use Rattle.tree.specs.Arena.{Grown}
 use Rattle.tree.specs.Areas.{tree_in, trees_in, Lent, Adds}
 pub use Rattle.tree.specs.Lists.{Lists}
 use Rattle.substitution.specs.Bindings.{bindings_of, Chain}
-use Rattle.substitution.specs.Composing.{put_pairs}
 use Rattle.substitution.specs.declared.instances.Built.{Built}
 
 -- the bindings from cell b on
@@ -77,9 +77,9 @@ pub record PairsIn (a : Area) (k : ℕ) : Type 0 where
 
 -- the waiting pairs ps after the tree t is put for x are the list from cell i on
 pub record PutsInto (a b : Area) (x : Text) (t : Tree) (ps : List Pair) (i : ℕ) : Type 0 where
-  pub step : bind_into x t ps ≡ bind x t (put_pairs x t ps)
-  pub small : size_pairs (put_pairs x t ps) ≤ 4096
-  pub lists : Lists a b i (flatten (put_pairs x t ps))
+  pub step : bind_into x t ps ≡ bind x t (put x t ps)
+  pub small : size_pairs (put x t ps) ≤ 4096
+  pub lists : Lists a b i (flatten (put x t ps))
   pub used : b.free ≤ a.free + 4098
 
 -- or they have too many nodes

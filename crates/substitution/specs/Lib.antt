@@ -1,4 +1,3 @@
 pub mod Areas
 pub mod Answers
 pub mod Bindings
-pub mod Composing

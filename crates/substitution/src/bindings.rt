@@ -15,7 +15,8 @@ pub fn lookup(area: &Area, b: usize, x: usize) -> Option<usize>
     ensures { FindsIn area.now (bindings_in area.now b) (name_in area.now x) result }
 {
     let mut cells = area.list(b);
-    while let (Some(key), Some(value)) = (cells.next(), cells.next()) {
+    while let Some(key) = cells.next() {
+        let value = cells.next()?;
         if area.same_name(key, x) {
             return Some(value);
         }

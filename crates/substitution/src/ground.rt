@@ -1,5 +1,4 @@
 // Whether any variable occurs in a tree of an area.
-// A list is tested by one call of the library: a function of the test would only add a contract.
 ghost use Rattle.std.specs.Prelude.{◌≡◌, ◌<◌};
 ghost use Rattle.rules.specs.Tree.{ground, grounds};
 ghost use Rattle.tree.specs.Areas.{tree_in, trees_in, CellIn};
@@ -21,16 +20,14 @@ pub fn ground(area: &Area, i: usize) -> bool
     }
 }
 
-// Whether no variable occurs in the list from cell `list` on.
+// Whether no variable occurs in the list from cell i on.
 #[cycle(ground_grounds)]
-fn grounds(area: &Area, list: usize) -> bool
-    requires { list < area.now.free }
-    ensures { result ≡ grounds (trees_in area.now list) }
+fn grounds(area: &Area, i: usize) -> bool
+    requires { i < area.now.free }
+    ensures { result ≡ grounds (trees_in area.now i) }
 {
-    area.list(list).all(
-        |i|
-            requires { CellIn area.now i }
-            ensures { result ≡ ground (tree_in area.entry.now i) }
-        { ground(area, i) },
-    )
+    if i == 0 {
+        return true;
+    }
+    grounds(area, area.next_of(i)) && ground(area, i)
 }

@@ -27,7 +27,7 @@ pub struct Built {
     pub budget: usize,
 }
 
-// The same within a budget of nodes.
+// As `keep`, within a budget of nodes.
 fn place(area: &mut Area, i: usize, next: usize, budget: usize) -> Option<Built>
     requires cells { CellIn area.old i × (next < area.old.free) }
     requires room { HasRoom area.old budget }

@@ -21,17 +21,15 @@ pub fn occurs(area: &Area, key: usize, i: usize) -> bool
     }
 }
 
-// Whether it occurs in the list from cell `list` on.
+// Whether it occurs in the list from cell i on.
 #[cycle(occurs_occurs_in)]
-fn occurs_in(area: &Area, key: usize, list: usize) -> bool
+fn occurs_in(area: &Area, key: usize, i: usize) -> bool
     requires key_cell { CellIn area.now key }
-    requires list_link { list < area.now.free }
-    ensures { result ≡ occurs_in (name_in area.now key) (trees_in area.now list) }
+    requires i_link { i < area.now.free }
+    ensures { result ≡ occurs_in (name_in area.now key) (trees_in area.now i) }
 {
-    area.list(list).any(
-        |i|
-            requires { CellIn area.now key × CellIn area.now i }
-            ensures { result ≡ occurs (name_in area.entry.now key) (tree_in area.entry.now i) }
-        { occurs(area, key, i) },
-    )
+    if i == 0 {
+        return false;
+    }
+    occurs_in(area, key, area.next_of(i)) || occurs(area, key, i)
 }

@@ -17,10 +17,10 @@ use Rattle.tree.specs.Areas.{first_in, next_in, name_in, tree_in, trees_in, sum_
 use Rattle.tree.specs.Lists.{cells_from}
 use Rattle.tree.proofs.Lists.{list_none, list_more, list_size}
 use Rattle.tree.proofs.ByKind.{tree_application}
+use Rattle.tree.proofs.Walks.{walk_ends, walk_goes}
 use Rattle.flattening.proofs.WriterSteps.{wrote_append}
 use Rattle.flattening.specs.declared.writer.Writer.{Writer}
 use Rattle.flattening.specs.Writers.{Appended}
-use Rattle.substitution.proofs.Walks.{walk_ends, walk_goes}
 use Rattle.sums.specs.Sums.{remaining, heft}
 use Rattle.sums.specs.Summands.{trees_of, heft_in, AreCells, CollectsCells, CellsWritten}
 use Rattle.sums.proofs.Summanding.{remaining_some, remaining_append, heft_append}

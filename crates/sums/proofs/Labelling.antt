@@ -1,13 +1,14 @@
 -- The canonical texts of cells, written one after another, and compared.
 use Prim.Native.Nat.{ℕ, ◌+◌, ◌*◌, ◌<◌, ◌≤◌}
-use mathlib.Core.Path.{◌≡◌, refl, sym, ap, subst, ◌∙◌}
-use mathlib.Core.Bool.{false}
+use mathlib.Core.Path.{◌≡◌, refl, sym, ap, ap₂, subst, ◌∙◌}
+use mathlib.Core.Bool.{Bool, false}
 use mathlib.Core.List.{List}
 use lib.ListN.{length, get_or, set, drop, length-set, length-drop}
 use lib.Seq.{slice, drop-cons, get_or-set_same, get_or-set_other}
 use native.Mathlib.Omega.{arith}
 use native.Mathlib.Decide.{dec_lt}
 use native.Mathlib.Numerals.{add-one}
+use Rattle.rules.specs.Bytes.{same}
 use Rattle.rules.specs.Tree.{Tree, size}
 use Rattle.rules.specs.Sums.{canonical, equivalent}
 use Rattle.laws.proofs.Basics.Tests.{differ_of_ne}
@@ -18,7 +19,7 @@ use Rattle.tree.proofs.Decoding.{size_pos}
 use Rattle.runs.specs.Texts.{texts}
 use Rattle.fingerprints.specs.Fingerprints.{fingerprint}
 use Rattle.sums.specs.Sums.{heft}
-use Rattle.sums.specs.Summands.{heft_in, TextFits, TextIs, TextsIn}
+use Rattle.sums.specs.Summands.{heft_in, TextFits, TextIs, TextsIn, nth_text}
 use Rattle.equivalence.specs.Words.{Canon}
 use Rattle.sums.proofs.Describing.{heft_count}
 
@@ -196,6 +197,11 @@ module _ {a : Area} {cs w x v y : List ℕ} {p end : ℕ} (h : Describing a cs w
 -- the first texts
 pub first_text : {s y : List ℕ} (a : Area) (cs : List ℕ) (p : ℕ) → TextsIn a cs 0 s y → p < length cs → 0 < get_or cs p 0 → TextFits a.sheet.now s y p × TextIs a.sheet.now s y p (tree_in a (get_or cs p 0))
 first_text {s} {y} a cs p h l k = let z : 0 + p ≡ p = omega arith in subst (λ (i : ℕ). TextFits a.sheet.now s y i × TextIs a.sheet.now s y i (tree_in a (get_or cs p 0))) z (h p l k)
+
+-- whether two texts are one is whether their trees are equal
+pub one_told : {s v y : List ℕ} {p q : ℕ} {t u : Tree} {r : Bool} → TextIs s v y p t → TextIs s v y q u → r ≡ same (nth_text s v y p) (nth_text s v y q) → r ≡ equivalent t u
+unfolding equivalent
+one_told h k e = e ∙ ap₂ same h.text k.text
 
 -- texts with two fingerprints are of trees that differ
 pub texts_differ : {s v y : List ℕ} {p q : ℕ} {t u : Tree} → TextIs s v y p t → TextIs s v y q u → (get_or y q 0 ≡ get_or y p 0 → ⊥) → equivalent t u ≡ false

@@ -1,6 +1,7 @@
 -- The cells of summands in words of their own, and their canonical texts. A cell that is struck out is 0. Definitions only.
 use Rattle.std.specs.Prelude.{ℕ, ◌+◌, ◌<◌, ◌≤◌, ◌≡◌, Bool, true, false, ◌⊎◌, List, [], ◌∷◌, Option, Some, None, length, get_or, set, take, drop}
 use Rattle.std.proofs.Math.Seq.{slice}
+use Rattle.rules.specs.Bytes.{Text}
 use Rattle.rules.specs.Tree.{Tree}
 use Rattle.rules.specs.Sums.{canonical, equivalent}
 use Rattle.rules.specs.Solving.{remove, cancel}
@@ -55,10 +56,18 @@ pub record TextFits (s starts words : List ℕ) (q : ℕ) : Type 0 where
   pub high : get_or starts (q + 1) 0 ≤ length words
   pub tokens : Tokens s words (get_or starts q 0) (get_or starts (q + 1) 0)
 
--- text q is that of the tree t
+-- text q
+abbrev pub nth_text : List ℕ → List ℕ → List ℕ → ℕ → Text
+nth_text s starts words q = texts s (slice (get_or starts q 0) (get_or starts (q + 1) 0) words)
+
+-- it is that of the tree t
 pub record TextIs (s starts words : List ℕ) (q : ℕ) (t : Tree) : Type 0 where
-  pub text : texts s (slice (get_or starts q 0) (get_or starts (q + 1) 0) words) ≡ canonical t
+  pub text : nth_text s starts words q ≡ canonical t
   pub mark : get_or words q 0 ≡ fingerprint (canonical t)
+
+-- it is that of some tree
+abbrev pub SomeTree : List ℕ → List ℕ → List ℕ → ℕ → Type 0
+SomeTree s starts words q = (t : Tree) × TextIs s starts words q t
 
 -- the texts from the k-th on are those of the cells that are not struck out
 abbrev pub TextsIn : Area → List ℕ → ℕ → List ℕ → List ℕ → Type 0

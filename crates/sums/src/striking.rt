@@ -1,4 +1,4 @@
-// The cells of two sums whose trees cancel are struck out: they become 0.
+// The cells of two sums whose trees cancel are struck out: they become 0, in lent words, where an Option has no place.
 ghost use Rattle.std.specs.Prelude.{◌≡◌, ◌||◌, ◌+◌, ◌*◌, ◌<◌, ◌≤◌, length};
 ghost use Rattle.rules.specs.Tree.{ground};
 ghost use Rattle.tree.specs.Areas.{tree_in, CellIn};
@@ -45,11 +45,12 @@ fn strike_one(
     requires texts { TextsIn area.now rights.old first texts.starts.now texts.words.now }
     ensures { StrikesOne area.now left.old rights.old left.new rights.new cancelling }
 {
-    if cancelling.admits(area, *left as usize) {
-        if let Some(k) = find(area, texts, p, rights, first) {
-            *left = 0;
-            rights[k] = 0;
-        }
+    if !cancelling.admits(area, *left as usize) {
+        return;
+    }
+    if let Some(k) = find(area, texts, p, rights, first) {
+        *left = 0;
+        rights[k] = 0;
     }
 }
 

@@ -2,8 +2,8 @@
 ghost use Rattle.std.specs.Prelude.{◌≡◌, ◌+◌, ◌*◌, ◌<◌, ◌≤◌, length, get_or};
 ghost use Rattle.std.proofs.Math.Seq.{slice};
 ghost use Rattle.rules.specs.Tree.{Tree};
-ghost use Rattle.rules.specs.Sums.{equivalent};
-ghost use Rattle.sums.specs.Summands.{AreCells, heft_in, TextsIn, TextFits, TextIs, FindsPartner};
+ghost use Rattle.rules.specs.Bytes.{same};
+ghost use Rattle.sums.specs.Summands.{AreCells, heft_in, TextsIn, TextFits, TextIs, nth_text, SomeTree, FindsPartner};
 
 use equivalence::words::one_text;
 use fingerprints::tree_fingerprint;
@@ -49,7 +49,7 @@ impl Texts<'_> {
     // Whether texts p and q are one.
     fn same(&self, sheet: &[u8], p: usize, q: usize) -> bool
         requires { TextFits sheet.now self.now.starts.now self.now.words.now p × TextFits sheet.now self.now.starts.now self.now.words.now q }
-        ensures { (t u : Tree) → TextIs sheet.now self.now.starts.now self.now.words.now p t → TextIs sheet.now self.now.starts.now self.now.words.now q u → result ≡ equivalent t u }
+        ensures { result ≡ same (nth_text sheet.now self.now.starts.now self.now.words.now p) (nth_text sheet.now self.now.starts.now self.now.words.now q) }
     {
         one_text(sheet, self.text(p), self.text(q))
     }
@@ -64,7 +64,7 @@ pub(crate) fn find(
     rights: &[u32],
     first: usize,
 ) -> Option<usize>
-    requires text { TextFits area.now.sheet.now texts.starts.now texts.words.now p }
+    requires text { TextFits area.now.sheet.now texts.starts.now texts.words.now p × SomeTree area.now.sheet.now texts.starts.now texts.words.now p }
     requires texts { TextsIn area.now rights.now first texts.starts.now texts.words.now }
     ensures { (t : Tree) → TextIs area.now.sheet.now texts.entry.starts.now texts.entry.words.now p t → FindsPartner area.now t rights.now result }
 {

@@ -6,7 +6,7 @@ use crate::{Blank, run_end, token_end};
 use sheet::Place;
 
 // A symbol: a bracket or a comma by where it ends, a name by its place, or the end of the text.
-// The end is one of them: an Option in the Option would be one arm more wherever it is matched.
+// The end is one of them: with an Option in the Option every other pattern would have a Some around it.
 #[derive(Clone, Copy, Debug, PartialEq, Eq)]
 pub enum Symbol {
     Begin(usize),

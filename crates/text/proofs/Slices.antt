@@ -1,11 +1,10 @@
--- Parts of lists: two lists that agree, one word more, a part and the part after it, what is left of a front.
+-- Parts of lists: two lists that agree, a part and the part after it, what is left of a front.
 use Prim.Native.Nat.{ℕ, ◌+◌, ◌<◌, ◌≤◌, zero, suc, ◌-◌}
 use mathlib.Core.Path.{◌≡◌, sym, ap, ◌∙◌}
 use mathlib.Core.List.{List, [], ◌∷◌, ◌++◌}
-use lib.ListN.{length, get_or, take, drop, set, length-take, drop_of_length-le}
-use lib.Seq.{slice, length-slice, get_or-take, get_or-drop, ext_get_or, take-suc-set, drop-append-le, take-take, length-take-le, take-nil}
+use lib.ListN.{length, get_or, take, drop, length-take, drop_of_length-le}
+use lib.Seq.{slice, length-slice, get_or-take, get_or-drop, ext_get_or, drop-append-le, take-take, length-take-le, take-nil}
 use native.Mathlib.Omega.{arith}
-use native.Mathlib.Numerals.{add-one}
 
 -- two lists that agree from f to t
 pub slice_same : (f t : ℕ) (v w : List ℕ) → t ≤ length v → t ≤ length w → ((p : ℕ) → f ≤ p → p < t → get_or v p 0 ≡ get_or w p 0) → slice f t v ≡ slice f t w
@@ -14,12 +13,6 @@ slice_same f t v w a b h =
     (λ i l. (
     let k : f + i < t = omega (arith, length-slice f t v a) in
     get_or-drop f (take t v) i 0 ∙ get_or-take t v (f + i) 0 k ∙ h (f + i) (omega arith) k ∙ sym (get_or-drop f (take t w) i 0 ∙ get_or-take t w (f + i) 0 k)))
-
--- one word more
-pub slice_set : (f k : ℕ) (v : List ℕ) (x : ℕ) → f ≤ k → k < length v → slice f (k + 1) (set v k x) ≡ slice f k v ++ (x ∷ [])
-slice_set f k v x p q =
-    let e : length (take k v) ≡ k = length-take-le k v (omega arith) in
-    rw (add-one, take-suc-set v k x q) (drop-append-le f (take k v) (x ∷ []) (omega arith))
 
 -- a part and the part after it
 pub slice_join : (f m t : ℕ) (w : List ℕ) → f ≤ m → m ≤ t → t ≤ length w → slice f m w ++ slice m t w ≡ slice f t w

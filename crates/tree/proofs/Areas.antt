@@ -63,9 +63,6 @@ grown_then g h p q r = record {
 pub grown_on : {w v u : List ℕ} {n m l : ℕ} → n ≤ m → m ≤ l → Grown w v n m → Grown v u m l → Grown w u n l
 grown_on a b g h = grown_then g h a b (omega arith)
 
-pub grown_more : {w v : List ℕ} {n m l : ℕ} → m ≤ l → Grown w v n m → Grown w v n l
-grown_more b g = grown_within g (omega arith) b
-
 -- a word written above the cells
 pub below_set : (w : List ℕ) (n at x : ℕ) → 4 * n ≤ at → Below w (set w at x) n
 below_set w n at x h = record { len = length-set w at x; words = λ p q. sym (get_or-set_other w at p x 0 (omega arith)) }

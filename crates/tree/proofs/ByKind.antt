@@ -141,12 +141,4 @@ module _ (a : Area) (k : ℕ) where
   unfolding size
   nodes_application e f = ap size (tree_application e) ∙ ap (λ (j : ℕ). 1 + sizes (trees_in a j)) (sym f)
 
-  pub nodes_variable : (v : Option Sort) → cell_kind a k ≡ Variable v → size (tree_in a k) ≡ 1
-  unfolding size
-  nodes_variable v e = ap size (tree_a_variable v e)
-
-  pub nodes_atom : (c : ℕ) → cell_kind a k ≡ Atom c → size (tree_in a k) ≡ 1
-  unfolding size
-  nodes_atom c e = ap size (tree_an_atom c e)
-
 pub ruleset sum_by_kind = (sum_application, sum_variable, sum_atom)

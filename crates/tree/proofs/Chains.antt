@@ -1,16 +1,15 @@
--- The cells of the lists of an area, and tests of all trees of a list.
+-- The cells of the lists of an area, and their counts of nodes.
 use Prim.Native.Nat.{ℕ, zero, suc, ◌<◌, ◌≤◌}
-use mathlib.Core.Path.{◌≡◌, refl, sym, ap, ◌∙◌}
-use mathlib.Core.Bool.{Bool, true, false, ◌&&◌, ◌||◌}
+use mathlib.Core.Path.{◌≡◌, refl, sym, ap}
 use mathlib.Core.List.{[], ◌∷◌}
 use lib.ListN.{length, get_or}
 use native.Mathlib.Omega.{arith}
 use Rattle.tree.specs.declared.area.Area.{Area}
 use Rattle.std.proofs.lemmas.List.Sums.{sum_by-cons}
-use Rattle.std.specs.List.{list_all, list_any, sum_by}
-use Rattle.rules.specs.Tree.{Tree, Trees, none, more, size, sizes}
-use Rattle.tree.specs.Areas.{count_in, next_in, tree_in, trees_in}
-use Rattle.tree.proofs.Lists.{list_none, list_more, list_size, count_size}
+use Rattle.std.specs.List.{sum_by}
+use Rattle.rules.specs.Tree.{size, sizes}
+use Rattle.tree.specs.Areas.{count_in, next_in, trees_in}
+use Rattle.tree.proofs.Lists.{list_none, list_size, count_size}
 use Rattle.tree.specs.Lists.{chained, cells_from}
 
 chained_end : (a : Area) (f : ℕ) → [] ≡ chained f a zero
@@ -49,38 +48,6 @@ within a (suc f) (suc k) p q x (suc i) l e =
 pub cells_within : (a : Area) (k : ℕ) → k < a.free → (x i : ℕ) → i < length (cells_from a k) → x ≡ get_or (cells_from a k) i x → (0 < x) × (x ≤ k)
 unfolding cells_from
 cells_within a k q x i l e = within a k k (omega arith) q x i l e
-
--- a test of each tree of a list is one of each cell
-module _ (one : Tree → Bool) (all : Trees → Bool) (end : all none ≡ true) (step : (t : Tree) (ts : Trees) → all (more t ts) ≡ (one t && all ts)) (a : Area) where
-  each : (f k : ℕ) → k ≤ f → k < a.free → list_all (λ i. one (tree_in a i)) (chained f a k) ≡ all (trees_in a k)
-  unfolding chained
-  each zero zero p q = sym (ap all (list_none a zero refl) ∙ end)
-  each zero (suc k) p q = absurd (omega arith)
-  each (suc f) zero p q = sym (ap all (list_none a zero refl) ∙ end)
-  each (suc f) (suc k) p q =
-      let n = a.arena.links.next (suc k) (omega arith) q in
-      ap (λ b. one (tree_in a (suc k)) && b) (each f (next_in a (suc k)) (omega arith) (omega arith))
-      ∙ sym (ap all (list_more a (suc k) (omega arith) q refl) ∙ step (tree_in a (suc k)) (trees_in a (next_in a (suc k))))
-
-  pub each_cell : (k : ℕ) → k < a.free → list_all (λ i. one (tree_in a i)) (cells_from a k) ≡ all (trees_in a k)
-  unfolding cells_from
-  each_cell k q = each k k (omega arith) q
-
--- the same of a test that one tree passes
-module _ (one : Tree → Bool) (any : Trees → Bool) (end : any none ≡ false) (step : (t : Tree) (ts : Trees) → any (more t ts) ≡ (one t || any ts)) (a : Area) where
-  some : (f k : ℕ) → k ≤ f → k < a.free → list_any (λ i. one (tree_in a i)) (chained f a k) ≡ any (trees_in a k)
-  unfolding chained
-  some zero zero p q = sym (ap any (list_none a zero refl) ∙ end)
-  some zero (suc k) p q = absurd (omega arith)
-  some (suc f) zero p q = sym (ap any (list_none a zero refl) ∙ end)
-  some (suc f) (suc k) p q =
-      let n = a.arena.links.next (suc k) (omega arith) q in
-      ap (λ b. one (tree_in a (suc k)) || b) (some f (next_in a (suc k)) (omega arith) (omega arith))
-      ∙ sym (ap any (list_more a (suc k) (omega arith) q refl) ∙ step (tree_in a (suc k)) (trees_in a (next_in a (suc k))))
-
-  pub some_cell : (k : ℕ) → k < a.free → list_any (λ i. one (tree_in a i)) (cells_from a k) ≡ any (trees_in a k)
-  unfolding cells_from
-  some_cell k q = some k k (omega arith) q
 
 -- the counts of the cells of a list
 module _ (a : Area) where

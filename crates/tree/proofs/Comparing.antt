@@ -1,6 +1,6 @@
 -- Equality of the trees of two cells.
 use Prim.Native.Nat.{ℕ, ◌<◌}
-use mathlib.Core.Path.{◌≡◌, sym, ap, ap₂, ◌∙◌}
+use mathlib.Core.Path.{◌≡◌, refl, sym, ap, ap₂, ◌∙◌}
 use mathlib.Core.Bool.{Bool, false, ◌&&◌}
 use mathlib.Core.List.{List}
 use lib.Dec.{eqb}
@@ -62,10 +62,12 @@ module _ (a : Area) (i j : ℕ) where
       let w = a.work.now in
       kinds_differ a.sheet.now w i j (a.arena.cell i p q) (a.arena.cell j r t) (λ e. h (ap coded_kind e)) (kind (kind_of w i)) (kind (kind_of w j))
 
-  pub both_variables : (v u : Option Sort) → cell_kind a i ≡ Variable v → cell_kind a j ≡ Variable u → same (name_in a i) (name_in a j) ≡ same_tree (tree_in a i) (tree_in a j)
+  pub both_variables : (v : Option Sort) → cell_kind a i ≡ Variable v → cell_kind a j ≡ Variable v → same (name_in a i) (name_in a j) ≡ same_tree (tree_in a i) (tree_in a j)
   unfolding same_tree
-  both_variables v u e f = sym (ap₂ same_tree (tree_a_variable a i v e) (tree_a_variable a j u f))
+  both_variables v e f = sym (ap₂ same_tree (tree_a_variable a i v e) (tree_a_variable a j v f))
 
-  pub both_atoms : (c d : ℕ) → cell_kind a i ≡ Atom c → cell_kind a j ≡ Atom d → eqb c d && same (name_in a i) (name_in a j) ≡ same_tree (tree_in a i) (tree_in a j)
+  pub both_atoms : (c : ℕ) → cell_kind a i ≡ Atom c → cell_kind a j ≡ Atom c → same (name_in a i) (name_in a j) ≡ same_tree (tree_in a i) (tree_in a j)
   unfolding same_tree
-  both_atoms c d e f = sym (ap₂ same_tree (tree_an_atom a i c e) (tree_an_atom a j d f))
+  both_atoms c e f =
+      ap (λ (b : Bool). b && same (name_in a i) (name_in a j)) (sym (eq-eqb c c refl))
+      ∙ sym (ap₂ same_tree (tree_an_atom a i c e) (tree_an_atom a j c f))

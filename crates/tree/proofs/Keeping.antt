@@ -1,15 +1,14 @@
 -- Areas whose cells are kept: trees, names and links there are the same before and after.
-use Prim.Native.Nat.{ℕ, ◌*◌, ◌<◌, ◌≤◌}
+use Prim.Native.Nat.{ℕ, ◌<◌}
 use mathlib.Core.Path.{◌≡◌, refl, sym, ap, ◌∙◌}
 use lib.ListN.{length}
 use native.Mathlib.Omega.{arith}
 use Rattle.rules.specs.Tree.{Tree, more}
 use Rattle.tree.specs.declared.area.Area.{Area}
-use Rattle.tree.specs.Areas.{cell_kind, coded_kind, count_in, first_in, next_in, name_in, tree_in, trees_in, KeepsCells, Grows, Adds, Pushes}
+use Rattle.tree.specs.Areas.{cell_kind, coded_kind, first_in, next_in, name_in, tree_in, trees_in, KeepsCells, Grows, Adds, Pushes}
 use Rattle.tree.specs.Cells.{name_at, tree_at, trees_at}
-use Rattle.tree.specs.Words.{Writes}
-use Rattle.tree.proofs.Areas.{below_same, below_set, below_then, below_grown, grown_same, grown_on}
-use Rattle.tree.proofs.Decoding.{same_kind, same_count, same_first, same_next, same_name, frame_tree, frame_trees}
+use Rattle.tree.proofs.Areas.{below_same, below_then, below_grown, grown_same, grown_on}
+use Rattle.tree.proofs.Decoding.{same_kind, same_first, same_next, same_name, frame_tree, frame_trees}
 
 -- nothing changed
 pub keeps_same : (a : Area) → KeepsCells a a
@@ -42,9 +41,6 @@ grows_length h = h.below.len
 module _ {a b : Area} (h : Grows a b) (k : ℕ) (q : k < a.free) where
   pub grows_kind : cell_kind b k ≡ cell_kind a k
   grows_kind = ap coded_kind (sym (same_kind a.work.now b.work.now h.below.words k q))
-
-  pub grows_count : count_in b k ≡ count_in a k
-  grows_count = sym (same_count a.work.now b.work.now h.below.words k q)
 
   pub grows_first : first_in b k ≡ first_in a k
   grows_first = sym (same_first a.work.now b.work.now h.below.words k q)
@@ -91,7 +87,3 @@ module _ {a b : Area} {k next : ℕ} {t : Tree} (h : Pushes a b k next t) where
 
   pub pushed_trees : trees_in b k ≡ more t (trees_in a next)
   pushed_trees = ap (trees_in b) h.cell ∙ ap (λ s. trees_at s.now b.work.now a.free) h.lent.sheet ∙ h.linked.trees
-
--- a word written above the cells
-pub keeps_write : {a b : Area} {at x : ℕ} → 4 * a.free ≤ at → Writes a b at x → KeepsCells a b
-keeps_write {a} {b} {at} {x} q h = record { lent = h.lent; end = h.end; below = rw h.words (below_set a.work.now a.free at x q) }

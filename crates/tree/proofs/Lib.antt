@@ -10,12 +10,12 @@ pub mod Comparing
 pub mod Example
 pub mod Keeping
 pub mod Spelling
-pub mod Walking
 pub mod Lists
 pub mod Parting
 pub mod Rooms
 pub mod Truncating
 pub mod Backward
 pub mod Chains
+pub mod Walks
 pub mod Fitting
 pub mod LongNames

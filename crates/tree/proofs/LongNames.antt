@@ -101,20 +101,20 @@ module _ (out : Text) (at n : ℕ) {k : ℕ} {v : Text} (room : at + length (uns
   first_put : Printed out with_x at (120 ∷ []) (at + 1)
   first_put = record { bytes = written_byte out at 120 (omega (arith, room, unspelled_length n)); end = refl }
 
-  zeros_put : Printed with_x with_zeros (at + 1) (zeros (65536 + n)) (at + 65537 + n)
+  zeros_put : Printed with_x with_zeros (at + 1) (zeros (65536 + n)) (at + 1 + 65536 + n)
   zeros_put =
       let u : length (take k (drop (at + 1) with_x)) ≡ 65536 + n = simp (length-take, length-drop, length-set) (omega (arith, room, e, unspelled_length n)) in
       let z : v ≡ zeros (65536 + n) = f ∙ ap (λ (m : ℕ). replicate m 48) u ∙ zeros_replicate (65536 + n) in
       let l = zeros_length (65536 + n) in
       record { bytes = put_part with_x (at + 1) (omega (arith, e, l)) z; end = omega (arith, l) }
 
-  pub zeros_room : at + 65537 + n + 4 ≤ length with_zeros
+  pub zeros_room : at + 1 + 65536 + n + 4 ≤ length with_zeros
   zeros_room =
       let l = zeros_length (65536 + n) in
       let u = unspelled_length n in
       omega (arith, room, u, l, length-set out at 120, ap length zeros_put.bytes, length_written with_x (at + 1) (zeros (65536 + n)) (omega (arith, room, u, l, length-set out at 120)))
 
-  pub name_put : {w : Text} {r : ℕ} → Printed with_zeros w (at + 65537 + n) msg r → Printed out w at (unspelled n) r
+  pub name_put : {w : Text} {r : ℕ} → Printed with_zeros w (at + 1 + 65536 + n) msg r → Printed out w at (unspelled n) r
   unfolding unspelled
   name_put p =
       let l = zeros_length (65536 + n) in

@@ -1,20 +1,12 @@
 -- Names of cells. Definitions only.
 use Rattle.std.specs.Prelude.{ℕ, zero, suc, [], ◌∷◌, get_or, Option, Some, None}
 use Rattle.rules.specs.Bytes.{Text}
-use Rattle.rules.specs.Text.{bytes}
 use Rattle.laws.specs.Unspelled.{unspelled}
+use Rattle.tree.specs.Cells.{fixed_name}
 use Rattle.tree.specs.declared.fixed.Fixed.{Fixed}
 use Rattle.tree.specs.declared.fixed.Fixed.TheVariants.{RoleA, RoleB, Pair, Senc, Kem, Pk}
 use Rattle.tree.specs.declared.names.Name.{Name}
 use Rattle.tree.specs.declared.names.Name.TheVariants as name
-
-abbrev pub fixed_text : Fixed → Text
-fixed_text RoleA = bytes "tamXCroleA"
-fixed_text RoleB = bytes "tamXCroleB"
-fixed_text Pair = bytes "tamXCpair"
-fixed_text Senc = bytes "tamXCsenc"
-fixed_text Kem = bytes "tamXCkem"
-fixed_text Pk = bytes "tamXCpk"
 
 -- the code of a name in a cell
 abbrev pub fixed_code : Fixed → ℕ
@@ -24,6 +16,9 @@ fixed_code Pair = 3
 fixed_code Senc = 4
 fixed_code Kem = 5
 fixed_code Pk = 6
+
+abbrev pub fixed_text : Fixed → Text
+fixed_text f = fixed_name (fixed_code f)
 
 -- the fixed name of a code
 abbrev pub coded_fixed : ℕ → Option Fixed

@@ -1,10 +1,11 @@
 // The words of cells (specs/Cells.antt). Functions of words and not of an area: they ask for no more than that the words are there.
+// 65536 is bare: each splits or makes one word.
 ghost use Rattle.std.specs.Prelude.{◌≡◌, ◌+◌, ◌*◌, ◌<◌, ◌≤◌, ◌^◌, length};
 ghost use Rattle.tree.specs.Cells.{start_of, length_of, kind_of, nodes_of};
 ghost use Rattle.tree.specs.Arena.{WroteCell};
 
 // The start of a cell's name in the sheet, or the code of its name.
-pub fn start_of(work: &[u32], k: usize) -> usize
+pub(crate) fn start_of(work: &[u32], k: usize) -> usize
     requires { 4 * k + 4 ≤ length work.now }
     ensures { result ≡ start_of work.now k }
 {
@@ -12,7 +13,7 @@ pub fn start_of(work: &[u32], k: usize) -> usize
 }
 
 // The length of a cell's name in the sheet, 0 for a name by its code.
-pub fn length_of(work: &[u32], k: usize) -> usize
+pub(crate) fn length_of(work: &[u32], k: usize) -> usize
     requires { 4 * k + 4 ≤ length work.now }
     ensures { result ≡ length_of work.now k }
 {
@@ -20,7 +21,7 @@ pub fn length_of(work: &[u32], k: usize) -> usize
 }
 
 // The number of a cell's kind.
-pub fn kind_of(work: &[u32], k: usize) -> usize
+pub(crate) fn kind_of(work: &[u32], k: usize) -> usize
     requires { 4 * k + 4 ≤ length work.now }
     ensures { result ≡ kind_of work.now k }
 {
@@ -28,7 +29,7 @@ pub fn kind_of(work: &[u32], k: usize) -> usize
 }
 
 // The count of nodes.
-pub fn count_of(work: &[u32], k: usize) -> usize
+pub(crate) fn count_of(work: &[u32], k: usize) -> usize
     requires { 4 * k + 4 ≤ length work.now }
     ensures { (result ≡ nodes_of work.now k) × (result < 65536) }
 {
@@ -36,7 +37,7 @@ pub fn count_of(work: &[u32], k: usize) -> usize
 }
 
 // Writes cell `free`, and returns the free end after it.
-pub fn push_cell(
+pub(crate) fn push_cell(
     work: &mut [u32],
     free: usize,
     start: usize,

@@ -1,6 +1,5 @@
 // The names that reduction and schemes make.
 ghost use Rattle.std.specs.Prelude.{◌≡◌, ◌<◌};
-ghost use Rattle.tree.specs.Cells.{fixed_name};
 ghost use Rattle.tree.specs.Names.{fixed_text, fixed_code, coded_fixed};
 
 #[derive(Clone, Copy, Debug, PartialEq, Eq)]
@@ -49,7 +48,6 @@ impl Fixed {
     // Its code in a cell.
     pub(crate) fn code(self) -> usize
         ensures code { result ≡ fixed_code self }
-        ensures name { fixed_name result ≡ fixed_text self }
         ensures few { (0 < result) × (result < 7) }
     {
         match self {

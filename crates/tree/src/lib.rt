@@ -2,13 +2,13 @@
 #![tactic(auto)]
 
 pub mod area; // area.rt: a work area with its sheet and its free end
-pub mod cells;
+mod cells;
 pub mod fixed; // fixed.rt: the names that reduction and schemes make
-pub mod iter; // iter.rt: the cells of a list, one after another
+mod iter; // iter.rt: the cells of a list, one after another
 pub mod kinds; // kinds.rt: the kinds of cells
-pub mod listing; // listing.rt: lists of an area
+mod listing; // listing.rt: lists of an area
 pub mod names;
-pub mod reading; // reading.rt: what a cell of an area holds
-pub mod trees; // trees.rt: walks over the trees of an area
-pub mod words; // words.rt: the words of an area above its cells
-pub mod writing; // writing.rt: new cells of an area
+mod reading; // reading.rt: what a cell of an area holds
+mod trees; // trees.rt: walks over the trees of an area
+mod words; // words.rt: the words of an area above its cells
+mod writing; // writing.rt: new cells of an area

@@ -21,7 +21,7 @@ impl Area<'_, '_> {
         }
     }
 
-    // The number of nodes of the list from cell `list` on, by the counts of its cells.
+    // The number of nodes of the list from cell `list` on, however many cells it has: the counts summed along it.
     pub fn nodes_in(&self, list: usize) -> usize
         requires { (list < self.now.free) × (sizes (trees_in self.now list) < 2 ^ 64) }
         ensures { result ≡ sizes (trees_in self.now list) }

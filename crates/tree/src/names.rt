@@ -8,6 +8,9 @@ ghost use Rattle.text.specs.Printing.{Printed};
 
 use crate::fixed::Fixed;
 
+// How many zeros the first name has that no sheet spells.
+pub const ZEROS: usize = 65536;
+
 #[derive(Clone, Copy, Debug, PartialEq, Eq)]
 pub(crate) enum Name<'a> {
     // A text of the sheet.
@@ -24,7 +27,7 @@ impl Name<'_> {
         match self {
             Name::Spelled(text) => text.len(),
             Name::Fixed(name) => name.text().len(),
-            Name::Unspelled(n) => 65541 + n as usize,
+            Name::Unspelled(n) => 5 + ZEROS + n as usize,
         }
     }
 
@@ -62,7 +65,7 @@ fn is_unspelled(n: u8, text: &[u8]) -> bool
     let Some(zeros) = rest.strip_suffix(b":Msg") else {
         return false;
     };
-    zeros.len() == 65536 + n as usize && zeros.iter().all(|b| *b == b'0')
+    zeros.len() == ZEROS + n as usize && zeros.iter().all(|b| *b == b'0')
 }
 
 // Writes the n-th name that no sheet spells, and answers where it ends.
@@ -70,7 +73,7 @@ fn print_unspelled(out: &mut [u8], at: usize, n: u8) -> usize
     requires { at + length (unspelled n) ≤ length out.old }
     ensures { Printed out.old out.new at (unspelled n) result }
 {
-    let end = at + 65537 + n as usize;
+    let end = at + 1 + ZEROS + n as usize;
     out[at] = b'x';
     out[at + 1..end].fill(b'0');
     print_text(out, end, b":Msg")

@@ -1,4 +1,4 @@
-// What a cell of an area holds.
+// What a cell of an area holds. Links are numbers, 0 for none, as they are handed on to what pushes cells (listing.rt).
 ghost use Rattle.std.specs.Prelude.{◌≡◌, ◌+◌, ◌<◌, ◌≤◌, MatchOption, length};
 ghost use Rattle.rules.specs.Bytes.{same};
 ghost use Rattle.rules.specs.Tree.{children, head};
@@ -151,6 +151,7 @@ impl Area<'_, '_> {
         if let Some(text) = self.spelled(j) {
             return self.name_is(i, text);
         }
+        // No is_some_and: what its closure answers would have to be said in a clause once more.
         match self.spelled(i) {
             Some(text) => self.name_is(j, text),
             None => false,

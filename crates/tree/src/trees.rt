@@ -1,6 +1,6 @@
 // Walks over the trees of an area: one function for a tree and one for a list, as the definitions have it.
 ghost use Rattle.std.specs.Prelude.{◌≡◌, ◌<◌};
-ghost use Rattle.rules.specs.Tree.{same_tree, same_trees, size, sizes};
+ghost use Rattle.rules.specs.Tree.{same_tree, same_trees, sizes};
 ghost use Rattle.tree.specs.Areas.{tree_in, trees_in, CellIn};
 
 use crate::area::Area;
@@ -14,13 +14,15 @@ impl Area<'_, '_> {
         requires j_cell { CellIn self.now j }
         ensures { result ≡ same_tree (tree_in self.now i) (tree_in self.now j) }
     {
-        match (self.kind(i), self.kind(j)) {
-            (Kind::Application, Kind::Application) => {
+        let kind = self.kind(i);
+        if kind != self.kind(j) {
+            return false;
+        }
+        match kind {
+            Kind::Application => {
                 self.same_name(i, j) && self.same_trees(self.first_of(i), self.first_of(j))
             }
-            (Kind::Variable(_), Kind::Variable(_)) => self.same_name(i, j),
-            (Kind::Atom(left), Kind::Atom(right)) => left == right && self.same_name(i, j),
-            _ => false,
+            Kind::Variable(_) | Kind::Atom(_) => self.same_name(i, j),
         }
     }
 
@@ -39,28 +41,16 @@ impl Area<'_, '_> {
         self.same_tree(i, j) && self.same_trees(self.next_of(i), self.next_of(j))
     }
 
-    // The number of nodes of the tree of cell i. Nothing calls it: it is what the count in a cell stands for.
-    #[cycle(size_sizes)]
-    fn size(&self, i: usize) -> usize
-        requires { CellIn self.now i }
-        ensures { result ≡ size (tree_in self.now i) }
+    // The number of nodes of the list from cell `list` on, by the counts of its cells. It is asked of the children of terms, which have at
+    // most 4,096 nodes in all; a list that may have more cells is counted by `nodes_in`.
+    pub fn nodes_below(&self, list: usize) -> usize
+        requires list { list < self.now.free }
+        requires small { sizes (trees_in self.now list) < 65535 }
+        ensures { result ≡ sizes (trees_in self.now list) }
     {
-        match self.kind(i) {
-            Kind::Application => 1 + self.sizes(self.first_of(i)),
-            Kind::Variable(_) | Kind::Atom(_) => 1,
-        }
-    }
-
-    // The number of nodes of the list from cell i on.
-    #[cycle(size_sizes)]
-    fn sizes(&self, i: usize) -> usize
-        requires i_lt_free { i < self.now.free }
-        requires i_bound { sizes (trees_in self.now i) < 65536 }
-        ensures { result ≡ sizes (trees_in self.now i) }
-    {
-        if i == 0 {
+        if list == 0 {
             return 0;
         }
-        self.size(i) + self.sizes(self.next_of(i))
+        self.count_of(list) + self.nodes_below(self.next_of(list))
     }
 }

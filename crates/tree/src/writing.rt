@@ -1,4 +1,4 @@
-// New cells at the free end of an area.
+// New cells at the free end of an area. 65536 is bare: once a usize, once a u32, and each function splits or makes one word.
 ghost use Rattle.std.specs.Prelude.{◌≡◌, ◌+◌, ◌*◌, ◌<◌, ◌≤◌};
 ghost use Rattle.rules.specs.Tree.{variable, atom, apply, sizes};
 ghost use Rattle.rules.specs.Sorts.{variable_sort};

@@ -20,12 +20,12 @@ use Rattle.rules.specs.Solving.{Answer, solved}
 use Rattle.tree.specs.declared.area.Area.{Area}
 use Rattle.tree.specs.Areas.{trees_in, Lent, Grows}
 use Rattle.substitution.specs.Bindings.{bindings_of, Chain}
-use Rattle.elimination.specs.Area.{step_words}
+use Rattle.elimination.specs.declared.room.TheConstants.{STEP_WORDS}
 use Rattle.unifier.specs.Areas.{NamesFew, spared_end, HoldsBound, AnswersIn, EndsIn}
 use Rattle.unifier.proofs.Parts.{part_agrees, part_arena, back_agrees, back_arena, back_below}
 
 -- the room of a run, by the nodes of its pairs, in so many words
-pub roomy_few : {w : List ℕ} {ps : List Pair} (n fuel nodes names : ℕ) → 4 * spared_end n nodes fuel names + 204802 ≤ length w → spared_end n nodes fuel names + 65536 < 2 ^ 32
+pub roomy_few : {w : List ℕ} {ps : List Pair} (n fuel nodes names : ℕ) → 4 * spared_end n nodes fuel names + STEP_WORDS ≤ length w → spared_end n nodes fuel names + 65536 < 2 ^ 32
     → nodes ≡ sizes (flatten ps) → NamesFew names ps → Roomy w n fuel ps
 roomy_few {ps = ps} n fuel nodes names l m e f =
     let x = flatten_size ps in
@@ -100,6 +100,6 @@ module _ {p q : Area} (a : Area) (limit : ℕ) (h : limit ≤ length a.work.now)
         }
     spared_answers (Err e) n r = record { grows = spared_grows; is = r.is; bound = tt }
 
-  pub spared_ends : (m : ℕ) (v : Result ℕ Ending) → HoldsBound q v → limit ≡ 4 * m + step_words → EndsIn q v m
+  pub spared_ends : (m : ℕ) (v : Result ℕ Ending) → HoldsBound q v → limit ≡ 4 * m + STEP_WORDS → EndsIn q v m
   spared_ends m (Ok k) r f = omega (arith, r.room, ap length e, long limit h l a.arena kept)
   spared_ends m (Err e) r f = tt

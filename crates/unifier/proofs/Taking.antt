@@ -10,7 +10,7 @@ use Rattle.rules.specs.Tree.{Tree, variable, Trees, more}
 use Rattle.rules.specs.Substitution.{Binding, Pair, flatten}
 use Rattle.rules.specs.declared.Ending.{Ending}
 use Rattle.rules.specs.declared.Ending.TheVariants as ending
-use Rattle.rules.specs.Solving.{Step, goes_on, bind, fails, unknown, step, Verdict, solved, unsupported, Answer, after, compose, composed, run, unify}
+use Rattle.rules.specs.Solving.{Step, goes_on, bind, fails, unknown, step, Verdict, solved, failed, unsupported, Answer, after, compose, composed, run, unify}
 use Rattle.laws.specs.Memory.{OverPairs, weight, without}
 use Rattle.laws.proofs.Solving.Names.{StepOver, step_over}
 use Rattle.laws.proofs.Solving.Weights.{weight_size}
@@ -34,12 +34,13 @@ use Rattle.elimination.specs.declared.front.Front.{Front}
 use Rattle.elimination.specs.Fronts.{FitFront, load_in, FrontRoom}
 use Rattle.unifier.proofs.Resuming.{with_bindings, resumed, with_none, with_more, run_end, run_step, run_spent, finished}
 
--- at the head of the loop: the pairs ps wait from cell waiting on, the bindings bs are from cell made on, over the names ns
-pub record HoldsIn (a b : Area) (start : List Pair) (fuel spent waiting made : ℕ) (apart : Option ℕ) : Type 0 where
+-- at the head of the loop, with so much fuel left: the pairs ps wait from cell waiting on, the bindings bs are from cell made on, over the
+-- names ns
+pub record HoldsIn (a b : Area) (start : List Pair) (fuel left waiting made : ℕ) (apart : Option ℕ) : Type 0 where
   pub grows : Grows a b
   pub stack : waiting < b.free
   pub list : made < b.free
-  pub within : spent ≤ fuel
+  pub within : left ≤ fuel
   pub ps : List Pair
   pub bs : List Binding
   pub ns : List Text
@@ -48,16 +49,15 @@ pub record HoldsIn (a b : Area) (start : List Pair) (fuel spent waiting made : �
   pub over : OverPairs ns ps
   pub fit : FitPairs ps
   pub differs : ApartIn apart ps
-  pub room : Room b.work.now (b.free + weight ps + 2 * (fuel - spent) + 8196 * length ns + 4097 * (length ns + length bs))
-  pub ran : run fuel start ≡ resumed bs spent (run (fuel - spent) ps)
+  pub room : Room b.work.now (b.free + weight ps + 2 * left + 8196 * length ns + 4097 * (length ns + length bs))
+  pub ran : run fuel start ≡ resumed bs (fuel - left) (run left ps)
 
 pub holds_start : {a : Area} {stack fuel : ℕ} → stack < a.free → Whole (trees_in a stack) → FitPairs (stack_in a stack) → Roomy a.work.now a.free fuel (stack_in a stack)
-    → HoldsIn a a (stack_in a stack) fuel 0 stack 0 None
+    → HoldsIn a a (stack_in a stack) fuel fuel stack 0 None
 unfolding flatten_bindings
 holds_start {a} {stack} {fuel} q whole fit r =
     let x = run fuel (stack_in a stack) in
-    let y : fuel ≡ fuel - 0 = omega arith in
-    let z : x.1 ≡ 0 + x.1 = omega arith in
+    let z : x.1 ≡ fuel - fuel + x.1 = omega arith in
     let room = r.room in
     record {
       grows = grows_same a;
@@ -73,41 +73,41 @@ holds_start {a} {stack} {fuel} q whole fit r =
       fit = fit;
       differs = tt;
       room = (omega (arith, room.0), omega (arith, room.1));
-      ran = ap₂ (λ (v : Verdict) (k : ℕ). (v, k)) (sym (with_none x.0)) z ∙ ap (λ (k : ℕ). resumed [] 0 (run k (stack_in a stack))) y;
+      ran = ap₂ (λ (v : Verdict) (k : ℕ). (v, k)) (sym (with_none x.0)) z;
     }
 
-module _ {a b : Area} {start : List Pair} {fuel spent waiting made : ℕ} {apart : Option ℕ} (h : HoldsIn a b start fuel spent waiting made apart) where
+module _ {a b : Area} {start : List Pair} {fuel left waiting made : ℕ} {apart : Option ℕ} (h : HoldsIn a b start fuel left waiting made apart) where
   -- the bindings, as the cells have them
   made_are : bindings_in b made ≡ h.bs
   made_are = ap bindings_of h.binds ∙ bindings_flatten h.bs
 
   -- The ends
 
-  pub holds_solved : spent < fuel → stack_in b waiting ≡ [] → RunsIn a b (run fuel start) (record { verdict = Ok made; spent = spent })
+  pub holds_solved : 0 < left → stack_in b waiting ≡ [] → RunsIn a b (run fuel start) (record { verdict = Ok made; spent = fuel - (left - 1) - 1 })
   holds_solved p e =
       let empty = sym (pairs_are h.ps h.waits) ∙ e in
-      let z : spent + 0 ≡ spent = omega arith in
+      let z : fuel - left + 0 ≡ fuel - (left - 1) - 1 = omega arith in
       let room = h.room in
       let len = ap length made_are in
       record {
         grows = h.grows;
-        is = h.ran ∙ ap (λ (qs : List Pair). resumed h.bs spent (run (fuel - spent) qs)) empty ∙ ap (λ (x : Answer). resumed h.bs spent x) (run_end (fuel - spent) (omega arith))
+        is = h.ran ∙ ap (λ (qs : List Pair). resumed h.bs (fuel - left) (run left qs)) empty ∙ ap (λ (x : Answer). resumed h.bs (fuel - left) x) (run_end left p)
             ∙ ap₂ (λ (cs : List Binding) (k : ℕ). (solved (reverse cs), k)) (sym made_are) z;
         made = record { inside = h.list; chain = subst Chain (sym h.binds) (chain_flatten h.bs); room = omega (arith, room.0); fits = omega (arith, room.1) };
       }
 
-  pub holds_spent : fuel ≤ spent → RunsIn a b (run fuel start) (record { verdict = Err ending.Unsupported; spent = fuel })
+  pub holds_spent : left ≡ 0 → RunsIn a b (run fuel start) (record { verdict = Err ending.Unsupported; spent = fuel })
   holds_spent e =
-      let z : spent + 0 ≡ fuel = omega (arith, h.within) in
+      let z : fuel - left + 0 ≡ fuel = omega arith in
       record {
         grows = h.grows;
-        is = h.ran ∙ ap (λ (x : Answer). resumed h.bs spent x) (run_spent (fuel - spent) h.ps (omega arith)) ∙ ap (λ (k : ℕ). (unsupported, k)) z;
+        is = h.ran ∙ ap (λ (x : Answer). resumed h.bs (fuel - left) x) (run_spent left h.ps e) ∙ ap (λ (k : ℕ). (unsupported, k)) z;
         made = tt;
       }
 
   -- The pair on top
 
-  module _ (f : Front) (t : stack_in b waiting ≡ (tree_in b f.left, tree_in b f.right) ∷ stack_in b f.rest) (p : spent < fuel) where
+  module _ (f : Front) (t : stack_in b waiting ≡ (tree_in b f.left, tree_in b f.right) ∷ stack_in b f.rest) (p : 0 < left) where
     on_top : h.ps ≡ (tree_in b f.left, tree_in b f.right) ∷ stack_in b f.rest
     on_top = sym (pairs_are h.ps h.waits) ∙ t
 
@@ -138,28 +138,28 @@ module _ {a b : Area} {start : List Pair} {fuel spent waiting made : ℕ} {apart
     step_fits : FitStep taken_step
     step_fits = step_fit (tree_in b f.left) (tree_in b f.right) (stack_in b f.rest) fits.0 fits.1 fits.2
 
-    taken_run : (d : Step) → taken_step ≡ d → run fuel start ≡ resumed h.bs spent (after d (λ qs. run (fuel - spent - 1) qs))
+    taken_run : (d : Step) → taken_step ≡ d → run fuel start ≡ resumed h.bs (fuel - left) (after d (λ qs. run (left - 1) qs))
     taken_run d e =
-        h.ran ∙ ap (λ (qs : List Pair). resumed h.bs spent (run (fuel - spent) qs)) on_top
-        ∙ ap (λ (x : Answer). resumed h.bs spent x) (run_step (fuel - spent) (tree_in b f.left) (tree_in b f.right) (stack_in b f.rest) (omega arith))
-        ∙ ap (λ (d : Step). resumed h.bs spent (after d (λ qs. run (fuel - spent - 1) qs))) e
+        h.ran ∙ ap (λ (qs : List Pair). resumed h.bs (fuel - left) (run left qs)) on_top
+        ∙ ap (λ (x : Answer). resumed h.bs (fuel - left) x) (run_step left (tree_in b f.left) (tree_in b f.right) (stack_in b f.rest) p)
+        ∙ ap (λ (d : Step). resumed h.bs (fuel - left) (after d (λ qs. run (left - 1) qs))) e
 
-    left_is : fuel - spent - 1 ≡ fuel - (spent + 1)
-    left_is = omega arith
+    counted : (k : ℕ) → fuel - left + (1 + k) ≡ fuel - (left - 1) + k
+    counted k = omega (arith, h.within)
 
-    counted : (k : ℕ) → spent + (1 + k) ≡ spent + 1 + k
-    counted k = omega arith
+    last : fuel - left + 1 ≡ fuel - (left - 1)
+    last = omega (arith, h.within)
 
     module _ {d : Area} where
-      pub holds_over : (e : Ending) → (taken_step ≡ last_step e) × Grows b d → RunsIn a d (run fuel start) (record { verdict = Err e; spent = spent + 1 })
-      holds_over ending.Failed g = record { grows = grows_then h.grows g.1; is = taken_run fails g.0; made = tt }
-      holds_over ending.Unsupported g = record { grows = grows_then h.grows g.1; is = taken_run unknown g.0; made = tt }
+      pub holds_over : (e : Ending) → (taken_step ≡ last_step e) × Grows b d → RunsIn a d (run fuel start) (record { verdict = Err e; spent = fuel - (left - 1) })
+      holds_over ending.Failed g = record { grows = grows_then h.grows g.1; is = taken_run fails g.0 ∙ ap (λ (k : ℕ). (failed, k)) last; made = tt }
+      holds_over ending.Unsupported g = record { grows = grows_then h.grows g.1; is = taken_run unknown g.0 ∙ ap (λ (k : ℕ). (unsupported, k)) last; made = tt }
 
       pub holds_next : {st : ℕ} {j : Option ℕ} → GoesOnIn b d (load_in b f + weight (stack_in b f.rest)) taken_step st j
-          → HoldsIn a d start fuel (spent + 1) st made j
+          → HoldsIn a d start fuel (left - 1) st made j
       holds_next {st} {j} g =
           let k = g.waits in
-          let x = run (fuel - spent - 1) g.pairs in
+          let x = run (left - 1) g.pairs in
           let room = h.room in
           let w = weighs in
           let used = g.used in
@@ -168,7 +168,7 @@ module _ {a b : Area} {start : List Pair} {fuel spent waiting made : ℕ} {apart
             grows = grows_then h.grows k.grows;
             stack = k.inside;
             list = omega (arith, h.list, k.grows.grew);
-            within = omega arith;
+            within = omega (arith, h.within);
             ps = g.pairs;
             bs = h.bs;
             ns = h.ns;
@@ -178,8 +178,7 @@ module _ {a b : Area} {start : List Pair} {fuel spent waiting made : ℕ} {apart
             fit = subst FitStep g.is step_fits;
             differs = g.apart;
             room = (omega (arith, room.0), omega (arith, room.1));
-            ran = taken_run (goes_on g.pairs) g.is ∙ ap (λ (j : ℕ). (with_bindings h.bs x.0, j)) (counted x.1)
-                ∙ ap (λ (k : ℕ). resumed h.bs (spent + 1) (run k g.pairs)) left_is;
+            ran = taken_run (goes_on g.pairs) g.is ∙ ap (λ (j : ℕ). (with_bindings h.bs x.0, j)) (counted x.1);
           }
 
       module _ {key value st : ℕ} (g : BindsIn b d taken_step key value st) where
@@ -189,12 +188,12 @@ module _ {a b : Area} {start : List Pair} {fuel spent waiting made : ℕ} {apart
         pub bind_cells : CellIn d key × CellIn d value × (made < d.free)
         bind_cells = (g.cells.0, g.cells.1, omega (arith, h.list, g.waits.grows.grew))
 
-        pub holds_bind : {x : Area} {k : ℕ} → Lists d x k (more (tree_in d key) (more (tree_in d value) (trees_in d made))) → x.free ≡ d.free + 2 → HoldsIn a x start fuel (spent + 1) st k None
+        pub holds_bind : {x : Area} {k : ℕ} → Lists d x k (more (tree_in d key) (more (tree_in d value) (trees_in d made))) → x.free ≡ d.free + 2 → HoldsIn a x start fuel (left - 1) st k None
         unfolding flatten_bindings
         holds_bind {x} j e =
             let k = g.waits in
             let l = adds_grows j.adds in
-            let y = run (fuel - spent - 1) g.pairs in
+            let y = run (left - 1) g.pairs in
             let o = subst (StepOver h.ns) g.is step_names in
             let old = grows_trees k.grows made h.list ∙ h.binds in
             let room = h.room in
@@ -207,7 +206,7 @@ module _ {a b : Area} {start : List Pair} {fuel spent waiting made : ℕ} {apart
               grows = grows_then (grows_then h.grows k.grows) l;
               stack = omega (arith, k.inside, l.grew);
               list = j.inside;
-              within = omega arith;
+              within = omega (arith, h.within);
               ps = g.pairs;
               bs = (g.name, g.tree) ∷ h.bs;
               ns = without g.name h.ns;
@@ -218,8 +217,7 @@ module _ {a b : Area} {start : List Pair} {fuel spent waiting made : ℕ} {apart
               differs = tt;
               room = (omega (arith, room.0), omega (arith, room.1));
               ran = taken_run (bind g.name g.tree g.pairs) g.is
-                  ∙ ap₂ (λ (y : Verdict) (i : ℕ). (y, i)) (with_more g.name g.tree h.bs y.0) (counted y.1)
-                  ∙ ap (λ (k : ℕ). resumed ((g.name, g.tree) ∷ h.bs) (spent + 1) (run k g.pairs)) left_is;
+                  ∙ ap₂ (λ (y : Verdict) (i : ℕ). (y, i)) (with_more g.name g.tree h.bs y.0) (counted y.1);
             }
 
 -- ---- the bindings composed

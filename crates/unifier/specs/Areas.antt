@@ -12,7 +12,7 @@ use Rattle.substitution.specs.Areas.{bindings_in}
 use Rattle.substitution.specs.Answers.{stopped, answer_in}
 use Rattle.substitution.specs.declared.answer.Answer.{Answer}
 use Rattle.elimination.specs.Stack.{pairs_at}
-use Rattle.elimination.specs.Area.{step_words}
+use Rattle.elimination.specs.declared.room.TheConstants.{STEP_WORDS, NAME_CELLS}
 
 -- the pairs from cell k on
 abbrev pub stack_in : Area → ℕ → List Pair
@@ -22,7 +22,7 @@ stack_in a k = pairs_at a.sheet.now a.work.now k
 pub record BoundIn (a : Area) (k : ℕ) : Type 0 where
   pub inside : k < a.free
   pub chain : Chain (trees_in a k)
-  pub room : 4 * a.free + step_words ≤ length a.work.now
+  pub room : 4 * a.free + STEP_WORDS ≤ length a.work.now
 
 abbrev pub HoldsBound : Area → Result ℕ Ending → Type 0
 HoldsBound a (Ok k) = BoundIn a k
@@ -43,7 +43,7 @@ ran_in a (Err e) = stopped e
 pub record ComposableIn (a : Area) (k : ℕ) : Type 0 where
   pub inside : k < a.free
   pub chain : Chain (trees_in a k)
-  pub room : 4 * (a.free + 4097 * length (bindings_in a k)) + step_words ≤ length a.work.now
+  pub room : 4 * (a.free + 4097 * length (bindings_in a k)) + STEP_WORDS ≤ length a.work.now
   pub fits : a.free + 4097 * length (bindings_in a k) < 2 ^ 32
 
 abbrev pub HoldsMade : Area → Result ℕ Ending → Type 0
@@ -64,7 +64,7 @@ pub record NamesFew (n : ℕ) (ps : List Pair) : Type 0 where
 
 -- the cells end at most here after a run over so many nodes and names
 abbrev pub spared_end : ℕ → ℕ → ℕ → ℕ → ℕ
-spared_end free nodes fuel names = free + nodes + 2 * fuel + 12293 * names
+spared_end free nodes fuel names = free + nodes + 2 * fuel + NAME_CELLS * names
 
 -- where there are bindings, the cells end at m at most
 abbrev pub EndsIn : Area → Result ℕ Ending → ℕ → Type 0

@@ -8,9 +8,9 @@ ghost use Rattle.elimination.specs.Stack.{Whole, FitPairs};
 ghost use Rattle.unifier.specs.Running.{Roomy};
 ghost use Rattle.unifier.specs.Areas.{stack_in, NamesFew, spared_end, RunsIn, AnswersIn, EndsIn};
 
-use crate::room::{NAME_CELLS, STEP_WORDS};
 use elimination::Taken;
 use elimination::front::Front;
+use elimination::room::{NAME_CELLS, STEP_WORDS};
 use rules::Ending;
 use stepping::step;
 use substitution::answer::Answer;
@@ -18,8 +18,8 @@ use substitution::pairing::push_pair;
 use substitution::solving::compose;
 use tree::area::Area;
 
-// The run over the pairs from cell stack on: one after another is taken, until none is left or one ends the run. The bindings are not
-// composed, the last made first.
+// The run over the pairs from cell stack on: one after another is taken, until none is left or one ends the run. Fuel is counted down:
+// `left` is what is left once a pair is taken. The bindings are not composed, the last made first.
 // Each step pushes cells into the area, which an iterator over the pairs would hold. `matcher` has a loop like it: a trait for both would
 // have to state the invariants of the two and how each starts, goes on and ends, and be longer than they are.
 fn run(area: &mut Area, stack: usize, fuel: usize) -> Answer
@@ -31,36 +31,34 @@ fn run(area: &mut Area, stack: usize, fuel: usize) -> Answer
     let mut waiting = stack;
     let mut made = 0;
     let mut apart = None;
-    for spent in 0..fuel {
+    for left in (0..fuel).rev() {
         let Some(front) = Front::top(area, waiting) else {
             return Answer {
                 verdict: Ok(made),
-                spent,
+                spent: fuel - left - 1,
             };
         };
-        // The ending leaves first: in one match the arms would join under names that no proof can cite.
-        let taken = match step(area, front, apart) {
-            Ok(taken) => taken,
-            Err(ending) => {
-                return Answer {
-                    verdict: Err(ending),
-                    spent: spent + 1,
-                };
-            }
-        };
-        match taken {
-            Taken::Next(next) => {
+        match step(area, front, apart) {
+            Ok(Taken::Next(next)) => {
                 waiting = next.stack;
                 apart = next.apart;
             }
-            Taken::Bind {
-                key,
-                value,
-                stack: s,
-            } => {
+            Ok(
+                Taken::Bind {
+                    key,
+                    value,
+                    stack: s,
+                },
+            ) => {
                 waiting = s;
                 made = push_pair(area, key, value, made);
                 apart = None;
+            }
+            Err(ending) => {
+                return Answer {
+                    verdict: Err(ending),
+                    spent: fuel - left,
+                };
             }
         }
     }

@@ -28,7 +28,8 @@ use Rattle.tree.specs.Areas.{next_in, name_in, tree_in, trees_in, Grows}
 use Rattle.tree.specs.Lists.{cells_from}
 use Rattle.tree.proofs.Chains.{cells_none, cells_more}
 use Rattle.tree.proofs.Keeping.{grows_same, grows_then, grows_keeps, grows_length, adds_grows, grows_name, grows_trees}
-use Rattle.forms.specs.Form.{text_of, Inside}
+use Rattle.forms.specs.Form.{entry_of, text_of, Inside}
+use Rattle.forms.specs.Members.{EntriesThen}
 use Rattle.forms.proofs.Located.{Located, entry_located}
 use Rattle.forms.proofs.WalkLaws.{two_there, two_end}
 use Rattle.reading.specs.Parsing.{stack_end}
@@ -40,7 +41,7 @@ use Rattle.substitution.proofs.Keys.{key_name, bindings_none}
 use Rattle.substitution.proofs.Putting.{bindings_pair}
 use Rattle.variables.specs.Pairing.{names_of, OfVariables}
 use Rattle.variables.specs.Areas.{VariablesIn}
-use Rattle.values.specs.Values.{value_in, resumed, entry_of, EntriesThen, OneUnread}
+use Rattle.values.specs.Values.{value_in, resumed, OneUnread}
 use Rattle.values.specs.Areas.{FoundVariable, FindsVariableIn, ValuedIn, UnreadValue, ValuesIn}
 use Rattle.variables.proofs.Pairings.{first_variable}
 use Rattle.values.proofs.Resuming.{resumed_lookup, resumed_other, resumed_bound, resumed_unread, resumed_read}

@@ -12,12 +12,14 @@ use Rattle.rules.specs.Cover.{pair_at}
 use Rattle.sheet.specs.declared.Place.{Place}
 use Rattle.sheet.specs.declared.Read.{Read}
 use Rattle.sheet.specs.Lines.{lines_at}
+use Rattle.forms.specs.Form.{entry_of}
+use Rattle.forms.specs.Members.{EntriesThen, EntriesFrom}
 use Rattle.tree.specs.declared.area.Area.{Area}
 use Rattle.tree.specs.Areas.{name_in, trees_in, Grows}
 use Rattle.substitution.specs.Areas.{bindings_in}
 use Rattle.variables.specs.Areas.{names_in}
 use Rattle.variables.specs.declared.pairing.Solution.{Solution}
-use Rattle.values.specs.Values.{value_in, resumed, entry_of, EntriesThen, EntriesFrom, OneUnread}
+use Rattle.values.specs.Values.{value_in, resumed, OneUnread}
 
 -- cell k is the variable x, which is one of ns
 pub record FoundVariable (a : Area) (ns : List Text) (x : Text) (k : ℕ) : Type 0 where

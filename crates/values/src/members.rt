@@ -2,7 +2,7 @@
 ghost use Rattle.std.specs.Prelude.{◌+◌, ◌*◌, ◌<◌, ◌≤◌, ◌^◌, length};
 ghost use Rattle.rules.specs.Tree.{count};
 ghost use Rattle.tree.specs.Areas.{trees_in};
-ghost use Rattle.values.specs.Values.{EntriesThere};
+ghost use Rattle.forms.specs.Members.{EntriesThere};
 ghost use Rattle.variables.specs.Areas.{SolutionIn};
 ghost use Rattle.values.specs.Areas.{PairsUpMemberIn};
 

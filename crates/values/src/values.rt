@@ -3,9 +3,9 @@ ghost use Rattle.std.specs.Prelude.{◌+◌, ◌*◌, ◌-◌, ◌<◌, ◌≤�
 ghost use Rattle.tree.specs.Areas.{trees_in};
 ghost use Rattle.reading.specs.Parsing.{stack_end};
 ghost use Rattle.forms.specs.Form.{Inside};
+ghost use Rattle.forms.specs.Members.{EntriesThere};
 ghost use Rattle.variables.specs.Pairing.{names_of};
 ghost use Rattle.variables.specs.Areas.{VariablesIn};
-ghost use Rattle.values.specs.Values.{EntriesThere};
 ghost use Rattle.values.specs.Areas.{FindsVariableIn, ReadsValueIn, ReadsValuesIn};
 
 use reading::parse;

@@ -18,7 +18,7 @@ use Rattle.tree.specs.Lists.{cells_from}
 use Rattle.tree.proofs.Decoding.{size_apply, sizes_is, sizes_more, trees_none}
 use Rattle.tree.proofs.ByKind.{number_application, number_variable, number_atom}
 use Rattle.tree.proofs.Parting.{Parted, part_trees, joined_below}
-use Rattle.substitution.proofs.Walks.{walk_ends, walk_goes}
+use Rattle.tree.proofs.Walks.{walk_ends, walk_goes}
 use Rattle.flattening.specs.declared.writer.Writer.{Writer}
 use Rattle.flattening.specs.Writers.{Appended}
 use Rattle.variables.specs.Variables.{Readable, ReadableAll, VariablePlaces, PlacesWritten, Ordered, repeats}

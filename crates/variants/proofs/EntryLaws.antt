@@ -3,7 +3,7 @@ use Prim.Native.Nat.{ℕ, ◌+◌, ◌-◌, ◌<◌, ◌≤◌}
 use native.Mathlib.Omega.{arith}
 use mathlib.Core.Path.{◌≡◌, refl, sym, ap, ap₂, ◌∙◌}
 use mathlib.Core.Bool.{Bool, true, false, cond}
-use mathlib.Core.List.{List, [], ◌∷◌, ◌++◌, append-nil, map}
+use mathlib.Core.List.{List, ◌∷◌, ◌++◌, append-nil, map}
 use Rattle.std.specs.Prelude.{Option, Some, None}
 use lib.ListN.{length, drop, length-take}
 use Rattle.rules.specs.Bytes.{Text}
@@ -12,7 +12,7 @@ use Rattle.rules.specs.Maybe.{◌>>=◌, every}
 use Rattle.rules.specs.Tree.{Tree, variable, Trees, more, size, sizes}
 use Rattle.rules.specs.Reading.{parse}
 use Rattle.rules.specs.Substitution.{Binding}
-use Rattle.rules.specs.Sheet.{Entry, Member, distinct_keys}
+use Rattle.rules.specs.Sheet.{Entry, Member}
 use Rattle.rules.specs.Variants.{Variant, read_entry, read_member}
 use Rattle.laws.proofs.Basics.Options.{bound}
 use Rattle.laws.proofs.Reading.Colons.{parse_size}
@@ -22,10 +22,10 @@ use Rattle.sheet.specs.declared.Place.{Place}
 use Rattle.sheet.specs.declared.Read.{Read}
 use Rattle.sheet.specs.declared.Sides.{Sides}
 use Rattle.sheet.proofs.LineLaws.{keyed}
-use Rattle.forms.specs.Members.{members_at, Walks}
+use Rattle.forms.specs.Members.{members_at, EntriesThen, Walks}
 use Rattle.forms.specs.Form.{text_of}
 use Rattle.forms.proofs.WalkLaws.{two_there, two_end, member_end, member_next, members_later}
-use Rattle.variants.specs.Members.{nameable, binding_before}
+use Rattle.variants.specs.Members.{nameable, binding_before, DistinctEntries, MemberThere}
 use Rattle.variants.specs.Areas.{UnreadEntries, UnreadMember}
 use Rattle.variants.proofs.Lookups.{entries_unread}
 
@@ -55,11 +55,20 @@ parts_before es (gs, ls) fs rest e =
 -- an entry after those walked over has no readable value
 pub walk_unread : (s : Text) {at c : ℕ} (walk : Walks (bytes "key=") (bytes "value=") s at c) (two : Read Sides) → Some two ≡ two_lines_at (bytes "key=") (bytes "value=") s c → parse (text_of s two.value.right) ≡ None
     → UnreadEntries s at
-walk_unread s {at} {c} walk two e x es rest f =
+walk_unread s {at} {c} walk two e x es (rest, f) =
     let (p, a, b) = bound (lines_at s c >>= entries_by (bytes "key=") (bytes "value=")) (entries_before walk.es) (es, rest) (sym walk.chain ∙ f) in
     let (fs, d, g) = two_there (bytes "key=") (bytes "value=") s c p.0 p.1 a two e in
     let z = (parts_before walk.es p es rest b).0 in
     ap (λ (gs : List Entry). every (map read_entry gs)) (sym z ∙ ap (λ (gs : List Entry). walk.es ++ gs) d) ∙ entries_unread walk.es (text_of s two.value.left) (text_of s two.value.right) fs x
+
+-- a walk that stops is over all of them
+pub walk_all : (s : Text) {at c : ℕ} (walk : Walks (bytes "key=") (bytes "value=") s at c) → None ≡ two_lines_at (bytes "key=") (bytes "value=") s c → {es : List Entry} {rest : List Text}
+    → EntriesThen s at es rest → (es ≡ walk.es) × (lines_at s c ≡ Some rest)
+walk_all s {at} {c} walk stops {es} {rest} f =
+    let (p, a, b) = bound (lines_at s c >>= entries_by (bytes "key=") (bytes "value=")) (entries_before walk.es) (es, rest) (sym walk.chain ∙ f) in
+    let q = parts_before walk.es p es rest b in
+    let g = two_end (bytes "key=") (bytes "value=") s c p.0 p.1 a stops in
+    (sym q.0 ∙ ap (λ (gs : List Entry). walk.es ++ gs) g.0 ∙ append-nil walk.es, g.1 ∙ ap Some q.1)
 
 -- ---- the definition by what its texts read as
 
@@ -102,19 +111,21 @@ module _ (s : Text) (at : ℕ) (line : Read Place) (e : Some line ≡ value_at s
   pub values_none : UnreadEntries s line.next.at → UnreadMember s at
   values_none x m ms h =
       let y = member_next s at (m ∷ ms) h line e in
-      ap read_member (first_of y.members).0 ∙ member_as (text_of s line.value) y.es (parse (text_of s line.value)) None refl (x y.es y.rest y.entries) ∙ entries_none (parse (text_of s line.value))
+      ap read_member (first_of y.members).0 ∙ member_as (text_of s line.value) y.es (parse (text_of s line.value)) None refl (x y.es (y.rest, y.entries)) ∙ entries_none (parse (text_of s line.value))
 
   pub member_read : {d : ℕ} (walk : Walks (bytes "key=") (bytes "value=") s line.next.at d) → None ≡ two_lines_at (bytes "key=") (bytes "value=") s d → {t : Tree} {bs : List Binding}
       → parse (text_of s line.value) ≡ Some t → every (map read_entry walk.es) ≡ Some bs → (m : Member) (ms : List Member) → members_at s at ≡ Some (m ∷ ms)
-      → (read_member m ≡ Some (t, bs)) × (distinct_keys walk.es [] ≡ true) × (members_at s d ≡ Some ms)
+      → (read_member m ≡ Some (t, bs)) × (members_at s d ≡ Some ms)
   member_read {d} walk stops {t} {bs} u v m ms h =
       let y = member_next s at (m ∷ ms) h line e in
       let z = first_of y.members in
-      let (p, a, b) = bound (lines_at s d >>= entries_by (bytes "key=") (bytes "value=")) (entries_before walk.es) (y.es, y.rest) (sym walk.chain ∙ y.entries) in
-      let q = parts_before walk.es p y.es y.rest b in
-      let g = two_end (bytes "key=") (bytes "value=") s d p.0 p.1 a stops in
-      let k : y.es ≡ walk.es = sym q.0 ∙ ap (λ (gs : List Entry). walk.es ++ gs) g.0 ∙ append-nil walk.es in (
-        ap read_member (z.0 ∙ ap (λ (es : List Entry). (text_of s line.value, es)) k) ∙ member_as (text_of s line.value) walk.es (Some t) (Some bs) u v,
-        ap (λ (es : List Entry). distinct_keys es []) (sym k) ∙ y.distinct,
-        members_later s d y.rest ms (g.1 ∙ ap Some q.1) (y.later ∙ ap Some (sym z.1)),
+      let k = walk_all s walk stops y.entries in (
+        ap read_member (z.0 ∙ ap (λ (es : List Entry). (text_of s line.value, es)) k.0) ∙ member_as (text_of s line.value) walk.es (Some t) (Some bs) u v,
+        members_later s d y.rest ms k.1 (y.later ∙ ap Some (sym z.1)),
       )
+
+  -- the entries of the member that stands there
+  pub member_entries : MemberThere s at → DistinctEntries s line.next.at
+  member_entries h =
+      let y = member_next s at (h.member ∷ h.later) h.are line e in
+      record { entries = y.es; rest = y.rest; are = y.entries; distinct = y.distinct }

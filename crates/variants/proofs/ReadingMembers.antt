@@ -12,6 +12,7 @@ use Rattle.rules.specs.Maybe.{every}
 use Rattle.rules.specs.Tree.{variable, Trees, more, size, sizes}
 use Rattle.rules.specs.Reading.{parse}
 use Rattle.rules.specs.Substitution.{Binding}
+use Rattle.rules.specs.Sheet.{Entry, distinct_keys}
 use Rattle.rules.specs.Variants.{read_entry}
 use Rattle.laws.proofs.Reading.Builds.{reads_within}
 use Rattle.tree.specs.declared.area.Area.{Area}
@@ -36,10 +37,10 @@ use Rattle.forms.specs.Members.{members_at, Walks}
 use Rattle.forms.specs.Form.{Inside}
 use Rattle.forms.proofs.PairLaws.{walk_starts, walk_turn}
 use Rattle.forms.proofs.Located.{entry_located}
-use Rattle.variants.specs.Members.{nameable, binding_before, entry_end}
+use Rattle.variants.specs.Members.{nameable, binding_before, entry_end, DistinctEntries, MemberThere}
 use Rattle.variants.specs.Areas.{UnreadEntries, UnreadMember, ReadEntryIn, ReadEntriesIn, ReadMemberIn}
 use Rattle.variants.proofs.NameLaws.{part_some, nameable_some, nameable_plain}
-use Rattle.variants.proofs.EntryLaws.{part_size, with_size, walk_unread, member_placed, text_none, values_none, member_read}
+use Rattle.variants.proofs.EntryLaws.{part_size, with_size, walk_unread, walk_all, member_placed, text_none, values_none, member_read, member_entries}
 use Rattle.variants.proofs.Lookups.{Turned, turned_none, turned_more, turned_alike, bound_before, bindings_with, chain_with, entries_last}
 
 -- ---- one entry
@@ -110,19 +111,21 @@ entering_starts a at p = record {
 }
 
 module _ {a b : Area} {at c list : ℕ} (h : EnteringIn a at b c list) where
-  pub entering_ends : None ≡ two_lines_at (bytes "key=") (bytes "value=") b.sheet.now c → ReadEntriesIn a b at record { value = list; next = record { at = c } }
-  entering_ends e = record {
-    walk = h.walk;
-    stops = subst (λ s. None ≡ two_lines_at (bytes "key=") (bytes "value=") s.now c) h.grows.lent.sheet e;
-    bs = h.ds;
-    read = h.read;
-    alike = turned_alike h.turned;
-    chain = h.chain;
-    grows = h.grows;
-    used = h.used;
-    light = h.light;
-    inside = h.inside;
-  }
+  pub entering_ends : DistinctEntries a.sheet.now at → None ≡ two_lines_at (bytes "key=") (bytes "value=") b.sheet.now c → ReadEntriesIn a b at record { value = list; next = record { at = c } }
+  entering_ends d e =
+      let stops = subst (λ s. None ≡ two_lines_at (bytes "key=") (bytes "value=") s.now c) h.grows.lent.sheet e in
+      record {
+        walk = h.walk;
+        stops = stops;
+        bs = h.ds;
+        read = h.read;
+        alike = turned_alike h.turned (ap (λ (es : List Entry). distinct_keys es []) (sym (walk_all a.sheet.now h.walk stops d.are).0) ∙ d.distinct);
+        chain = h.chain;
+        grows = h.grows;
+        used = h.used;
+        light = h.light;
+        inside = h.inside;
+      }
 
   module _ (two : Read Sides) (e : Some two ≡ two_lines_at (bytes "key=") (bytes "value=") b.sheet.now c) where
     here : Some two ≡ two_lines_at (bytes "key=") (bytes "value=") a.sheet.now c
@@ -167,6 +170,9 @@ module _ {a : Area} (at : ℕ) (line : Read Place) (e : Some line ≡ value_at a
   text_unread h = (text_none a.sheet.now at line e h.unread, unread_grows h)
 
   module _ {m : Area} {value : ℕ} (one : Reads a m line.value value) where
+    pub entries_next : MemberThere a.sheet.now at → DistinctEntries m.sheet.now line.next.at
+    entries_next h = subst (λ s. DistinctEntries s.now line.next.at) (sym one.lent.sheet) (member_entries a.sheet.now at line e h)
+
     pub values_unread : {b : Area} → UnreadEntries m.sheet.now line.next.at × Grows m b → UnreadMember a.sheet.now at × Grows a b
     values_unread x =
         (values_none a.sheet.now at line e (subst (λ s. UnreadEntries s.now line.next.at) one.lent.sheet x.0), grows_then (reads_grows one) x.1)
@@ -181,7 +187,7 @@ module _ {a : Area} (at : ℕ) (line : Read Place) (e : Some line ≡ value_at a
           grows = g;
           reads = λ n ms h.
               let z = member_read m.sheet.now at line f x.walk x.stops (ap parse (text_lent line.value one.lent) ∙ t) x.read n ms (subst (λ s. members_at s.now at ≡ Some (n ∷ ms)) (sym one.lent.sheet) h) in
-              record { bs = x.bs; read = z.0; alike = x.alike z.1; later = subst (λ s. members_at s.now r.next.at ≡ Some ms) (sym x.grows.lent.sheet) z.2 };
+              record { bs = x.bs; read = z.0; alike = x.alike; later = subst (λ s. members_at s.now r.next.at ≡ Some ms) (sym x.grows.lent.sheet) z.1 };
           small = reads_within (text_in a line.value) (tree_in b value) t;
           chain = x.chain;
           used = omega (arith, one.room, x.used, x.walk.low, p);

@@ -1,31 +1,30 @@
 -- A member's texts as trees of an area, its keys and their values as one list of bindings, the last first, and what is claimed of a member
 -- against a term. Definitions only.
-use Rattle.std.specs.Prelude.{ℕ, ◌+◌, ◌*◌, ◌-◌, ◌<◌, ◌≤◌, ◌≡◌, Bool, true, List, [], ◌∷◌, map, length, Option, Some, None}
+use Rattle.std.specs.Prelude.{ℕ, ◌+◌, ◌*◌, ◌-◌, ◌<◌, ◌≤◌, ◌≡◌, Bool, List, [], ◌∷◌, map, length, Option, Some, None}
 use Rattle.rules.specs.Bytes.{Text}
 use Rattle.rules.specs.Text.{bytes}
-use Rattle.rules.specs.Maybe.{◌>>=◌, every}
+use Rattle.rules.specs.Maybe.{every}
 use Rattle.rules.specs.Tree.{Tree, size, sizes}
 use Rattle.rules.specs.Reading.{parse}
 use Rattle.rules.specs.Substitution.{Binding}
-use Rattle.rules.specs.Sheet.{Entry, Member, distinct_keys}
+use Rattle.rules.specs.Sheet.{Entry, Member}
 use Rattle.rules.specs.Variants.{read_entry, read_member, sound}
 use Rattle.tree.specs.declared.area.Area.{Area}
 use Rattle.tree.specs.Areas.{tree_in, trees_in, Grows}
 use Rattle.tree.specs.Spelled.{text_in}
 use Rattle.substitution.specs.Bindings.{Chain}
 use Rattle.substitution.specs.Areas.{bindings_in}
-use Rattle.sheet.specs.Lines.{lines_at}
-use Rattle.sheet.specs.Pairs.{two_lines_at, entries_by}
+use Rattle.sheet.specs.Pairs.{two_lines_at}
 use Rattle.sheet.specs.declared.Read.{Read}
 use Rattle.sheet.specs.declared.Sides.{Sides}
-use Rattle.forms.specs.Members.{members_at, Walks}
+use Rattle.forms.specs.Members.{members_at, EntriesFrom, Walks}
 use Rattle.variants.specs.Members.{Alike, binding_before, entry_end}
 use Rattle.variants.specs.Soundness.{reduces_to}
 use Rattle.variants.specs.declared.members.Variant.{Variant}
 
 -- a value of the entries from a position on is no term
 abbrev pub UnreadEntries : Text → ℕ → Type 0
-UnreadEntries s at = (es : List Entry) (rest : List Text) → (lines_at s at >>= entries_by (bytes "key=") (bytes "value=")) ≡ Some (es, rest) → every (map read_entry es) ≡ None
+UnreadEntries s at = (es : List Entry) → EntriesFrom s at es → every (map read_entry es) ≡ None
 
 -- a text of the member at a position is no term
 abbrev pub UnreadMember : Text → ℕ → Type 0
@@ -51,7 +50,7 @@ pub record ReadEntriesIn (a b : Area) (at : ℕ) (r : Read ℕ) : Type 0 where
   pub stops : None ≡ two_lines_at (bytes "key=") (bytes "value=") a.sheet.now r.next.at
   pub bs : List Binding
   pub read : every (map read_entry walk.es) ≡ Some bs
-  pub alike : distinct_keys walk.es [] ≡ true → Alike (bindings_in b r.value) bs
+  pub alike : Alike (bindings_in b r.value) bs
   pub chain : Chain (trees_in b r.value)
   pub grows : Grows a b
   pub used : b.free ≤ a.free + 2 * (r.next.at - at)

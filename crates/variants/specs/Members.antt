@@ -4,8 +4,8 @@ use Rattle.std.specs.Prelude.{Some}
 use Rattle.rules.specs.Bytes.{Text}
 use Rattle.rules.specs.Tree.{Tree, variable, Trees, more}
 use Rattle.rules.specs.Substitution.{Binding, lookup}
-use Rattle.rules.specs.Sheet.{Member}
-use Rattle.forms.specs.Members.{members_at}
+use Rattle.rules.specs.Sheet.{Entry, Member, distinct_keys}
+use Rattle.forms.specs.Members.{members_at, EntriesThen}
 use Rattle.sheet.specs.declared.Place.{Place}
 
 -- a text that a variable's cell may have for its name: not empty, and no atom's text
@@ -32,6 +32,13 @@ texts_end s n at = n + 2 * (length s - at)
 -- room for them, and for the reader's stack above them
 abbrev pub TextsRoom : Text → List ℕ → ℕ → ℕ → Type 0
 TextsRoom s w n at = (length s ≤ 65536) × (4 * texts_end s n at + 3 * length s < length w) × (texts_end s n at < 2 ^ 32)
+
+-- entries stand from a position on, or none, with no key twice, and then other lines
+pub record DistinctEntries (s : Text) (at : ℕ) : Type 0 where
+  pub entries : List Entry
+  pub rest : List Text
+  pub are : EntriesThen s at entries rest
+  pub distinct : distinct_keys entries [] ≡ true
 
 -- a member stands at a position, and others after it
 pub record MemberThere (s : Text) (at : ℕ) : Type 0 where

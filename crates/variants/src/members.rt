@@ -5,7 +5,7 @@ ghost use Rattle.tree.specs.Areas.{CellIn, HasRoom, tree_in, trees_in};
 ghost use Rattle.tree.specs.Spelled.{text_in};
 ghost use Rattle.reading.specs.Areas.{TextsRoomIn};
 ghost use Rattle.substitution.specs.Areas.{Lists};
-ghost use Rattle.variants.specs.Members.{nameable, binding_before, entry_end, MemberThere};
+ghost use Rattle.variants.specs.Members.{nameable, binding_before, entry_end, DistinctEntries, MemberThere};
 ghost use Rattle.variants.specs.Areas.{ReadsEntryIn, ReadsEntriesIn, ReadsMemberIn};
 
 use leaves::sorts::variable_sort;
@@ -58,6 +58,7 @@ fn read_entry(area: &mut Area, entry: Sides, list: usize) -> Option<usize>
 // The entries of a member from a cursor on as bindings, the last first.
 fn read_entries(area: &mut Area, start: Cursor) -> Option<Read<usize>>
     requires room { (start.at ≤ length area.old.sheet.now) × TextsRoomIn area.old start.at }
+    requires entries_there { DistinctEntries area.old.sheet.now start.at }
     ensures { ReadsEntriesIn area.old area.new start.at result }
 {
     // Along a cursor by value, with an area that grows: one trait for this walk and those of pairs and values would be no plainer.

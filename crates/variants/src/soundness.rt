@@ -3,6 +3,8 @@ ghost use Rattle.std.specs.Prelude.{◌+◌, ◌*◌, ◌<◌, ◌≤◌, length
 ghost use Rattle.rules.specs.Tree.{size};
 ghost use Rattle.tree.specs.Areas.{CellIn, tree_in};
 ghost use Rattle.reading.specs.Areas.{texts_end_in};
+ghost use Rattle.reduction.specs.Areas.{InstanceRoom};
+ghost use Rattle.forms.specs.Form.{fewest_words};
 ghost use Rattle.variants.specs.Soundness.{OneMember};
 ghost use Rattle.variants.specs.Areas.{ClaimsInstanceIn, ClaimsSoundIn};
 
@@ -14,10 +16,10 @@ use substitution::instances::substitute;
 use tree::area::Area;
 
 // Whether the instance of the tree of cell term under a member's bindings reduces to the member's tree, up to the order of summands, if the
-// instance is not too large.
+// instance is not too large. `complete::judging` substitutes and normalizes too, but compares with the instance itself.
 fn reduces_to(area: &mut Area, term: usize, member: Variant) -> Option<bool>
     requires cells { CellIn area.old term × CellIn area.old member.value × (member.bindings < area.old.free) }
-    requires room { (size (tree_in area.old member.value) ≤ 4096) × (4 * area.old.free + 155648 ≤ length area.old.work.now) × (area.old.free < 1048576) }
+    requires room { (size (tree_in area.old member.value) ≤ 4096) × InstanceRoom area.old }
     ensures { ClaimsInstanceIn area.old area.new term member result }
 {
     let instance = substitute(area, term, member.bindings, 0, 4096)?;
@@ -29,7 +31,7 @@ fn reduces_to(area: &mut Area, term: usize, member: Variant) -> Option<bool>
 // large.
 pub fn sound(area: &mut Area, term: usize, start: Cursor) -> Option<bool>
     requires term { CellIn area.old term }
-    requires room { (length area.old.sheet.now ≤ 65536) × (1048576 + 16 * length area.old.sheet.now ≤ length area.old.work.now) × (texts_end_in area.old start.at ≤ 1 + 4 * length area.old.sheet.now) }
+    requires room { (length area.old.sheet.now ≤ 65536) × (fewest_words area.old.sheet.now ≤ length area.old.work.now) × (texts_end_in area.old start.at ≤ 1 + 4 * length area.old.sheet.now) }
     requires one_member { OneMember area.old.sheet.now start.at }
     ensures { ClaimsSoundIn area.old area.new term start.at result }
 {

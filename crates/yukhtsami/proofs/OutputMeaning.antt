@@ -3,6 +3,7 @@
 -- `Calls s w v out after refusal count` is what `yukhtsami_answer` ensures (src/lib.rt): `s` is the sheet, `w` and `v` are the work area
 -- before and after, `out` and `after` the output before and after, `refusal` and `count` the numbers given. The rest are the definitions
 -- of document 01 (crates/rules/specs) and the promises on them (crates/laws/proofs/Promises.antt).
+-- The function that crates/yukhtsami_c exports for C has the same clause `Calls` (its src/lib.rt).
 use mathlib.Core.Path.{◌≡◌, refl, sym, ◌∙◌, ap, ap₂}
 use mathlib.Core.List.{List, ◌++◌}
 use mathlib.Core.Logic.{◌↔◌}

@@ -66,7 +66,8 @@ pub struct Called {
     pub written: usize,
 }
 
-// The number of a refusal. The numbers stand here and in number_for: as discriminants they would be said once more.
+// The number of a refusal, which C is told. In src/ the numbers stand here alone: as discriminants they would be in rules, whose other
+// crates have no use for them.
 fn number_of(refusal: Refusal) -> u32
     ensures { result ≡ number_for refusal }
 {

@@ -50,8 +50,12 @@ extern "C" fn target(data: *const u8, size: usize) -> c_int {
 }
 
 /// A change of a sheet, or now and then one of libFuzzer's own changes of bytes.
+///
+/// # Safety
+///
+/// `data` is to `most` bytes that may be read and written, of which the first `size` are the input.
 #[unsafe(no_mangle)]
-pub extern "C" fn LLVMFuzzerCustomMutator(
+pub unsafe extern "C" fn LLVMFuzzerCustomMutator(
     data: *mut u8,
     size: usize,
     most: usize,
@@ -59,7 +63,7 @@ pub extern "C" fn LLVMFuzzerCustomMutator(
 ) -> usize {
     let mut rng = Rng::new(u64::from(seed));
     if rng.once_in(16) {
-        // SAFETY: the arguments are libFuzzer's own.
+        // SAFETY: the arguments are those that libFuzzer gave.
         return unsafe { LLVMFuzzerMutate(data, size, most) };
     }
     // SAFETY: libFuzzer lends `most` bytes, of which `size` are the input.

@@ -5,6 +5,8 @@ use std::{
     time::{Duration, Instant},
 };
 
+use yukhtsami::Refusal;
+
 use crate::{deep, lent, sheet};
 
 /// The time of one turn, if a run is not longer.
@@ -86,9 +88,9 @@ fn clocked<T>(function: impl FnOnce() -> T) -> (Duration, T) {
 fn call(bytes: &[u8], work: &mut [u32], output: &mut [u8]) -> (Duration, String) {
     work.fill(u32::MAX);
     let (time, called) = clocked(|| yukhtsami::call(bytes, work, output));
-    let answer = match called.refusal {
-        0 => String::from_utf8_lossy(&output[..called.written]).into_owned(),
-        refusal => format!("refusal {refusal}"),
+    let answer = match Refusal::of(called.refusal) {
+        None => String::from_utf8_lossy(&output[..called.written]).into_owned(),
+        Some(refusal) => refusal.to_string(),
     };
     (time, answer)
 }
@@ -117,7 +119,7 @@ pub fn times(name: &str, text: &str, ask_rust: bool, enough: Duration) -> Found 
     let (mut rust, mut port, mut clearing) = (Runs::new(), Runs::new(), Runs::new());
     loop {
         let asked = question.as_ref().is_some_and(|question| {
-            let ask = || question().unwrap_or("refusal 4".to_owned());
+            let ask = || question().unwrap_or_else(|| Refusal::UnreadableTerm.to_string());
             rust.again(enough, |runs| deep::run(|| runs.turn(|| clocked(ask))))
         });
         let called = port.again(enough, |runs| {

@@ -1,4 +1,6 @@
 // Deep and wide terms, and answers far longer than their sheets.
+use yukhtsami::Refusal::{ShortOutput, UnreadableTerm};
+
 use super::{Example, answered, lent, refused};
 
 fn chain(leaf: &str, depth: usize) -> String {
@@ -27,7 +29,11 @@ fn deep() -> Vec<Example> {
             &format!("kind=reduce|term={most}"),
             &format!("normal={most}"),
         ),
-        refused("deep-refused", &format!("kind=reduce|term=h({most})|"), 4),
+        refused(
+            "deep-refused",
+            &format!("kind=reduce|term=h({most})|"),
+            UnreadableTerm,
+        ),
         answered(
             "deep-redexes",
             &format!("kind=reduce|term={redexes}"),
@@ -96,6 +102,10 @@ fn wide() -> Vec<Example> {
             &format!("kind=match|fuel=9|{pair}"),
             "verdict=failed|spent=2",
         ),
-        lent(refused("long-answer", &doubled, 12), 65_536 * 64, 65_536),
+        lent(
+            refused("long-answer", &doubled, ShortOutput),
+            65_536 * 64,
+            65_536,
+        ),
     ]
 }

@@ -1,4 +1,6 @@
 // The limits: bytes, nodes, words, waiting pairs, composed bindings, schemes.
+use yukhtsami::Refusal::{ShortOutput, ShortWorkArea, TooLong, UnreadableTerm};
+
 use super::{Example, answered, lent, refused};
 
 fn leaves(name: &str, leaf: &str, count: usize) -> String {
@@ -23,7 +25,11 @@ fn sizes() -> Vec<Example> {
             &format!("kind=reduce|term={most}"),
             &format!("normal={most}"),
         ),
-        refused("nodes-4097", &format!("kind=reduce|term={over}|"), 4),
+        refused(
+            "nodes-4097",
+            &format!("kind=reduce|term={over}|"),
+            UnreadableTerm,
+        ),
         answered(
             "equal-has-no-limit",
             &format!("kind=equal|left={over}|right={over}"),
@@ -39,7 +45,7 @@ fn sizes() -> Vec<Example> {
             padded(65_536).trim_end_matches('|'),
             "equal=yes",
         ),
-        refused("bytes-65537", &padded(65_537), 1),
+        refused("bytes-65537", &padded(65_537), TooLong),
     ]
 }
 
@@ -52,15 +58,23 @@ fn words() -> Vec<Example> {
     let brackets = format!("kind=complete|term={}|", "(".repeat(32_756));
     vec![
         lent(answered("more-words", empty, solved), 1_048_865, 24),
-        lent(refused("no-words", "kind=unify|fuel=1|", 11), 0, 23),
-        lent(refused("no-room", "kind=unify|fuel=1|", 12), 1_048_864, 0),
         lent(
-            refused("eleven-before-four", "kind=reduce|term=(|", 11),
+            refused("no-words", "kind=unify|fuel=1|", ShortWorkArea),
+            0,
+            23,
+        ),
+        lent(
+            refused("no-room", "kind=unify|fuel=1|", ShortOutput),
+            1_048_864,
+            0,
+        ),
+        lent(
+            refused("eleven-before-four", "kind=reduce|term=(|", ShortWorkArea),
             need(0, 19) - 1,
             9,
         ),
         lent(
-            refused("four-before-twelve", "kind=reduce|term=(|", 4),
+            refused("four-before-twelve", "kind=reduce|term=(|", UnreadableTerm),
             need(0, 19),
             0,
         ),
@@ -70,7 +84,11 @@ fn words() -> Vec<Example> {
             12,
         ),
         lent(
-            refused("every-colon-counts-less", &format!("{colons}|"), 11),
+            refused(
+                "every-colon-counts-less",
+                &format!("{colons}|"),
+                ShortWorkArea,
+            ),
             need(3, 40) - 1,
             12,
         ),
@@ -80,11 +98,15 @@ fn words() -> Vec<Example> {
             12,
         ),
         lent(
-            refused("complete-raises-less", &format!("{family}|"), 11),
+            refused("complete-raises-less", &format!("{family}|"), ShortWorkArea),
             need(4, 53) - 1,
             12,
         ),
-        lent(refused("words-over-32-bits", &brackets, 11), 1_441_792, 100),
+        lent(
+            refused("words-over-32-bits", &brackets, ShortWorkArea),
+            1_441_792,
+            100,
+        ),
     ]
 }
 

@@ -1,4 +1,6 @@
 // Lines, keys and values: where a sheet ends in refusal 2, 3 or 4, and where it does not.
+use yukhtsami::Refusal::{ForeignByte, LineOutOfPlace, UnreadableTerm};
+
 use super::{Example, answered, refused};
 
 pub fn examples() -> Vec<Example> {
@@ -13,53 +15,105 @@ pub fn examples() -> Vec<Example> {
 
 fn keys() -> Vec<Example> {
     vec![
-        refused("value-with-equals", "kind=equal|left=a=b|right=a|", 4),
-        refused("blank-after-kind", "kind=unify |fuel=1|", 3),
-        refused("blank-before-kind", " kind=unify|fuel=1|", 3),
-        refused("blank-before-equals", "kind =unify|fuel=1|", 3),
-        refused("unknown-kind", "kind=Unify|fuel=1|", 3),
-        refused("kind-without-value", "kind=|fuel=1|", 3),
-        refused("variants-is-no-kind", "kind=variants|term=a|", 3),
+        refused(
+            "value-with-equals",
+            "kind=equal|left=a=b|right=a|",
+            UnreadableTerm,
+        ),
+        refused("blank-after-kind", "kind=unify |fuel=1|", LineOutOfPlace),
+        refused("blank-before-kind", " kind=unify|fuel=1|", LineOutOfPlace),
+        refused("blank-before-equals", "kind =unify|fuel=1|", LineOutOfPlace),
+        refused("unknown-kind", "kind=Unify|fuel=1|", LineOutOfPlace),
+        refused("kind-without-value", "kind=|fuel=1|", LineOutOfPlace),
+        refused(
+            "variants-is-no-kind",
+            "kind=variants|term=a|",
+            LineOutOfPlace,
+        ),
         answered(
             "blanks-in-value",
             "kind=equal|left= a |right=a",
             "equal=yes",
         ),
-        refused("empty-left", "kind=equal|left=|right=a|", 4),
-        refused("empty-term", "kind=reduce|term=|", 4),
-        refused("blank-term", "kind=reduce|term=   |", 4),
-        refused("capital-key", "kind=reduce|Term=a|", 3),
-        refused("longer-key", "kind=reduce|terms=a|", 3),
+        refused("empty-left", "kind=equal|left=|right=a|", UnreadableTerm),
+        refused("empty-term", "kind=reduce|term=|", UnreadableTerm),
+        refused("blank-term", "kind=reduce|term=   |", UnreadableTerm),
+        refused("capital-key", "kind=reduce|Term=a|", LineOutOfPlace),
+        refused("longer-key", "kind=reduce|terms=a|", LineOutOfPlace),
     ]
 }
 
 fn places() -> Vec<Example> {
     vec![
-        refused("empty-sheet", "", 3),
-        refused("only-byte-10", "|", 3),
-        refused("no-last-byte-10", "kind=equal|left=a|right=a", 3),
-        refused("only-kind", "kind=equal|", 3),
-        refused("missing-right", "kind=equal|left=a|", 3),
-        refused("missing-right-of-pair", "kind=unify|fuel=2|left=a|", 3),
-        refused("right-before-left", "kind=equal|right=a|left=a|", 3),
-        refused("empty-line-between", "kind=equal||left=a|right=a|", 3),
-        refused("empty-line-after", "kind=equal|left=a|right=a||", 3),
-        refused("line-without-equals", "kind=equal|left=a|right=a|left|", 3),
-        refused("line-after-the-last", "kind=reduce|term=a|term=a|", 3),
-        refused("fuel-in-cover", "kind=cover|fuel=1|left=a|right=a|", 3),
-        refused("no-fuel-in-match", "kind=match|left=a|right=a|", 3),
-        refused("member-in-unify", "kind=unify|fuel=1|member=a|", 3),
+        refused("empty-sheet", "", LineOutOfPlace),
+        refused("only-byte-10", "|", LineOutOfPlace),
+        refused(
+            "no-last-byte-10",
+            "kind=equal|left=a|right=a",
+            LineOutOfPlace,
+        ),
+        refused("only-kind", "kind=equal|", LineOutOfPlace),
+        refused("missing-right", "kind=equal|left=a|", LineOutOfPlace),
+        refused(
+            "missing-right-of-pair",
+            "kind=unify|fuel=2|left=a|",
+            LineOutOfPlace,
+        ),
+        refused(
+            "right-before-left",
+            "kind=equal|right=a|left=a|",
+            LineOutOfPlace,
+        ),
+        refused(
+            "empty-line-between",
+            "kind=equal||left=a|right=a|",
+            LineOutOfPlace,
+        ),
+        refused(
+            "empty-line-after",
+            "kind=equal|left=a|right=a||",
+            LineOutOfPlace,
+        ),
+        refused(
+            "line-without-equals",
+            "kind=equal|left=a|right=a|left|",
+            LineOutOfPlace,
+        ),
+        refused(
+            "line-after-the-last",
+            "kind=reduce|term=a|term=a|",
+            LineOutOfPlace,
+        ),
+        refused(
+            "fuel-in-cover",
+            "kind=cover|fuel=1|left=a|right=a|",
+            LineOutOfPlace,
+        ),
+        refused(
+            "no-fuel-in-match",
+            "kind=match|left=a|right=a|",
+            LineOutOfPlace,
+        ),
+        refused(
+            "member-in-unify",
+            "kind=unify|fuel=1|member=a|",
+            LineOutOfPlace,
+        ),
         refused(
             "pair-after-member",
             "kind=cover|member=a|left=a|right=a|",
-            3,
+            LineOutOfPlace,
         ),
         refused(
             "pairs-in-sound",
             "kind=sound|term=a|left=a|right=a|member=a|",
-            3,
+            LineOutOfPlace,
         ),
-        refused("three-before-four", "kind=equal|left=(|right=a|right=a|", 3),
+        refused(
+            "three-before-four",
+            "kind=equal|left=(|right=a|right=a|",
+            LineOutOfPlace,
+        ),
     ]
 }
 
@@ -77,33 +131,41 @@ fn members() -> Vec<Example> {
             "kind=complete|term=c(0)",
             "complete=no",
         ),
-        refused("sound-without-member", "kind=sound|term=a|", 3),
+        refused("sound-without-member", "kind=sound|term=a|", LineOutOfPlace),
         refused(
             "sound-with-two-members",
             "kind=sound|term=a|member=a|member=a|",
-            3,
+            LineOutOfPlace,
         ),
         refused(
             "key-before-member",
             "kind=cover|left=a|right=a|key=x|value=a|",
-            3,
+            LineOutOfPlace,
         ),
-        refused("key-without-value", "kind=cover|member=|key=x0:Msg|", 3),
-        refused("value-without-key", "kind=cover|member=|value=a|", 3),
+        refused(
+            "key-without-value",
+            "kind=cover|member=|key=x0:Msg|",
+            LineOutOfPlace,
+        ),
+        refused(
+            "value-without-key",
+            "kind=cover|member=|value=a|",
+            LineOutOfPlace,
+        ),
         refused(
             "key-twice",
             "kind=cover|member=|key=x|value=a|key=x|value=a|",
-            3,
+            LineOutOfPlace,
         ),
         refused(
             "key-twice-apart",
             "kind=sound|term=a|member=a|key=x|value=a|key=y|value=a|key=x|value=b|",
-            3,
+            LineOutOfPlace,
         ),
         refused(
             "key-twice-in-second",
             "kind=complete|term=a|member=a|member=a|key=|value=a|key=|value=a|",
-            3,
+            LineOutOfPlace,
         ),
         answered(
             "key-in-two-members",
@@ -150,26 +212,30 @@ fn members() -> Vec<Example> {
             "kind=complete|term=a|member=a|key=zzz|value=",
             "complete=none",
         ),
-        refused("four-before-members", "kind=sound|term=g(|member=g(|", 4),
+        refused(
+            "four-before-members",
+            "kind=sound|term=g(|member=g(|",
+            UnreadableTerm,
+        ),
     ]
 }
 
 fn fuels() -> Vec<Example> {
     vec![
-        refused("fuel-empty", "kind=unify|fuel=|", 3),
-        refused("fuel-plus", "kind=unify|fuel=+1|", 3),
-        refused("fuel-minus", "kind=match|fuel=-1|", 3),
-        refused("fuel-blank", "kind=unify|fuel= 1|", 3),
-        refused("fuel-blank-after", "kind=unify|fuel=1 |", 3),
-        refused("fuel-two-zeros", "kind=unify|fuel=00|", 3),
-        refused("fuel-leading-zero", "kind=match|fuel=01|", 3),
-        refused("fuel-too-large", "kind=unify|fuel=65537|", 3),
+        refused("fuel-empty", "kind=unify|fuel=|", LineOutOfPlace),
+        refused("fuel-plus", "kind=unify|fuel=+1|", LineOutOfPlace),
+        refused("fuel-minus", "kind=match|fuel=-1|", LineOutOfPlace),
+        refused("fuel-blank", "kind=unify|fuel= 1|", LineOutOfPlace),
+        refused("fuel-blank-after", "kind=unify|fuel=1 |", LineOutOfPlace),
+        refused("fuel-two-zeros", "kind=unify|fuel=00|", LineOutOfPlace),
+        refused("fuel-leading-zero", "kind=match|fuel=01|", LineOutOfPlace),
+        refused("fuel-too-large", "kind=unify|fuel=65537|", LineOutOfPlace),
         refused(
             "fuel-over-64-bits",
             "kind=unify|fuel=18446744073709551617|",
-            3,
+            LineOutOfPlace,
         ),
-        refused("fuel-hexadecimal", "kind=unify|fuel=0x1|", 3),
+        refused("fuel-hexadecimal", "kind=unify|fuel=0x1|", LineOutOfPlace),
         answered(
             "fuel-largest",
             "kind=unify|fuel=65536",
@@ -195,18 +261,23 @@ fn fuels() -> Vec<Example> {
 
 fn bytes() -> Vec<Example> {
     vec![
-        refused("byte-9", "kind=equal|left=a\t|right=a|", 2),
-        refused("byte-13", "kind=equal\r|left=a|right=a|", 2),
-        refused("byte-31", "\u{1f}", 2),
-        refused("byte-127", "kind=equal|left=a|right=a|\u{7f}", 2),
-        refused("two-byte-character", "kind=reduce|term=\u{e9}|", 2),
-        refused("byte-126", "kind=reduce|term=~|", 4),
-        refused("two-before-three", "no sheet\u{7f}", 2),
+        refused("byte-9", "kind=equal|left=a\t|right=a|", ForeignByte),
+        refused("byte-13", "kind=equal\r|left=a|right=a|", ForeignByte),
+        refused("byte-31", "\u{1f}", ForeignByte),
+        refused("byte-127", "kind=equal|left=a|right=a|\u{7f}", ForeignByte),
+        refused(
+            "two-byte-character",
+            "kind=reduce|term=\u{e9}|",
+            ForeignByte,
+        ),
+        refused("byte-126", "kind=reduce|term=~|", UnreadableTerm),
+        refused("two-before-three", "no sheet\u{7f}", ForeignByte),
     ]
 }
 
 fn terms() -> Vec<Example> {
-    let unreadable = |label, term: &str| refused(label, &format!("kind=reduce|term={term}|"), 4);
+    let unreadable =
+        |label, term: &str| refused(label, &format!("kind=reduce|term={term}|"), UnreadableTerm);
     let readable = |label, term: &str, written: &str| {
         answered(
             label,
@@ -252,12 +323,12 @@ fn terms() -> Vec<Example> {
         refused(
             "second-pair-unreadable",
             "kind=unify|fuel=9|left=a|right=b|left=a|right=(|",
-            4,
+            UnreadableTerm,
         ),
         refused(
             "right-unreadable-in-cover",
             "kind=cover|left=a|right=f()|member=|",
-            4,
+            UnreadableTerm,
         ),
     ]
 }

@@ -13,8 +13,8 @@ bind-requires-clause-front c =
 pub bind-requires-clause-key : goal.bind-requires-clause-key
 bind-requires-clause-key c = rw c.turned.ensures (variable_of_sort c.args.area.now c.args.front.right c.in-Some.own (sym c.sort_of.ensures ∙ c.in-Some.is))
 
-pub returns-then-sorted : goal.returns-then-sorted
-returns-then-sorted c =
+pub returns-in-Some : goal.returns-in-Some
+returns-in-Some c =
     let a = c.args.area.now in
     let f = c.args.front in
     let e = sym c.sort_of.ensures ∙ c.in-Some.is in

@@ -18,6 +18,8 @@ use Rattle.rules.specs.Matching.{matcher}
 use Rattle.rules.specs.Answer.{verdict_lines, read_pair, read_pairs, answer_of}
 use Rattle.rules.specs.Call as Call
 use Rattle.rules.specs.Call.{Reply, refused, passed, need, given, plain, admitted, settled, call}
+use Rattle.rules.specs.declared.Refusal.TheVariants.{TooLong, ForeignByte, LineOutOfPlace, UnreadableTerm, ShortWorkArea, ShortOutput}
+use Rattle.rules.specs.RefusalNumbers.{number_for}
 use Rattle.laws.proofs.Basics.Options.{bound}
 use Rattle.laws.proofs.Reading.Builds.{builds, reads_within}
 use Rattle.laws.proofs.Sheets.BuiltRun.{BuiltPairs, SmallPairs}
@@ -50,18 +52,18 @@ module _ {A B : Type 0} where
 admitted_sheet : (s : Text) (words : ℕ) (sheet : Sheet) → admitted s words ≡ passed sheet → read_sheet s ≡ Some sheet
 unfolding admitted
 admitted_sheet s words sheet e =
-    let (u, p, e₁) = replied (need (leb (length s) 65536) 1) _ sheet e in
-    let (v, q, e₂) = replied (need (all plain s) 2) _ sheet e₁ in
-    let (h, r, e₃) = replied (given (read_sheet s) 3) _ sheet e₂ in
-    let (w, t, e₄) = replied (need (leb (words_needed s h) words) 11) _ sheet e₃ in
-    given_passed (read_sheet s) 3 h r ∙ ap Some (passed_injective h sheet e₄)
+    let (u, p, e₁) = replied (need (leb (length s) 65536) (number_for TooLong)) _ sheet e in
+    let (v, q, e₂) = replied (need (all plain s) (number_for ForeignByte)) _ sheet e₁ in
+    let (h, r, e₃) = replied (given (read_sheet s) (number_for LineOutOfPlace)) _ sheet e₂ in
+    let (w, t, e₄) = replied (need (leb (words_needed s h) words) (number_for ShortWorkArea)) _ sheet e₃ in
+    given_passed (read_sheet s) (number_for LineOutOfPlace) h r ∙ ap Some (passed_injective h sheet e₄)
 
 settled_answer : (sheet : Sheet) (room : ℕ) (a : Text) → settled sheet room ≡ passed a → answer_of sheet ≡ Some a
 unfolding settled
 settled_answer sheet room a e =
-    let (b, p, e₁) = replied (given (answer_of sheet) 4) _ a e in
-    let (u, q, e₂) = replied (need (leb (length b) room) 12) _ a e₁ in
-    given_passed (answer_of sheet) 4 b p ∙ ap Some (passed_injective b a e₂)
+    let (b, p, e₁) = replied (given (answer_of sheet) (number_for UnreadableTerm)) _ a e in
+    let (u, q, e₂) = replied (need (leb (length b) room) (number_for ShortOutput)) _ a e₁ in
+    given_passed (answer_of sheet) (number_for UnreadableTerm) b p ∙ ap Some (passed_injective b a e₂)
 
 -- a sheet that is answered reads
 pub call_sheet : (s : Text) (words room : ℕ) (a : Text) → call s words room ≡ passed a → (sheet : Sheet) × (read_sheet s ≡ Some sheet)

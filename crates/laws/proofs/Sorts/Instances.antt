@@ -124,7 +124,7 @@ module _ (arity : Text → ℕ) (counts : Arity arity) (σ : Substitution) (good
 
     pub sorted_refinable : (s : Sort) (t : Tree) → Tidy arity t → sorted s (substitute σ t) ≡ true → refinable s t ≡ true
     sorted_refinable s (variable x) d e = let g = good x d.0 d.1 d.2 in ap (may_meet s) d.1 ∙ sorts_meet d.0 s (σ x) g.0 e
-    sorted_refinable s (atom c n) d e = e
+    sorted_refinable s (atom c n) d e = rw e
     sorted_refinable s (apply f ts) d e = refinable_apply s f ts d (λ z. naturals_refinable ts d.2 z) (λ z. messages_refinable ts d.2 z) e
 
     naturals_refinable : (ts : Trees) → Tidies arity ts → naturals (substitutes σ ts) ≡ true → refinables TamNat ts ≡ true

@@ -2,5 +2,5 @@ use Rattle.unifier.specs.Areas.{stack_in}
 use Rattle.matching.proofs.Moving.{HoldsIn}
 use Rattle.matching.proofs.matcher.Given as goal
 
-abbrev pub invariant-loop-spent : goal.invariant-loop-spent
-invariant-loop-spent l = HoldsIn l.initial.area l.area (stack_in l.initial.area l.stack) l.fuel l.spent l.waiting l.made
+abbrev pub invariant-loop-left : goal.invariant-loop-left
+invariant-loop-left l = HoldsIn l.initial.area l.area (stack_in l.initial.area l.stack) l.fuel l.left l.waiting l.made

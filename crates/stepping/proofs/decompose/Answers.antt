@@ -1,34 +1,30 @@
-use mathlib.Core.Path.{sym, ◌∙◌}
-use Rattle.tree.specs.Areas.{tree_in}
+use mathlib.Core.Path.{◌≡◌, sym, ◌∙◌}
+use Rattle.std.specs.Prelude.{Result, Err}
+use Rattle.std.proofs.Common.{rules}
+use Rattle.rules.specs.declared.Ending.{Ending}
+use Rattle.rules.specs.declared.Ending.TheVariants.{Unsupported}
 use Rattle.elimination.specs.Areas.{pairs_in}
-use Rattle.stepping.proofs.Taking.{decomposed, goes_rooted, stuck_rooted}
+use Rattle.elimination.specs.declared.Next.{Next}
+use Rattle.stepping.proofs.Taking.{stuck_rooted, decomposed_as}
 use Rattle.stepping.proofs.decompose.Goals as goal
+use Rattle.stepping.proofs.decompose.Goals.{else-eq-via-then-eq+else-refuted, else-eq-via-else-eq}
 
-pub returns-in-Ok : goal.returns-in-Ok
-returns-in-Ok c =
-    let a = c.args.area.now in
-    let f = c.args.front in
-    goes_rooted (tree_in a f.left) (tree_in a f.right) (pairs_in a f.rest) c.requires.differ c.in-Ok.ensures
-
-pub returns-in-Err-Unsupported : goal.returns-in-Err-Unsupported
-returns-in-Err-Unsupported c =
+pub returns-then-refuted : goal.returns-then-refuted
+returns-then-refuted c =
     let a = c.args.area.now in
     let f = c.args.front in
     let i = c.requires.front in
-    let s = rw c.in-Err-Unsupported.field-0-is at c.in-Err-Unsupported.ensures in
+    let e : ◌≡◌ {A = Result Next Ending} c.take_roots-rooted.result (Err Unsupported) = search rules in
+    let s = rw e at c.take_roots-rooted.ensures in
     (stuck_rooted f.left f.right (pairs_in a f.rest) (i.0, i.1) s.1 s.0 (sym c.refuted.ensures ∙ c.if-refuted.true), s.1)
 
-pub returns-in-Err-Unsupported-2 : goal.returns-in-Err-Unsupported-2
-returns-in-Err-Unsupported-2 c =
-    let a = c.args.area.now in
+pub returns : goal.returns
+returns c =
     let f = c.args.front in
     let i = c.requires.front in
-    let s = rw c.in-Err-Unsupported.field-0-is at c.in-Err-Unsupported.ensures in
-    (stuck_rooted f.left f.right (pairs_in a f.rest) (i.0, i.1) s.1 s.0 (sym c.refuted.ensures ∙ c.if-refuted.false), s.1)
-
-pub returns-in-Err-Failed : goal.returns-in-Err-Failed
-returns-in-Err-Failed c =
-    let a = c.args.area.now in
-    let f = c.args.front in
-    let s = rw c.in-Err-Failed.field-0-is at c.in-Err-Failed.ensures in
-    (decomposed (tree_in a f.left) (tree_in a f.right) (pairs_in a f.rest) s.0, s.1)
+    decomposed_as c.args.area.now c.take_roots-rooted.new.area _ f.left f.right (pairs_in c.args.area.now f.rest) c.take_roots-rooted.result c.map.result (i.0, i.1) c.requires.differ c.take_roots-rooted.ensures
+    (elim c.else-eq.branch [
+      | else-eq-via-then-eq+else-refuted w ↦ λ e. sym w.refuted.ensures ∙ w.if-refuted.false
+      | else-eq-via-else-eq w ↦ λ e. absurd (search rules)
+    ])
+    c.map.ensures.cases (λ x y q. search rules)

@@ -13,7 +13,7 @@ pub equivalent-requires-clause-small : goal.equivalent-requires-clause-small
 equivalent-requires-clause-small c = solved_small c.args.asked c.args.value c.args.bindings c.requires.asks c.requires.cells.1 c.in-Some.ensures c.normalize-normal.ensures
 
 pub equivalent-requires-clause-room : goal.equivalent-requires-clause-room
-equivalent-requires-clause-room c = solved_room c.args.asked c.args.value c.args.bindings c.requires.asks c.requires.cells.1 c.in-Some.ensures c.normalize-normal.ensures c.requires.room.0
+equivalent-requires-clause-room c = solved_room c.args.asked c.args.value c.args.bindings c.requires.asks c.requires.cells.1 c.in-Some.ensures c.normalize-normal.ensures c.requires.room
 
 pub returns-then-not-equivalent-clause-value : goal.returns-then-not-equivalent-clause-value
 returns-then-not-equivalent-clause-value c =

@@ -1,6 +1,5 @@
-use Rattle.std.proofs.Common.{rules}
 use Rattle.matching.proofs.Matches.{match_stack, match_room}
-use Rattle.cover.proofs.DecidingIn.{unread_covers, matched, used_most, failed_passes, other_covers}
+use Rattle.cover.proofs.DecidingIn.{unread_covers, matched, used_most, passes}
 use Rattle.cover.proofs.covering.pass_member.Goals as goal
 
 pub returns-in_err-pairs : goal.returns-in_err-pairs
@@ -18,11 +17,5 @@ matcher-answer-requires-clause-room c =
     let k = c.requires.matchable in
     match_room h.grows h.inside h.trees (used_most h k) (matched h k)
 
-pub returns-in-Err-Failed : goal.returns-in-Err-Failed
-returns-in-Err-Failed c = failed_passes c.in_ok-pairs.ensures c.requires.matchable c.requires.start.1 c.matcher-answer.ensures (search rules)
-
-pub returns-in_default : goal.returns-in_default
-returns-in_default c = other_covers c.in_ok-pairs.ensures c.requires.matchable c.requires.start.1 c.matcher-answer.ensures (λ e. search rules)
-
-pub returns-in_default-2 : goal.returns-in_default-2
-returns-in_default-2 c = other_covers c.in_ok-pairs.ensures c.requires.matchable c.requires.start.1 c.matcher-answer.ensures (λ e. search rules)
+pub returns : goal.returns
+returns c = rw c.then_some.ensures (passes c.in_ok-pairs.ensures c.requires.matchable c.requires.start.1 c.matcher-answer.ensures _ c.eq-failed.ensures)

@@ -1,5 +1,7 @@
 use Rattle.std.proofs.Common.{arith, ◌+◌, ◌*◌, ◌∷◌, [], ℕ}
 use mathlib.Core.Path.{subst}
+use Rattle.runs.specs.declared.TheConstants.{SPAN, OPEN, SHUT}
+use Rattle.runs.specs.declared.order.TheConstants.{BYTES}
 use Rattle.flattening.specs.Writers.{Appended}
 use Rattle.flattening.proofs.WriterSteps.{appended_more}
 use Rattle.equivalence.proofs.words.put_atom.Goals as goal
@@ -12,5 +14,5 @@ returns c =
     let e₃ = c.push-3.ensures.end in
     let l₁ = c.push.ensures.wrote.len in
     let l₂ = c.push-2.ensures.wrote.len in
-    subst (λ (l : ℕ). Appended c.args.out.now c.push-4.new.self ((512 + l) * 65536 ∷ 2621440 ∷ c.args.digits ∷ 2686976 ∷ [])) c.from.ensures
+    subst (λ (l : ℕ). Appended c.args.out.now c.push-4.new.self ((BYTES + l) * SPAN ∷ OPEN ∷ c.args.digits ∷ SHUT ∷ [])) c.from.ensures
     (appended_more c.push.ensures (appended_more c.push-2.ensures (appended_more c.push-3.ensures c.push-4.ensures (omega arith)) (omega arith)) (omega arith))

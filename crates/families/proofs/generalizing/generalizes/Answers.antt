@@ -1,8 +1,8 @@
-use Rattle.std.proofs.Common.{rules, sym}
+use mathlib.Core.Path.{sym, ◌∙◌}
 use native.Mathlib.Omega.{arith}
 use Rattle.tree.proofs.Keeping.{adds_grows}
 use Rattle.variables.proofs.Listed.{solution_grown}
-use Rattle.matching.proofs.Matches.{match_stack, match_room, match_fails, match_covers}
+use Rattle.matching.proofs.Matches.{match_stack, match_room, match_says}
 use Rattle.families.proofs.Generals.{own_some, own_inside}
 use Rattle.families.proofs.GeneralPairs.{pairs_room, paired_up}
 use Rattle.families.proofs.generalizing.generalizes.Goals as goal
@@ -30,17 +30,7 @@ matcher-answer-requires-clause-room c =
     let h = paired_up c.args.member _ _ c.args.solution c.args.value c.requires.member c.requires.cells.0 c.first_of-own.ensures.first c.next_of-entries.ensures.next c.requires.solution c.push_pair-last.ensures.lists c.push_pair-last.ensures.end c.pair_values-pairs.ensures in
     match_room h.grows h.inside h.trees (omega (arith, h.used)) c.requires.matched
 
-pub returns-in-Err-Failed-clause-value : goal.returns-in-Err-Failed-clause-value
-returns-in-Err-Failed-clause-value c =
+pub returns-clause-value : goal.returns-clause-value
+returns-clause-value c =
     let h = paired_up c.args.member _ _ c.args.solution c.args.value c.requires.member c.requires.cells.0 c.first_of-own.ensures.first c.next_of-entries.ensures.next c.requires.solution c.push_pair-last.ensures.lists c.push_pair-last.ensures.end c.pair_values-pairs.ensures in
-    sym (match_fails h.grows h.inside h.trees (omega (arith, h.used)) c.requires.matched c.requires.short c.matcher-answer.ensures (search rules))
-
-pub returns-in_default-clause-value : goal.returns-in_default-clause-value
-returns-in_default-clause-value c =
-    let h = paired_up c.args.member _ _ c.args.solution c.args.value c.requires.member c.requires.cells.0 c.first_of-own.ensures.first c.next_of-entries.ensures.next c.requires.solution c.push_pair-last.ensures.lists c.push_pair-last.ensures.end c.pair_values-pairs.ensures in
-    sym (match_covers h.grows h.inside h.trees (omega (arith, h.used)) c.requires.matched c.requires.short c.matcher-answer.ensures (λ e. search rules))
-
-pub returns-in_default-2-clause-value : goal.returns-in_default-2-clause-value
-returns-in_default-2-clause-value c =
-    let h = paired_up c.args.member _ _ c.args.solution c.args.value c.requires.member c.requires.cells.0 c.first_of-own.ensures.first c.next_of-entries.ensures.next c.requires.solution c.push_pair-last.ensures.lists c.push_pair-last.ensures.end c.pair_values-pairs.ensures in
-    sym (match_covers h.grows h.inside h.trees (omega (arith, h.used)) c.requires.matched c.requires.short c.matcher-answer.ensures (λ e. search rules))
+    c.ne.ensures ∙ sym (match_says h.grows h.inside h.trees (omega (arith, h.used)) c.requires.matched c.requires.short c.matcher-answer.ensures)

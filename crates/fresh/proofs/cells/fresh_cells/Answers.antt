@@ -19,4 +19,4 @@ pub loop-n-preserved : goal.loop-n-preserved
 loop-n-preserved c = chosen_turn c.loop-n.invariant c.push_fresh.ensures
 
 pub returns : goal.returns
-returns c = chosen_ends c.loop-n.invariant c.loop-n-test.false (omega (arith, c.loop-n.auto.n-end))
+returns c = chosen_ends c.loop-n.invariant c.loop-n-test.false (omega arith)

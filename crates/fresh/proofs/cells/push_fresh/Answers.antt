@@ -1,6 +1,4 @@
 use native.Mathlib.Omega.{arith}
-use Prim.Native.Nat.{◌+◌}
-use Rattle.fresh.proofs.FreshCells.{width_within}
 use Rattle.fresh.proofs.ChoosingLaws.{chosen_unspelled, chosen_sort, chosen_place, chosen_spelled}
 use Rattle.fresh.proofs.cells.push_fresh.Goals as goal
 
@@ -8,13 +6,10 @@ pub returns-in_default : goal.returns-in_default
 returns-in_default c = chosen_unspelled c.args.area.now c.args.base c.args.n c.in_default.ensures c.push_unspelled.ensures
 
 pub push_variable-requires-clause-name : goal.push_variable-requires-clause-name
-push_variable-requires-clause-name c = chosen_place c.args.area.now c.args.base c.args.n _ c.in-Some.ensures (omega (arith, c.width_of.ensures)) c.requires.short (omega arith)
+push_variable-requires-clause-name c = chosen_place c.args.area.now c.args.base c.args.n c.in-Some.ensures c.requires.short (omega arith)
 
 pub push_variable-requires-clause-sort : goal.push_variable-requires-clause-sort
-push_variable-requires-clause-sort c = chosen_sort c.args.area.now c.args.base c.args.n _ c.in-Some.ensures (omega (arith, c.width_of.ensures))
+push_variable-requires-clause-sort c = chosen_sort c.args.area.now c.args.base c.args.n c.in-Some.ensures
 
 pub returns : goal.returns
-returns c = chosen_spelled c.args.area.now c.args.base c.args.n _ c.in-Some.ensures (omega (arith, c.width_of.ensures)) c.push_variable.ensures
-
-pub overflow_add-to-2 : goal.overflow_add-to-2
-overflow_add-to-2 c = omega (arith, c.in-Some.ensures.inside, c.requires.short, c.width_of.ensures, width_within (c.args.base + c.args.n) (omega arith))
+returns c = chosen_spelled c.args.area.now c.args.base c.args.n c.in-Some.ensures c.push_variable.ensures

@@ -10,8 +10,8 @@ pub returns : goal.returns
 returns c =
     let a = c.args.area.now in
     let ws = words a c.args.at c.args.end in
-    left_words a c.args.at c.args.end c.next.result c.next-2.result c.requires.cells (
-    two_taken _ _ _ (left ws) c.next.result c.next-2.result c.next.ensures.steps c.next-2.ensures.steps
+    left_words a c.args.at c.args.end c.next-first.result c.next.result c.requires.cells (
+    two_taken _ _ _ (left ws) c.next-first.result c.next.result c.next-first.ensures.steps c.next.ensures.steps
     (YieldsList-from_map _ (λ w. w)
     (YieldsList-at c.map-left.ensures.source (YieldsList-from_filter _ (λ w. not (eqb w 0)) (YieldsList-at c.filter.ensures.source (YieldsList-from_slice ws c.iter.ensures.rest)) c.filter.ensures.closure (λ x b q k. search rules)))
     c.map-left.ensures.closure (λ x r q k. search rules))

@@ -8,21 +8,17 @@ loop-key-init c =
     let a = c.args in
     searched_all a.area.now (name_in a.area.now a.x) a.b c.requires.b_link c.list-cells.ensures
 
+pub returns-in_err-value : goal.returns-in_err-value
+returns-in_err-value c = rw c.from_residual.ensures (searched_odd c.loop-key.invariant c.in-Some.ensures.steps c.in_err-value.ensures.steps.0)
+
 pub same_name-requires-clause-i_cell : goal.same_name-requires-clause-i_cell
-same_name-requires-clause-i_cell c = searched_cell c.loop-key.invariant c.in-Some-Some.ensures.steps
+same_name-requires-clause-i_cell c = searched_cell c.loop-key.invariant c.in-Some.ensures.steps
 
 pub returns-then-same_name : goal.returns-then-same_name
-returns-then-same_name c =
-    let v = c.in-Some-Some in
-    searched_here c.loop-key.invariant v.ensures.steps v.ensures'.steps (sym c.same_name.ensures ∙ c.if-same_name.true)
+returns-then-same_name c = searched_here c.loop-key.invariant c.in-Some.ensures.steps c.in_ok-value.ensures.steps (sym c.same_name.ensures ∙ c.if-same_name.true)
 
 pub loop-key-preserved : goal.loop-key-preserved
-loop-key-preserved c =
-    let v = c.in-Some-Some in
-    searched_on c.loop-key.invariant v.ensures.steps v.ensures'.steps (sym c.same_name.ensures ∙ c.if-same_name.false)
+loop-key-preserved c = searched_on c.loop-key.invariant c.in-Some.ensures.steps c.in_ok-value.ensures.steps (sym c.same_name.ensures ∙ c.if-same_name.false)
 
-pub returns-in_default : goal.returns-in_default
-returns-in_default c = searched_odd c.loop-key.invariant c.in_default.ensures.steps c.in_default.ensures'.steps.0
-
-pub returns-in_default-2 : goal.returns-in_default-2
-returns-in_default-2 c = searched_none c.loop-key.invariant (rw c.in_default.is-0 at c.next.ensures.steps).0
+pub returns : goal.returns
+returns c = searched_none c.loop-key.invariant c.in_default.ensures.steps.0

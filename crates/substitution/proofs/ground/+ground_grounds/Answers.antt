@@ -1,23 +1,39 @@
-use Rattle.std.proofs.Common.{rules, refl, ◌∙◌}
-use Prim.Native.Nat.{ℕ}
+use Prim.Native.Nat.{◌<◌}
+use mathlib.Core.Path.{refl, sym, ◌∙◌}
 use native.Mathlib.Omega.{arith}
-use Rattle.std.proofs.lemmas.Iterator.Adapters.{serves_from_places}
-use Rattle.std.proofs.lemmas.Iterator.Consumers.{YieldsList-from_first}
-use Rattle.std.proofs.lemmas.Iterator.Search.{all_from_yields_List}
 use Rattle.rules.specs.Tree.{ground as one, grounds as all}
 use Rattle.tree.specs.Areas.{tree_in}
-use Rattle.tree.specs.Lists.{cells_from, cells_left}
-use Rattle.tree.proofs.Chains.{cells_within, each_cell}
+use Rattle.tree.proofs.ByKind.{nodes_application}
+use Rattle.tree.proofs.Decoding.{size_pos}
+use Rattle.tree.proofs.Lists.{list_size}
+use Rattle.tree.proofs.Walks.{each_ends, each_then, each_else}
 use Rattle.substitution.proofs.ground.+ground_grounds.Goals as goal
 
-pub grounds-all-requires-clause-callable : goal.grounds-all-requires-clause-callable
-grounds-all-requires-clause-callable t c =
-    let a = c.args.area.now in
-    serves_from_places (YieldsList-from_first (λ (x : ℕ). x) cells_left (cells_from a c.args.list) c.list.ensures) (λ x q h. search rules) (λ x k l e. let w = cells_within a c.args.list c.requires x k l e in (search rules, (omega arith, omega arith)))
+pub ground-grounds-requires : goal.ground-grounds-requires
+ground-grounds-requires t c =
+    let f = c.first_of.ensures in
+    (omega (arith, c.decreases, nodes_application c.args.area.now c.args.i (sym c.kind.ensures ∙ c.in-Application.is) f.first), omega (arith, f.below, c.requires.1))
 
-pub grounds-returns : goal.grounds-returns
+pub grounds-returns-then-i-eq0 : goal.grounds-returns-then-i-eq0
 unfolding one
-grounds-returns t c =
+grounds-returns-then-i-eq0 t c = each_ends one all refl (λ u us. refl) c.args.area.now c.args.i c.if-i-eq0.true
+
+pub grounds-ground-requires : goal.grounds-ground-requires
+grounds-ground-requires t c =
+    let p : 0 < c.args.i = omega arith in
+    (omega (arith, c.decreases, list_size c.args.area.now c.args.i p c.requires refl), (p, c.requires))
+
+pub grounds-grounds-requires : goal.grounds-grounds-requires
+grounds-grounds-requires t c =
     let a = c.args.area.now in
-    all_from_yields_List (λ (i : ℕ). one (tree_in a i)) c.all.new.self _ c.all.result c.all.ensures.ran (YieldsList-from_first (λ (x : ℕ). x) cells_left (cells_from a c.args.list) c.list.ensures) (λ x b q h. search rules)
-    ∙ each_cell (one) (all) refl (λ u us. refl) a c.args.list c.requires
+    let f = c.next_of.ensures in
+    let m = list_size a c.args.i (omega arith) c.requires f.next in
+    (omega (arith, c.decreases, m, size_pos (tree_in a c.args.i)), omega (arith, f.below, c.requires))
+
+pub grounds-returns-then-grounds : goal.grounds-returns-then-grounds
+unfolding one
+grounds-returns-then-grounds t c = each_then one all refl (λ u us. refl) c.args.area.now c.args.i (omega arith) c.requires c.next_of.ensures.next c.grounds.ensures c.if-grounds.true c.ground.ensures
+
+pub grounds-returns-else-grounds : goal.grounds-returns-else-grounds
+unfolding one
+grounds-returns-else-grounds t c = each_else one all refl (λ u us. refl) c.args.area.now c.args.i (omega arith) c.requires c.next_of.ensures.next c.grounds.ensures c.if-grounds.false

@@ -53,19 +53,16 @@ substitute-returns-else-children-first t c =
 
 pub substitute-image-value-requires-clause-x_cell : goal.substitute-image-value-requires-clause-x_cell
 substitute-image-value-requires-clause-x_cell t c =
-    let v = c.in-Variable in
-    (c.requires.cells.0, tree_a_variable c.args.area.now c.args.i v.field-0 (sym c.kind.ensures ∙ v.is))
+    (c.requires.cells.0, tree_a_variable c.args.area.now c.args.i _ (sym c.kind.ensures ∙ c.in-Variable.is))
 
 pub substitute-returns-in-Variable : goal.substitute-returns-in-Variable
 substitute-returns-in-Variable t c =
     let a = c.args.area.now in
-    let v = c.in-Variable in
-    rw (c.image-value.ensures.value ∙ sym (instance_variable a c.args.b c.args.i v.field-0 (sym c.kind.ensures ∙ v.is))) at c.place.ensures
+    rw (c.image-value.ensures.value ∙ sym (instance_variable a c.args.b c.args.i _ (sym c.kind.ensures ∙ c.in-Variable.is))) at c.place.ensures
 
 pub substitute-returns-in-Atom : goal.substitute-returns-in-Atom
 substitute-returns-in-Atom t c =
-    let v = c.in-Atom in
-    rw (instance_atom c.args.area.now c.args.b c.args.i v.field-0 (sym c.kind.ensures ∙ v.is)) at c.place-in-Atom.ensures
+    rw (instance_atom c.args.area.now c.args.b c.args.i _ (sym c.kind.ensures ∙ c.in-Atom.is)) at c.place-in-Atom.ensures
 
 pub substitute_list-returns-then-i-eq0 : goal.substitute_list-returns-then-i-eq0
 substitute_list-returns-then-i-eq0 t c =

@@ -9,13 +9,14 @@ use Rattle.rules.specs.Tree.{Trees, sizes}
 use Rattle.rules.specs.Solving.{unify}
 use Rattle.tree.specs.Arena.{Arena}
 use Rattle.elimination.specs.Stack.{pairs_of, pairs_at}
+use Rattle.elimination.specs.declared.room.TheConstants.{STEP_WORDS}
 use Rattle.unifier.specs.Areas.{spared_end}
 use Rattle.unifier.proofs.Sparing.{roomy_few, part_is, spared_arena, spared_trees, spared_length, spared_whole, spared_answers, spared_ends}
 use Rattle.unifier.proofs.unifying.unify_sparing.Goals as goal
 
 -- the words of the run
 abbrev limit : ℕ → ℕ → ℕ → ℕ → ℕ
-limit free nodes fuel names = 4 * spared_end free nodes fuel names + 204802
+limit free nodes fuel names = 4 * spared_end free nodes fuel names + STEP_WORDS
 
 -- the run is over the same pairs
 same_run : {s : Text} {w f : List ℕ} {n : ℕ} (most : ℕ) → most ≤ length w → 4 * n ≤ most → Arena s w n → f ≡ take most w → (k : ℕ) → k < n → (fuel : ℕ) → unify fuel (pairs_at s f k) ≡ unify fuel (pairs_at s w k)

@@ -26,4 +26,4 @@ pub loop-entry-preserved : goal.loop-entry-preserved
 loop-entry-preserved c = entering_turn c.loop-entry.invariant c.in-Some.entry c.in-Some.ensures c.in_ok-bindings.ensures
 
 pub returns : goal.returns
-returns c = entering_ends c.loop-entry.invariant c.in_default.ensures
+returns c = entering_ends c.loop-entry.invariant c.requires.entries_there c.in_default.ensures

@@ -24,7 +24,7 @@ reduces_to-requires-clause-room c =
     let x = c.in_ok-member.ensures in
     let q = c.requires.room in
     let s = sheet_length x.grows.lent in
-    (x.small, omega (arith, q, x.used, x.within, s, grows_length x.grows), omega (arith, q, x.used, x.within, s))
+    (x.small, (omega (arith, q, x.used, x.within, s, grows_length x.grows), omega (arith, q, x.used, x.within, s)))
 
 pub returns : goal.returns
 returns c = sound_claims c.args.term c.reduces_to.result c.requires.term.0 c.requires.term.1 c.in_ok-member.ensures c.reduces_to.ensures

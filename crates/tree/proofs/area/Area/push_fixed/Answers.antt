@@ -1,8 +1,9 @@
 use mathlib.Core.Path.{ap, ◌∙◌}
 use native.Mathlib.Omega.{arith}
-use Rattle.rules.specs.Bytes.{Text}
-use Rattle.tree.specs.Areas.{trees_in}
+use Prim.Native.Nat.{ℕ}
 use Rattle.rules.specs.Tree.{apply}
+use Rattle.tree.specs.Areas.{trees_in}
+use Rattle.tree.specs.Cells.{fixed_name}
 use Rattle.tree.proofs.FixedNames.{fixed_plain}
 use Rattle.tree.proofs.Fitting.{word_code, apply_fits, apply_tree, pushes_as}
 use Rattle.tree.proofs.area.Area.push_fixed.Goals as goal
@@ -16,4 +17,4 @@ pub returns : goal.returns
 returns c =
     let x = c.code.ensures in
     let a = c.args.self.now in
-    pushes_as (apply_tree (word_code a.sheet.now c.code.result x.few.0 (omega (arith, x.few.1))) (trees_in a c.args.first) ∙ ap (λ (n : Text). apply n (trees_in a c.args.first)) x.name) c.push.ensures
+    pushes_as (apply_tree (word_code a.sheet.now c.code.result x.few.0 (omega (arith, x.few.1))) (trees_in a c.args.first) ∙ ap (λ (i : ℕ). apply (fixed_name i) (trees_in a c.args.first)) x.code) c.push.ensures
