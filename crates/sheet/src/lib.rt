@@ -7,6 +7,8 @@ ghost use Rattle.sheet.specs.Places.{word_of, place_of};
 ghost use Rattle.sheet.specs.Lines.{up_to, part_of, line_at, value_at};
 ghost use Rattle.sheet.specs.Pairs.{two_lines_at};
 
+use text::places::word;
+
 // A position in the sheet, handed on by value after each line: a form of document 01.
 #[derive(Clone, Copy, Debug, PartialEq, Eq)]
 pub struct Cursor {
@@ -38,7 +40,7 @@ impl Place {
         requires { (self.from < 65536) × (self.from ≤ self.to) × (self.to < self.from + 65536) }
         ensures { result ≡ word_of self }
     {
-        self.from as u32 * START + (self.to - self.from) as u32
+        word(self.from, self.to)
     }
 
     // The place that a word names.
