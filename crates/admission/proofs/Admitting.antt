@@ -1,5 +1,5 @@
 -- What the definition of admission gives on each of its conditions.
-use mathlib.Core.Path.{◌≡◌, refl}
+use mathlib.Core.Path.{◌≡◌, refl, sym, ◌∙◌}
 use mathlib.Core.Bool.{Bool, true, false, cond}
 use Rattle.std.specs.Prelude.{Some, None, Result, Ok, Err}
 use Prim.Native.Nat.{ℕ, ◌<◌, ◌≤◌}
@@ -16,8 +16,9 @@ use Rattle.rules.specs.RefusalNumbers.{number_for}
 use Rattle.rules.specs.Call.{plain, refused, passed, admitted}
 use Rattle.laws.proofs.Sheets.Refusals.{refuses_1, refuses_2}
 use Rattle.text.specs.Screen.{screened}
-use Rattle.forms.specs.Form.{FormStands, NeedsWords}
+use Rattle.forms.specs.Form.{FormStands, bare_sheet}
 use Rattle.forms.specs.declared.form.Form.{Form}
+use Rattle.forms.proofs.WordLaws.{bare_words}
 use Rattle.admission.specs.Admission.{Stands}
 
 -- a sheet that was screened is short, and of plain bytes
@@ -62,19 +63,20 @@ module _ (s : Text) (words : ℕ) where
     passes sheet r h = let f = fine s e in rw (le-leb (length s) 65536 f.short, f.plain_bytes, r, le-leb (words_needed s sheet) words h)
 
     -- a sheet that was read as a form, against the words that it needs
-    module _ (f : Form) (r : FormStands s (read_sheet s) f) (n : ℕ) (q : NeedsWords s f n) where
+    module _ (f : Form) (r : FormStands s (read_sheet s) f) (n : ℕ) (q : n ≡ words_needed s (bare_sheet s f)) where
+      need : n ≡ words_needed s r.sheet
+      need = q ∙ sym (bare_words s f r.sheet r.decodes)
+
       pub refuses_words : words < n → admitted s words ≡ refused (number_for ShortWorkArea)
-      refuses_words g = let w = q r.sheet r.decodes in few_words r.sheet r.reads (omega arith)
+      refuses_words g = few_words r.sheet r.reads (omega (arith, need))
 
       pub stands : n ≤ words → Stands s words f n
-      stands g =
-          let w = q r.sheet r.decodes in
-          record {
-            decoded = record { sheet = r.sheet; reads = r.reads; decodes = r.decodes; within = r.within; short = short s e };
-            passes = passes r.sheet r.reads (omega arith);
-            need = w;
-            enough = g;
-          }
+      stands g = record {
+        decoded = record { sheet = r.sheet; reads = r.reads; decodes = r.decodes; within = r.within; short = short s e };
+        passes = passes r.sheet r.reads (omega (arith, need));
+        need = need;
+        enough = g;
+      }
 
 -- what the proof of admission uses
 pub ruleset admits = (short, foreign, unread)
