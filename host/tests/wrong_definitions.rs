@@ -164,7 +164,7 @@ fn what_is_not_noticed_fails() {
         (
             "broken",
             wrong("means lost"),
-            "Other.antt: FAILED: what it needs of crates/laws is not proved, with no error put in",
+            "FAILED: what the laws need of crates/laws is not proved, with no error put in",
         ),
     ] {
         let (status, said, _) = tried(name, &patch);
