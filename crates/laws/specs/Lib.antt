@@ -5,4 +5,3 @@ pub mod Schemes
 pub mod Unspelled
 pub mod Closing
 pub mod Sorting
-pub mod Laying
