@@ -14,7 +14,7 @@ use Rattle.rules.specs.declared.Refusal.{Refusal}
 use Rattle.rules.specs.declared.Refusal.TheVariants.{TooLong, ForeignByte, LineOutOfPlace, ShortWorkArea}
 use Rattle.rules.specs.RefusalNumbers.{number_for}
 use Rattle.rules.specs.Call.{plain, refused, passed, admitted}
-use Rattle.laws.proofs.Sheets.Refusals.{refuses_1, refuses_2}
+use Rattle.laws.proofs.Sheets.Refusals.{refuses_too_long, refuses_foreign_byte}
 use Rattle.text.specs.Screen.{screened}
 use Rattle.forms.specs.Form.{FormStands, bare_sheet}
 use Rattle.forms.specs.declared.form.Form.{Form}
@@ -46,8 +46,8 @@ module _ (s : Text) (words : ℕ) where
     where
       go : (a : Bool) → leb (length s) 65536 ≡ a → (b : Bool) → all plain s ≡ b → ◌≡◌ {A = Result (Unit {0}) Refusal} (Err x) (cond a (cond b (Ok tt) (Err ForeignByte)) (Err TooLong)) → admitted s words ≡ refused (number_for x)
       go true k true g e = cc
-      go true k false g e = let z : x ≡ ForeignByte = cc in rw z (refuses_2 s words (leb-true (length s) 65536 k) g)
-      go false k b g e = let z : x ≡ TooLong = cc in rw z (refuses_1 s words (leb-false (length s) 65536 k))
+      go true k false g e = let z : x ≡ ForeignByte = cc in rw z (refuses_foreign_byte s words (leb-true (length s) 65536 k) g)
+      go false k b g e = let z : x ≡ TooLong = cc in rw z (refuses_too_long s words (leb-false (length s) 65536 k))
 
   module _ (e : Ok tt ≡ screened s) where
     pub unread : read_sheet s ≡ None → admitted s words ≡ refused (number_for LineOutOfPlace)

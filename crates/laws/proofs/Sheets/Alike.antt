@@ -203,7 +203,7 @@ module _ (r : Text) (words room : ℕ) (a : Text) (sheet : Sheet) (form : IsShee
 
   outcome : {reply : Reply Text} → AlikeOutcome r sheet words room a reply → Outcome r words room reply
   outcome (AlikeOutcome.too_long h) = Outcome.too_long h
-  outcome (AlikeOutcome.short_work h k) = Outcome.short_work (screened h) form k
+  outcome (AlikeOutcome.short_work_area h k) = Outcome.short_work_area (screened h) form k
   outcome (AlikeOutcome.short_output h k l) = Outcome.short_output (admitted h k) answers l
   outcome (AlikeOutcome.same_bytes h k l) = Outcome.answered (admitted h k) answers l
 
@@ -216,7 +216,7 @@ module _ (r : Text) (words room : ℕ) (a : Text) (sheet : Sheet) (form : IsShee
 
   by_words : length r ≤ 65536 → (b : Bool) → leb (words_needed r sheet) words ≡ b → Settled
   by_words h true e = by_room h (leb_true (words_needed r sheet) words e) (leb (length a) room) refl
-  by_words h false e = (refused (number_for ShortWorkArea), AlikeOutcome.short_work h (leb_false (words_needed r sheet) words e))
+  by_words h false e = (refused (number_for ShortWorkArea), AlikeOutcome.short_work_area h (leb_false (words_needed r sheet) words e))
 
   by_length : (b : Bool) → leb (length r) 65536 ≡ b → Settled
   by_length true e = by_words (leb_true (length r) 65536 e) (leb (words_needed r sheet) words) refl
