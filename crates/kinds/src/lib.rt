@@ -155,7 +155,8 @@ fn complete_of(area: &mut Area, term: Place, members: Cursor) -> Decision
     })
 }
 
-// A sheet that is admitted, by its kind. Each kind has data of its own: no table is plainer.
+// A sheet that is admitted, by its kind. Each kind has data of its own: no table is plainer. The words of the work area are free afterwards, but
+// for the cells that the decision names.
 pub fn decide(area: &mut Area, form: Form) -> Decision
     requires ready { Ready area.old }
     requires decoded { Decoded area.old.sheet.now form }

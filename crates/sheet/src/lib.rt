@@ -72,7 +72,7 @@ fn line_length(text: &[u8]) -> Option<usize>
 impl Cursor {
     // The line at the cursor, if it ends.
     #[tactic(auto, unfolding(crate::specs::Lines::line_at))]
-    pub fn line(self, sheet: &[u8]) -> Option<Read<Place>>
+    fn line(self, sheet: &[u8]) -> Option<Read<Place>>
         ensures { result ≡ line_at sheet.now self.at }
     {
         let from = self.at;

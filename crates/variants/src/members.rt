@@ -22,7 +22,7 @@ pub struct Variant {
 }
 
 // Whether a variable's cell may have a text for its name: it is not empty, and no atom's text.
-pub(crate) fn is_nameable(text: &[u8]) -> bool
+fn is_nameable(text: &[u8]) -> bool
     ensures { result ≡ nameable text.now }
 {
     !matches!(text, [] | [_, b'(', ..])
