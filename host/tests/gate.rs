@@ -69,10 +69,14 @@ fn command(folder: &Path) -> Command {
 fn gate(name: &str, changed: &[(&str, &str)]) -> (Option<i32>, Vec<String>, Vec<String>) {
     let folder = folder(name, changed);
     let output = command(&folder).output().unwrap();
-    let lines = |text: &str| text.lines().map(str::to_owned).collect();
+    let lines = |text: &str| text.lines().map(str::to_owned).collect::<Vec<String>>();
     let said = String::from_utf8(output.stdout).unwrap();
     let calls = fs::read_to_string(folder.join("calls")).unwrap();
-    (output.status.code(), lines(&said), lines(&calls))
+    // made where there is clang
+    let calls = lines(&calls)
+        .into_iter()
+        .filter(|call: &String| !call.contains("host/fuzz/Cargo.toml --target"));
+    (output.status.code(), lines(&said), calls.collect())
 }
 
 #[test]
