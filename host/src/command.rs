@@ -2,7 +2,8 @@
 use std::{collections::BTreeSet, fs, path::PathBuf, process::ExitCode};
 
 use crate::{
-    bench, deep, deepest, definitions,
+    bench, deep, deepest, definitions, documents,
+    edits::{self, Edit},
     generate::{self, Size},
     hostile,
     kinds::{self, KINDS, Kind},
@@ -33,6 +34,8 @@ host: the reference of the call, generated sheets and the stored list
                                         of these kinds, and how they grow; --long asks the Rust
                                         what takes it over 10 seconds, --write puts the tables
                                         into FILE, between its marks
+  host refused CRATE..                  write what the prover's logs say of the must-fail edits of
+                                        these crates (host/try-edits calls it)
   host definitions [--count N] [--seed S] [--chunk K] --out FILE
                                         write rows for the definitions, K rows to a theorem
   host --help                           this text
@@ -250,6 +253,33 @@ fn benched(words: &[String]) -> Outcome {
     })
 }
 
+// What is refused of the edits of these crates, by the logs of `host/try-edits`.
+fn write_refused(names: &[String]) -> Outcome {
+    let logs = documents::file("target/must-fail");
+    let log_of = |edit: &Edit| {
+        let file = logs
+            .join(&edit.crate_name)
+            .join(format!("{}.log", edit.label));
+        fs::read_to_string(file).unwrap_or_default()
+    };
+    let mut others = Vec::new();
+    for name in names {
+        match edits::refused(name, log_of) {
+            Ok(text) => {
+                fs::write(edits::refused_file(name), text).map_err(|error| error.to_string())?;
+            }
+            Err(found) => others.extend(found),
+        }
+    }
+    if others.is_empty() {
+        return Ok(ExitCode::SUCCESS);
+    }
+    Err(format!(
+        "not refused by a goal of their own: {}",
+        others.join(", ")
+    ))
+}
+
 fn write_definitions(words: &[String]) -> Outcome {
     let allowed = ["--count", "--seed", "--chunk", "--out"];
     let options = options(words, &allowed, 1_200)?;
@@ -285,6 +315,7 @@ pub fn run(words: &[String]) -> Outcome {
         ("seeds", rest) => seeds(rest),
         ("deepest", rest) => write_deepest(rest),
         ("definitions", rest) => write_definitions(rest),
+        ("refused", names) => write_refused(names),
         (name, _) => Err(format!("unknown subcommand '{name}'; see host --help")),
     }
 }

@@ -1,5 +1,5 @@
-// The must-fail edits: each names what it does wrong and the function that is refused for it, and the
-// prover's logs of the last `host/try-edits` tell that this function's own proof failed.
+// The must-fail edits: each names what it does wrong and the function that is refused for it, and beside
+// them stands, for the crate's text as it is, which goal of that function's own proof failed.
 use std::{collections::BTreeSet, fs};
 
 use host::{
@@ -37,24 +37,43 @@ fn the_wrong_programs_of_a_crate_have_names_of_their_own() {
 
 #[test]
 fn each_wrong_program_is_refused_by_its_own_proof() {
-    let logs = documents::file("target/must-fail");
-    let mut others = Vec::new();
-    for edit in all() {
-        let log = logs
-            .join(&edit.crate_name)
-            .join(format!("{}.log", edit.label));
-        let Ok(log) = fs::read_to_string(&log) else {
-            println!("no log of {}/{}: not tried", edit.crate_name, edit.label);
+    let mut stale = Vec::new();
+    for name in documents::crates() {
+        let file = edits::refused_file(&name);
+        if edits::of(&name).is_empty() {
+            assert!(!file.exists(), "{name} has no edits");
             continue;
-        };
-        for wrong in &edit.wrongs {
-            if !edits::refused_by_itself(&log, &edit.crate_name, &wrong.refused) {
-                let place = format!("{}/{}", edit.crate_name, edit.label);
-                others.push(format!("{place}: {}: {}", wrong.name, wrong.refused));
-            }
+        }
+        let text = fs::read_to_string(&file).unwrap_or_default();
+        if let Some(why) = edits::misfit(&name, &text) {
+            stale.push(format!("{name}: {why}"));
         }
     }
-    assert!(others.is_empty(), "not refused by itself: {others:#?}");
+    assert!(stale.is_empty(), "run host/try-edits for these: {stale:#?}");
+}
+
+#[test]
+fn a_record_of_another_text_or_with_other_rows_does_not_fit() {
+    let name = "text";
+    let log = |edit: &Edit| {
+        let lines = edit.wrongs.iter().map(|wrong| {
+            let path = wrong.refused.replace("::", "/");
+            format!("./proofs/{path}/Answers.antt:1:1: error: `returns`: no\n")
+        });
+        lines.collect::<String>()
+    };
+    let text = edits::refused(name, log).unwrap();
+    assert_eq!(edits::misfit(name, &text), None);
+    let rows: Vec<&str> = text.lines().collect();
+    let all_but_last = rows[..rows.len() - 1].join("\n") + "\n";
+    let swapped = text.replacen("| first |", "| second |", 1);
+    let no_goal = text.replacen("`returns`", "``", 1);
+    let (before, after) = text.split_once("sum is ").unwrap();
+    let other_sum = format!("{before}sum is {:016x}{}", 7, &after[16..]);
+    for text in ["", &all_but_last, &swapped, &no_goal, &other_sum] {
+        assert!(edits::misfit(name, text).is_some(), "{text}");
+    }
+    assert!(edits::refused(name, |_| String::new()).is_err());
 }
 
 #[test]
@@ -74,10 +93,10 @@ fn a_caller_of_a_wrong_function_is_not_refused_by_itself() {
         note: src/lib.rt:50:1: it is not proved that an index is in range (`index-x`)\n\
         fn c::n: not proved; it calls `c::k`, which is not proved\n";
     for function in ["m::f", "m::own", "k", "n"] {
-        assert!(edits::refused_by_itself(log, "c", function), "{function}");
+        assert!(edits::own_goal(log, "c", function).is_some(), "{function}");
     }
     for function in ["l", "f", "m::e", "m::g", "m::h", "m::i", "i", "own"] {
-        assert!(!edits::refused_by_itself(log, "c", function), "{function}");
+        assert!(edits::own_goal(log, "c", function).is_none(), "{function}");
     }
 }
 
@@ -94,8 +113,8 @@ fn a_proof_that_no_longer_fits_the_code_shows_no_refusal() {
     let at = "./proofs/f/Answers.antt:5:2: error: ";
     for misfit in misfits {
         let log = format!("{at}{misfit}\n{note}");
-        assert!(!edits::refused_by_itself(&log, "c", "f"), "{misfit}");
+        assert!(edits::own_goal(&log, "c", "f").is_none(), "{misfit}");
         let log = format!("{at}{misfit}\n{at}`index-x`: no\n{note}");
-        assert!(edits::refused_by_itself(&log, "c", "f"), "{misfit}");
+        assert!(edits::own_goal(&log, "c", "f").is_some(), "{misfit}");
     }
 }

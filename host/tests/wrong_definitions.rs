@@ -1,4 +1,4 @@
-// The script `wrong-definitions/run` on small crates, with a stub in place of rt: what it keeps of the
+// The script `wrong-definitions/run` on small crates, with a stub in place of the prover: what it keeps of the
 // laws, and each way in which a wrong definition is not noticed.
 #[allow(dead_code)]
 mod shared;
@@ -7,15 +7,14 @@ use std::{env, fs, os::unix::fs::PermissionsExt, path::Path, process::Command};
 
 // A law holds where the definitions have `value = 1`, but for those that say nothing of it. `rests` is not checked where the
 // definitions have `rests` or `counted`: it is named, or only counted, and then named at a file that cites it.
-const RT: &str = r#"#!/bin/sh
-crate=${PWD##*/}
+const RATTLE: &str = r#"#!/bin/sh
 cd ../.. || exit 2
 definitions=crates/rules/specs/Lib.antt
-case $1-$crate in
-lib-rules) ! grep -q broken $definitions ;;
-check-laws)
+case $* in
+"check --crate-name laws "*)
+    if grep -q broken $definitions; then echo '../rules/specs/Lib.antt:2:1: error: no definition'; exit 1; fi
     find crates/laws/proofs -type f | sort >>"$SEEN"
-    for used in $(grep -rhoE '^use Rattle\.laws\.proofs\.[A-Za-z.]*' crates/laws/proofs | sed 's/.*proofs\.//; s/\.$//; s|\.|/|g'); do
+    for used in $(grep -rhoE '^(pub )?use Rattle\.laws\.proofs\.[A-Za-z.]*' crates/laws/proofs | sed 's/.*proofs\.//; s/\.$//; s|\.|/|g'); do
         [ -e "crates/laws/proofs/$used.antt" ] || { echo "error: no module $used"; exit 1; }
     done
     grep -q 'value = 1' $definitions && exit
@@ -52,7 +51,7 @@ const FILES: [(&str, &str); 10] = [
     ("crates/laws/proofs/Solving.antt", "pub mod Means\n"),
     (
         "crates/laws/proofs/Solving/Means.antt",
-        "use Rattle.laws.proofs.Basics.Tests.{helper}\n\n  pub means : value\n  silent : nothing\n  pub rests : means\n",
+        "pub use Rattle.laws.proofs.Basics.Tests.{helper}\n\n  pub means : value\n  silent : nothing\n  pub rests : means\n",
     ),
     (
         "crates/laws/proofs/Other.antt",
@@ -81,7 +80,8 @@ fn tried(name: &str, patch: &str) -> (Option<i32>, Vec<String>, Vec<String>) {
     let run = fs::read_to_string(run).unwrap();
     write(&folder.join("wrong-definitions/run"), &run);
     write(&folder.join("wrong-definitions/one.patch"), patch);
-    write(&folder.join("bin/rt"), RT);
+    write(&folder.join("bin/rt"), "#!/bin/sh\nexit 2\n");
+    write(&folder.join("bin/rattle"), RATTLE);
     let path = env::var("PATH").unwrap();
     let mut command = Command::new(folder.join("wrong-definitions/run"));
     command.env("PATH", format!("{}/bin:{path}", folder.display()));
@@ -164,7 +164,7 @@ fn what_is_not_noticed_fails() {
         (
             "broken",
             wrong("means lost"),
-            "Other.antt: FAILED: what it needs of crates/laws is not proved, with no error put in",
+            "FAILED: what the laws need of crates/laws is not proved, with no error put in",
         ),
     ] {
         let (status, said, _) = tried(name, &patch);

@@ -12,12 +12,13 @@ use Rattle.rules.specs.Bytes.{Text, same}
 use Rattle.rules.specs.Text.{bytes, is_one_of}
 use Rattle.rules.specs.Maybe.{◌>>=◌, guard}
 use Rattle.rules.specs.Names.{letter_name}
-use Rattle.rules.specs.Tree.{Tree, variable, atom, apply, Trees, none, more, size, sizes, tamtplus}
+use Rattle.rules.specs.Tree.{Tree, apply, Trees, none, more, size, sizes, tamtplus}
 use Rattle.rules.specs.Tokens.{tokens}
 use Rattle.rules.specs.Reading.{leaf, close, single, constant_name, atom_of, nested, sum_of, read_text, parse}
 use Rattle.laws.proofs.Basics.Tests.{true_leb, false_leb, neither_left, neither_right, differ_of_ne, ne_of_differ}
 use Rattle.laws.proofs.Basics.Options.{bound}
-use Rattle.laws.proofs.Reading.SameText.{the_only, the_name}
+use Rattle.laws.proofs.Reading.Closes.{the_only, the_name}
+use Rattle.tree.proofs.Decoding.{size_pos}
 use Rattle.sheet.specs.declared.Place.{Place}
 use Rattle.syntax.specs.Next.{next_symbol}
 use Rattle.syntax.specs.declared.symbols.Symbol.{Symbol}
@@ -175,12 +176,7 @@ close_size n ts t h = go (letter_name n) (same n tamtplus) h
         let (d, f, k₂) = bound (constant_name u) _ t k₁ in
         let p : sizes ts ≡ size u + 0 = ap sizes (the_only ts u e) in
         let q : size u ≡ 1 = ap size (the_name u d f) in
-        omega (arith, size_some t)
-      where
-        size_some : (t : Tree) → 0 < size t
-        size_some (variable x) = omega arith
-        size_some (atom c d) = omega arith
-        size_some (apply f ts) = omega arith
+        omega (arith, size_pos t)
 
     sums : (ts : Trees) → sum_of ts ≡ Some t → sizes ts ≤ size t
     sums none k = absurd (none_ne_some t k)

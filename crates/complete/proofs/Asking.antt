@@ -14,7 +14,7 @@ use Rattle.rules.specs.Maybe.{every}
 use Rattle.rules.specs.Tree.{Tree, Trees, size, variable_names}
 use Rattle.rules.specs.Substitution.{Binding, Pair, instantiate, size_pairs}
 use Rattle.rules.specs.Solving.{solved, unify}
-use Rattle.rules.specs.Sheet.{Sheet, Member, asks_complete, entry_values}
+use Rattle.rules.specs.Sheet.{Sheet, Member, asks_complete, words_needed, entry_values}
 use Rattle.rules.specs.Cover.{variables}
 use Rattle.rules.specs.Names.{variable_token}
 use Rattle.rules.specs.Variants.{Variant, read_member, schemes_from, scheme_count}
@@ -141,6 +141,7 @@ module _ {s : Text} {w : List ℕ} {free term named at : ℕ} (k : CompleteInput
     -- the room after the run, with a match that weighs so much
     words_left : (t keys weigh : ℕ) → count_of 58 k.text + keys ≤ count_of 58 s → size tree + t < length s → weigh ≤ t + 4095 * keys + 4095
         → Room v (top + 4098 + 2 * length (variables tree []) + weigh + 2 * length s)
+    unfolding words_needed
     words_left t keys weigh c b h =
         match_room (length s) (count_of 58 s) (count_of 40 k.text) (top + 4098 + 2 * length (variables tree []) + weigh + 2 * length s) (length v)
         (match_words (length s) (count_of 58 s) t keys weigh (size tree) (length (variables tree [])) (count_of 58 k.text) (count_of 40 k.text) (sites tree) nodes (fuel_for nodes named) top

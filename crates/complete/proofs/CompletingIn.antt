@@ -1,22 +1,20 @@
 -- The term's variables, the fresh ones and the members in an area, and what judging the schemes over them says.
 use Prim.Native.Nat.{ℕ, ◌+◌, ◌*◌, ◌<◌, ◌≤◌}
 use mathlib.Core.Path.{◌≡◌, refl, sym, ap, subst, ◌∙◌}
-use mathlib.Core.Bool.{Bool, true, false, cond}
+use mathlib.Core.Bool.{Bool, true}
 use mathlib.Core.List.{[], reverse}
 use Rattle.std.specs.Prelude.{Option, Some, None}
-use Rattle.laws.proofs.Basics.Somes.{some_injective, none_ne_some}
-use lib.Dec.{leb}
+use Rattle.laws.proofs.Basics.Somes.{some_injective}
 use lib.ListN.{length}
 use native.Mathlib.Omega.{arith}
 use Rattle.rules.specs.Bytes.{Text}
 use Rattle.rules.specs.Names.{variable_token}
 use Rattle.rules.specs.Tree.{Tree, size, variable}
-use Rattle.rules.specs.Sheet.{asks_complete}
+use Rattle.rules.specs.Sheet.{asks_complete, words_needed}
 use Rattle.rules.specs.Cover.{variables}
 use Rattle.rules.specs.Variants.{fresh_base, fresh_from, scheme_count, complete}
 use Rattle.laws.specs.Schemes.{pending, judged_from}
 use Rattle.laws.specs.Memory.{sheet_texts}
-use Rattle.laws.proofs.Basics.Tests.{leb_true, leb_false}
 use Rattle.laws.proofs.Reading.Builds.{builds}
 use Rattle.laws.proofs.Sheets.SheetParts.{sheet_parts}
 use Rattle.laws.proofs.Variants.OnePass.{complete_unread, complete_unindexed, complete_over}
@@ -40,27 +38,11 @@ use Rattle.fresh.specs.Fresh.{chosen_in}
 use Rattle.fresh.specs.Areas.{TermNamesIn, WritesFreshIn}
 use Rattle.fresh.specs.declared.naming.Named.{Named}
 use Rattle.fresh.proofs.Finding.{part_is_spelled}
+use Rattle.schemes.proofs.Numbering.{past, within}
 use Rattle.complete.specs.Judging.{Judgeable}
 use Rattle.complete.specs.Areas.{Asks, CanJudgeAllIn, JudgesAllIn, CompleteInputIn, ClaimsCompleteIn}
 use Rattle.complete.specs.declared.judging.Question.{Question}
 use Rattle.complete.proofs.Asking.{asked_small, asked_names, asked_tokens, asked_bytes, asked_colons, asked_judgeable}
-
--- the count of schemes
-counted_some : (n c : ℕ) → Some c ≡ counted_in n → (c ≡ n) × (c ≤ 4096)
-unfolding counted_in
-counted_some n c e = go (leb n 4096) refl e
-  where
-    go : (b : Bool) → leb n 4096 ≡ b → Some c ≡ cond b (Some n) None → (c ≡ n) × (c ≤ 4096)
-    go true f e = let q = some_injective c n e in (q, omega (arith, q, leb_true n 4096 f))
-    go false f e = absurd (none_ne_some c (sym e))
-
-counted_over : (n : ℕ) → None ≡ counted_in n → 4096 < n
-unfolding counted_in
-counted_over n e = go (leb n 4096) refl e
-  where
-    go : (b : Bool) → leb n 4096 ≡ b → None ≡ cond b (Some n) None → 4096 < n
-    go true f e = absurd (none_ne_some n e)
-    go false f e = omega (arith, leb_false n 4096 f)
 
 module _ (a : Area) {term named at : ℕ} (k : CompleteInputIn a term named at) where
   abbrev tree : Tree
@@ -89,12 +71,13 @@ module _ (a : Area) {term named at : ℕ} (k : CompleteInputIn a term named at) 
 
     -- there are too many schemes
     pub over_claims : None ≡ counted_in (scheme_count (tree_in b term)) → ClaimsCompleteIn a b term at None
-    over_claims e = claims None (sym (complete_over tree k.members (omega (arith, counted_over (scheme_count (tree_in b term)) e, ap scheme_count term_now)))) n.grows
+    over_claims e = claims None (sym (complete_over tree k.members (omega (arith, past (scheme_count (tree_in b term)) e, ap scheme_count term_now)))) n.grows
 
     pub count_now : (c : ℕ) → Some c ≡ counted_in (scheme_count (tree_in b term)) → (c ≡ scheme_count tree) × (c ≤ 4096)
-    count_now c e = let r = counted_some (scheme_count (tree_in b term)) c e in (r.0 ∙ ap scheme_count term_now, r.1)
+    count_now c e = let r = within (scheme_count (tree_in b term)) c e in (r.0 ∙ ap scheme_count term_now, omega (arith, r.0, r.1))
 
     pub fresh_room : HasRoom b 24
+    unfolding words_needed
     fresh_room =
         let x = asked_names k in
         let c = asked_colons k in
@@ -108,6 +91,7 @@ module _ (a : Area) {term named at : ℕ} (k : CompleteInputIn a term named at) 
       same_length = ap (λ s. length s.now) to_fresh.lent.sheet
 
       pub members_room : TextsRoom d.sheet.now d.work.now d.free at
+      unfolding words_needed
       members_room =
           let x = asked_names k in
           let c = asked_colons k in

@@ -20,13 +20,15 @@ use Rattle.substitution.specs.Areas.{bindings_in}
 use Rattle.reduction.specs.Areas.{InstanceRoom}
 use Rattle.schemes.specs.Areas.{FreshIn, SystemIn}
 use Rattle.schemes.specs.declared.systems.System.{System}
-use Rattle.elimination.specs.Stack.{Whole, FitPairs}
+use Rattle.elimination.specs.Stack.{FitPairs}
 use Rattle.elimination.specs.Area.{Room}
 use Rattle.elimination.proofs.Tops.{pairs_are, whole_are}
 use Rattle.rules.specs.declared.Ending.TheVariants.{Failed, Unsupported}
 use Rattle.substitution.specs.Answers.{verdict_in}
 use Rattle.substitution.specs.declared.answer.Answer.{Answer as Answered}
-use Rattle.unifier.specs.Areas.{stack_in, NamesFew, spared_end, AnswersIn, EndsIn}
+use Rattle.elimination.specs.Areas.{pairs_in}
+use Rattle.elimination.specs.Fronts.{StackIn}
+use Rattle.unifier.specs.Areas.{NamesFew, spared_end, AnswersIn, EndsIn}
 use Rattle.variables.specs.Areas.{names_in}
 use Rattle.families.specs.Generalizing.{AllMatched}
 use Rattle.families.specs.Areas.{variants_in}
@@ -47,7 +49,7 @@ module _ {a b : Area} {q : Question} {i : ℕ} (asks : Asks a q) (k : CanJudgeIn
   abbrev ps : List Pair
   ps = system_of k.name (tree_in a q.schemes.term) i
 
-  pairs : stack_in b c.stack ≡ ps
+  pairs : pairs_in b c.stack ≡ ps
   pairs = pairs_are ps its.stack.trees
 
   system_nodes : sizes (trees_in b c.stack) ≡ size_pairs ps
@@ -56,7 +58,7 @@ module _ {a b : Area} {q : Question} {i : ℕ} (asks : Asks a q) (k : CanJudgeIn
   pub stack_inside : (c.stack < b.free) × (sizes (trees_in b c.stack) < 2 ^ 64)
   stack_inside = let r = k.scheme.room in (its.stack.inside, omega (arith, r.1, system_nodes))
 
-  pub run_stack : (c.stack < b.free) × Whole (trees_in b c.stack) × FitPairs (stack_in b c.stack)
+  pub run_stack : StackIn b c.stack
   run_stack = (its.stack.inside, whole_are ps its.stack.trees, subst FitPairs (sym pairs) k.scheme.fit)
 
   module _ (nodes fuel : ℕ) (n : nodes ≡ sizes (trees_in b c.stack)) where
@@ -73,7 +75,7 @@ module _ {a b : Area} {q : Question} {i : ℕ} (asks : Asks a q) (k : CanJudgeIn
       pub fuel_most : fuel ≤ 65536
       fuel_most = omega (arith, d, (fuel_few nodes q.named).0)
 
-      pub run_counts : (nodes ≡ sizes (trees_in b c.stack)) × NamesFew q.named (stack_in b c.stack)
+      pub run_counts : (nodes ≡ sizes (trees_in b c.stack)) × NamesFew q.named (pairs_in b c.stack)
       run_counts = (n, record { names = k.scheme.names; over = subst (OverPairs k.scheme.names) (sym pairs) k.scheme.over; few = k.scheme.few })
 
       end_few : spared_end b.free nodes fuel q.named ≤ solved_end k.name a.free (tree_in a q.schemes.term) q.named i
@@ -82,7 +84,7 @@ module _ {a b : Area} {q : Question} {i : ℕ} (asks : Asks a q) (k : CanJudgeIn
       pub run_room : Room b.work.now (spared_end b.free nodes fuel q.named)
       run_room = let r = k.scheme.room in (omega (arith, r.0, end_few, grows_length its.grows), omega (arith, r.1, end_few))
 
-      module _ {e : Area} {r : Answered} (g : AnswersIn b e (unify fuel (stack_in b c.stack)) r) where
+      module _ {e : Area} {r : Answered} (g : AnswersIn b e (unify fuel (pairs_in b c.stack)) r) where
         all_grows : Grows a e
         all_grows = grows_then its.grows g.grows
 

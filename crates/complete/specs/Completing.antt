@@ -3,7 +3,7 @@ use Rattle.std.specs.Prelude.{ℕ, ◌+◌, ◌*◌, ◌≤◌, ◌≡◌, List,
 use Rattle.std.specs.Prelude.{Some}
 use Rattle.rules.specs.Bytes.{Text}
 use Rattle.rules.specs.Text.{count_of}
-use Rattle.rules.specs.Sheet.{Member, asks_complete, read_sheet}
+use Rattle.rules.specs.Sheet.{Member, asks_complete, read_sheet, words_needed}
 use Rattle.rules.specs.Reading.{parse}
 use Rattle.tree.specs.Cells.{tree_at}
 use Rattle.forms.specs.Members.{members_at}
@@ -20,4 +20,4 @@ pub record CompleteInput (s : Text) (w : List ℕ) (free term named at : ℕ) : 
   pub inside : at ≤ length s
   pub used : free ≤ 1 + 2 * at
   pub named_is : named ≡ count_of 58 text + 2 * count_of 40 text
-  pub words : 65536 * (count_of 58 s + 2 * count_of 40 text + 16) + 16 * length s ≤ length w
+  pub words : words_needed s (asks_complete text members) ≤ length w

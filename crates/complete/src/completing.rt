@@ -14,6 +14,7 @@ use tree::area::Area;
 
 // Whether the members from a cursor on are complete for the tree of cell term; no claim where a text is unreadable, a variable has no
 // index, there are over 4,096 schemes or one of them is not supported. `named` is how many names a scheme has at most.
+#[tactic(auto, unfolding(rules::specs::Sheet::words_needed))]
 pub fn complete(area: &mut Area, term: usize, named: usize, members: Cursor) -> Option<bool>
     requires term { CellIn area.old term × CompleteInputIn area.old term named members.at }
     ensures { ClaimsCompleteIn area.old area.new term members.at result }

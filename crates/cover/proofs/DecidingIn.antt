@@ -1,5 +1,5 @@
 -- Whether a member covers, from the match of its pairs in an area; and the loop over all members.
-use Prim.Native.Nat.{ℕ, ◌+◌, ◌*◌, ◌<◌, ◌≤◌}
+use Prim.Native.Nat.{ℕ, ◌<◌, ◌≤◌}
 use mathlib.Core.Path.{◌≡◌, refl, sym, ap, subst, ◌∙◌}
 use mathlib.Core.Bool.{Bool, true, false, not}
 use mathlib.Core.List.{List, Memᴰ}
@@ -28,12 +28,13 @@ use Rattle.forms.specs.Members.{members_at, EntriesFrom, EntriesThen}
 use Rattle.forms.specs.Form.{text_of}
 use Rattle.forms.proofs.WalkLaws.{FirstMember, member_end, member_next, members_later}
 use Rattle.unifier.specs.Matched.{Matched}
-use Rattle.unifier.specs.Areas.{stack_in, AnswersIn}
+use Rattle.elimination.specs.Areas.{pairs_in}
+use Rattle.unifier.specs.Areas.{AnswersIn}
 use Rattle.matching.proofs.Matches.{has_failed, match_says}
 use Rattle.substitution.specs.declared.answer.Answer.{Answer}
 use Rattle.variables.specs.Areas.{names_in, SolutionIn}
 use Rattle.variables.specs.declared.pairing.Solution.{Solution}
-use Rattle.values.specs.Areas.{MemberPairedIn, PairsUpMemberIn}
+use Rattle.values.specs.Areas.{MemberPairedIn, PairsUpMemberIn, PairsRoomIn}
 use Rattle.values.proofs.CoverLaws.{covers_read, covers_unread}
 use Rattle.cover.specs.Covering.{PairsOf}
 use Rattle.cover.specs.Areas.{member_end_in, MatchableIn, PassesMemberIn}
@@ -50,7 +51,7 @@ module _ {a d : Area} {s : Solution} {at : ℕ} {p : Read ℕ} (h : MemberPaired
   pub used_most : d.free ≤ member_end_in a s.names at
   used_most = let l = h.low in let g = h.high in omega (arith, h.used)
 
-  module _ {m : Area} {x : Answer} (short : length a.sheet.now ≤ 65536) (y : AnswersIn d m (matcher (length d.sheet.now) (stack_in d p.value)) x) where
+  module _ {m : Area} {x : Answer} (short : length a.sheet.now ≤ 65536) (y : AnswersIn d m (matcher (length d.sheet.now) (pairs_in d p.value)) x) where
     covers_as : (t : Text) (es : List Entry) → EntriesFrom a.sheet.now at es → {r : Bool} → covering h.ps ≡ r → covers (names_in a s.names) (bindings_in a s.bindings) (t, es) ≡ r
     covers_as t es f e = covers_read t es (bindings_in a s.bindings) (names_in a s.names) h.ps (h.are t es f) ∙ e
 
@@ -86,12 +87,11 @@ module _ {a b : Area} {s : Solution} (keeps : KeepsCells a b) (o : SolutionIn a 
   same_now : length b.sheet.now ≡ length a.sheet.now
   same_now = ap (λ t. length t.now) keeps.lent.sheet
 
-  pub here_room : 4 * a.free + 11 * length a.sheet.now + 9 + 8 * count (trees_in a s.names) ≤ length a.work.now → a.free + 2 * length a.sheet.now + 2 + 2 * count (trees_in a s.names) < 4294967296
-      → (4 * b.free + 11 * length b.sheet.now + 9 + 8 * count (trees_in b s.names) ≤ length b.work.now) × (b.free + 2 * length b.sheet.now + 2 + 2 * count (trees_in b s.names) < 4294967296)
-  here_room g h =
+  pub here_room : PairsRoomIn a s.names → PairsRoomIn b s.names
+  here_room w =
       let c = ap count names_now in
       let l = grows_length (grows_keeps keeps) in
-      (omega (arith, g, c, l, same_now, keeps.end), omega (arith, h, c, same_now, keeps.end))
+      (omega (arith, w.0, c, l, same_now, keeps.end), omega (arith, w.1, c, same_now, keeps.end))
 
   module _ {ms : List Member} {at c : ℕ} (h : DecidingIn a s ms at c) where
     abbrev xs : List Text

@@ -10,7 +10,7 @@ use Rattle.text.specs.Places.{text_at}
 use Rattle.tree.specs.declared.area.Area.{Area}
 use Rattle.tree.specs.Areas.{trees_in}
 use Rattle.elimination.specs.Stack.{Whole}
-use Rattle.unifier.specs.Areas.{stack_in}
+use Rattle.elimination.specs.Areas.{pairs_in}
 use Rattle.variables.specs.Ordered.{ordered_once}
 use Rattle.variables.proofs.Gathered.{gathered_variables, gathered_grows, gathered_names, gathered_used}
 use Rattle.variables.specs.Areas.{GathersIn, ListsVariablesIn}
@@ -26,6 +26,6 @@ names_made {a} {d} {b} {stack} {i} o few room whole h =
     record {
       grows = gathered_grows o few room h;
       names = record { inside = h.lists.inside; variables = v };
-      are = gathered_names o few room h ∙ ap (λ (ts : Trees). ordered_once (variable_names_in ts)) (sym whole) ∙ sym (variables_ordered (stack_in a stack));
+      are = gathered_names o few room h ∙ ap (λ (ts : Trees). ordered_once (variable_names_in ts)) (sym whole) ∙ sym (variables_ordered (pairs_in a stack));
       used = omega (arith, gathered_used o few room h, names_count b.sheet.now b.work.now i v);
     }

@@ -17,7 +17,7 @@ use Rattle.rules.specs.Tidy.{Builts, nil, both}
 use Rattle.rules.specs.Substitution.{Binding, Pair, size_pairs, flatten}
 use Rattle.rules.specs.Solving.{solved, unify}
 use Rattle.laws.specs.Memory.{OverPairs, weight, pattern_nodes, side_texts, entry_keys, sheet_texts}
-use Rattle.rules.specs.Sheet.{Entry, Member, Sheet, asks_cover, member_texts, entry_values}
+use Rattle.rules.specs.Sheet.{Entry, Member, Sheet, asks_cover, words_needed, member_texts, entry_values}
 use Rattle.rules.specs.Answer.{read_pairs}
 use Rattle.rules.specs.Cover.{variables_of, pair_at}
 use Rattle.rules.specs.Families.{Against, nil as no_more, next}
@@ -147,6 +147,7 @@ module _ {s : Text} {w : List ℕ} {free stack at : ℕ} (k : CoverInput s w fre
   pub asked_matched : (bs : List Binding) → (unify 65536 ps).0 ≡ solved bs → (top : ℕ) → top ≤ run_end at (length (variables_of ps)) (size_pairs ps) (count_of 58 s)
       → {v : List ℕ} → length v ≡ length w → (n : ℕ) → n ≡ top + 2 * (length s - at) + 2 * length (variables_of ps)
       → (m : Member) → Memᴰ m k.members → (qs : List Pair) → every (map (pair_at bs m) (variables_of ps)) ≡ Some qs → Matched s v n qs
+  unfolding words_needed
   asked_matched bs e top u {v} z n f m l qs d =
       let r = cover_room s k.entries k.members k.reads ps k.pairs 65536 bs e m l qs d in
       let x = length (variables_of ps) in

@@ -15,7 +15,7 @@ use Rattle.rules.specs.Substitution.{Pair, size_pairs}
 use Rattle.rules.specs.Solving.{solved, failed, unsupported, Answer, unify}
 use Rattle.laws.specs.Memory.{OverPairs}
 use Rattle.rules.specs.Cover.{variables_of, pair_at, any_covers}
-use Rattle.rules.specs.Sheet.{Member}
+use Rattle.rules.specs.Sheet.{Member, words_needed}
 use Rattle.tree.specs.declared.area.Area.{Area}
 use Rattle.tree.specs.Areas.{trees_in, Grows}
 use Rattle.tree.proofs.Keeping.{grows_then, grows_length, grows_trees}
@@ -25,12 +25,15 @@ use Rattle.elimination.specs.Stack.{pairs_of, Whole, FitPairs}
 use Rattle.elimination.specs.Area.{Room}
 use Rattle.steps.proofs.Fitting.{pairs_fit}
 use Rattle.unifier.specs.Matched.{Matched}
-use Rattle.unifier.specs.Areas.{stack_in, NamesFew, spared_end, AnswersIn, HoldsBound, EndsIn}
+use Rattle.elimination.specs.Areas.{pairs_in}
+use Rattle.elimination.specs.Fronts.{StackIn}
+use Rattle.unifier.specs.Areas.{NamesFew, spared_end, AnswersIn, HoldsBound, EndsIn}
 use Rattle.rules.specs.declared.Ending.{Ending}
 use Rattle.rules.specs.declared.Ending.TheVariants.{Failed, Unsupported}
 use Rattle.substitution.specs.Answers.{verdict_in}
 use Rattle.substitution.specs.declared.answer.Answer.{Answer as Answered}
 use Rattle.variables.specs.Areas.{names_in, SolutionIn}
+use Rattle.values.specs.Areas.{PairsRoomIn}
 use Rattle.cover.specs.Areas.{CoverInputIn, NamesIn, AllMatchableIn, CoversAnyIn, ClaimsCoveredIn}
 use Rattle.cover.proofs.Rooms.{run_end, asked_nodes, asked_few, asked_names, asked_colons, asked_over, asked_matched}
 use Rattle.cover.proofs.Solutions.{covered_by}
@@ -42,7 +45,7 @@ ok_is (Err x) k o = cc
 
 module _ {a b : Area} {stack at names : ℕ} (p : stack < a.free) (k : CoverInputIn a stack at) (h : NamesIn a b stack names) where
   abbrev ps : List Pair
-  ps = stack_in a stack
+  ps = pairs_in a stack
 
   stack_kept : trees_in b stack ≡ trees_in a stack
   stack_kept = grows_trees h.grows stack p
@@ -56,7 +59,7 @@ module _ {a b : Area} {stack at names : ℕ} (p : stack < a.free) (k : CoverInpu
   pub nodes_inside : (stack < b.free) × (sizes (trees_in b stack) < 2 ^ 64)
   nodes_inside = (omega (arith, h.used), omega (arith, ap sizes stack_kept, asked_nodes k, asked_few k, k.short))
 
-  pub run_stack : (stack < b.free) × Whole (trees_in b stack) × FitPairs (stack_in b stack)
+  pub run_stack : StackIn b stack
   run_stack = (nodes_inside.0, subst Whole (sym stack_kept) k.whole, subst (λ (ts : Trees). FitPairs (pairs_of ts)) (sym stack_kept) (pairs_fit k.entries ps k.pairs))
 
   module _ (nodes c : ℕ) (n : nodes ≡ sizes (trees_in b stack)) (d : c ≡ count_of 58 b.sheet.now) where
@@ -66,19 +69,20 @@ module _ {a b : Area} {stack at names : ℕ} (p : stack < a.free) (k : CoverInpu
     colons_are : c ≡ count_of 58 a.sheet.now
     colons_are = d ∙ colons
 
-    pub run_counts : (nodes ≡ sizes (trees_in b stack)) × NamesFew c (stack_in b stack)
+    pub run_counts : (nodes ≡ sizes (trees_in b stack)) × NamesFew c (pairs_in b stack)
     run_counts =
         let (ns, l, o) = asked_over k in
         (n, record { names = ns; over = subst (λ (ts : Trees). OverPairs ns (pairs_of ts)) (sym stack_kept) o; few = omega (arith, l, colons_are) })
 
     pub run_room : Room b.work.now (spared_end b.free nodes 65536 c)
+    unfolding words_needed
     run_room =
         let l = grows_length h.grows in (
           omega (arith, nodes_are, colons_are, l, k.words, h.used, many, asked_names k, asked_few k, k.used, k.inside),
           omega (arith, nodes_are, colons_are, h.used, many, asked_names k, asked_colons k, asked_few k, k.used, k.inside, k.short),
         )
 
-    module _ {e : Area} {r : Answered} (y : AnswersIn b e (unify 65536 (stack_in b stack)) r) where
+    module _ {e : Area} {r : Answered} (y : AnswersIn b e (unify 65536 (pairs_in b stack)) r) where
       all_grows : Grows a e
       all_grows = grows_then h.grows y.grows
 
@@ -124,7 +128,8 @@ module _ {a b : Area} {stack at names : ℕ} (p : stack < a.free) (k : CoverInpu
         same_length : length e.sheet.now ≡ length a.sheet.now
         same_length = ap (λ s. length s.now) all_grows.lent.sheet
 
-        pub all_room : (4 * e.free + 11 * length e.sheet.now + 9 + 8 * count (trees_in e names) ≤ length e.work.now) × (e.free + 2 * length e.sheet.now + 2 + 2 * count (trees_in e names) < 4294967296)
+        pub all_room : PairsRoomIn e names
+        unfolding words_needed
         all_room =
             let i = top_few in
             let j = names_many in

@@ -9,7 +9,7 @@ use Rattle.tree.specs.Areas.{trees_in, Grows}
 use Rattle.substitution.specs.Areas.{bindings_in}
 use Rattle.sheet.specs.declared.Cursor.{Cursor}
 use Rattle.forms.specs.Members.{members_at, EntriesFrom}
-use Rattle.unifier.specs.Areas.{stack_in}
+use Rattle.elimination.specs.Areas.{pairs_in}
 use Rattle.variables.specs.Areas.{names_in, VariablesIn}
 use Rattle.variables.specs.declared.pairing.Solution.{Solution}
 use Rattle.cover.specs.Covering.{Matchable, AllMatchable, Uncovered}
@@ -41,7 +41,7 @@ CoversAnyIn a b s at r = ((ms : List Member) → members_at a.sheet.now at ≡ S
 pub record NamesIn (a b : Area) (stack i : ℕ) : Type 0 where
   pub grows : Grows a b
   pub names : VariablesIn b i
-  pub are : names_in b i ≡ variables_of (stack_in a stack)
+  pub are : names_in b i ≡ variables_of (pairs_in a stack)
   pub used : b.free ≡ a.free + count (trees_in b i)
 
 -- the sheet is one of kind `cover`: its pairs are those from cell stack on, its members stand from `at` on
@@ -51,4 +51,4 @@ CoverInputIn a stack at = CoverInput a.sheet.now a.work.now a.free stack at
 -- b is a with more cells, and r says whether one of the members from `at` on covers the solution of the pairs
 pub record ClaimsCoveredIn (a b : Area) (stack at : ℕ) (r : Option Bool) : Type 0 where
   pub grows : Grows a b
-  pub claim : (ms : List Member) → members_at a.sheet.now at ≡ Some ms → r ≡ covered (stack_in a stack) ms
+  pub claim : (ms : List Member) → members_at a.sheet.now at ≡ Some ms → r ≡ covered (pairs_in a stack) ms

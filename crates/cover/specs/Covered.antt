@@ -2,8 +2,7 @@
 use Rattle.std.specs.Prelude.{ℕ, ◌+◌, ◌*◌, ◌≤◌, ◌≡◌, List, length}
 use Rattle.std.specs.Prelude.{Some}
 use Rattle.rules.specs.Bytes.{Text}
-use Rattle.rules.specs.Text.{count_of}
-use Rattle.rules.specs.Sheet.{Entry, Member, asks_cover, read_sheet}
+use Rattle.rules.specs.Sheet.{Entry, Member, asks_cover, read_sheet, words_needed}
 use Rattle.rules.specs.Answer.{read_pairs}
 use Rattle.tree.specs.Cells.{trees_at}
 use Rattle.forms.specs.Members.{members_at}
@@ -20,4 +19,4 @@ pub record CoverInput (s : Text) (w : List ℕ) (free stack at : ℕ) : Type 0 w
   pub later : members_at s at ≡ Some members
   pub inside : at ≤ length s
   pub used : free ≤ 1 + 2 * at
-  pub words : 65536 * (count_of 58 s + 16) + 16 * length s ≤ length w
+  pub words : words_needed s (asks_cover entries members) ≤ length w

@@ -29,6 +29,7 @@ fn names_of(area: &mut Area, stack: usize) -> usize
 
 // Whether one of the members from a cursor on covers the solution of the pairs from cell stack on; no claim where they are not solved. The
 // words above those that the unification needs are left for the matches.
+#[tactic(auto, unfolding(rules::specs::Sheet::words_needed))]
 pub fn covered(area: &mut Area, stack: usize, members: Cursor) -> Option<bool>
     requires stack { (stack < area.old.free) × CoverInputIn area.old stack members.at }
     ensures { ClaimsCoveredIn area.old area.new stack members.at result }

@@ -1,8 +1,7 @@
 // Whether one member covers, and whether one of the members does, over an area (unifier.rs, `Principal::covered`).
-ghost use Rattle.std.specs.Prelude.{◌+◌, ◌*◌, ◌<◌, ◌≤◌, ◌^◌, length};
-ghost use Rattle.rules.specs.Tree.{count};
-ghost use Rattle.tree.specs.Areas.{trees_in};
+ghost use Rattle.std.specs.Prelude.{◌≤◌, length};
 ghost use Rattle.variables.specs.Areas.{SolutionIn};
+ghost use Rattle.values.specs.Areas.{PairsRoomIn};
 ghost use Rattle.cover.specs.Areas.{MatchableIn, AllMatchableIn, PassesMemberIn, CoversAnyIn};
 
 use matching::matcher;
@@ -18,7 +17,7 @@ use variables::pairing::Solution;
 fn pass_member(area: &mut Area, solution: Solution, start: Cursor) -> Option<Cursor>
     requires solution { SolutionIn area.old solution }
     requires start { (start.at ≤ length area.old.sheet.now) × (length area.old.sheet.now ≤ 65536) }
-    requires room { (4 * area.old.free + 11 * length area.old.sheet.now + 9 + 8 * count (trees_in area.old solution.names) ≤ length area.old.work.now) × (area.old.free + 2 * length area.old.sheet.now + 2 + 2 * count (trees_in area.old solution.names) < 2 ^ 32) }
+    requires room { PairsRoomIn area.old solution.names }
     requires matchable { MatchableIn area.old solution start.at }
     ensures { PassesMemberIn area.old area.new solution start.at result }
 {
@@ -33,7 +32,7 @@ fn pass_member(area: &mut Area, solution: Solution, start: Cursor) -> Option<Cur
 pub(crate) fn any_covers(area: &mut Area, solution: Solution, start: Cursor) -> bool
     requires solution { SolutionIn area.old solution }
     requires start { (start.at ≤ length area.old.sheet.now) × (length area.old.sheet.now ≤ 65536) }
-    requires room { (4 * area.old.free + 11 * length area.old.sheet.now + 9 + 8 * count (trees_in area.old solution.names) ≤ length area.old.work.now) × (area.old.free + 2 * length area.old.sheet.now + 2 + 2 * count (trees_in area.old solution.names) < 2 ^ 32) }
+    requires room { PairsRoomIn area.old solution.names }
     requires matchable { AllMatchableIn area.old solution start.at }
     ensures { CoversAnyIn area.old area.new solution start.at result }
 {

@@ -5,7 +5,7 @@ use Rattle.rules.specs.Substitution.{Pair}
 use Rattle.laws.specs.Memory.{load}
 use Rattle.tree.specs.declared.area.Area.{Area}
 use Rattle.tree.specs.Areas.{name_in, tree_in, trees_in, CellIn}
-use Rattle.elimination.specs.Stack.{Whole, Fit}
+use Rattle.elimination.specs.Stack.{Whole, Fit, FitPairs}
 use Rattle.elimination.specs.Area.{Room}
 use Rattle.elimination.specs.Areas.{pairs_in}
 use Rattle.elimination.specs.declared.front.Front.{Front}
@@ -13,6 +13,10 @@ use Rattle.elimination.specs.declared.front.Front.{Front}
 -- two trees, and pairs below them
 abbrev pub FrontIn : Area → Front → Type 0
 FrontIn a f = CellIn a f.left × CellIn a f.right × (f.rest < a.free) × Whole (trees_in a f.rest)
+
+-- fit pairs and nothing else from cell k on
+abbrev pub StackIn : Area → ℕ → Type 0
+StackIn a k = (k < a.free) × Whole (trees_in a k) × FitPairs (pairs_in a k)
 
 -- the left tree is a variable
 abbrev pub KeyIn : Area → Front → Type 0

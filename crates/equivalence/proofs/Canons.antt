@@ -52,14 +52,14 @@ module _ {s : List ℕ} {t : Tree} {x y : Writer} (g : TermWritten s false t x y
       let o = length-append (p ++ a) r in
       let i = length-append (p ++ b) k in
       let lw : length y.words.now ≡ length ((p ++ a) ++ r) = ap length whole in
-      let lx = g.words.wrote.len in
+      let lx = g.words.wrote.outside.len in
       let z : y.end ≡ x.end + length b = omega arith in
       rw now (record {
         kept = record {
           len = omega arith;
           below = λ q h. get_or_append_left (p ++ b) k 0 q (omega arith) ∙ get_or_append_left p b 0 q (omega arith)
               ∙ sym (get_or_append_left (p ++ a) r 0 q (omega arith) ∙ get_or_append_left p a 0 q (omega arith))
-              ∙ ap (λ (w : List ℕ). get_or w q 0) (sym whole) ∙ g.words.wrote.below q h;
+              ∙ ap (λ (w : List ℕ). get_or w q 0) (sym whole) ∙ g.words.wrote.outside.below q h;
           above = λ q h. (
               let v : 2 * length a + (q - y.end - 2 * length a) ≡ q - y.end = omega arith in
               get_or-append_right (p ++ b) k y.end q 0 (omega arith) (omega arith)
@@ -67,7 +67,7 @@ module _ {s : List ℕ} {t : Tree} {x y : Writer} (g : TermWritten s false t x y
               ∙ ap (λ (w : List ℕ). get_or w (q - y.end - 2 * length a) 0) rest
               ∙ get_or-drop (2 * length a) r (q - y.end - 2 * length a) 0 ∙ ap (λ (i : ℕ). get_or r i 0) v
               ∙ sym (get_or-append_right (p ++ a) r y.end q 0 both (omega arith))
-              ∙ ap (λ (w : List ℕ). get_or w q 0) (sym whole) ∙ g.words.wrote.above q (omega arith));
+              ∙ ap (λ (w : List ℕ). get_or w q 0) (sym whole) ∙ g.words.wrote.outside.above q (omega arith));
         };
         low = omega arith;
         room = omega arith;

@@ -109,10 +109,10 @@ branch_sum a i p q f = ap sum_in (branch a i p q f)
 
 module _ {x y : Writer} (br : Bracket) (l m k : ℕ) (g : Appended x y (opening br l)) (room : x.end + 5 * m ≤ length x.words.now) (f : m ≡ 1 + k) where
   pub list_room : y.end + 5 * k ≤ length y.words.now
-  list_room = omega (arith, opening_short br l, g.end, g.wrote.len)
+  list_room = omega (arith, opening_short br l, g.end, g.wrote.outside.len)
 
   pub close_room : {s : Text} {z : Writer} {ts : Trees} {b : Bool} → k ≡ sizes ts → TermsWritten s b ts y z → z.end < length z.words.now
-  close_room e h = omega (arith, list_room, h.words.end, h.short, h.words.wrote.len)
+  close_room e h = omega (arith, list_room, h.words.end, h.short, h.words.wrote.outside.len)
 
   pub node_written : {s : Text} {z u : Writer} (outer : Bracket) {sum : Bool} {n : Text} {ts : Trees} → k ≡ sizes ts → Word s l → word_text s l ≡ n → sum ≡ same n tamtplus
       → TermsWritten s (of_sum br) ts y z → br ≡ bracket sum (of_sum outer) → Appended z u (closing br) → TermWritten s (of_sum outer) (apply n ts) x u
@@ -130,8 +130,8 @@ module _ {x y : Writer} (br : Bracket) (l m k : ℕ) (g : Appended x y (opening 
       let l₂ = length-append m (closing br) in
       let e₁ = w.words.end in
       let e₂ = w.short in
-      let e₃ = w.words.wrote.len in
-      let e₄ = g.wrote.len in
+      let e₃ = w.words.wrote.outside.len in
+      let e₄ = g.wrote.outside.len in
       let e₅ = opening_short br l in
       let e₆ = closing_short br in
       let e₇ = g.end in

@@ -12,6 +12,7 @@ use Rattle.rules.specs.Tree.{Tree, size}
 use Rattle.rules.specs.Sums.{equivalent}
 use Rattle.text.proofs.Slices.{slice_same, drop_take}
 use Rattle.text.specs.Frames.{Outside}
+use Rattle.text.proofs.Frames.{outside_then}
 use Rattle.runs.specs.Texts.{texts, Tokens}
 use Rattle.runs.proofs.WordTexts.{tokens_part}
 use Rattle.equivalence.specs.Words.{Canon}
@@ -56,8 +57,4 @@ module _ {s w v u : List ℕ} {l r : Tree} {mid end : ℕ} (g : Canon s w v l 0 
   texts_kept n =
       let e₁ = g.low in
       let e₂ = g.room in
-      rw n (record {
-        len = h.kept.len ∙ g.kept.len;
-        below = λ p q. h.kept.below p (omega arith) ∙ g.kept.below p q;
-        above = λ p q. h.kept.above p (omega arith) ∙ g.kept.above p (omega arith);
-      })
+      rw n (outside_then (omega arith) (omega arith) (omega arith) g.kept h.kept)

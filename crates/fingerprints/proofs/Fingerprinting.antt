@@ -1,7 +1,7 @@
 -- Fingerprints, carried on through a text byte by byte and word by word.
 use Prim.Native.Nat.{ℕ, zero, suc, ◌+◌, ◌*◌, ◌<◌, ◌%◌}
 use mathlib.Core.Path.{◌≡◌, refl, sym, ap, ◌∙◌}
-use mathlib.Core.List.{List, [], ◌∷◌, ◌++◌, append_assoc, append-nil}
+use mathlib.Core.List.{List, [], ◌∷◌, ◌++◌, append-nil}
 use lib.ListN.{length, get_or, take}
 use native.Mathlib.Omega.{arith}
 use borrow.Author.Tests.{eq-eqb, ne_eqb}
@@ -9,6 +9,7 @@ use Rattle.std.proofs.lemmas.List.{take_more}
 use Rattle.rules.specs.Text.{bytes}
 use Rattle.laws.specs.Unspelled.{zeros, zeros_name}
 use Rattle.runs.specs.Texts.{word_text, texts}
+use Rattle.runs.proofs.WordTexts.{texts_append}
 use Rattle.fingerprints.specs.Fingerprints.{mixed_byte, mixed}
 
 -- through one text after another, and through one byte more
@@ -53,11 +54,6 @@ mixed_name n h f r l e g =
     g ∙ ap (λ (z : ℕ). mixed z (bytes ":Msg")) z ∙ sym (mixed_zeros n f (bytes ":Msg") l) ∙ ap (λ (f : ℕ). mixed f (zeros n ++ bytes ":Msg")) e
 
 -- ---- the text of a run of words
-
-texts_append : (s l m : List ℕ) → texts s (l ++ m) ≡ texts s l ++ texts s m
-unfolding texts
-texts_append s [] m = refl
-texts_append s (x ∷ l) m = ap (λ (t : List ℕ). word_text s x ++ t) (texts_append s l m) ∙ sym (append_assoc (word_text s x) (texts s l) (texts s m))
 
 texts_one : (s : List ℕ) (x : ℕ) → texts s (x ∷ []) ≡ word_text s x
 unfolding texts

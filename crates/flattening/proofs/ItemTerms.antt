@@ -1,7 +1,7 @@
 -- Items read as terms: a term of items is the tree that reading gives, and the words that are written are those of the term with
 -- its sums flattened.
 use Prim.Native.Nat.{ℕ, zero, suc, ◌<◌}
-use mathlib.Core.Path.{◌≡◌, refl, sym, ap, ◌∙◌}
+use mathlib.Core.Path.{◌≡◌, refl, ap, ◌∙◌}
 use mathlib.Core.Bool.{Bool, true, false, not, ◌||◌}
 use mathlib.Core.List.{List, [], ◌∷◌, map}
 use Rattle.std.specs.Prelude.{Option, Some, None}
@@ -13,7 +13,7 @@ use Rattle.rules.specs.Maybe.{◌>>=◌, guard}
 use Rattle.rules.specs.Tree.{Tree, apply, Trees}
 use Rattle.rules.specs.Tree as T
 use Rattle.rules.specs.Reading.{leaf, as_written, after_token, read_term, read_list}
-use Rattle.laws.proofs.Basics.Tests.{differ_of_ne, ne_of_differ}
+use Rattle.laws.proofs.Solving.Keeping.{other_way}
 use Rattle.runs.specs.Texts.{word_text}
 use Rattle.flattening.specs.Terms.{Term, node, Terms, none, more}
 use Rattle.flattening.specs.Items.{Item, begin, shut, comma, name}
@@ -99,16 +99,13 @@ module _ (s : Text) where
       go false true c e = let z : ◌≡◌ {A = ℕ} 0 1 = cc in absurd (omega arith)
       go false false true e = let z : ◌≡◌ {A = ℕ} 0 1 = cc in absurd (omega arith)
 
-  mark_differs : (m x : Text) → same x m ≡ false → same m x ≡ false
-  mark_differs m x e = differ_of_ne (λ f. ne_of_differ e (sym f))
-
   after_begin : (is : List Item) → Proper s is → after_token (bytes "(") (texts_of is) ≡ opened is (λ js. Some (texts_of js)) None
   unfolding after_token same
   after_begin [] p = refl
   after_begin (begin ∷ is) p = refl
   after_begin (shut ∷ is) p = refl
   after_begin (comma ∷ is) p = refl
-  after_begin (name x ∷ is) (names h p) = rw (mark_differs (bytes "(") (word_text s x) (name_is x h).0)
+  after_begin (name x ∷ is) (names h p) = rw (other_way (word_text s x) (bytes "(") (name_is x h).0)
 
   after_comma : (is : List Item) → Proper s is → after_token (bytes ",") (texts_of is) ≡ delimited is (λ js. Some (texts_of js)) (λ js. None) None
   unfolding after_token same
@@ -116,7 +113,7 @@ module _ (s : Text) where
   after_comma (begin ∷ is) p = refl
   after_comma (shut ∷ is) p = refl
   after_comma (comma ∷ is) p = refl
-  after_comma (name x ∷ is) (names h p) = rw (mark_differs (bytes ",") (word_text s x) (name_is x h).2)
+  after_comma (name x ∷ is) (names h p) = rw (other_way (word_text s x) (bytes ",") (name_is x h).2)
 
   after_shut : (is : List Item) → Proper s is → after_token (bytes ")") (texts_of is) ≡ delimited is (λ js. None) (λ js. Some (texts_of js)) None
   unfolding after_token same
@@ -124,7 +121,7 @@ module _ (s : Text) where
   after_shut (begin ∷ is) p = refl
   after_shut (shut ∷ is) p = refl
   after_shut (comma ∷ is) p = refl
-  after_shut (name x ∷ is) (names h p) = rw (mark_differs (bytes ")") (word_text s x) (name_is x h).1)
+  after_shut (name x ∷ is) (names h p) = rw (other_way (word_text s x) (bytes ")") (name_is x h).1)
 
   -- ---- terms of names
 

@@ -15,6 +15,7 @@ use Rattle.syntax.specs.declared.symbols.Symbol.{Symbol}
 use Rattle.syntax.specs.declared.symbols.Symbol.TheVariants.{Begin, Shut, Comma, Name, Stop}
 use Rattle.syntax.proofs.Meanings.{Marks, means_is}
 use Rattle.text.specs.Frames.{Outside}
+use Rattle.text.proofs.Frames.{outside_same, outside_on}
 use Rattle.text.proofs.Slices.{slice_same, slice_join}
 use Rattle.runs.specs.Texts.{Token, Tokens}
 use Rattle.runs.specs.declared.TheConstants.{OPEN, SHUT, COMMA, PLUS}
@@ -76,8 +77,8 @@ module _ {s : Text} {text : Place} {v k : List ℕ} (area : TextRoom s text v k)
   unfolding text_words open_brackets
   writing_starts out stack e z f d =
       record {
-        kept = record { len = ap length e; below = λ p q. ap (λ (w : List ℕ). get_or w p 0) e; above = λ p q. ap (λ (w : List ℕ). get_or w p 0) e };
-        stack_kept = record { len = ap length f; below = λ p q. ap (λ (w : List ℕ). get_or w p 0) f; above = λ p q. ap (λ (w : List ℕ). get_or w p 0) f };
+        kept = rw e (outside_same v 0 (text.to - text.from));
+        stack_kept = rw f (outside_same k 0 (text.to - text.from));
         since = omega arith;
         inside = area.placed.start;
         room = omega arith;
@@ -99,14 +100,14 @@ module _ {s : Text} {text : Place} {v k : List ℕ} (area : TextRoom s text v k)
         → State out₁ stack₁ at₁ m₁
     moved h {out₁} stack₁ at₁ m₁ l g tl b a₁ i₁ r₁ d₁ ws =
         let n = g.end in
-        let f = g.wrote.len in
+        let f = g.wrote.outside.len in
         let hf = h.kept.len in
         let hs = h.since in
         let sj : take out₁.end out₁.words.now ≡ take out.end out.words.now ++ l =
         ap (λ (t : ℕ). slice 0 t out₁.words.now) n ∙ sym (slice_join 0 out.end (out.end + length l) out₁.words.now (omega arith) (omega arith) (omega arith))
-        ∙ ap₂ (λ (x y : List ℕ). x ++ y) (slice_same 0 out.end out₁.words.now out.words.now (omega arith) (omega arith) (λ p q r. g.wrote.below p r)) g.wrote.words in
+        ∙ ap₂ (λ (x y : List ℕ). x ++ y) (slice_same 0 out.end out₁.words.now out.words.now (omega arith) (omega arith) (λ p q r. g.wrote.outside.below p r)) g.wrote.words in
         record {
-          kept = record { len = f ∙ hf; below = λ p q. absurd (omega arith); above = λ p q. g.wrote.above p (omega arith) ∙ h.kept.above p q };
+          kept = outside_on (omega arith) (omega arith) h.kept g.wrote.outside;
           stack_kept = b;
           since = omega arith;
           inside = i₁;
@@ -120,7 +121,7 @@ module _ {s : Text} {text : Place} {v k : List ℕ} (area : TextRoom s text v k)
       where
         token : (p : ℕ) → p < out₁.end → Token s (get_or out₁.words.now p 0)
         token p r = elim (dec_lt p out.end) [
-          | yes i ↦ (let z = g.wrote.below p i in rw z (h.tokens p (omega arith) i))
+          | yes i ↦ (let z = g.wrote.outside.below p i in rw z (h.tokens p (omega arith) i))
           | no i ↦ (
               let n = g.end in
               let z : out.end + (p - out.end) ≡ p = omega arith in
@@ -193,7 +194,7 @@ module _ {s : Text} {text : Place} {v k : List ℕ} (area : TextRoom s text v k)
         let hs = h.since in
         let hr = h.room in
         moved h stack₁ u wanting (opening b x) o.words (opening_tokens s b x (word_token h n.0 n.2))
-        (record { len = o.opens.len ∙ h.stack_kept.len; below = λ p q. absurd (omega arith); above = λ p q. o.opens.above p (omega arith) ∙ h.stack_kept.above p q })
+        (outside_on (omega arith) (omega arith) h.stack_kept o.opens.outside)
         (omega arith) (omega arith) (omega arith) (omega arith)
         (ap (λ (o : Option (List Item)). writes s o wanting cs) (items_is read at e₁ (Some (Name p)) refl)
         ∙ name_on s x (ahead p.to) cs

@@ -2,7 +2,7 @@
 use Prim.Native.Nat.{ℕ, zero, suc, ◌+◌, ◌-◌, ◌<◌, ◌≤◌}
 use mathlib.Core.Path.{◌≡◌, refl, sym, ap, ap₂, ◌∙◌}
 use mathlib.Core.List.{List, ◌∷◌, ◌++◌}
-use lib.ListN.{length, get_or, take, drop, set, length-append, length-set}
+use lib.ListN.{length, get_or, take, drop, set, length-append}
 use lib.Seq.{slice, get_or-set_same, get_or-set_other}
 use native.Mathlib.Omega.{arith}
 use native.Mathlib.Numerals.{add-one}
@@ -10,8 +10,9 @@ use Rattle.rules.specs.Bytes.{Text, same}
 use Rattle.sheet.specs.declared.Place.{Place}
 use Rattle.sheet.specs.Places.{word_of}
 use Rattle.rules.specs.Tree.{tamtplus}
-use Rattle.text.specs.Sorting.{Wrote}
+use Rattle.text.specs.Frames.{Wrote}
 use Rattle.text.proofs.Slices.{slice_same, slice_join}
+use Rattle.text.proofs.Frames.{outside_same, outside_then, outside_set}
 use Rattle.flattening.specs.Items.{adds, opening, bracket_at, closing, last_open}
 use Rattle.flattening.specs.declared.brackets.Bracket.{Bracket}
 use Rattle.flattening.specs.declared.brackets.Bracket.TheVariants.{Plain, Sum, Inner}
@@ -37,14 +38,12 @@ closing_short Inner = omega arith
 pub wrote_append : {w v u l m : List ℕ} {to at : ℕ} → Wrote w v to l → Wrote v u at m → at ≡ to + length l → at + length m ≤ length w → Wrote w u to (l ++ m)
 wrote_append {w} {v} {u} {l} {m} {to} {at} g h e room =
     let n = length-append l m in
-    let a = g.len in
-    let b = h.len in
-    let z : slice to at u ≡ l = slice_same to at u v (omega arith) (omega arith) (λ p x y. h.below p y) ∙ ap (λ (t : ℕ). slice to t v) e ∙ g.words in
+    let a = g.outside.len in
+    let b = h.outside.len in
+    let z : slice to at u ≡ l = slice_same to at u v (omega arith) (omega arith) (λ p x y. h.outside.below p y) ∙ ap (λ (t : ℕ). slice to t v) e ∙ g.words in
     let f : to + length (l ++ m) ≡ at + length m = omega arith in
     record {
-      len = b ∙ a;
-      below = λ p q. h.below p (omega arith) ∙ g.below p q;
-      above = λ p q. h.above p (omega arith) ∙ g.above p (omega arith);
+      outside = outside_then (omega arith) (omega arith) (omega arith) g.outside h.outside;
       words = ap (λ (t : ℕ). slice to t u) f ∙ sym (slice_join to at (at + length m) u (omega arith) (omega arith) (omega arith)) ∙ ap₂ (λ (x y : List ℕ). x ++ y) z h.words;
     }
 
@@ -81,8 +80,7 @@ pushed k m n c room l e d f =
     let x = set w k.depth n in
     record {
       lent = l;
-      len = ap length e ∙ length-set w k.depth n;
-      above = λ p q. ap (λ (y : List ℕ). get_or y p 0) e ∙ get_or-set_other w k.depth p n 0 (λ z. omega arith);
+      outside = rw e (outside_set k.depth n (omega arith) (omega arith) (outside_same w k.depth (k.depth + 1)));
       deeper = d;
       held = ap₂ open_brackets e (d ∙ add-one k.depth)
           ∙ ap₂ (λ (c : Bracket) (cs : List Bracket). c ∷ cs) (ap bracket_at (get_or-set_same w k.depth n 0 room) ∙ f) (brackets_kept w x k.depth (λ p q. get_or-set_other w k.depth p n 0 (λ z. omega arith)));

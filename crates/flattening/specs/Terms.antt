@@ -2,6 +2,7 @@
 use Rattle.std.specs.Prelude.{ℕ, cond, List, [], ◌∷◌, ◌++◌, eqb}
 use Rattle.rules.specs.Bytes.{upto, sort}
 use Rattle.rules.specs.Writing.{listed}
+use Rattle.laws.specs.Sorting.{sort_by}
 use Rattle.runs.specs.declared.TheConstants.{OPEN, SHUT, COMMA}
 use Rattle.runs.specs.Texts.{word_text, texts}
 
@@ -20,13 +21,9 @@ inner (l ∷ []) = l
 inner (l ∷ (m ∷ ls)) = l ++ (COMMA ∷ inner (m ∷ ls))
 
 -- lists of words, sorted by their texts
-unfoldable pub insert_words : List ℕ → List ℕ → List (List ℕ) → List (List ℕ)
-insert_words s l [] = l ∷ []
-insert_words s l (m ∷ ls) = cond (upto (texts s l) (texts s m)) (l ∷ m ∷ ls) (m ∷ insert_words s l ls)
-
 unfoldable pub sort_words : List ℕ → List (List ℕ) → List (List ℕ)
-sort_words s [] = []
-sort_words s (l ∷ ls) = insert_words s l (sort_words s ls)
+unfolding sort_by
+sort_words s ls = sort_by (λ l m. upto (texts s l) (texts s m)) ls
 
 -- a name and its list
 unfoldable pub headed : ℕ → List (List ℕ) → List ℕ

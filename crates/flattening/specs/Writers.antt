@@ -1,6 +1,6 @@
 -- What a writer of words has written, and the open brackets of a stack. Definitions only.
-use Rattle.std.specs.Prelude.{ℕ, zero, suc, ◌+◌, ◌<◌, ◌≡◌, List, [], ◌∷◌, length, get_or}
-use Rattle.text.specs.Sorting.{Wrote}
+use Rattle.std.specs.Prelude.{ℕ, zero, suc, ◌+◌, ◌≡◌, List, [], ◌∷◌, length, get_or}
+use Rattle.text.specs.Frames.{Outside, Wrote}
 use Rattle.rules.specs.Bytes.{Text}
 use Rattle.flattening.specs.Items.{adds, in_sum, opening, bracket, bracket_at}
 use Rattle.flattening.specs.declared.writer.Writer.{Writer}
@@ -24,8 +24,7 @@ open_in k = open_brackets k.words.now k.depth
 -- b is a with one more bracket
 pub record Opens (a b : Stack) (c : Bracket) : Type 0 where
   pub lent : b.words.ghost_name ≡ a.words.ghost_name
-  pub len : length b.words.now ≡ length a.words.now
-  pub above : (p : ℕ) → a.depth < p → get_or b.words.now p 0 ≡ get_or a.words.now p 0
+  pub outside : Outside a.words.now b.words.now a.depth (a.depth + 1)
   pub deeper : b.depth ≡ a.depth + 1
   pub held : open_in b ≡ c ∷ open_in a
 

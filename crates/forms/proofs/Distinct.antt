@@ -1,16 +1,16 @@
 -- Texts of which none stands twice: sorted, they are those of which none stands next to itself.
 use mathlib.Core.Path.{◌≡◌, refl, ap, ap₂, sym, ◌∙◌}
 use mathlib.Core.Bool.{Bool, true, false, cond, not, ◌&&◌, ◌||◌, true≢false}
-use mathlib.Core.List.{List, [], ◌∷◌}
+use mathlib.Core.List.{List, [], ◌∷◌, Permᴰ}
 use Rattle.rules.specs.Bytes.{Text, same, upto, insert, sort}
 use Rattle.rules.specs.Text.{is_one_of}
 use Rattle.rules.specs.Sheet.{Entry, distinct_keys}
 use Rattle.text.proofs.Sameness.{same_swap}
 use Rattle.laws.proofs.Basics.Tests.{same_eq, same_of_eq, neither}
-use Rattle.laws.proofs.Basics.Order.{upto_other, upto_one, upto_trans}
+use Rattle.laws.proofs.Basics.Order.{upto_other, upto_one, upto_trans, sort_perm}
 use Rattle.forms.specs.Members.{keys_of, distinct, apart}
 
--- ---- insertion
+-- ---- in another order
 
 or_swap : (p q r : Bool) → p || (q || r) ≡ q || (p || r)
 or_swap true true r = refl
@@ -18,15 +18,13 @@ or_swap true false r = refl
 or_swap false true r = refl
 or_swap false false r = refl
 
-one_of_insert : (a : Text) (l : List Text) (b : Text) → is_one_of (insert a l) b ≡ is_one_of (a ∷ l) b
-unfolding insert is_one_of
-one_of_insert a [] b = refl
-one_of_insert a (c ∷ l) b = go (upto a c) (one_of_insert a l b)
-  where
-    go : (t : Bool) → is_one_of (insert a l) b ≡ same b a || is_one_of l b
-        → is_one_of (cond t (a ∷ c ∷ l) (c ∷ insert a l)) b ≡ same b a || (same b c || is_one_of l b)
-    go true h = refl
-    go false h = ap (λ (r : Bool). same b c || r) h ∙ or_swap (same b c) (same b a) (is_one_of l b)
+one_of_perm : {l m : List Text} → Permᴰ l m → (b : Text) → is_one_of l b ≡ is_one_of m b
+unfolding is_one_of
+one_of_perm Permᴰ.nil b = refl
+one_of_perm (Permᴰ.cons e p) b = ap₂ (λ (x : Text) (r : Bool). same b x || r) e (one_of_perm p b)
+one_of_perm (Permᴰ.swap {a = x} {b = y} {l = l} e f) b =
+    or_swap (same b x) (same b y) (is_one_of l b) ∙ ap₂ (λ (z w : Text). same b z || (same b w || is_one_of l b)) f e
+one_of_perm (Permᴰ.trans p q) b = one_of_perm p b ∙ one_of_perm q b
 
 swaps : (p q r d : Bool) → not (p || q) && (not r && d) ≡ not (p || r) && (not q && d)
 swaps true q r d = refl
@@ -35,28 +33,15 @@ swaps false true false d = refl
 swaps false false true d = refl
 swaps false false false d = refl
 
-distinct_insert : (a : Text) (l : List Text) → distinct (insert a l) ≡ distinct (a ∷ l)
-unfolding insert distinct is_one_of
-distinct_insert a [] = refl
-distinct_insert a (b ∷ l) = go (upto a b) (distinct_insert a l)
-  where
-    go : (t : Bool) → distinct (insert a l) ≡ not (is_one_of l a) && distinct l
-        → distinct (cond t (a ∷ b ∷ l) (b ∷ insert a l)) ≡ not (same a b || is_one_of l a) && (not (is_one_of l b) && distinct l)
-    go true h = refl
-    go false h =
-        ap₂ (λ (p q : Bool). not p && q) (one_of_insert a l b) h
-        ∙ ap (λ (p : Bool). not (p || is_one_of l b) && (not (is_one_of l a) && distinct l)) (same_swap b a)
-        ∙ swaps (same a b) (is_one_of l b) (is_one_of l a) (distinct l)
-
-one_of_sort : (l : List Text) (b : Text) → is_one_of (sort l) b ≡ is_one_of l b
-unfolding sort is_one_of
-one_of_sort [] b = refl
-one_of_sort (a ∷ l) b = one_of_insert a (sort l) b ∙ ap (λ (r : Bool). same b a || r) (one_of_sort l b)
-
-pub distinct_sort : (l : List Text) → distinct (sort l) ≡ distinct l
-unfolding sort distinct
-distinct_sort [] = refl
-distinct_sort (a ∷ l) = distinct_insert a (sort l) ∙ ap₂ (λ (p q : Bool). not p && q) (one_of_sort l a) (distinct_sort l)
+distinct_perm : {l m : List Text} → Permᴰ l m → distinct l ≡ distinct m
+unfolding distinct is_one_of
+distinct_perm Permᴰ.nil = refl
+distinct_perm (Permᴰ.cons {b = y} {l₁ = l} e p) = ap₂ (λ (r d : Bool). not r && d) (ap (is_one_of l) e ∙ one_of_perm p y) (distinct_perm p)
+distinct_perm (Permᴰ.swap {a = x} {b = y} {l = l} e f) =
+    swaps (same x y) (is_one_of l x) (is_one_of l y) (distinct l)
+    ∙ ap (λ (r : Bool). not (r || is_one_of l y) && (not (is_one_of l x) && distinct l)) (same_swap x y)
+    ∙ ap₂ (λ (z w : Text). distinct (z ∷ w ∷ l)) f e
+distinct_perm (Permᴰ.trans p q) = distinct_perm p ∙ distinct_perm q
 
 -- ---- sorted lists: each text is up to the next
 
@@ -107,7 +92,7 @@ apart_sorted (next {a = a} {b = b} {l = l} e s) = go (same a b) refl (apart_sort
     go false f h = ap₂ (λ (p q : Bool). not p && q) (f ∙ sym (before_all a b e f s)) h
 
 pub apart_sort : (l : List Text) → apart (sort l) ≡ distinct l
-apart_sort l = apart_sorted (sort_sorted l) ∙ distinct_sort l
+apart_sort l = apart_sorted (sort_sorted l) ∙ distinct_perm (sort_perm l)
 
 -- ---- the keys of a member
 

@@ -13,9 +13,9 @@ use Rattle.rules.specs.Bytes.{Text, same}
 use Rattle.rules.specs.Text.{bytes}
 use Rattle.rules.specs.Sheet.{Entry, distinct_keys}
 use Rattle.text.specs.Places.{text_at, places_upto}
-use Rattle.text.specs.Sorting.{sort_by}
+use Rattle.laws.specs.Sorting.{sort_by}
 use Rattle.text.proofs.Library.{same_is}
-use Rattle.text.proofs.Merging.{sort_texts}
+use Rattle.laws.proofs.Basics.Sorting.{sort_texts}
 use Rattle.std.specs.Prelude.{Option, Some, None, IsTrue, ◌↔◌}
 use Rattle.std.proofs.lemmas.List.{map-append}
 use Rattle.laws.proofs.Basics.Tests.{and_left, and_right, and_both}

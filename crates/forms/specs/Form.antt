@@ -1,11 +1,11 @@
 -- The kinds of sheet as the code reads them: what a form stands for, and the words that it needs. Definitions only.
-use Rattle.std.specs.Prelude.{ℕ, ◌+◌, ◌*◌, ◌≤◌, ◌<◌, ◌≡◌, List, length}
+use Rattle.std.specs.Prelude.{ℕ, ◌+◌, ◌*◌, ◌≤◌, ◌<◌, ◌≡◌, List, [], length}
 use Rattle.std.specs.Prelude.{Option, Some, None, Result, MatchResult}
 use Rattle.rules.specs.Bytes.{Text}
 use Rattle.rules.specs.Text.{bytes}
 use Rattle.rules.specs.Maybe.{◌>>=◌}
 use Rattle.rules.specs.Lines.{value}
-use Rattle.rules.specs.Sheet.{Sheet, Entry, Member, asks_equal, asks_unify, asks_match, asks_reduce, asks_cover, asks_sound, asks_complete, pairs, members_from, none_waiting, at_end, one_member, Kind, Unify, Match, kind_in, kinds, read_kind, raise, words_needed}
+use Rattle.rules.specs.Sheet.{Sheet, Entry, Member, asks_equal, asks_unify, asks_match, asks_reduce, asks_cover, asks_sound, asks_complete, pairs, members_from, none_waiting, at_end, one_member, Kind, Unify, Match, kind_in, kinds, read_kind, words_needed}
 use Rattle.rules.specs.declared.Refusal.{Refusal}
 use Rattle.rules.specs.declared.Refusal.TheVariants.{LineOutOfPlace}
 use Rattle.sheet.specs.Lines.{part_of, lines_at}
@@ -51,6 +51,15 @@ sheet_of s (form.Reduce t) = Some (asks_reduce (text_of s t))
 sheet_of s (form.Cover c d) = lines_at s c.at >>= λ ls. pairs ls >>= λ p. members_at s d.at >>= λ ms. Some (asks_cover p.0 ms)
 sheet_of s (form.Sound t c) = members_at s c.at >>= λ ms. one_member ms >>= λ m. Some (asks_sound (text_of s t) m)
 sheet_of s (form.Complete t c) = members_at s c.at >>= λ ms. Some (asks_complete (text_of s t) ms)
+
+-- what a form asks, without its pairs and members, which raise no words: nothing is read
+abbrev pub bare_sheet : Text → Form → Sheet
+bare_sheet s (form.Equal l r) = asks_equal (text_of s l) (text_of s r)
+bare_sheet s (form.Solve v fuel c) = asks_by v fuel []
+bare_sheet s (form.Reduce t) = asks_reduce (text_of s t)
+bare_sheet s (form.Cover c d) = asks_cover [] []
+bare_sheet s (form.Sound t c) = asks_sound (text_of s t) ([], [])
+bare_sheet s (form.Complete t c) = asks_complete (text_of s t) []
 
 abbrev pub Inside : Text → Place → Type 0
 Inside s p = (p.from ≤ p.to) × (p.to < length s)
@@ -105,16 +114,6 @@ ReadsTermMembers s at r = MatchResult r (λ t. TermThen s at t.term t.members.at
 abbrev pub fewest_words : Text → ℕ
 fewest_words s = 65536 * 16 + 16 * length s
 
--- n is the raise of the sheet that a form stands for
-abbrev pub RaisesBy : Text → Form → ℕ → Type 0
-RaisesBy s f n = (sheet : Sheet) → sheet_of s f ≡ Some sheet → n ≡ raise sheet
-
--- n is the words that the sheet needs for which a form stands
-abbrev pub NeedsWords : Text → Form → ℕ → Type 0
-NeedsWords s f n = (sheet : Sheet) → sheet_of s f ≡ Some sheet → n ≡ words_needed s sheet
-
--- n words are enough for the sheet that a form stands for
-pub record EnoughWords (s : Text) (f : Form) (n : ℕ) : Type 0 where
-  pub sheet : Sheet
-  pub stands : sheet_of s f ≡ Some sheet
-  pub enough : words_needed s sheet ≤ n
+-- n words are enough for the sheet that a form asks
+abbrev pub EnoughWords : Text → Form → ℕ → Type 0
+EnoughWords s f n = words_needed s (bare_sheet s f) ≤ n

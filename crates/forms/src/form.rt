@@ -1,7 +1,7 @@
 // The kinds of sheet: what a sheet asks, as places and cursors, and the words of the work area that it needs.
 ghost use Rattle.std.specs.Prelude.{◌≡◌, ◌≤◌, ◌<◌, length, OnOk, IfErr};
-ghost use Rattle.rules.specs.Sheet.{Equal, Reduce, Cover, Sound, Complete, read_sheet};
-ghost use Rattle.forms.specs.Form.{solving, Walked, read_kind_at, read_named, ReadsTermMembers, ReadsAs, FormStands, RaisesBy, NeedsWords};
+ghost use Rattle.rules.specs.Sheet.{Equal, Reduce, Cover, Sound, Complete, read_sheet, raise, words_needed};
+ghost use Rattle.forms.specs.Form.{solving, Walked, read_kind_at, read_named, ReadsTermMembers, ReadsAs, Within, bare_sheet};
 
 use crate::members::members;
 use rules::Refusal;
@@ -219,11 +219,12 @@ pub fn read_sheet(sheet: &[u8]) -> Result<Form, Refusal>
 }
 
 // Twice the count of `(` in the `term` line, for `complete`.
-#[tactic(auto, using(crate::proofs::WordLaws::raises))]
+#[tactic(auto, using(crate::proofs::WordLaws::part_count_bound, crate::proofs::WordLaws::no_raise))]
 fn raise_of(sheet: &[u8], form: Form) -> usize
     requires sheet_len_bound { length sheet.now ≤ 65536 }
-    requires stands { FormStands sheet.now (read_sheet sheet.now) form }
-    ensures { RaisesBy sheet.now form result × (result ≤ 131072) }
+    requires within { Within sheet.now form }
+    ensures value { result ≡ raise (bare_sheet sheet.now form) }
+    ensures bound { result ≤ 131072 }
 {
     let Form::Complete { term, .. } = form else {
         return 0;
@@ -235,8 +236,8 @@ fn raise_of(sheet: &[u8], form: Form) -> usize
 #[tactic(auto, using(crate::proofs::WordLaws::count_small), unfolding(rules::specs::Sheet::words_needed))]
 pub fn words_needed(sheet: &[u8], form: Form) -> usize
     requires sheet_len_bound { length sheet.now ≤ 65536 }
-    requires stands { FormStands sheet.now (read_sheet sheet.now) form }
-    ensures { NeedsWords sheet.now form result }
+    requires within { Within sheet.now form }
+    ensures { result ≡ words_needed sheet.now (bare_sheet sheet.now form) }
 {
     BLOCK * (count_of(sheet, b':') + raise_of(sheet, form) + 16) + 16 * sheet.len()
 }

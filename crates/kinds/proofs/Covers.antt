@@ -3,11 +3,11 @@ use mathlib.Core.Path.{◌≡◌, sym, ap, subst, ◌∙◌}
 use mathlib.Core.Bool.{Bool}
 use mathlib.Core.List.{List}
 use Rattle.std.specs.Prelude.{Ok, Option, Some, None, Err}
-use Prim.Native.Nat.{ℕ, ◌+◌, ◌*◌, ◌≤◌}
+use Prim.Native.Nat.{ℕ}
 use native.Mathlib.Omega.{arith}
 use lib.ListN.{length}
 use Rattle.rules.specs.Bytes.{Text}
-use Rattle.rules.specs.Text.{bytes, count_of}
+use Rattle.rules.specs.Text.{bytes}
 use Rattle.rules.specs.Maybe.{◌>>=◌}
 use Rattle.rules.specs.Substitution.{Pair}
 use Rattle.rules.specs.Sheet.{Entry, Member, asks_cover, read_sheet}
@@ -24,10 +24,9 @@ use Rattle.tree.specs.Areas.{Lent}
 use Rattle.tree.proofs.Keeping.{grows_then}
 use Rattle.cover.specs.Areas.{CoverInputIn, ClaimsCoveredIn}
 use Rattle.admission.specs.Admission.{Decoded}
-use Rattle.kinds.specs.Outcomes.{DecidesForm}
 use Rattle.pairs.specs.Areas.{InOrder}
 use Rattle.sheet.specs.declared.Read.{Read}
-use Rattle.kinds.specs.Outcomes.{CoverAsked}
+use Rattle.kinds.specs.Outcomes.{WordsFor, CoverAsked, DecidesForm}
 use Rattle.answers.specs.declared.deciding.Key.TheVariants as key
 use Rattle.answers.specs.declared.deciding.Lines.TheVariants.{Claim}
 use Rattle.rules.specs.declared.Refusal.TheVariants.{UnreadableTerm}
@@ -65,7 +64,7 @@ module _ {a b : Area} {at : ℕ} (k : CoverAsked a.sheet.now at) where
     members_there : members_at b.sheet.now r.next.at ≡ Some k.members
     members_there = members_later b.sheet.now r.next.at k.rest k.members h.lines k.later
 
-    pub cover_asks : 65536 * (count_of 58 a.sheet.now + 16) + 16 * length a.sheet.now ≤ length a.work.now → CoverInputIn b r.value r.next.at
+    pub cover_asks : WordsFor a.sheet.now (length a.work.now) → CoverInputIn b r.value r.next.at
     cover_asks enough =
         let e = ap (λ x. x.now) h.grows.lent.sheet in
         record {
@@ -78,7 +77,7 @@ module _ {a b : Area} {at : ℕ} (k : CoverAsked a.sheet.now at) where
           later = members_there;
           inside = h.within;
           used = omega (arith, h.used, h.onward);
-          words = rw e (omega (arith, h.grows.below.len));
+          words = rw e (omega (arith, enough (asks_cover k.entries k.members) k.reads, h.grows.below.len));
         }
 
     pub cover_decided : {d : Area} {c : Option Bool} → ClaimsCoveredIn b d r.value r.next.at c → DecidesForm (read_sheet a.sheet.now) a d (Ok (Claim key.Covered c))

@@ -1,12 +1,11 @@
 -- What is decided of a sheet that was read as a form is what its kind's function decides; the words that each kind has.
-use mathlib.Core.Path.{◌≡◌, refl, sym, ap, ◌∙◌}
+use mathlib.Core.Path.{◌≡◌, sym, ap, ◌∙◌}
 use Rattle.std.specs.Prelude.{Option, Some, None, Result, Err}
 use Rattle.laws.proofs.Basics.Somes.{some_injective}
-use Prim.Native.Nat.{ℕ, ◌+◌, ◌*◌, ◌≤◌}
+use Prim.Native.Nat.{ℕ, ◌≤◌}
 use lib.ListN.{length}
 use native.Mathlib.Omega.{arith}
 use Rattle.rules.specs.Bytes.{Text}
-use Rattle.rules.specs.Text.{count_of}
 use Rattle.rules.specs.Sheet.{Sheet, asks_sound, read_sheet, words_needed}
 use Rattle.rules.specs.Answer.{answer_of}
 use Rattle.rules.specs.Call.{given}
@@ -20,14 +19,14 @@ use Rattle.sheet.specs.declared.Place.{Place}
 use Rattle.forms.specs.Form.{text_of, sheet_of, EnoughWords, fewest_words}
 use Rattle.forms.specs.declared.form.Form.{Form}
 use Rattle.forms.specs.declared.form.Form.TheVariants as form
-use Rattle.forms.proofs.WordLaws.{raise_counted}
 use Rattle.forms.proofs.WalkLaws.{sound_member}
+use Rattle.forms.proofs.WordLaws.{bare_words}
 use Rattle.variants.specs.Soundness.{OneMember}
 use Rattle.admission.specs.Admission.{Decoded}
 use Rattle.answers.specs.Deciding.{DecisionIs}
 use Rattle.answers.specs.declared.deciding.Lines.{Lines}
 use Rattle.answers.proofs.Decides.{decides_as, unreadable_decides}
-use Rattle.kinds.specs.Outcomes.{Ready, DecidesForm}
+use Rattle.kinds.specs.Outcomes.{Ready, WordsFor, DecidesForm}
 
 pub lent_then : {a b d : Area} → Lent a b → Lent b d → Lent a d
 lent_then g h = record { work = h.work ∙ g.work; sheet = h.sheet ∙ g.sheet }
@@ -55,23 +54,14 @@ pub sound_sheet : (s : Text) (t : Place) (c : Cursor) (o : OneMember s c.at) →
 unfolding sheet_of
 sound_sheet s t c o = rw o.is
 
--- every kind has the words of what is read and of one step, and those of its colons
+-- every kind has the words of what is read and of one step
 pub least_words : (s : Text) (f : Form) {n : ℕ} → EnoughWords s f n → fewest_words s ≤ n
 unfolding words_needed
-least_words s f h = let k = h.enough in omega arith
+least_words s f h = omega arith
+
+-- and those of the sheet
+pub words_for : (s : Text) (f : Form) {n : ℕ} → Decoded s f → EnoughWords s f n → WordsFor s n
+words_for s f d h sheet r = omega (arith, bare_words s f sheet (d.decodes ∙ sym d.reads ∙ r))
 
 pub form_ready : {a : Area} (f : Form) → a.free ≡ 1 → Decoded a.sheet.now f → EnoughWords a.sheet.now f (length a.work.now) → Ready a
 form_ready {a} f e d h = record { no_cells = e; short = d.short; words = least_words a.sheet.now f h }
-
-pub colon_words : (s : Text) (f : Form) {n : ℕ} → EnoughWords s f n → 65536 * (count_of 58 s + 16) + 16 * length s ≤ n
-unfolding words_needed
-colon_words s f h = let k = h.enough in omega arith
-
--- the words of `complete`
-pub complete_words : (s : Text) (t : Place) (c : Cursor) (f : Form) {n : ℕ} → f ≡ form.Complete t c → EnoughWords s f n
-    → 65536 * (count_of 58 s + 2 * count_of 40 (text_of s t) + 16) + 16 * length s ≤ n
-unfolding words_needed
-complete_words s t c f e h =
-    let k = h.enough in
-    let r = raise_counted s t c f e refl h.sheet h.stands in
-    omega arith

@@ -6,12 +6,11 @@ use Prim.Native.Nat.{ℕ, ◌+◌, ◌*◌, ◌≤◌}
 use native.Mathlib.Omega.{arith}
 use lib.ListN.{length}
 use Rattle.rules.specs.Bytes.{Text}
-use Rattle.rules.specs.Text.{count_of}
 use Rattle.rules.specs.Maybe.{◌>>=◌}
 use Rattle.rules.specs.Tree.{Trees}
 use Rattle.rules.specs.Substitution.{Pair, flatten}
 use Rattle.rules.specs.Solving as rules
-use Rattle.rules.specs.Sheet.{Sheet, Entry, read_sheet}
+use Rattle.rules.specs.Sheet.{Sheet, Entry, read_sheet, words_needed}
 use Rattle.rules.specs.Answer.{read_pairs, verdict_lines, answer_of}
 use Rattle.rules.specs.declared.Ending.{Ending}
 use Rattle.rules.specs.declared.Refusal.TheVariants.{UnreadableTerm}
@@ -29,7 +28,8 @@ use Rattle.forms.proofs.WalkLaws.{solved_pairs}
 use Rattle.elimination.specs.Stack.{pairs_of, Whole, FitPairs}
 use Rattle.elimination.specs.Area.{Room}
 use Rattle.unifier.specs.Running.{Roomy}
-use Rattle.unifier.specs.Areas.{stack_in, AnswersIn, HoldsBound}
+use Rattle.elimination.specs.Areas.{pairs_in}
+use Rattle.unifier.specs.Areas.{AnswersIn, HoldsBound}
 use Rattle.substitution.specs.declared.answer.Answer.{Answer}
 use Rattle.elimination.proofs.Tops.{pairs_flatten}
 use Rattle.steps.proofs.Fitting.{pairs_fit}
@@ -38,7 +38,7 @@ use Rattle.answers.specs.Deciding.{LinesHeld}
 use Rattle.answers.specs.declared.deciding.Lines.TheVariants.{Verdict}
 use Rattle.pairs.specs.Areas.{InOrder}
 use Rattle.sheet.specs.declared.Read.{Read}
-use Rattle.kinds.specs.Outcomes.{Asked, solved_by, DecidesForm}
+use Rattle.kinds.specs.Outcomes.{WordsFor, Asked, solved_by, DecidesForm}
 use Rattle.kinds.proofs.KindLaws.{sheet_decided, unread_decided}
 use Rattle.kinds.proofs.RunRooms.{pair_names, run_words, run_cells}
 
@@ -64,10 +64,10 @@ module _ {a b : Area} {at : ℕ} {es : List Entry} {rest : List Text} {r : Read 
   pub read_whole : Whole (trees_in b r.value)
   read_whole = ap (λ (ts : Trees). flatten (pairs_of ts)) h.trees ∙ ap flatten (pairs_flatten h.ps) ∙ sym h.trees
 
-  pub read_are : stack_in b r.value ≡ h.ps
+  pub read_are : pairs_in b r.value ≡ h.ps
   read_are = ap pairs_of h.trees ∙ pairs_flatten h.ps
 
-  pub read_fit : FitPairs (stack_in b r.value)
+  pub read_fit : FitPairs (pairs_in b r.value)
   read_fit = subst FitPairs (sym read_are) (pairs_fit es h.ps h.read)
 
 -- the bindings of a verdict are held
@@ -85,13 +85,13 @@ module _ {asks : ℕ → List Entry → Sheet} {solve : ℕ → List Pair → ru
   pairs_unread e l = unread_decided k.reads (answer_is y fuel k.entries e) l
 
   module _ {r : Read ℕ} (empty : a.free ≡ 1) (h : InOrder a b at k.entries [] r) where
-    pub read_roomy : 65536 * (count_of 58 a.sheet.now + 16) + 16 * length a.sheet.now ≤ length a.work.now → Roomy b.work.now b.free fuel (stack_in b r.value)
+    pub read_roomy : WordsFor a.sheet.now (length a.work.now) → Roomy b.work.now b.free fuel (pairs_in b r.value)
     read_roomy enough =
         let s = a.sheet.now in
         let sheet = asks fuel k.entries in
         let words = length b.work.now in
         let p = ap read_pairs (y.pairs fuel k.entries) ∙ h.read in
-        let e : 65536 * (count_of 58 s + 16) + 16 * length s ≤ words = omega (arith, h.grows.below.len) in
+        let e : words_needed s sheet ≤ words = omega (arith, enough sheet k.reads, h.grows.below.len) in
         let inside : r.next.at ≤ length s = rw h.grows.lent.sheet at h.within in
         let used : b.free ≤ 1 + 2 * length s = omega (arith, h.used) in
         let (ns, l, o) = pair_names s sheet k.reads h.ps p k.short b.free fuel words used k.fuelled e in
@@ -103,7 +103,7 @@ module _ {asks : ℕ → List Entry → Sheet} {solve : ℕ → List Pair → ru
         })
 
     -- the answer, from what the run gave
-    pub pairs_decided : {d : Area} {x : Answer} → AnswersIn b d (solve fuel (stack_in b r.value)) x → DecidesForm (read_sheet a.sheet.now) a d (Ok (Verdict x))
+    pub pairs_decided : {d : Area} {x : Answer} → AnswersIn b d (solve fuel (pairs_in b r.value)) x → DecidesForm (read_sheet a.sheet.now) a d (Ok (Verdict x))
     pairs_decided {d} {x} g =
         sheet_decided k.reads
         (answer_is y fuel k.entries (h.read ∙ ap Some (sym (read_are h))) ∙ ap (λ (z : rules.Answer). Some (verdict_lines z)) g.is)

@@ -10,7 +10,7 @@ use Rattle.rules.specs.Call.{given}
 use Rattle.rules.specs.declared.Refusal.{Refusal}
 use Rattle.rules.specs.declared.Refusal.TheVariants.{UnreadableTerm}
 use Rattle.rules.specs.RefusalNumbers.{number_for}
-use Rattle.rules.specs.Sheet.{Sheet, Entry, Member, asks_cover, asks_complete, pairs, members_from, none_waiting, read_sheet}
+use Rattle.rules.specs.Sheet.{Sheet, Entry, Member, asks_cover, asks_complete, pairs, members_from, none_waiting, read_sheet, words_needed}
 use Rattle.tree.specs.declared.area.Area.{Area}
 use Rattle.tree.specs.Areas.{Lent}
 use Rattle.sheet.specs.Lines.{lines_at}
@@ -27,6 +27,10 @@ pub record Ready (a : Area) : Type 0 where
   pub no_cells : a.free ≡ 1
   pub short : length a.sheet.now ≤ 65536
   pub words : fewest_words a.sheet.now ≤ length a.work.now
+
+-- n words are enough for the sheet that is read of s
+abbrev pub WordsFor : Text → ℕ → Type 0
+WordsFor s n = (sheet : Sheet) → read_sheet s ≡ Some sheet → words_needed s sheet ≤ n
 
 -- the sheet asks, in one way or the other, for its pairs to be solved, which stand from a position on
 pub record Asked (s : Text) (asks : ℕ → List Entry → Sheet) (fuel at : ℕ) : Type 0 where

@@ -3,23 +3,22 @@
 // line are its kind's own: no shared form is plainer.
 #![tactic(auto)]
 
-ghost use Rattle.std.specs.Prelude.{◌≡◌, ◌+◌, ◌*◌, ◌<◌, ◌≤◌, length, MatchResult, Some, None};
-ghost use Rattle.rules.specs.Text.{count_of};
+ghost use Rattle.std.specs.Prelude.{◌≡◌, ◌≤◌, length, MatchResult, Some, None};
 ghost use Rattle.rules.specs.Sheet.{read_sheet};
 ghost use Rattle.rules.specs.declared.Refusal.TheVariants.{UnreadableTerm};
 ghost use Rattle.sheet.specs.declared.Cursor.{Cursor};
 ghost use Rattle.forms.specs.declared.form.Form.TheVariants as form;
-ghost use Rattle.forms.specs.Form.{text_of, Inside, asks_by, sheet_of, EnoughWords};
+ghost use Rattle.forms.specs.Form.{Inside, asks_by, sheet_of, EnoughWords};
 ghost use Rattle.reading.specs.Areas.{Reads, UnreadIn};
-ghost use Rattle.elimination.specs.Stack.{Whole, FitPairs};
-ghost use Rattle.tree.specs.Areas.{trees_in};
 ghost use Rattle.unifier.specs.Running.{Roomy};
-ghost use Rattle.unifier.specs.Areas.{stack_in, AnswersIn};
+ghost use Rattle.elimination.specs.Areas.{pairs_in};
+ghost use Rattle.elimination.specs.Fronts.{StackIn};
+ghost use Rattle.unifier.specs.Areas.{AnswersIn};
 ghost use Rattle.pairs.specs.Pairs.{PairsThere};
 ghost use Rattle.pairs.specs.Areas.{ReadsInOrder};
 ghost use Rattle.admission.specs.Admission.{Decoded};
 ghost use Rattle.variants.specs.Soundness.{OneMember};
-ghost use Rattle.kinds.specs.Outcomes.{Ready, Asked, CoverAsked, CompleteAsked, solved_by, DecidesForm};
+ghost use Rattle.kinds.specs.Outcomes.{Ready, WordsFor, Asked, CoverAsked, CompleteAsked, solved_by, DecidesForm};
 
 use answers::deciding::{Decision, Key, Lines};
 use certificate::equivalent;
@@ -86,10 +85,10 @@ fn reduce(area: &mut Area, term: Place) -> Decision
 
 // Solves the pairs of a list of cells. An arm to a solver: it is matched once.
 fn solve(area: &mut Area, solver: Solver, stack: usize, fuel: usize) -> Answer
-    requires stack { (stack < area.old.free) × Whole (trees_in area.old stack) × FitPairs (stack_in area.old stack) }
+    requires stack { StackIn area.old stack }
     requires fuel { fuel ≤ 65536 }
-    requires room { Roomy area.old.work.now area.old.free fuel (stack_in area.old stack) }
-    ensures { AnswersIn area.old area.new (solved_by solver fuel (stack_in area.old stack)) result }
+    requires room { Roomy area.old.work.now area.old.free fuel (pairs_in area.old stack) }
+    ensures { AnswersIn area.old area.new (solved_by solver fuel (pairs_in area.old stack)) result }
 {
     match solver {
         Solver::Unify => unify(area, stack, fuel),
@@ -101,7 +100,7 @@ fn solve(area: &mut Area, solver: Solver, stack: usize, fuel: usize) -> Answer
 fn solve_pairs(area: &mut Area, solver: Solver, fuel: usize, pairs: Cursor) -> Decision
     requires ready { Ready area.old }
     requires asked { Asked area.old.sheet.now (asks_by solver) fuel pairs.at }
-    requires words { 65536 * (count_of 58 area.old.sheet.now + 16) + 16 * length area.old.sheet.now ≤ length area.old.work.now }
+    requires words { WordsFor area.old.sheet.now (length area.old.work.now) }
     ensures { DecidesForm (read_sheet area.old.sheet.now) area.old area.new result }
 {
     let read = read_stack(area, pairs)?;
@@ -127,7 +126,7 @@ fn sound_of(area: &mut Area, term: Place, member: Cursor) -> Decision
 fn cover_of(area: &mut Area, pairs: Cursor) -> Decision
     requires ready { Ready area.old }
     requires asked { CoverAsked area.old.sheet.now pairs.at }
-    requires words { 65536 * (count_of 58 area.old.sheet.now + 16) + 16 * length area.old.sheet.now ≤ length area.old.work.now }
+    requires words { WordsFor area.old.sheet.now (length area.old.work.now) }
     ensures { DecidesForm (read_sheet area.old.sheet.now) area.old area.new result }
 {
     let read = read_stack(area, pairs)?;
@@ -139,10 +138,11 @@ fn cover_of(area: &mut Area, pairs: Cursor) -> Decision
 }
 
 // Kind `complete`. A scheme has at most the names of the term, and two for each of its brackets.
+#[tactic(auto, using(forms::proofs::WordLaws::part_count_bound))]
 fn complete_of(area: &mut Area, term: Place, members: Cursor) -> Decision
     requires ready { Ready area.old }
     requires asked { CompleteAsked area.old.sheet.now term members.at }
-    requires words { 65536 * (count_of 58 area.old.sheet.now + 2 * count_of 40 (text_of area.old.sheet.now term) + 16) + 16 * length area.old.sheet.now ≤ length area.old.work.now }
+    requires words { WordsFor area.old.sheet.now (length area.old.work.now) }
     ensures { DecidesForm (read_sheet area.old.sheet.now) area.old area.new result }
 {
     let index = read_term(area, term)?;
@@ -155,7 +155,8 @@ fn complete_of(area: &mut Area, term: Place, members: Cursor) -> Decision
     })
 }
 
-// A sheet that is admitted, by its kind. Each kind has data of its own: no table is plainer.
+// A sheet that is admitted, by its kind. Each kind has data of its own: no table is plainer. The words of the work area are free afterwards, but
+// for the cells that the decision names.
 pub fn decide(area: &mut Area, form: Form) -> Decision
     requires ready { Ready area.old }
     requires decoded { Decoded area.old.sheet.now form }

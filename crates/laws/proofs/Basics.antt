@@ -2,6 +2,7 @@
 pub mod Tests
 pub mod Somes
 pub mod Options
+pub mod Sorting
 pub mod Order
 pub mod Spelling
 pub mod Numerals

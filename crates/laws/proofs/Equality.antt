@@ -9,3 +9,4 @@ pub mod Canonical
 pub mod Building
 pub mod Bags
 pub mod Summands
+pub mod RightNested

@@ -1,6 +1,7 @@
--- Solving: substitutions and budgets; the steps, the run and the composition of unify; the steps of match; fuel, the pairs taken, and
--- the rules of inference.
+-- Solving: substitutions, ground trees and budgets; the steps, the run and the composition of unify; the steps of match; fuel, the pairs
+-- taken, and the rules of inference.
 pub mod Substituting
+pub mod Ground
 pub mod Budget
 pub mod Binding
 pub mod Decomposing

@@ -3,6 +3,7 @@
 -- matched.
 pub mod SchemeCount
 pub mod SchemeAt
+pub mod SchemeRows
 pub mod Readable
 pub mod Sound
 pub mod Covered

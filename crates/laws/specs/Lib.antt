@@ -3,3 +3,5 @@ pub mod Memory
 pub mod Parts
 pub mod Schemes
 pub mod Unspelled
+pub mod Closing
+pub mod Sorting

@@ -2,36 +2,27 @@
 use Prim.Native.Nat.{ℕ, suc, ◌+◌, ◌-◌, ◌<◌}
 use mathlib.Core.Path.{◌≡◌, refl, sym, ap, ◌∙◌}
 use mathlib.Core.List.{[], ◌∷◌}
-use mathlib.Core.Bool.{Bool, true, false, cond, not}
-use lib.Dec.{eqb, ltb}
+use mathlib.Core.Bool.{Bool, true, false, cond}
+use lib.Dec.{eqb}
 use lib.ListN.{length, take, drop, length-drop}
 use lib.Seq.{take_all}
 use native.Mathlib.Omega.{arith}
 use native.Mathlib.Numerals.{add-one}
 use borrow.Author.Tests.{eq-eqb, ne_eqb}
 use Rattle.std.specs.Prelude.{Option, Some, None, option_map}
-use Rattle.std.specs.List.{position_or_len}
-use Rattle.std.proofs.lemmas.Bool.Decides.{nat_tests}
 use Rattle.rules.specs.Bytes.{Text}
 use Rattle.rules.specs.Text.{count_of}
 use Rattle.rules.specs.declared.Sort.{Sort}
 use Rattle.rules.specs.Tree.{variable, apply, none}
 use Rattle.rules.specs.Sorts.{sort_named, variable_sort}
 use Rattle.rules.specs.Reading.{leaf}
+use Rattle.text.proofs.Library.{position_more}
 use Rattle.leaves.specs.Leaves.{colon_in, leaf_sort}
-
-colon_first : (a : ℕ) (n : Text) → colon_in (a ∷ n) ≡ cond (eqb a 58) (Some 0) (option_map suc (colon_in n))
-colon_first a n = go (eqb a 58) (position_or_len (λ (x : ℕ). eqb x 58) n) (length n)
-  where
-    go : (t : Bool) (k l : ℕ)
-        → cond (ltb (cond (not t) (1 + k) 0) (suc l)) (Some (cond (not t) (1 + k) 0)) None ≡ cond t (Some 0) (option_map suc (cond (ltb k l) (Some k) None))
-    go true k l = grind (arith, nat_tests)
-    go false k l = grind (arith, nat_tests)
 
 pub leaf_colon : (n : Text) → leaf_sort n ≡ option_map (λ i. sort_named (drop (suc i) n)) (colon_in n)
 unfolding leaf_sort
 leaf_colon [] = refl
-leaf_colon (a ∷ n) = go (eqb a 58) (colon_in n) (leaf_colon n) ∙ ap (option_map (λ i. sort_named (drop (suc i) (a ∷ n)))) (sym (colon_first a n))
+leaf_colon (a ∷ n) = go (eqb a 58) (colon_in n) (leaf_colon n) ∙ ap (option_map (λ i. sort_named (drop (suc i) (a ∷ n)))) (sym (position_more (λ (b : ℕ). eqb b 58) a n))
   where
     go : (t : Bool) (o : Option ℕ) → leaf_sort n ≡ option_map (λ i. sort_named (drop (suc i) n)) o
         → cond t (Some (sort_named n)) (leaf_sort n) ≡ option_map (λ i. sort_named (drop (suc i) (a ∷ n))) (cond t (Some 0) (option_map suc o))

@@ -23,10 +23,12 @@ use Rattle.tree.specs.Areas.{trees_in, Grows}
 use Rattle.tree.proofs.Keeping.{grows_length}
 use Rattle.substitution.specs.Answers.{verdict_in}
 use Rattle.substitution.specs.declared.answer.Answer.{Answer as Answered}
-use Rattle.elimination.specs.Stack.{Whole, FitPairs}
+use Rattle.elimination.specs.Stack.{FitPairs}
 use Rattle.elimination.specs.Area.{Room}
 use Rattle.elimination.proofs.Tops.{pairs_are, whole_are}
-use Rattle.unifier.specs.Areas.{stack_in, AnswersIn}
+use Rattle.elimination.specs.Areas.{pairs_in}
+use Rattle.elimination.specs.Fronts.{StackIn}
+use Rattle.unifier.specs.Areas.{AnswersIn}
 use Rattle.unifier.specs.Matched.{Matched}
 
 -- the test of a verdict, as the code has it
@@ -40,23 +42,23 @@ says_failed m (Err ending.Unsupported) = refl
 
 -- the list from cell i of d on is that of the pairs qs, which can be matched after n cells
 module _ {a d : Area} {qs : List Pair} {n i : ℕ} (grows : Grows a d) (inside : i < d.free) (trees : trees_in d i ≡ flatten qs) (used : d.free ≤ n) (k : Matched a.sheet.now a.work.now n qs) where
-  pairs : stack_in d i ≡ qs
+  pairs : pairs_in d i ≡ qs
   pairs = pairs_are qs trees
 
   same_sheet : length d.sheet.now ≡ length a.sheet.now
   same_sheet = ap (λ s. length s.now) grows.lent.sheet
 
-  pub match_stack : (i < d.free) × Whole (trees_in d i) × FitPairs (stack_in d i)
+  pub match_stack : StackIn d i
   match_stack = (inside, whole_are qs trees, subst FitPairs (sym pairs) k.fit)
 
-  pub match_room : Room d.work.now (d.free + weight (stack_in d i) + 2 * length d.sheet.now)
+  pub match_room : Room d.work.now (d.free + weight (pairs_in d i) + 2 * length d.sheet.now)
   match_room =
       let w = ap weight pairs in
       let l = grows_length grows in
       let s = same_sheet in
       (omega (arith, used, k.room.0), omega (arith, used, k.room.1))
 
-  module _ {m : Area} {x : Answered} (short : length a.sheet.now ≤ 65536) (y : AnswersIn d m (matcher (length d.sheet.now) (stack_in d i)) x) where
+  module _ {m : Area} {x : Answered} (short : length a.sheet.now ≤ 65536) (y : AnswersIn d m (matcher (length d.sheet.now) (pairs_in d i)) x) where
     pub match_says : covering qs ≡ not (has_failed x.verdict)
     unfolding covering
     match_says =

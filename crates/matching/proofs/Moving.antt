@@ -24,7 +24,8 @@ use Rattle.elimination.specs.Fronts.{FitFront, load_in, FrontRoom}
 use Rattle.elimination.proofs.Tops.{pairs_are, top_weight, top_fit}
 use Rattle.moving.specs.Areas.{MadeIn, FitMade, last_move, OnwardsIn}
 use Rattle.steps.proofs.Fitting.{FitMove, move_fit}
-use Rattle.unifier.specs.Areas.{stack_in, AnswersIn}
+use Rattle.elimination.specs.Areas.{pairs_in}
+use Rattle.unifier.specs.Areas.{AnswersIn}
 use Rattle.matching.proofs.Answering.{later, matching_end, matching_step, matching_spent, matcher_start}
 
 -- at the head of the loop, with so much fuel left: the pairs ps wait from cell waiting on, the bindings bs are from cell made on
@@ -42,8 +43,8 @@ pub record HoldsIn (a b : Area) (start : List Pair) (fuel left waiting made : �
   pub room : Room b.work.now (b.free + weight ps + 2 * left)
   pub ran : matcher fuel start ≡ later (fuel - left) (matching left ps bs)
 
-pub holds_start : {a : Area} {stack fuel : ℕ} → stack < a.free → Whole (trees_in a stack) → FitPairs (stack_in a stack) → Room a.work.now (a.free + weight (stack_in a stack) + 2 * fuel)
-    → HoldsIn a a (stack_in a stack) fuel fuel stack 0
+pub holds_start : {a : Area} {stack fuel : ℕ} → stack < a.free → Whole (trees_in a stack) → FitPairs (pairs_in a stack) → Room a.work.now (a.free + weight (pairs_in a stack) + 2 * fuel)
+    → HoldsIn a a (pairs_in a stack) fuel fuel stack 0
 unfolding flatten_bindings
 holds_start {a} {stack} {fuel} q whole fit room =
     let y : 0 ≡ fuel - fuel = omega arith in
@@ -52,14 +53,14 @@ holds_start {a} {stack} {fuel} q whole fit room =
       stack = q;
       list = a.arena.links.some;
       within = omega arith;
-      ps = stack_in a stack;
+      ps = pairs_in a stack;
       bs = [];
       waits = sym whole;
       binds = trees_none a.sheet.now a.work.now 0 refl;
       fit = fit;
       values = tt;
       room = (omega (arith, room.0), omega (arith, room.1));
-      ran = matcher_start fuel (stack_in a stack) ∙ ap (λ (k : ℕ). later k (matching fuel (stack_in a stack) [])) y;
+      ran = matcher_start fuel (pairs_in a stack) ∙ ap (λ (k : ℕ). later k (matching fuel (pairs_in a stack) [])) y;
     }
 
 module _ {a b : Area} {start : List Pair} {fuel left waiting made : ℕ} (h : HoldsIn a b start fuel left waiting made) where
@@ -75,7 +76,7 @@ module _ {a b : Area} {start : List Pair} {fuel left waiting made : ℕ} (h : Ho
 
   -- The ends
 
-  pub holds_solved : 0 < left → stack_in b waiting ≡ [] → AnswersIn a b (matcher fuel start) (record { verdict = Ok made; spent = fuel - (left - 1) - 1 })
+  pub holds_solved : 0 < left → pairs_in b waiting ≡ [] → AnswersIn a b (matcher fuel start) (record { verdict = Ok made; spent = fuel - (left - 1) - 1 })
   holds_solved p e =
       let empty = sym (pairs_are h.ps h.waits) ∙ e in
       let z : fuel - left + 0 ≡ fuel - (left - 1) - 1 = omega arith in
@@ -100,15 +101,15 @@ module _ {a b : Area} {start : List Pair} {fuel left waiting made : ℕ} (h : Ho
 
   -- The pair on top
 
-  module _ (f : Front) (t : stack_in b waiting ≡ (tree_in b f.left, tree_in b f.right) ∷ stack_in b f.rest) (p : 0 < left) where
-    on_top : h.ps ≡ (tree_in b f.left, tree_in b f.right) ∷ stack_in b f.rest
+  module _ (f : Front) (t : pairs_in b waiting ≡ (tree_in b f.left, tree_in b f.right) ∷ pairs_in b f.rest) (p : 0 < left) where
+    on_top : h.ps ≡ (tree_in b f.left, tree_in b f.right) ∷ pairs_in b f.rest
     on_top = sym (pairs_are h.ps h.waits) ∙ t
 
-    weighs : weight h.ps ≡ load_in b f + weight (stack_in b f.rest)
-    weighs = top_weight (tree_in b f.left) (tree_in b f.right) (stack_in b f.rest) on_top
+    weighs : weight h.ps ≡ load_in b f + weight (pairs_in b f.rest)
+    weighs = top_weight (tree_in b f.left) (tree_in b f.right) (pairs_in b f.rest) on_top
 
-    fits : Fit (tree_in b f.left) × Fit (tree_in b f.right) × FitPairs (stack_in b f.rest)
-    fits = top_fit (tree_in b f.left) (tree_in b f.right) (stack_in b f.rest) on_top h.fit
+    fits : Fit (tree_in b f.left) × Fit (tree_in b f.right) × FitPairs (pairs_in b f.rest)
+    fits = top_fit (tree_in b f.left) (tree_in b f.right) (pairs_in b f.rest) on_top h.fit
 
     -- what taking it needs
     pub move_made : MadeIn b made
@@ -122,16 +123,16 @@ module _ {a b : Area} {start : List Pair} {fuel left waiting made : ℕ} (h : Ho
 
     -- what it makes of it
     abbrev pub taken_move : Move
-    taken_move = move (tree_in b f.left) (tree_in b f.right) (stack_in b f.rest) (bindings_in b made)
+    taken_move = move (tree_in b f.left) (tree_in b f.right) (pairs_in b f.rest) (bindings_in b made)
 
     stays_fit : FitMove taken_move
-    stays_fit = move_fit (tree_in b f.left) (tree_in b f.right) (stack_in b f.rest) (bindings_in b made) fits.0 fits.1 fits.2 made_fit
+    stays_fit = move_fit (tree_in b f.left) (tree_in b f.right) (pairs_in b f.rest) (bindings_in b made) fits.0 fits.1 fits.2 made_fit
 
     taken_run : (d : Move) → taken_move ≡ d → matcher fuel start ≡ later (fuel - left) (moved d (λ qs cs. matching (left - 1) qs cs))
     taken_run d e =
         h.ran
         ∙ ap₂ (λ (qs : List Pair) (cs : List Binding). later (fuel - left) (matching left qs cs)) on_top (sym made_are)
-        ∙ ap (λ (x : Answer). later (fuel - left) x) (matching_step left (tree_in b f.left) (tree_in b f.right) (stack_in b f.rest) (bindings_in b made) p)
+        ∙ ap (λ (x : Answer). later (fuel - left) x) (matching_step left (tree_in b f.left) (tree_in b f.right) (pairs_in b f.rest) (bindings_in b made) p)
         ∙ ap (λ (d : Move). later (fuel - left) (moved d (λ qs cs. matching (left - 1) qs cs))) e
 
     counted : (k : ℕ) → fuel - left + (1 + k) ≡ fuel - (left - 1) + k
@@ -145,7 +146,7 @@ module _ {a b : Area} {start : List Pair} {fuel left waiting made : ℕ} (h : Ho
       holds_over ending.Failed g = record { grows = grows_then h.grows g.1; is = taken_run clash g.0 ∙ ap (λ (k : ℕ). (failed, k)) last; bound = tt }
       holds_over ending.Unsupported g = record { grows = grows_then h.grows g.1; is = taken_run beyond g.0 ∙ ap (λ (k : ℕ). (unsupported, k)) last; bound = tt }
 
-      pub holds_onward : {st k : ℕ} → OnwardsIn b d (load_in b f + weight (stack_in b f.rest)) taken_move st k
+      pub holds_onward : {st k : ℕ} → OnwardsIn b d (load_in b f + weight (pairs_in b f.rest)) taken_move st k
           → HoldsIn a d start fuel (left - 1) st k
       holds_onward {st} {k} g =
           let x = matching (left - 1) g.pairs g.bindings in

@@ -2,13 +2,13 @@
 // bindings are lists of its cells.
 #![tactic(auto)]
 
-ghost use Rattle.std.specs.Prelude.{◌+◌, ◌*◌, ◌<◌, ◌≤◌};
+ghost use Rattle.std.specs.Prelude.{◌+◌, ◌*◌, ◌≤◌};
 ghost use Rattle.rules.specs.Matching.{matcher};
 ghost use Rattle.laws.specs.Memory.{weight};
-ghost use Rattle.tree.specs.Areas.{trees_in};
 ghost use Rattle.elimination.specs.Area.{Room};
-ghost use Rattle.elimination.specs.Stack.{Whole, FitPairs};
-ghost use Rattle.unifier.specs.Areas.{stack_in, AnswersIn};
+ghost use Rattle.elimination.specs.Areas.{pairs_in};
+ghost use Rattle.elimination.specs.Fronts.{StackIn};
+ghost use Rattle.unifier.specs.Areas.{AnswersIn};
 
 use elimination::front::Front;
 use moving::advance;
@@ -20,10 +20,10 @@ use tree::area::Area;
 // once a pair is taken.
 // Each step pushes cells into the area, which an iterator over the pairs would hold.
 pub fn matcher(area: &mut Area, stack: usize, fuel: usize) -> Answer
-    requires stack { (stack < area.old.free) × Whole (trees_in area.old stack) × FitPairs (stack_in area.old stack) }
+    requires stack { StackIn area.old stack }
     requires fuel { fuel ≤ 65536 }
-    requires room { Room area.old.work.now (area.old.free + weight (stack_in area.old stack) + 2 * fuel) }
-    ensures { AnswersIn area.old area.new (matcher fuel (stack_in area.old stack)) result }
+    requires room { Room area.old.work.now (area.old.free + weight (pairs_in area.old stack) + 2 * fuel) }
+    ensures { AnswersIn area.old area.new (matcher fuel (pairs_in area.old stack)) result }
 {
     let mut waiting = stack;
     let mut made = 0;

@@ -1,9 +1,9 @@
 // The pairs of lines `left`, `right` of a sheet as one list of trees of an area: left, right, left, right, ..
 #![tactic(auto)]
 
-ghost use Rattle.std.specs.Prelude.{◌+◌, ◌*◌, ◌<◌, ◌≤◌, ◌^◌, length};
+ghost use Rattle.std.specs.Prelude.{◌<◌, ◌≤◌, length};
 ghost use Rattle.forms.specs.Form.{Inside};
-ghost use Rattle.reading.specs.Areas.{TextsRoomIn};
+ghost use Rattle.reading.specs.Areas.{ReaderRoomIn, TextsRoomIn};
 ghost use Rattle.pairs.specs.Pairs.{pair_end, PairsThere};
 ghost use Rattle.pairs.specs.Areas.{ReadsPairIn, ReadsReversedIn, ReadsInOrder};
 
@@ -15,7 +15,7 @@ use tree::area::Area;
 // Reads both sides of a pair, and puts the right one and then the left one before the list from cell `list` on.
 fn read_pair(area: &mut Area, pair: Sides, list: usize) -> Option<usize>
     requires inside { Inside area.old.sheet.now pair.left × Inside area.old.sheet.now pair.right × (list < area.old.free) }
-    requires room { (length area.old.sheet.now ≤ 65536) × (4 * pair_end area.old.free pair.left pair.right + 3 * length area.old.sheet.now < length area.old.work.now) × (pair_end area.old.free pair.left pair.right < 2 ^ 32) }
+    requires room { ReaderRoomIn area.old (pair_end area.old.free pair.left pair.right) }
     ensures { ReadsPairIn area.old area.new pair list result }
 {
     let left = parse(area, pair.left)?;

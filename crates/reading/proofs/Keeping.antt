@@ -1,19 +1,13 @@
 -- The term reader keeps the cells of an area.
-use Prim.Native.Nat.{ℕ, ◌*◌}
-use mathlib.Core.Path.{◌≡◌, sym, ap}
-use mathlib.Core.List.{List}
+use Prim.Native.Nat.{ℕ}
+use mathlib.Core.Path.{◌≡◌, ap}
 use lib.ListN.{length}
 use Rattle.sheet.specs.declared.Place.{Place}
-use Rattle.text.specs.Frames.{Outside}
-use Rattle.tree.specs.Arena.{Below}
 use Rattle.tree.specs.declared.area.Area.{Area}
 use Rattle.tree.specs.Areas.{Lent, KeepsCells, Grows}
+use Rattle.tree.proofs.Areas.{outside_below}
 use Rattle.tree.proofs.Keeping.{grows_keeps}
 use Rattle.reading.specs.Areas.{Reads, UnreadIn}
-
--- words written above the cells keep these
-pub outside_below : {w v : List ℕ} {n e : ℕ} → Outside w v (4 * n) e → Below w v n
-outside_below o = record { len = o.len; words = λ p q. sym (o.below p q) }
 
 pub reads_grows : {a b : Area} {p : Place} {i : ℕ} → Reads a b p i → Grows a b
 reads_grows h = record { lent = h.lent; grew = h.grew; below = outside_below h.outside }

@@ -4,8 +4,8 @@ use native.Mathlib.Omega.{arith}
 use mathlib.Core.Path.{◌≡◌, refl, sym, ap, ◌∙◌, subst}
 use mathlib.Core.List.{List}
 use Rattle.std.specs.Prelude.{Some, None}
-use lib.ListN.{length, get_or, take, drop, set, length-set}
-use lib.Seq.{get_or-set_same, get_or-set_other}
+use lib.ListN.{length, get_or, take, drop, set}
+use lib.Seq.{get_or-set_same}
 use Rattle.rules.specs.Bytes.{Text}
 use Rattle.rules.specs.Tree.{Tree, Trees, none, more, size}
 use Rattle.rules.specs.Reading.{leaf, single, parse}
@@ -18,9 +18,10 @@ use Rattle.syntax.specs.declared.symbols.Symbol.TheVariants.{Begin, Shut, Comma,
 use Rattle.tree.specs.Cells.{part, next_of, tree_at, trees_at}
 use Rattle.tree.specs.Arena.{Links, Arena}
 use Rattle.tree.proofs.Decoding.{trees_none, trees_more}
-use Rattle.tree.proofs.Areas.{arena_frame}
+use Rattle.tree.proofs.Areas.{arena_below, below_set}
 use Rattle.closing.specs.Machine.{Stack, bottom, level, add, wants, named, has, machine_reading, Bare, HasOne, closing_room}
 use Rattle.text.specs.Frames.{Outside}
+use Rattle.text.proofs.Frames.{outside_same, outside_on, outside_set}
 use Rattle.closing.specs.Words.{stack_at, Held, Added, Opened}
 use Rattle.closing.specs.Closing.{most, NoTree, closed_level}
 use Rattle.reading.specs.Parsing.{limit_of, stack_end}
@@ -38,16 +39,6 @@ add_weight t (level n ts k) = omega arith
 add_has : (t : Tree) (k : Stack) → Bare k → size t ≤ 4096 → HasOne (add t k)
 add_has t (bottom ts) b h = (t, ap (more t) b, h)
 add_has t (level n ts k) b h = b
-
-pub outside_same : (w : List ℕ) (a b : ℕ) → Outside w w a b
-outside_same w a b = record { len = refl; below = λ p q. refl; above = λ p q. refl }
-
-pub outside_on : {w v u : List ℕ} {a b c d : ℕ} → a ≤ c → d ≤ b → Outside w v a b → Outside v u c d → Outside w u a b
-outside_on x y g h = record {
-  len = h.len ∙ g.len;
-  below = λ p q. h.below p (omega arith) ∙ g.below p q;
-  above = λ p q. h.above p (omega arith) ∙ g.above p q;
-}
 
 -- the text from a position to another reads as the tree of a cell
 pub record Read (s : Text) (w v : List ℕ) (start from to index free : ℕ) : Type 0 where
@@ -347,15 +338,10 @@ outside_inner k h y o =
 
 module _ {s : Text} {w : List ℕ} {free : ℕ} (from to : ℕ) (a : Arena s w free) (room : stack_end free from to ≤ length w) where
   pub bottom_arena : Arena s (set w (4 * limit_of free from to) 0) free
-  bottom_arena =
-      arena_frame s a (length-set w (4 * limit_of free from to) 0) (λ p q. sym (get_or-set_other w (4 * limit_of free from to) p 0 0 (omega arith)))
+  bottom_arena = arena_below a (below_set w free (4 * limit_of free from to) 0 (omega arith))
 
   pub bottom_word : get_or (set w (4 * limit_of free from to) 0) (4 * limit_of free from to) 0 ≡ 0
   bottom_word = get_or-set_same w (4 * limit_of free from to) 0 0 (omega arith)
 
   pub bottom_outside : Outside w (set w (4 * limit_of free from to) 0) (4 * free) (stack_end free from to)
-  bottom_outside = record {
-    len = length-set w (4 * limit_of free from to) 0;
-    below = λ p q. get_or-set_other w (4 * limit_of free from to) p 0 0 (omega arith);
-    above = λ p q. get_or-set_other w (4 * limit_of free from to) p 0 0 (omega arith);
-  }
+  bottom_outside = outside_set (4 * limit_of free from to) 0 (omega arith) (omega arith) (outside_same w (4 * free) (stack_end free from to))

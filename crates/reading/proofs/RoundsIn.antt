@@ -16,7 +16,9 @@ use Rattle.tree.specs.Areas.{Lent}
 use Rattle.tree.specs.Spelled.{text_in, Spelled}
 use Rattle.tree.specs.Arena.{Arena}
 use Rattle.tree.specs.Words.{Writes}
-use Rattle.tree.proofs.Areas.{arena_below}
+use Rattle.text.proofs.Frames.{outside_same, outside_on}
+use Rattle.tree.proofs.Areas.{arena_below, outside_below}
+use Rattle.tree.proofs.Keeping.{lent_then}
 use Rattle.tree.proofs.Spelling.{text_lent}
 use Rattle.closing.specs.Words.{Added, Opened}
 use Rattle.closing.specs.Closing.{most, NoTree, closed_level}
@@ -24,9 +26,8 @@ use Rattle.reading.specs.Parsing.{limit_of, stack_end}
 use Rattle.reading.specs.Stacks.{HeldIn, AddsTo, OpensOn, ClosedOn, ClosesOn, bottom_of, ReadsUp}
 use Rattle.reading.specs.declared.stack.Stack.{Stack}
 use Rattle.reading.proofs.NamePlaces.{NameAt, name_at_place, mark_past}
-use Rattle.reading.proofs.Rounds.{Task, task, Wants, Has, wants_start, wants_out, wants_unread, named_unread, has_unread, wants_open, has_leaf, has_out, comma_out, shut_alone, stop_out, stop_in, has_comma, has_shut, shut_refused, shut_room, outside_same, outside_on, outside_inner, bottom_word, bottom_outside}
+use Rattle.reading.proofs.Rounds.{Task, task, Wants, Has, wants_start, wants_out, wants_unread, named_unread, has_unread, wants_open, has_leaf, has_out, comma_out, shut_alone, stop_out, stop_in, has_comma, has_shut, shut_refused, shut_room, outside_inner, bottom_word, bottom_outside}
 use Rattle.reading.proofs.StacksIn.{held_in}
-use Rattle.reading.proofs.Keeping.{outside_below}
 
 -- a term of the text at p is wanted: a is the area at the start, b now
 pub record WantsIn (a : Area) (p : Place) (b : Area) (k : Stack) (at : ℕ) : Type 0 where
@@ -93,7 +94,7 @@ module _ {a b : Area} {p : Place} {k : Stack} {at : ℕ} (h : WantsIn a p b k at
         wants_opens {d} {i} e x =
             let y = subst (λ s. Opened s.now b.work.now d.work.now b.free k.limit k.depth (part s.now name.from (name.to - name.from))) h.lent.sheet x.opened in
             record {
-              lent = record { work = x.lent.work ∙ h.lent.work; sheet = x.lent.sheet ∙ h.lent.sheet };
+              lent = lent_then h.lent x.lent;
               task = h.task;
               wants = rw x.end (wants_open h.task h.wants name_at (symbol_of h.lent p.to at f) g (symbol_of h.lent p.to name.to j) e y);
             }
@@ -111,7 +112,7 @@ module _ {a b : Area} {p : Place} {k : Stack} {at : ℕ} (h : WantsIn a p b k at
             let z = has_leaf h.task h.wants name_at (symbol_of h.lent p.to at f) g (symbol_of h.lent p.to name.to j) o e y in
             let s = z.stands in
             record {
-              lent = record { work = x.lent.work ∙ h.lent.work; sheet = x.lent.sheet ∙ h.lent.sheet };
+              lent = lent_then h.lent x.lent;
               task = h.task;
               has = record {
                 stands = record {
@@ -168,7 +169,7 @@ module _ {a b : Area} {p : Place} {v_at : ℕ} {k : Stack} {at : ℕ} (h : HasIn
     shut_stops x =
         let y = subst (λ s. NoTree (closed_level s.now b.work.now k.limit (k.depth - 1))) h.lent.sheet x.0 in (
           shut_refused h.task h.has here t e g y,
-          record { work = x.1.work ∙ h.lent.work; sheet = x.1.sheet ∙ h.lent.sheet },
+          lent_then h.lent x.1,
           outside_on (omega (arith, h.has.stands.starts)) (omega (arith, h.task.limit_is)) h.has.stands.outside x.2,
           omega (arith, h.has.stands.starts, x.3),
         )
@@ -179,7 +180,7 @@ module _ {a b : Area} {p : Place} {v_at : ℕ} {k : Stack} {at : ℕ} (h : HasIn
         let m = subst (λ s. d.free ≤ most s.now b.work.now b.free (get_or b.work.now (4 * k.limit + 3 * (k.depth - 1) + 3) 0)) h.lent.sheet x.room in
         let y = subst (λ s. Added s.now b.work.now d.work.now b.free d.free k.limit (k.depth - 1) x.tree) h.lent.sheet x.adds.added in
         record {
-          lent = record { work = x.adds.lent.work ∙ h.lent.work; sheet = x.adds.lent.sheet ∙ h.lent.sheet };
+          lent = lent_then h.lent x.adds.lent;
           task = h.task;
           has = has_shut h.task h.has here t e g x.tree i x.small x.grew m y;
         }
@@ -216,7 +217,7 @@ module _ {a m : Area} (p : Place) (y : Writes a m (4 * limit_of a.free p.from p.
     all_outside o = outside_on (omega (arith, y.end)) (omega (arith, y.end)) starts_outside o
 
     all_lent : Lent m b → Lent a b
-    all_lent l = record { work = l.work ∙ y.lent.work; sheet = l.sheet ∙ y.lent.sheet }
+    all_lent l = lent_then y.lent l
 
     pub unread_from : ReadsUp m b p None → (parse (text_in a p) ≡ None) × Lent a b × Outside a.work.now b.work.now (4 * a.free) (stack_end a.free p.from p.to) × (a.free ≤ b.free)
     unread_from x = (ap parse (sym (text_lent p y.lent)) ∙ x.0, all_lent x.1, all_outside x.2, omega (arith, y.end, x.3))

@@ -16,6 +16,7 @@ use Rattle.tree.proofs.Decoding.{Agree, frame_trees, trees_none}
 use Rattle.tree.proofs.Areas.{arena_frame}
 use Rattle.closing.specs.Machine.{Stack, bottom, level, add, back}
 use Rattle.text.specs.Frames.{Outside}
+use Rattle.text.proofs.Frames.{outside_same, outside_within, outside_set}
 use Rattle.closing.specs.Words.{stack_at, NamePlaced, Held, Added, Opened}
 use Rattle.closing.specs.Closing.{closed_level}
 
@@ -66,10 +67,10 @@ module _ {s : Text} {w v : List ℕ} {n m limit d : ℕ} {t : Tree} (k : ℕ) (h
 
   -- words of w at the stack's levels below
   lower : (p : ℕ) → 4 * limit ≤ p → p < 4 * limit + 3 * d → get_or w p 0 ≡ get_or (top_set v limit d k) p 0
-  lower p q r = x.grown.above p (omega arith) ∙ kept p (omega arith)
+  lower p q r = sym (x.grown.above p (omega arith)) ∙ kept p (omega arith)
 
   old_cells : Agree w (top_set v limit d k) n
-  old_cells p q = let f = x.grew in x.grown.below p q ∙ cells p (omega arith)
+  old_cells p q = let f = x.grew in sym (x.grown.below p q) ∙ cells p (omega arith)
 
   top_trees : trees_at s (top_set v limit d k) (get_or (top_set v limit d k) (4 * limit + 3 * d) 0) ≡ more t (trees_at s w (get_or w (4 * limit + 3 * d) 0))
   top_trees = ap (trees_at s (top_set v limit d k)) new ∙ sym (frame_trees s (top_set v limit d k) x.arena.links cells k x.inside) ∙ x.trees
@@ -102,11 +103,7 @@ module _ {s : Text} {w v : List ℕ} {n m limit d : ℕ} {t : Tree} (k : ℕ) (h
       names = λ i q. rw (← lower (4 * limit + 3 * i + 1) (omega arith) (omega arith), ← lower (4 * limit + 3 * i + 2) (omega arith) (omega arith)) (h.names i q);
     };
     stack = added_stack d refl;
-    outside = record {
-      len = length-set v (4 * limit + 3 * d) k ∙ x.grown.len;
-      below = λ p q. sym (old_cells p q);
-      above = λ p q. sym (x.grown.above p (omega arith) ∙ kept p (omega arith));
-    };
+    outside = outside_set (4 * limit + 3 * d) k (omega (arith, x.grew)) (omega arith) (outside_within (omega arith) (omega arith) x.grown);
   }
 
 pub held_below : {s : Text} {w : List ℕ} {n limit d : ℕ} → Held s w n limit (d + 1) → Held s w n limit d
@@ -172,6 +169,11 @@ module _ {s : Text} {w : List ℕ} {n limit d a l : ℕ} (h : Held s w n limit d
     | no f ↦ rw (← lower_words (4 * limit + 3 * i + 1) (omega arith), ← lower_words (4 * limit + 3 * i + 2) (omega arith)) (h.names i (omega arith))
   ]
 
+  opening_outside : Outside w opening (4 * n) (top + 4)
+  opening_outside =
+      let b = h.below in
+      outside_set (top + 3) 0 (omega arith) (omega arith) (outside_set (top + 2) l (omega arith) (omega arith) (outside_set (top + 1) a (omega arith) (omega arith) (outside_same w (4 * n) (top + 4))))
+
   pub opened : Opened s w opening n limit d (part s a l)
   opened = record {
     held = record {
@@ -185,18 +187,10 @@ module _ {s : Text} {w : List ℕ} {n limit d a l : ℕ} (h : Held s w n limit d
         stack_top s opening limit d
         ∙ level_path (ap₂ (part s) word_1 word_2) (trees_none s opening _ word_3)
         (sym (stack_frame s opening h.arena.links opened_cells limit d (λ q b c. lower_words q c) h.trees));
-    outside = record {
-      len = opening_length;
-      below = λ q r. sym (opened_cells q r);
-      above = λ q r. sym (other q (omega arith) (omega arith) (omega arith));
-    };
+    outside = opening_outside;
   }
 
 -- a list closed, at the numbers that the code holds
 module _ (s : Text) (w : List ℕ) (limit d : ℕ) {a l chain : ℕ} (e₁ : a ≡ get_or w (4 * limit + 3 * d + 1) 0) (e₂ : l ≡ get_or w (4 * limit + 3 * d + 2) 0) (e₃ : chain ≡ get_or w (4 * limit + 3 * d + 3) 0) where
   pub level_is : close (part s a l) (back (trees_at s w chain) none) ≡ closed_level s w limit d
   level_is = rw (e₁, e₂, e₃)
-
--- new cells alone leave the stack's words
-pub outside_grown : {w v : List ℕ} {n m limit : ℕ} → m ≤ limit → Grown w v n m → Outside w v (4 * n) (4 * limit)
-outside_grown b g = record { len = g.len; below = λ p q. sym (g.below p q); above = λ p q. sym (g.above p (omega arith)) }

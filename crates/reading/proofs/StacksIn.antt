@@ -14,7 +14,7 @@ use Rattle.tree.specs.Arena.{Arena}
 use Rattle.tree.specs.Areas.{trees_in, Lent, Adds, Pushes}
 use Rattle.tree.specs.Spelled.{Spelled}
 use Rattle.tree.specs.Words.{Writes}
-use Rattle.tree.proofs.Keeping.{adds_push, pushed_inside, pushed_trees}
+use Rattle.tree.proofs.Keeping.{lent_then, adds_push, pushed_inside, pushed_trees}
 use Rattle.tree.proofs.Lists.{list_none}
 use Rattle.closing.specs.Machine.{back}
 use Rattle.closing.specs.Words.{NamePlaced, Held}
@@ -22,7 +22,8 @@ use Rattle.closing.specs.Closing.{most}
 use Rattle.closing.specs.Areas.{room_for, ClosesIn, Shuts}
 use Rattle.reading.specs.Stacks.{HeldIn, AddsTo, level_tree, ClosedOn, ClosesOn}
 use Rattle.reading.specs.declared.stack.Stack.{Stack}
-use Rattle.reading.proofs.Stacks.{Put, added, held_below, level_is, outside_grown}
+use Rattle.text.proofs.Frames.{outside_within}
+use Rattle.reading.proofs.Stacks.{Put, added, held_below, level_is}
 
 -- the levels, with and without the cells
 pub held_of : (a : Area) {limit d : ℕ} → HeldIn a limit d → Held a.sheet.now a.work.now a.free limit d
@@ -54,7 +55,7 @@ put_cell {a} {b} {k} h q e = record {
 pub put_adds : {a m b : Area} (k : Stack) {cell : ℕ} {t : Tree} → Held a.sheet.now a.work.now a.free k.limit k.depth → m.free ≤ k.limit → Lent a m
     → Put a.sheet.now a.work.now m.work.now a.free m.free cell (get_or a.work.now (4 * k.limit + 3 * k.depth) 0) t → Writes m b (4 * k.limit + 3 * k.depth) cell → AddsTo a b k t
 put_adds k {cell} h q l p y = record {
-  lent = record { work = y.lent.work ∙ l.work; sheet = y.lent.sheet ∙ l.sheet };
+  lent = lent_then l y.lent;
   added = rw (y.end, y.words) (added cell h q p);
 }
 
@@ -84,7 +85,7 @@ module _ (a : Area) (k : Stack) {from len chain : ℕ} (e₁ : from ≡ get_or a
     level_refused q x = (
       (λ t f. x.0 t (level_closed ∙ f)),
       x.1.lent,
-      outside_grown (omega (arith, room_is, x.2)) x.1.grown,
+      outside_within (omega arith) (omega (arith, room_is, x.2)) x.1.grown,
       x.1.grew,
     )
 

@@ -30,10 +30,13 @@ abbrev pub ParsesIn : Area → Area → Place → Option ℕ → Type 0
 ParsesIn a b p None = UnreadIn a b p
 ParsesIn a b p (Some i) = Reads a b p i
 
+-- room for cells up to an end, and for the reader's stack above them
+abbrev pub ReaderRoomIn : Area → ℕ → Type 0
+ReaderRoomIn a end = (length a.sheet.now ≤ 65536) × (4 * end + 3 * length a.sheet.now < length a.work.now) × (end < 2 ^ 32)
+
 -- the cells of all texts from a position on end at most here: two for each byte
 abbrev pub texts_end_in : Area → ℕ → ℕ
 texts_end_in a at = a.free + 2 * (length a.sheet.now - at)
 
--- room for them, and for the reader's stack above them
 abbrev pub TextsRoomIn : Area → ℕ → Type 0
-TextsRoomIn a at = (length a.sheet.now ≤ 65536) × (4 * texts_end_in a at + 3 * length a.sheet.now < length a.work.now) × (texts_end_in a at < 2 ^ 32)
+TextsRoomIn a at = ReaderRoomIn a (texts_end_in a at)

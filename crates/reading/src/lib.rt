@@ -15,7 +15,7 @@ use syntax::symbols::{Symbol, next_symbol};
 use tree::area::Area;
 
 // The next symbol of the text that ends at `to`.
-pub(crate) fn symbol(sheet: &[u8], to: usize, at: usize) -> Option<Symbol>
+fn symbol(sheet: &[u8], to: usize, at: usize) -> Option<Symbol>
     requires { to ≤ length sheet.now }
     ensures { result ≡ next_symbol (take to sheet.now) at }
 {
@@ -55,7 +55,10 @@ fn read(area: &mut Area, text: Place, limit: usize) -> Option<usize>
         leaf(area, stack, name);
         at = name.to;
         loop {
-            match symbol(area.sheet, text.to, at)? {
+            let Some(delimiter) = symbol(area.sheet, text.to, at) else {
+                break 'term None;
+            };
+            match delimiter {
                 Symbol::Stop => return finished(area, stack),
                 Symbol::Comma(past) => {
                     if stack.depth == 0 {
@@ -69,7 +72,9 @@ fn read(area: &mut Area, text: Place, limit: usize) -> Option<usize>
                         break 'term None;
                     }
                     stack.depth -= 1;
-                    close(area, stack)?;
+                    let Some(_) = close(area, stack) else {
+                        break 'term None;
+                    };
                     at = past;
                 }
                 _ => break 'term None,

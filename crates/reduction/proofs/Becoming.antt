@@ -12,9 +12,10 @@ use Rattle.tree.specs.declared.area.Area.{Area}
 use Rattle.tree.specs.declared.kinds.Kind.{Kind}
 use Rattle.tree.specs.declared.kinds.Kind.TheVariants.{Application, Variable, Atom}
 use Rattle.tree.specs.Areas.{cell_kind, first_in, next_in, name_in, tree_in, trees_in, Grows, KeepsCells, Pushes}
-use Rattle.tree.proofs.Decoding.{trees_none, trees_more, size_pos}
+use Rattle.tree.proofs.Decoding.{trees_none}
 use Rattle.tree.proofs.Keeping.{adds_grows, grows_same, grows_keeps, grows_then, grows_name, grows_tree, grows_trees}
-use Rattle.tree.proofs.ByKind.{tree_application, tree_a_variable, tree_an_atom}
+use Rattle.tree.proofs.ByKind.{tree_application, tree_a_variable, tree_an_atom, nodes_application}
+use Rattle.tree.proofs.Lists.{list_more, list_size}
 use Rattle.substitution.specs.Areas.{Puts}
 use Rattle.substitution.proofs.Listing.{puts_push}
 use Rattle.reduction.specs.Areas.{Becomes, BecomesList}
@@ -74,10 +75,6 @@ module _ (a : Area) (k : ℕ) where
 
 -- an application over the list of its children
 module _ (a : Area) (k first : ℕ) (e : cell_kind a k ≡ Application) (f : first ≡ first_in a k) where
-  pub application_size : size (tree_in a k) ≡ 1 + sizes (trees_in a first)
-  unfolding size
-  application_size = ap size (over_own a k e (sym f))
-
   application_normal : normalize (tree_in a k) ≡ root (name_in a k) (normalizes (trees_in a first))
   unfolding normalize
   application_normal = ap normalize (over_own a k e (sym f))
@@ -85,10 +82,10 @@ module _ (a : Area) (k first : ℕ) (e : cell_kind a k ≡ Application) (f : fir
   -- and over what they become
   module _ {m : Area} {j : ℕ} (h : BecomesList a m (sizes (trees_in a first)) (normalizes (trees_in a first)) j) where
     pub listed_size : sizes (trees_in m j) < size (tree_in a k)
-    listed_size = omega (arith, application_size, normalizes_size (trees_in a first), ap sizes h.trees)
+    listed_size = omega (arith, nodes_application a k e f, normalizes_size (trees_in a first), ap sizes h.trees)
 
     pub listed_end : m.free + 1 ≤ a.free + size (tree_in a k)
-    listed_end = omega (arith, application_size, h.used)
+    listed_end = omega (arith, nodes_application a k e f, h.used)
 
     pub becomes_root : {b : Area} {next i : ℕ} → k < a.free → next < a.free → Becomes m b 1 next (root (name_in m k) (trees_in m j)) i → Becomes a b (size (tree_in a k)) next (normalize (tree_in a k)) i
     becomes_root q r d = rw (application_normal, ← h.trees, ← grows_name h.grows k q) (becomes_later r h.grows listed_end d)
@@ -104,13 +101,6 @@ becomes_none a k e = record {
 }
 
 module _ (a : Area) (k rest : ℕ) (p : 0 < k) (q : k < a.free) (f : rest ≡ next_in a k) where
-  list_is : trees_in a k ≡ more (tree_in a k) (trees_in a rest)
-  list_is = trees_more a.sheet.now a.arena.links k p q ∙ ap (λ (j : ℕ). more (tree_in a k) (trees_in a j)) (sym f)
-
-  pub list_size : (sizes (trees_in a k) ≡ size (tree_in a k) + sizes (trees_in a rest)) × (0 < size (tree_in a k))
-  unfolding size
-  list_size = (ap sizes list_is, size_pos (tree_in a k))
-
   module _ {m : Area} {j : ℕ} (h : BecomesList a m (sizes (trees_in a rest)) (normalizes (trees_in a rest)) j) where
     pub later_tree : tree_in m k ≡ tree_in a k
     later_tree = grows_tree h.grows k q p
@@ -119,7 +109,7 @@ module _ (a : Area) (k rest : ℕ) (p : 0 < k) (q : k < a.free) (f : rest ≡ ne
     unfolding normalize
     becomes_more d = record {
       grows = grows_then h.grows d.grows;
-      used = omega (arith, h.used, d.used, list_size.0, ap size later_tree);
+      used = omega (arith, h.used, d.used, list_size a k p q f, ap size later_tree);
       inside = d.inside;
-      trees = d.trees ∙ ap₂ more (ap normalize later_tree) h.trees ∙ sym (ap normalizes list_is);
+      trees = d.trees ∙ ap₂ more (ap normalize later_tree) h.trees ∙ sym (ap normalizes (list_more a k p q f));
     }

@@ -15,22 +15,16 @@ use Rattle.tree.specs.declared.area.Area.{Area}
 use Rattle.rules.specs.declared.Sort.{Sort}
 use Rattle.tree.specs.declared.kinds.Kind.TheVariants.{Application, Variable, Atom}
 use Rattle.tree.specs.Areas.{cell_kind, first_in, next_in, name_in, tree_in, trees_in}
-use Rattle.tree.proofs.Decoding.{trees_none, trees_more}
+use Rattle.tree.proofs.Lists.{list_none, list_more}
 use Rattle.tree.proofs.ByKind.{tree_application, tree_a_variable, tree_an_atom}
 
--- lists of no tree, of one and of more
+-- a list of no tree
 module _ (a : Area) (i : ℕ) where
-  pub list_none : i ≡ 0 → trees_in a i ≡ none
-  list_none e = trees_none a.sheet.now a.work.now i e
-
-  pub list_more : 0 < i → i < a.free → trees_in a i ≡ more (tree_in a i) (trees_in a (next_in a i))
-  list_more p q = trees_more a.sheet.now a.arena.links i p q
-
   pub none_no_one : i ≡ 0 → arguments1 (trees_in a i) ≡ None
-  none_no_one e = ap arguments1 (list_none e)
+  none_no_one e = ap arguments1 (list_none a i e)
 
   pub none_no_two : i ≡ 0 → arguments2 (trees_in a i) ≡ None
-  none_no_two e = ap arguments2 (list_none e)
+  none_no_two e = ap arguments2 (list_none a i e)
 
 -- a tree and another
 abbrev with_first : Tree → Option Tree → Option (Tree × Tree)
@@ -43,15 +37,15 @@ after t (more u (more v ts)) = refl
 
 module _ (a : Area) (i : ℕ) (p : 0 < i) (q : i < a.free) where
   pub only_one : next_in a i ≡ 0 → arguments1 (trees_in a i) ≡ Some (tree_in a i)
-  only_one e = ap arguments1 (list_more a i p q ∙ ap (more (tree_in a i)) (list_none a (next_in a i) e))
+  only_one e = ap arguments1 (list_more a i p q refl ∙ ap (more (tree_in a i)) (list_none a (next_in a i) e))
 
   pub others_after : 0 < next_in a i → arguments1 (trees_in a i) ≡ None
-  others_after h = ap arguments1 (list_more a i p q ∙ ap (more (tree_in a i)) (list_more a (next_in a i) h (omega (arith, a.arena.links.next i p q))))
+  others_after h = ap arguments1 (list_more a i p q refl ∙ ap (more (tree_in a i)) (list_more a (next_in a i) h (omega (arith, a.arena.links.next i p q)) refl))
 
   -- the second of two is the only one after the first
   pub second_alone : {j : ℕ} (o : Option ℕ) → j ≡ next_in a i → arguments1 (trees_in a j) ≡ option_map (tree_in a) o → arguments2 (trees_in a i) ≡ option_map (λ k. (tree_in a i, tree_in a k)) o
   second_alone {j} o f e =
-      ap arguments2 (list_more a i p q) ∙ after (tree_in a i) (trees_in a (next_in a i)) ∙ ap (λ (k : ℕ). with_first (tree_in a i) (arguments1 (trees_in a k))) (sym f)
+      ap arguments2 (list_more a i p q refl) ∙ after (tree_in a i) (trees_in a (next_in a i)) ∙ ap (λ (k : ℕ). with_first (tree_in a i) (arguments1 (trees_in a k))) (sym f)
       ∙ ap (with_first (tree_in a i)) e ∙ mapped o
     where
       mapped : (o : Option ℕ) → with_first (tree_in a i) (option_map (tree_in a) o) ≡ option_map (λ k. (tree_in a i, tree_in a k)) o
@@ -80,4 +74,4 @@ module _ (a : Area) (f : Text) (k : ℕ) where
 pub no_children : (a : Area) (o : Option ℕ) → IfSome o (λ i. i < a.free) → (option_map (trees_in a) o >>= arguments0) ≡ guard (option_eq eqb o (Some 0))
 no_children a None h = refl
 no_children a (Some zero) h = ap arguments0 (list_none a 0 refl)
-no_children a (Some (suc i)) h = ap arguments0 (list_more a (suc i) (omega arith) h) ∙ ap guard (sym (ne_eqb (suc i) 0 (omega arith)))
+no_children a (Some (suc i)) h = ap arguments0 (list_more a (suc i) (omega arith) h refl) ∙ ap guard (sym (ne_eqb (suc i) 0 (omega arith)))

@@ -64,7 +64,7 @@ pub fn two_arguments(area: &Area, list: usize) -> Option<usize>
 
 // The list of the children of cell k, if it is an application with the name.
 #[tactic(auto, using(crate::proofs::Arguments::application_arguments, crate::proofs::Arguments::variable_arguments, crate::proofs::Arguments::atom_arguments))]
-pub(crate) fn arguments_of(area: &Area, k: usize, name: Fixed) -> Option<usize>
+fn arguments_of(area: &Area, k: usize, name: Fixed) -> Option<usize>
     requires { CellIn area.now k }
     ensures trees { arguments_of (fixed_text name) (tree_in area.now k) ≡ option_map (trees_in area.now) result }
     ensures list { IfSome result (λ i. i < area.now.free) }

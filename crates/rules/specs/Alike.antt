@@ -35,6 +35,6 @@ pub record SolvedOrFailed (answer : Text) : Type 0 where
 -- own length and words, 12 where that answer does not fit, else the same bytes
 pub data AlikeOutcome (r : Text) (sheet : Sheet) (words room : ℕ) (a : Text) : Reply Text → Type 0 where
   too_long : 65536 < length r → AlikeOutcome r sheet words room a (refused (number_for TooLong))
-  short_work : length r ≤ 65536 → words < words_needed r sheet → AlikeOutcome r sheet words room a (refused (number_for ShortWorkArea))
+  short_work_area : length r ≤ 65536 → words < words_needed r sheet → AlikeOutcome r sheet words room a (refused (number_for ShortWorkArea))
   short_output : length r ≤ 65536 → words_needed r sheet ≤ words → room < length a → AlikeOutcome r sheet words room a (refused (number_for ShortOutput))
   same_bytes : length r ≤ 65536 → words_needed r sheet ≤ words → length a ≤ room → AlikeOutcome r sheet words room a (passed a)

@@ -1,5 +1,5 @@
--- More sheets with their whole answers: sums of three and more summands, the rules of `complete` one by one, and trees whose names do
--- not have their counts of arguments.
+-- More sheets with their whole answers: sums of three and more summands, the rules of `complete` one by one, trees whose names do not
+-- have their counts of arguments, variables of sort Fresh and Node, indices, the order of bindings, ground summands.
 use Rattle.std.specs.Prelude.{List, [], ◌∷◌}
 use Prim.Native.String.{String}
 use Rattle.rules.specs.Call.{passed}
@@ -133,4 +133,57 @@ unranked =
     ("verdict=solved" ∷ "spent=2" ∷ "key=x0:TamNat" ∷ "value=tamtplus(t(0),t(1))" ∷ [])
     ∷ row ("kind=unify" ∷ "fuel=9" ∷ "left=tamtplus(tamXCtone(c(0)),x0:TamNat)" ∷ "right=tamtplus(x1:TamNat,x2:TamNat)" ∷ [])
     ("verdict=failed" ∷ "spent=1" ∷ [])
+    ∷ []
+
+-- variables of sort Fresh and Node
+abbrev pub fresh_and_node : List Row
+fresh_and_node =
+    row ("kind=unify" ∷ "fuel=9" ∷ "left=x0:Fresh" ∷ "right=f(0)" ∷ [])
+    ("verdict=solved" ∷ "spent=1" ∷ "key=x0:Fresh" ∷ "value=f(0)" ∷ [])
+    ∷ row ("kind=unify" ∷ "fuel=9" ∷ "left=x0:Fresh" ∷ "right=p(0)" ∷ [])
+    ("verdict=failed" ∷ "spent=1" ∷ [])
+    ∷ row ("kind=unify" ∷ "fuel=9" ∷ "left=x0:Node" ∷ "right=n(0)" ∷ [])
+    ("verdict=solved" ∷ "spent=1" ∷ "key=x0:Node" ∷ "value=n(0)" ∷ [])
+    ∷ row ("kind=unify" ∷ "fuel=9" ∷ "left=x0:Node" ∷ "right=f(0)" ∷ [])
+    ("verdict=failed" ∷ "spent=1" ∷ [])
+    ∷ row ("kind=unify" ∷ "fuel=9" ∷ "left=x0:Msg" ∷ "right=x1:Fresh" ∷ [])
+    ("verdict=solved" ∷ "spent=1" ∷ "key=x0:Msg" ∷ "value=x1:Fresh" ∷ [])
+    ∷ row ("kind=unify" ∷ "fuel=9" ∷ "left=x0:Msg" ∷ "right=x1:Node" ∷ [])
+    ("verdict=failed" ∷ "spent=1" ∷ [])
+    ∷ []
+
+-- which variables of a term `complete` has an index for: `x`, no leading zero, below 2^63
+abbrev pub indices : List Row
+indices =
+    row ("kind=complete" ∷ "term=x9223372036854775807:Msg" ∷ "member=x9223372036854775807:Msg" ∷ []) ("complete=yes" ∷ [])
+    ∷ row ("kind=complete" ∷ "term=x9223372036854775808:Msg" ∷ "member=x9223372036854775808:Msg" ∷ []) ("complete=none" ∷ [])
+    ∷ row ("kind=complete" ∷ "term=x4294967296:Msg" ∷ "member=x4294967296:Msg" ∷ []) ("complete=yes" ∷ [])
+    ∷ row ("kind=complete" ∷ "term=x00:Msg" ∷ "member=x00:Msg" ∷ []) ("complete=none" ∷ [])
+    ∷ row ("kind=complete" ∷ "term=#0:Msg" ∷ "member=#0:Msg" ∷ []) ("complete=none" ∷ [])
+    ∷ row ("kind=complete" ∷ "term=%0:Msg" ∷ "member=%0:Msg" ∷ []) ("complete=none" ∷ [])
+    ∷ []
+
+-- an application of `tamXCtone` that is no message, but has an instance that is one
+abbrev pub tone_sums : List Row
+tone_sums =
+    row ("kind=unify" ∷ "fuel=9" ∷ "left=x0:Msg" ∷ "right=tamXCtone(tamtplus(x1:Msg,t(0)))" ∷ [])
+    ("verdict=unsupported" ∷ "spent=1" ∷ [])
+    ∷ []
+
+-- two bindings of `match`, the newest first
+abbrev pub two_bindings : List Row
+two_bindings =
+    row ("kind=match" ∷ "fuel=9" ∷ "left=x0:Msg" ∷ "right=a" ∷ "left=x1:Msg" ∷ "right=b" ∷ [])
+    ("verdict=solved" ∷ "spent=2" ∷ "key=x1:Msg" ∷ "value=b" ∷ "key=x0:Msg" ∷ "value=a" ∷ [])
+    ∷ row ("kind=match" ∷ "fuel=9" ∷ "left=g(x1:Msg,x0:Msg)" ∷ "right=g(a,b)" ∷ [])
+    ("verdict=solved" ∷ "spent=3" ∷ "key=x0:Msg" ∷ "value=b" ∷ "key=x1:Msg" ∷ "value=a" ∷ [])
+    ∷ []
+
+-- pattern summands that are applications without variables, which cancel, and one with a variable, which does not
+abbrev pub ground_sums : List Row
+ground_sums =
+    row ("kind=match" ∷ "fuel=9" ∷ "left=tamtplus(x0:Msg,g(c(0)))" ∷ "right=tamtplus(t(1),g(c(0)))" ∷ [])
+    ("verdict=solved" ∷ "spent=2" ∷ "key=x0:Msg" ∷ "value=t(1)" ∷ [])
+    ∷ row ("kind=match" ∷ "fuel=9" ∷ "left=tamtplus(x0:TamNat,g(x1:Msg))" ∷ "right=tamtplus(t(1),g(c(0)))" ∷ [])
+    ("verdict=unsupported" ∷ "spent=1" ∷ [])
     ∷ []

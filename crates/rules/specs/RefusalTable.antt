@@ -1,12 +1,12 @@
 -- Sheets that are refused, with the refusal's number, and the sheets beside them that are not (01, "From the input", "From the state").
-use Rattle.std.specs.Prelude.{ℕ, List, [], ◌∷◌, ◌++◌, replicate}
+use Rattle.std.specs.Prelude.{ℕ, suc, List, [], ◌∷◌, ◌++◌, replicate}
 use Prim.Native.String.{String}
 use Rattle.rules.specs.Bytes.{Text}
 use Rattle.rules.specs.Text.{bytes}
 use Rattle.rules.specs.declared.Refusal.{Refusal}
 use Rattle.rules.specs.declared.Refusal.TheVariants.{ForeignByte, LineOutOfPlace, UnreadableTerm, ShortWorkArea, ShortOutput}
 use Rattle.rules.specs.RefusalNumbers.{number_for}
-use Rattle.rules.specs.Call.{refused}
+use Rattle.rules.specs.Call.{refused, passed}
 use Rattle.rules.specs.Table.{Row, text, row}
 
 -- lines that are refused with words and room enough
@@ -70,3 +70,28 @@ refusals =
     ∷ row ("kind=complete" ∷ "term=a" ∷ "member=a)" ∷ []) ("complete=none" ∷ [])
     ∷ row ("kind=cover" ∷ "left=a" ∷ "right=a" ∷ "member=a)" ∷ []) ("covered=yes" ∷ [])
     ∷ []
+
+-- lines with one word less than they need, which gives 11, and with the words that they need
+abbrev pub one_less : List String → ℕ → List String → List Row
+one_less sheet n answer =
+    record { sheet = text sheet; words = n; room = 1000; reply = refused (number_for ShortWorkArea) }
+    ∷ record { sheet = text sheet; words = suc n; room = 1000; reply = passed (text answer) }
+    ∷ []
+
+-- the words of each kind, with colons in texts and keys, and brackets: only those of the `term` line of `complete` count
+abbrev pub least_words : List Row
+least_words =
+    one_less ("kind=equal" ∷ "left=g(c(0))" ∷ "right=g(c(0))" ∷ []) 1049183
+    ("equal=yes" ∷ [])
+    ++ one_less ("kind=unify" ∷ "fuel=9" ∷ "left=g(x0:Msg)" ∷ "right=g(c(0))" ∷ []) 1114863
+    ("verdict=solved" ∷ "spent=2" ∷ "key=x0:Msg" ∷ "value=c(0)" ∷ [])
+    ++ one_less ("kind=match" ∷ "fuel=9" ∷ "left=g(x0:Msg)" ∷ "right=g(c(0))" ∷ []) 1114863
+    ("verdict=solved" ∷ "spent=2" ∷ "key=x0:Msg" ∷ "value=c(0)" ∷ [])
+    ++ one_less ("kind=reduce" ∷ "term=g(x0:Msg)" ∷ []) 1114543
+    ("normal=g(x0:Msg)" ∷ [])
+    ++ one_less ("kind=cover" ∷ "left=g(x0:Msg)" ∷ "right=g(c(0))" ∷ "member=" ∷ "key=x0:Msg" ∷ "value=x1:Msg" ∷ []) 1246335
+    ("covered=yes" ∷ [])
+    ++ one_less ("kind=sound" ∷ "term=g(g(x0:Msg))" ∷ "member=g(g(c(0)))" ∷ "key=x0:Msg" ∷ "value=c(0)" ∷ []) 1180751
+    ("sound=yes" ∷ [])
+    ++ one_less ("kind=complete" ∷ "term=g(g(x0:Msg))" ∷ "member=g(g(x1:Msg))" ∷ "key=x0:Msg" ∷ "value=x1:Msg" ∷ []) 1574079
+    ("complete=yes" ∷ [])

@@ -46,9 +46,9 @@ pub data UnreadableSheet : Sheet → Type 0 where
 pub data Outcome (s : Text) (words room : ℕ) : Reply Text → Type 0 where
   too_long : 65536 < length s → Outcome s words room (refused (number_for TooLong))
   foreign_byte : length s ≤ 65536 → (p : ℕ) → p < length s → ¬ Allowed (get_or s p 0) → Outcome s words room (refused (number_for ForeignByte))
-  out_of_place : Screened s → ((sheet : Sheet) → ¬ IsSheet s sheet) → Outcome s words room (refused (number_for LineOutOfPlace))
-  short_work : {sheet : Sheet} → Screened s → IsSheet s sheet → words < words_needed s sheet → Outcome s words room (refused (number_for ShortWorkArea))
-  unreadable : {sheet : Sheet} → Admitted s words sheet → UnreadableSheet sheet → Outcome s words room (refused (number_for UnreadableTerm))
+  line_out_of_place : Screened s → ((sheet : Sheet) → ¬ IsSheet s sheet) → Outcome s words room (refused (number_for LineOutOfPlace))
+  short_work_area : {sheet : Sheet} → Screened s → IsSheet s sheet → words < words_needed s sheet → Outcome s words room (refused (number_for ShortWorkArea))
+  unreadable_term : {sheet : Sheet} → Admitted s words sheet → UnreadableSheet sheet → Outcome s words room (refused (number_for UnreadableTerm))
   short_output : {sheet : Sheet} {answer : Text} → Admitted s words sheet → answer_of sheet ≡ Some answer → room < length answer → Outcome s words room (refused (number_for ShortOutput))
   answered : {sheet : Sheet} {answer : Text} → Admitted s words sheet → answer_of sheet ≡ Some answer → length answer ≤ room → Outcome s words room (passed answer)
 

@@ -2,7 +2,7 @@
 use Prim.Native.Nat.{ℕ, suc, ◌+◌, ◌-◌, ◌<◌, ◌≤◌, ◌/◌, ◌%◌}
 use mathlib.Core.Path.{◌≡◌, refl, sym, ap, ◌∙◌}
 use mathlib.Core.Bool.{Bool, true, false, cond}
-use mathlib.Core.List.{List, [], ◌∷◌, ◌++◌}
+use mathlib.Core.List.{List, [], ◌∷◌, ◌++◌, append_assoc}
 use lib.Dec.{eqb, ltb}
 use lib.ListN.{length, get_or, take, drop, length-append, length-take, length-drop, get_or-append, drop_of_length-le}
 use lib.Seq.{drop-cons, drop_at, drop-append-le, length-take-le, get_or-take, get_or-drop}
@@ -143,3 +143,9 @@ tokens_part s w from to t p l h =
     let k = length-take (to - from) (drop from w) in
     let e = get_or-take (to - from) (drop from w) p 0 (omega arith) ∙ get_or-drop from w p 0 in
     rw e (t (from + p) (omega arith) (omega arith))
+
+-- one run after another
+pub texts_append : (s l m : List ℕ) → texts s (l ++ m) ≡ texts s l ++ texts s m
+unfolding texts
+texts_append s [] m = refl
+texts_append s (x ∷ l) m = ap (λ (t : List ℕ). word_text s x ++ t) (texts_append s l m) ∙ sym (append_assoc (word_text s x) (texts s l) (texts s m))

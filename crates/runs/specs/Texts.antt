@@ -1,5 +1,5 @@
--- Texts as runs of words. A word is start * 65536 + length, a place of the sheet; with length 0 the start is a code: below 256 it
--- is a mark, that one byte; from 256 on it is the name of sums or a fixed name; from 512 on it is one byte that is no mark.
+-- Texts as runs of words. A word is start * 65536 + length, a place of the sheet; with length 0 the start is a code: below NAMES it
+-- is a mark, that one byte; from NAMES on it is the name of sums or a fixed name; from BYTES on it is one byte that is no mark.
 -- Definitions only.
 use Rattle.std.specs.Prelude.{ℕ, zero, suc, ◌+◌, ◌-◌, ◌<◌, ◌≤◌, ◌/◌, ◌%◌, Bool, false, cond, List, [], ◌∷◌, ◌++◌, eqb, ltb, length, get_or, take, drop}
 use Rattle.std.specs.Prelude.{Option, Some, None}
@@ -10,6 +10,7 @@ use Rattle.rules.specs.Tree.{tamtplus}
 use Rattle.tree.specs.Cells.{fixed_name}
 use Rattle.tree.specs.Names.{coded_fixed}
 use Rattle.tree.specs.declared.fixed.Fixed as fixed
+use Rattle.runs.specs.declared.order.TheConstants.{NAMES, BYTES}
 use Rattle.runs.specs.declared.order.Piece.{Piece}
 use Rattle.runs.specs.declared.order.Piece.TheVariants.{Place, Byte, Sum, Fixed, Unspelled}
 use Rattle.runs.specs.declared.order.Spot.{Spot}
@@ -21,7 +22,7 @@ code_name (suc n) = fixed_name (suc n)
 
 -- the text of a code
 unfoldable pub code_text : ℕ → List ℕ
-code_text c = cond (ltb c 256) (c ∷ []) (cond (ltb c 512) (code_name (c - 256)) (c % 256 ∷ []))
+code_text c = cond (ltb c NAMES) (c ∷ []) (cond (ltb c BYTES) (code_name (c - NAMES)) (c % 256 ∷ []))
 
 unfoldable pub code_width : ℕ → ℕ
 unfolding code_text
@@ -46,7 +47,7 @@ name_piece zero = Sum
 name_piece (suc n) = fixed_piece (coded_fixed (suc n)) (suc n)
 
 abbrev pub code_piece : ℕ → Piece
-code_piece c = cond (ltb c 256) (Byte c) (cond (ltb c 512) (name_piece (c - 256)) (Byte (c % 256)))
+code_piece c = cond (ltb c NAMES) (Byte c) (cond (ltb c BYTES) (name_piece (c - NAMES)) (Byte (c % 256)))
 
 abbrev pub piece_of : ℕ → Piece
 piece_of x = cond (eqb (x % 65536) 0) (code_piece (x / 65536)) (Place (x / 65536) (x % 65536))

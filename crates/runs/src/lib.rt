@@ -1,8 +1,6 @@
 // Texts as runs of words: their order, and runs sorted by it.
 #![tactic(auto)]
 
-ghost use Rattle.std.specs.Prelude.{◌≡◌, ◌+◌, ◌*◌, ◌<◌};
-
 pub mod order; // order.rt: the bytes of words, and the order of texts
 pub mod sorting; // sorting.rt: runs of words, sorted by their texts
 
@@ -18,12 +16,3 @@ pub const COMMA: u32 = b',' as u32 * SPAN;
 
 // The word of the name of sums; those of the fixed names come after it.
 pub const PLUS: u32 = 256 * SPAN;
-
-// The word of a start, or a code, and a length.
-// Not sheet's Place, which is of bytes: runs of words and codes have it too.
-pub fn word(start: usize, length: usize) -> u32
-    requires { (start < SPAN) × (length < SPAN) }
-    ensures { result ≡ start * SPAN + length }
-{
-    start as u32 * SPAN + length as u32
-}

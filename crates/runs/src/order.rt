@@ -142,7 +142,13 @@ impl Spot {
 fn more_zeros(x: u32, y: u32, a: usize, b: usize) -> bool
     ensures { result ≡ more_zeros x y a b }
 {
-    a == 0 && b == 0 && matches!((zeros_of(x), zeros_of(y)), (Some(m), Some(n)) if n < m)
+    if 0 < a || 0 < b {
+        return false;
+    }
+    let Some(m) = zeros_of(x) else {
+        return false;
+    };
+    matches!(zeros_of(y), Some(n) if n < m)
 }
 
 // How the text of some words stands to that of others.

@@ -14,6 +14,7 @@ use Rattle.laws.specs.Memory.{site, sites, sites_in}
 use Rattle.tree.specs.declared.area.Area.{Area}
 use Rattle.tree.specs.Areas.{next_in, tree_in, trees_in, Grows, CellIn, HasRoom}
 use Rattle.tree.proofs.Decoding.{size_pos}
+use Rattle.tree.proofs.Lists.{list_more}
 use Rattle.tree.proofs.Keeping.{grows_same, grows_then, adds_grows, grows_next, grows_tree, grows_trees}
 use Rattle.schemes.specs.Choices.{over, appended, ways_of, root_of, joined_as, Shared}
 use Rattle.schemes.specs.Areas.{Has, HasList, FreshIn}
@@ -25,7 +26,6 @@ use Rattle.schemes.proofs.ByChildren.{count_children, scheme_children, sites_chi
 use Rattle.schemes.proofs.Bounds.{scheme_fits, joined_fits}
 use Rattle.schemes.proofs.Leaves.{no_trees}
 use Rattle.schemes.proofs.Lasting.{has_later, list_later, fresh_later, named_later}
-use Rattle.schemes.proofs.Lining.{list_parts}
 use Rattle.schemes.proofs.Equations.{flatten_append, count_flatten}
 
 -- the choices for one tree, before it is put into its list, for which a cell is left
@@ -49,7 +49,7 @@ sites_of e = ap sites_in e
 
 module _ {a : Area} {fresh : ℕ} {w : Draw} (i first : ℕ) (d : ReadyIn a fresh w i) (p : 0 < i) (q : first < i) (f : trees_in a first ≡ children (tree_in a i)) where
   parts : trees_in a i ≡ more (tree_in a i) (trees_in a (next_in a i))
-  parts = list_parts a i p d.inside
+  parts = list_more a i p d.inside refl
 
   all_shared : Shared (scheme_counts (more (tree_in a i) (trees_in a (next_in a i)))) w.ways w.index
   all_shared = subst (λ (ts : Trees). Shared (scheme_counts ts) w.ways w.index) parts d.shared
@@ -200,7 +200,7 @@ module _ {a m : Area} {fresh : ℕ} {w : Draw} (i : ℕ) (d : ReadyIn a fresh w 
   later_trees = trees_in a (next_in a i)
 
   list_is : trees_in a i ≡ more first_tree later_trees
-  list_is = list_parts a i p d.inside
+  list_is = list_more a i p d.inside refl
 
   first_split : Split (scheme_count first_tree) (scheme_counts later_trees) w.ways w.index
   first_split = tree_split first_tree later_trees (subst (λ (ts : Trees). Shared (scheme_counts ts) w.ways w.index) list_is d.shared)

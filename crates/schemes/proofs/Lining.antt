@@ -12,8 +12,9 @@ use Rattle.tree.specs.declared.area.Area.{Area}
 use Rattle.tree.specs.declared.kinds.Kind.{Kind}
 use Rattle.tree.specs.declared.kinds.Kind.TheVariants.{Application, Variable, Atom}
 use Rattle.tree.specs.Areas.{cell_kind, next_in, name_in, tree_in, trees_in, Pushes}
-use Rattle.tree.proofs.Decoding.{trees_none, trees_more}
+use Rattle.tree.proofs.Decoding.{trees_none}
 use Rattle.tree.proofs.Keeping.{grows_same, adds_then, adds_grows, grows_trees}
+use Rattle.tree.proofs.Lists.{list_more}
 use Rattle.tree.proofs.ByKind.{application_kind, number_application}
 use Rattle.substitution.specs.Areas.{Puts}
 use Rattle.tree.specs.Lists.{Lists}
@@ -28,11 +29,8 @@ use Rattle.schemes.proofs.Equations.{appended_none}
 
 -- a list by its first cell
 module _ (a : Area) (k : ℕ) (p : 0 < k) (q : k < a.free) where
-  pub list_parts : trees_in a k ≡ more (tree_in a k) (trees_in a (next_in a k))
-  list_parts = trees_more a.sheet.now a.arena.links k p q
-
   pub list_count : count (trees_in a k) ≡ 1 + count (trees_in a (next_in a k))
-  list_count = ap count list_parts ∙ (let f : suc (count (trees_in a (next_in a k))) ≡ 1 + count (trees_in a (next_in a k)) = omega arith in f)
+  list_count = ap count (list_more a k p q refl) ∙ (let f : suc (count (trees_in a (next_in a k))) ≡ 1 + count (trees_in a (next_in a k)) = omega arith in f)
 
 -- one list before another
 module _ (a : Area) (x y : ℕ) where
@@ -57,7 +55,7 @@ module _ (a : Area) (x y : ℕ) where
   unfolding appended
   appends_more {m} {b} {i} {k} j p q r f g h =
       let t = lists_tree x p q g.lists in
-      let parts : trees_in a x ≡ more (tree_in a x) (trees_in a j) = list_parts a x p q ∙ ap (λ (l : ℕ). more (tree_in a x) (trees_in a l)) (sym f) in
+      let parts : trees_in a x ≡ more (tree_in a x) (trees_in a j) = list_more a x p q f in
       record {
         lists = subst (Lists a b k) (ap (λ (u : Tree). more u (appended (trees_in a j) (trees_in a y))) t ∙ sym (ap (λ (ts : Trees). appended ts (trees_in a y)) parts)) (lists_push g.lists h);
         used = omega (arith, g.used, h.end, list_count a x p q, ap (λ (l : ℕ). count (trees_in a l)) f);
@@ -94,7 +92,7 @@ keeps_leaf {a} {t} i p q e = record {
   some_cell = p;
   inside = q;
   tree = sym e;
-  trees = list_parts a i p q ∙ ap (λ (u : Tree). more u (trees_in a (next_in a i))) (sym e);
+  trees = list_more a i p q refl ∙ ap (λ (u : Tree). more u (trees_in a (next_in a i))) (sym e);
 }
 
 pub becomes_as : {a b : Area} {n next i : ℕ} {t u : Tree} → u ≡ t → Becomes a b n next t i → Becomes a b n next u i

@@ -35,7 +35,7 @@ within n k e = elim (dec_lt 4096 n) [
   | no p ↦ (let f = e ∙ sym (counted_some n (omega arith)) in (cc, omega arith))
 ]
 
-past : (n : ℕ) → None ≡ counted_in n → 4096 < n
+pub past : (n : ℕ) → None ≡ counted_in n → 4096 < n
 past n e = elim (dec_lt 4096 n) [ yes p ↦ p | no p ↦ (let f = e ∙ sym (counted_some n (omega arith)) in absurd cc) ]
 
 pub counted_then : (n : ℕ) → then_some (leb n 4096) n ≡ counted_in n

@@ -2,7 +2,7 @@
 use Prim.Native.Nat.{ℕ, zero, suc, ◌+◌, ◌*◌, ◌/◌, ◌<◌, ◌≤◌}
 use native.Mathlib.Nat.{mul-one, div-one, div-eq_of_eq-mul_right}
 use native.Mathlib.Omega.{arith}
-use mathlib.Core.Path.{◌≡◌, sym, ap, ap₂, ◌∙◌, subst}
+use mathlib.Core.Path.{◌≡◌, refl, sym, ap, ap₂, ◌∙◌, subst}
 use mathlib.Core.List.{[], ◌∷◌, ◌++◌}
 use Rattle.std.proofs.lemmas.List.{append-nil}
 use Rattle.rules.specs.Bytes.{Text}
@@ -16,6 +16,7 @@ use Rattle.tree.specs.declared.area.Area.{Area}
 use Rattle.tree.specs.Areas.{tree_in, trees_in, Grows, Pushes, CellIn, HasRoom}
 use Rattle.tree.proofs.Keeping.{grows_then, grows_push, adds_then, adds_grows, grows_tree, pushed_inside, pushed_trees}
 use Rattle.tree.specs.Lists.{Lists}
+use Rattle.tree.proofs.Lists.{list_more}
 use Rattle.substitution.proofs.Chains.{head_more, none_more}
 use Rattle.schemes.specs.Choices.{appended, Shared}
 use Rattle.schemes.specs.Areas.{Has, HasList, FreshIn, SomeFreshIn, SystemIn}
@@ -25,7 +26,6 @@ use Rattle.schemes.specs.declared.firing.Chosen.{Chosen}
 use Rattle.schemes.proofs.Bounds.{scheme_fits}
 use Rattle.schemes.proofs.Leaves.{no_trees}
 use Rattle.schemes.proofs.Lasting.{has_later, list_later, fresh_later, named_later}
-use Rattle.schemes.proofs.Lining.{list_parts}
 use Rattle.schemes.proofs.Equations.{flatten_append, count_flatten}
 use Rattle.schemes.proofs.Counts.{count_positive}
 
@@ -46,7 +46,7 @@ one_scheme name t i =
 -- the first tree of a list that has one
 first_has : (a : Area) (k : ℕ) {t : Tree} {ts : Trees} → HasList a k (more t ts) → Has a k t
 first_has a zero h = absurd (none_more (sym (no_trees a) ∙ h.trees))
-first_has a (suc k) h = record { some_cell = omega arith; inside = h.inside; tree = head_more (sym (list_parts a (suc k) (omega arith) h.inside) ∙ h.trees) }
+first_has a (suc k) h = record { some_cell = omega arith; inside = h.inside; tree = head_more (sym (list_more a (suc k) (omega arith) h.inside refl) ∙ h.trees) }
 
 -- the term alone, in cell k of m
 module _ {a m : Area} {fresh k : ℕ} (term c i : ℕ) (names : SomeFreshIn a fresh) (tree : CellIn a term × (size (tree_in a term) ≤ 4096))

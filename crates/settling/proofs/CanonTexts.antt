@@ -6,25 +6,22 @@ use mathlib.Core.List.{List, [], ◌∷◌, ◌++◌, append_assoc, append-nil, 
 use lib.Dec.{eqb}
 use lib.ListN.{length}
 use native.Mathlib.Omega.{arith}
-use Rattle.rules.specs.Bytes.{upto, insert, sort}
+use Rattle.rules.specs.Bytes.{sort}
 use Rattle.runs.specs.Texts.{word_text, texts}
+use Rattle.runs.proofs.WordTexts.{texts_append}
 use Rattle.runs.specs.declared.TheConstants.{OPEN, SHUT, COMMA}
+use Rattle.laws.proofs.Basics.Sorting.{sort_texts}
 use Rattle.settling.specs.Orders.{sums_ordered}
-use Rattle.flattening.specs.Terms.{Term, node, Terms, none, more, inner, insert_words, sort_words, headed, words, canonical, canonicals, canon_text, canon_texts}
+use Rattle.flattening.specs.Terms.{Term, node, Terms, none, more, inner, sort_words, headed, words, canonical, canonicals, canon_text, canon_texts}
 use Rattle.rules.specs.Writing.{commas, listed}
 use Rattle.flattening.specs.Spelling.{NoMark}
 use Rattle.settling.proofs.Canonicals.{PlainTerm, order_term}
 
 module _ (s : List ℕ) where
-  texts_append : (l m : List ℕ) → texts s (l ++ m) ≡ texts s l ++ texts s m
-  unfolding texts
-  texts_append [] m = refl
-  texts_append (x ∷ l) m = ap (λ (r : List ℕ). word_text s x ++ r) (texts_append l m) ∙ sym (append_assoc (word_text s x) (texts s l) (texts s m))
-
   texts_inner : (l : List ℕ) (ls : List (List ℕ)) → texts s (inner (l ∷ ls)) ≡ texts s l ++ commas (map (texts s) ls)
   unfolding inner commas texts word_text
   texts_inner l [] = sym (append-nil (texts s l))
-  texts_inner l (m ∷ ls) = texts_append l (COMMA ∷ inner (m ∷ ls)) ∙ ap (λ (r : List ℕ). texts s l ++ (44 ∷ r)) (texts_inner m ls)
+  texts_inner l (m ∷ ls) = texts_append s l (COMMA ∷ inner (m ∷ ls)) ∙ ap (λ (r : List ℕ). texts s l ++ (44 ∷ r)) (texts_inner m ls)
 
   texts_open : (l : List ℕ) → texts s (OPEN ∷ l) ≡ 40 ∷ texts s l
   unfolding texts word_text
@@ -37,7 +34,7 @@ module _ (s : List ℕ) where
   texts_list : (l : List ℕ) (ls : List (List ℕ)) → texts s (OPEN ∷ (inner (l ∷ ls) ++ (SHUT ∷ []))) ≡ 40 ∷ (texts s l ++ (commas (map (texts s) ls) ++ (41 ∷ [])))
   texts_list l ls =
       texts_open (inner (l ∷ ls) ++ (SHUT ∷ []))
-      ∙ ap (λ (r : List ℕ). 40 ∷ r) (texts_append (inner (l ∷ ls)) (SHUT ∷ []) ∙ ap₂ (λ (a b : List ℕ). a ++ b) (texts_inner l ls) texts_shut ∙ append_assoc (texts s l) (commas (map (texts s) ls)) (41 ∷ []))
+      ∙ ap (λ (r : List ℕ). 40 ∷ r) (texts_append s (inner (l ∷ ls)) (SHUT ∷ []) ∙ ap₂ (λ (a b : List ℕ). a ++ b) (texts_inner l ls) texts_shut ∙ append_assoc (texts s l) (commas (map (texts s) ls)) (41 ∷ []))
 
   texts_headed : (x : ℕ) (ls : List (List ℕ)) → texts s (headed x ls) ≡ listed (word_text s x) (map (texts s) ls)
   unfolding headed listed texts
@@ -48,20 +45,9 @@ module _ (s : List ℕ) where
       let e : word_text s x ++ (40 ∷ (t ++ (r ++ (41 ∷ [])))) ≡ ((word_text s x ++ (40 ∷ t)) ++ r) ++ (41 ∷ []) = simp append_assoc in
       ap (λ (r : List ℕ). word_text s x ++ r) (texts_list l ls) ∙ e
 
-  insert_map : (l : List ℕ) (ls : List (List ℕ)) → map (texts s) (insert_words s l ls) ≡ insert (texts s l) (map (texts s) ls)
-  unfolding insert_words insert
-  insert_map l [] = refl
-  insert_map l (m ∷ ls) = go (upto (texts s l) (texts s m)) (insert_map l ls)
-    where
-      go : (t : Bool) → map (texts s) (insert_words s l ls) ≡ insert (texts s l) (map (texts s) ls)
-          → map (texts s) (cond t (l ∷ m ∷ ls) (m ∷ insert_words s l ls)) ≡ cond t (texts s l ∷ texts s m ∷ map (texts s) ls) (texts s m ∷ insert (texts s l) (map (texts s) ls))
-      go true e = refl
-      go false e = ap (λ (r : List (List ℕ)). texts s m ∷ r) e
-
   sort_map : (ls : List (List ℕ)) → map (texts s) (sort_words s ls) ≡ sort (map (texts s) ls)
-  unfolding sort_words sort
-  sort_map [] = refl
-  sort_map (l ∷ ls) = insert_map l (sort_words s ls) ∙ ap (insert (texts s l)) (sort_map ls)
+  unfolding sort_words
+  sort_map ls = sort_texts (texts s) ls
 
   sorted_map : (b : Bool) (ls : List (List ℕ)) → map (texts s) (cond b (sort_words s ls) ls) ≡ cond b (sort (map (texts s) ls)) (map (texts s) ls)
   sorted_map true ls = sort_map ls

@@ -2,15 +2,13 @@
 use mathlib.Core.Path.{◌≡◌, refl, ap, ap₂, sym, ◌∙◌}
 use mathlib.Core.List.{List, [], ◌∷◌}
 use Rattle.std.specs.Prelude.{Option, Some, None, option_map}
-use Rattle.std.specs.List.{position_or_len}
-use mathlib.Core.Bool.{Bool, true, false, cond, not}
+use mathlib.Core.Bool.{Bool, true, false, cond}
 use Prim.Native.Nat.{ℕ, suc, ◌+◌, ◌-◌, ◌<◌, ◌≤◌}
 use native.Mathlib.Omega.{arith}
 use native.Mathlib.Nat.{add-sub_cancel_left}
 use lib.Seq.{drop-drop}
 use lib.ListN.{length, take, drop, drop_of_length-le, length-take, length-drop}
-use lib.Dec.{eqb, ltb}
-use Rattle.std.proofs.lemmas.Bool.Decides.{nat_tests}
+use lib.Dec.{eqb}
 use Rattle.std.proofs.lemmas.List.Quantifiers.{position-Some}
 use Rattle.rules.specs.Bytes.{Text}
 use Rattle.rules.specs.Maybe.{◌>>=◌}
@@ -20,18 +18,10 @@ use Rattle.laws.proofs.Basics.Tests.{and_right}
 use Rattle.text.specs.Prefix.{begins_with}
 use Rattle.text.proofs.Prefixes.{after_key_is}
 use Rattle.text.proofs.Slices.{drop_take}
+use Rattle.text.proofs.Library.{position_more}
 use Rattle.sheet.specs.Lines.{up_to, line_between, line_of, line_at, lines_at, value_of, value_at, part_of}
 use Rattle.sheet.specs.declared.Place.{Place}
 use Rattle.sheet.specs.declared.Read.{Read}
-
--- how many bytes stand before the first 10, by the byte in front
-up_to_first : (a : ℕ) (s : Text) → up_to 10 (a ∷ s) ≡ cond (eqb a 10) (Some 0) (option_map suc (up_to 10 s))
-up_to_first a s = go (eqb a 10) (position_or_len (λ (x : ℕ). eqb x 10) s) (length s)
-  where
-    go : (t : Bool) (n l : ℕ)
-        → cond (ltb (cond (not t) (1 + n) 0) (suc l)) (Some (cond (not t) (1 + n) 0)) None ≡ cond t (Some 0) (option_map suc (cond (ltb n l) (Some n) None))
-    go true n l = grind (arith, nat_tests)
-    go false n l = grind (arith, nat_tests)
 
 -- the line reader and the list of all lines
 add_line : Text → Option (List Text) → Option (List Text)
@@ -57,7 +47,7 @@ lines_turn a s false (Some j) ih k e =
 lines_cut : (s : Text) (k : ℕ) → up_to 10 s ≡ Some k → lines s ≡ add_line (take k s) (lines (drop (suc k) s))
 unfolding lines
 lines_cut [] k e = cc
-lines_cut (a ∷ s) k e = lines_turn a s (eqb a 10) (up_to 10 s) (lines_cut s) k (sym (up_to_first a s) ∙ e)
+lines_cut (a ∷ s) k e = lines_turn a s (eqb a 10) (up_to 10 s) (lines_cut s) k (sym (position_more (λ (x : ℕ). eqb x 10) a s) ∙ e)
 
 -- no line that ends: no lines, or none
 abbrev pub Empty : Option (List Text) → Type 0
@@ -78,7 +68,7 @@ lines_none_turn a s false None ih e = go (lines s) (ih refl)
 lines_none : (s : Text) → up_to 10 s ≡ None → Empty (lines s)
 unfolding lines
 lines_none [] e = tt
-lines_none (a ∷ s) e = lines_none_turn a s (eqb a 10) (up_to 10 s) (lines_none s) (sym (up_to_first a s) ∙ e)
+lines_none (a ∷ s) e = lines_none_turn a s (eqb a 10) (up_to 10 s) (lines_none s) (sym (position_more (λ (x : ℕ). eqb x 10) a s) ∙ e)
 
 -- a line that is there is the first of the lines from there on
 record First (s : Text) (at : ℕ) (l : Read Place) : Type 0 where

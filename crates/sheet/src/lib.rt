@@ -7,6 +7,8 @@ ghost use Rattle.sheet.specs.Places.{word_of, place_of};
 ghost use Rattle.sheet.specs.Lines.{up_to, part_of, line_at, value_at};
 ghost use Rattle.sheet.specs.Pairs.{two_lines_at};
 
+use text::places::word;
+
 // A position in the sheet, handed on by value after each line: a form of document 01.
 #[derive(Clone, Copy, Debug, PartialEq, Eq)]
 pub struct Cursor {
@@ -38,7 +40,7 @@ impl Place {
         requires { (self.from < 65536) × (self.from ≤ self.to) × (self.to < self.from + 65536) }
         ensures { result ≡ word_of self }
     {
-        self.from as u32 * START + (self.to - self.from) as u32
+        word(self.from, self.to)
     }
 
     // The place that a word names.
@@ -70,7 +72,7 @@ fn line_length(text: &[u8]) -> Option<usize>
 impl Cursor {
     // The line at the cursor, if it ends.
     #[tactic(auto, unfolding(crate::specs::Lines::line_at))]
-    pub fn line(self, sheet: &[u8]) -> Option<Read<Place>>
+    fn line(self, sheet: &[u8]) -> Option<Read<Place>>
         ensures { result ≡ line_at sheet.now self.at }
     {
         let from = self.at;

@@ -1,5 +1,6 @@
 // The five sorts: which meet, which trees of an area have them, and which may have an instance of them.
-// A list is tested by one call of the library: a function of the test would only add a contract.
+// The tests of a tree are inlined into those of lists, whose last call is then one of themselves: the compiler makes a jump of it, so that
+// the last tree of a list takes no level of the stack.
 #![tactic(auto)]
 
 ghost use Rattle.std.specs.Prelude.{◌≡◌, ◌<◌};
@@ -38,6 +39,7 @@ enum Symbol {
 
 // What a name stands for.
 #[tactic(auto, using(crate::proofs::Symbols::sum_named, crate::proofs::Symbols::unit_named, crate::proofs::Symbols::other_named), unfolding(rules::specs::Sorts::symbol, rules::specs::Sorts::is_frame))]
+#[inline(always)]
 fn symbol_named(name: &[u8]) -> Symbol
     ensures { meaning result ≡ symbol name.now }
 {
@@ -51,6 +53,7 @@ fn symbol_named(name: &[u8]) -> Symbol
 
 // What the name of cell k stands for. A name by its code stands for itself.
 #[tactic(auto, using(crate::proofs::Symbols::coded_free))]
+#[inline(always)]
 fn symbol_of(area: &Area, k: usize) -> Symbol
     requires { CellIn area.now k }
     ensures { meaning result ≡ symbol (name_in area.now k) }
@@ -62,8 +65,9 @@ fn symbol_of(area: &Area, k: usize) -> Symbol
 }
 
 // Whether the tree of cell i is natural.
-#[tactic(auto, using(crate::proofs::Testing::by_kind))]
+#[tactic(auto, using(crate::proofs::Testing::by_kind, tree::proofs::Walks::children_fall))]
 #[cycle(natural_naturals)]
+#[inline(always)]
 pub fn natural(area: &Area, i: usize) -> bool
     requires { CellIn area.now i }
     ensures { result ≡ natural (tree_in area.now i) }
@@ -80,6 +84,7 @@ pub fn natural(area: &Area, i: usize) -> bool
 }
 
 // Whether every tree of the list from cell i on is natural.
+#[tactic(auto, using(tree::proofs::Walks::first_falls))]
 #[cycle(natural_naturals)]
 fn naturals(area: &Area, i: usize) -> bool
     requires { i < area.now.free }
@@ -88,12 +93,17 @@ fn naturals(area: &Area, i: usize) -> bool
     if i == 0 {
         return true;
     }
-    naturals(area, area.next_of(i)) && natural(area, i)
+    let next = area.next_of(i);
+    if next == 0 {
+        return natural(area, i);
+    }
+    natural(area, i) && naturals(area, next)
 }
 
 // Whether the tree of cell i is a message.
-#[tactic(auto, using(crate::proofs::Testing::by_kind))]
+#[tactic(auto, using(crate::proofs::Testing::by_kind, tree::proofs::Walks::children_fall))]
 #[cycle(message_messages)]
+#[inline(always)]
 pub fn message(area: &Area, i: usize) -> bool
     requires { CellIn area.now i }
     ensures { result ≡ message (tree_in area.now i) }
@@ -111,6 +121,7 @@ pub fn message(area: &Area, i: usize) -> bool
 }
 
 // Whether every tree of the list from cell i on is a message.
+#[tactic(auto, using(tree::proofs::Walks::first_falls))]
 #[cycle(message_messages)]
 fn messages(area: &Area, i: usize) -> bool
     requires { i < area.now.free }
@@ -119,7 +130,11 @@ fn messages(area: &Area, i: usize) -> bool
     if i == 0 {
         return true;
     }
-    messages(area, area.next_of(i)) && message(area, i)
+    let next = area.next_of(i);
+    if next == 0 {
+        return message(area, i);
+    }
+    message(area, i) && messages(area, next)
 }
 
 // Whether the tree of cell i is a variable of the sort or an atom of the letter.
@@ -151,8 +166,9 @@ pub fn sorted(area: &Area, sort: Sort, i: usize) -> bool
 }
 
 // Whether the tree of cell i may have an instance of the sort.
-#[tactic(auto, using(crate::proofs::Testing::by_kind))]
+#[tactic(auto, using(crate::proofs::Testing::by_kind, tree::proofs::Walks::children_fall))]
 #[cycle(refinable_refinables)]
+#[inline(always)]
 pub fn refinable(area: &Area, sort: Sort, i: usize) -> bool
     requires { CellIn area.now i }
     ensures { result ≡ refinable sort (tree_in area.now i) }
@@ -181,6 +197,7 @@ pub fn refinable(area: &Area, sort: Sort, i: usize) -> bool
 }
 
 // Whether every tree of the list from cell i on may have an instance of the sort.
+#[tactic(auto, using(tree::proofs::Walks::first_falls))]
 #[cycle(refinable_refinables)]
 fn refinables(area: &Area, sort: Sort, i: usize) -> bool
     requires { i < area.now.free }
@@ -189,5 +206,9 @@ fn refinables(area: &Area, sort: Sort, i: usize) -> bool
     if i == 0 {
         return true;
     }
-    refinables(area, sort, area.next_of(i)) && refinable(area, sort, i)
+    let next = area.next_of(i);
+    if next == 0 {
+        return refinable(area, sort, i);
+    }
+    refinable(area, sort, i) && refinables(area, sort, next)
 }

@@ -12,8 +12,7 @@ use Rattle.rules.specs.Solving.{cancel, remainder, cancel_sums}
 use Rattle.rules.specs.Solving as rules
 use Rattle.rules.specs.declared.Ending.{Ending}
 use Rattle.laws.specs.Memory.{kept_summands}
-use Rattle.laws.proofs.Solving.Weights.{cancel_mass_left}
-use Rattle.laws.proofs.Sheets.BuiltMatch.{mass, summands_mass, cancel_mass}
+use Rattle.laws.proofs.Sheets.BuiltMatch.{mass, summands_mass, cancel_mass, cancel_mass_left}
 use Rattle.tree.specs.declared.area.Area.{Area}
 use Rattle.tree.specs.Areas.{tree_in, KeepsCells}
 use Rattle.tree.proofs.Keeping.{grows_keeps, grows_then, keeps_then, grows_tree, grows_length}

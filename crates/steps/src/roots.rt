@@ -17,6 +17,7 @@ use sums::striking::Cancelling;
 use tree::area::Area;
 
 // Takes a pair of sums.
+#[inline(never)]
 fn take_sums(area: &mut Area, front: Front, cancelling: Cancelling) -> Result<Next, Ending>
     requires front { FrontIn area.old front }
     requires sums { (sum_in (tree_in area.old front.left) ≡ true) × (sum_in (tree_in area.old front.right) ≡ true) }
@@ -31,7 +32,9 @@ fn take_sums(area: &mut Area, front: Front, cancelling: Cancelling) -> Result<Ne
     Ok(Next { stack, apart: None })
 }
 
-// Takes a pair of which neither tree is a variable that may be bound.
+// Takes a pair of which neither tree is a variable that may be bound. Inlined, so that `match` does not count the pairs, and without what
+// sums need of the stack.
+#[inline(always)]
 pub fn take_roots(area: &mut Area, front: Front, cancelling: Cancelling) -> Result<Next, Ending>
     requires front { FrontIn area.old front }
     requires fit { FitFront area.old front }

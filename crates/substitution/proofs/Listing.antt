@@ -1,5 +1,5 @@
 -- Trees and lists that are written at the free end of an area.
-use Prim.Native.Nat.{ℕ, ◌+◌, ◌<◌, ◌≤◌}
+use Prim.Native.Nat.{ℕ, ◌+◌, ◌*◌, ◌<◌, ◌≤◌}
 use mathlib.Core.Path.{◌≡◌, refl, sym, ap, ap₂, ◌∙◌}
 use native.Mathlib.Omega.{arith}
 use Rattle.std.specs.Prelude.{Option, Some, None}
@@ -7,10 +7,11 @@ use Rattle.rules.specs.Bytes.{Text}
 use Rattle.rules.specs.Tree.{Tree, apply, Trees, none, more, size, sizes}
 use Rattle.tree.specs.declared.area.Area.{Area}
 use Rattle.tree.specs.declared.kinds.Kind.TheVariants.{Application}
-use Rattle.tree.specs.Areas.{cell_kind, count_in, first_in, next_in, name_in, tree_in, trees_in, Adds, Pushes}
+use Rattle.tree.specs.Areas.{cell_kind, count_in, first_in, next_in, name_in, tree_in, trees_in, Adds, Grows, Pushes}
 use Rattle.tree.proofs.Decoding.{trees_none, trees_more, size_pos}
-use Rattle.tree.proofs.Areas.{grown_same, grown_then}
-use Rattle.tree.proofs.Keeping.{adds_same, adds_grows, adds_then, adds_push, pushed_some, pushed_inside, pushed_tree, pushed_trees, grows_kind, grows_first, grows_name, grows_tree, grows_trees}
+use Rattle.text.proofs.Frames.{outside_same, outside_then}
+use Rattle.tree.proofs.Areas.{outside_below}
+use Rattle.tree.proofs.Keeping.{lent_same, lent_then, adds_same, adds_grows, adds_then, adds_push, pushed_some, pushed_inside, pushed_tree, pushed_trees, grows_kind, grows_first, grows_name, grows_tree, grows_trees}
 use Rattle.tree.proofs.ByKind.{tree_application}
 use Rattle.substitution.specs.Areas.{Lists, Puts, WithinArea, Places, ListsWithin, BuildsTreeIn, BuildsListIn}
 use Rattle.substitution.specs.declared.instances.Built.{Built}
@@ -46,15 +47,18 @@ puts_push g = record { adds = adds_push g; some_cell = pushed_some g; inside = p
 
 -- nothing written, and more room
 pub within_same : (a : Area) (n : ℕ) → WithinArea a a n
-within_same a n = record { lent = record { work = refl; sheet = refl }; grew = omega arith; used = omega arith; grown = grown_same a.work.now a.free (a.free + n) }
+within_same a n = record { lent = lent_same a; grew = omega arith; used = omega arith; grown = outside_same a.work.now (4 * a.free) (4 * (a.free + n)) }
 
 pub within_then : {a b d : Area} {m n : ℕ} → Adds a b → WithinArea b d m → b.free + m ≤ a.free + n → WithinArea a d n
 within_then h g e = record {
-  lent = record { work = g.lent.work ∙ h.lent.work; sheet = g.lent.sheet ∙ h.lent.sheet };
+  lent = lent_then h.lent g.lent;
   grew = omega (arith, h.grew, g.grew);
   used = omega (arith, g.used);
-  grown = grown_then h.grown g.grown h.grew (omega arith) e;
+  grown = outside_then (omega (arith, h.grew)) (omega arith) (omega arith) h.grown g.grown;
 }
+
+pub within_grows : {a b : Area} {n : ℕ} → WithinArea a b n → Grows a b
+within_grows h = record { lent = h.lent; grew = h.grew; below = outside_below h.grown }
 
 pub within_more : {a b : Area} {m n : ℕ} → m ≤ n → WithinArea a b m → WithinArea a b n
 within_more {a} e g = within_then (adds_same a) g (omega arith)

@@ -11,7 +11,8 @@ use Rattle.rules.specs.Bytes.{Text}
 use Rattle.rules.specs.Tree.{Tree, variable, atom, apply, Trees, size, sizes}
 use Rattle.rules.specs.Sums.{summands, summands_of, unless_sum}
 use Rattle.text.proofs.Slices.{slice_none}
-use Rattle.text.specs.Sorting.{Wrote}
+use Rattle.text.specs.Frames.{Wrote}
+use Rattle.text.proofs.Frames.{outside_same}
 use Rattle.tree.specs.declared.area.Area.{Area}
 use Rattle.tree.specs.Areas.{first_in, next_in, name_in, tree_in, trees_in, sum_in, CellIn}
 use Rattle.tree.specs.Lists.{cells_from}
@@ -96,7 +97,7 @@ unfolding heft remaining
 gathering_starts a w at list = record {
   falls = omega arith;
   cells = [];
-  wrote = record { len = refl; below = λ p q. refl; above = λ p q. refl; words = slice_none at (at + 0) w (omega arith) };
+  wrote = record { outside = outside_same w at (at + 0); words = slice_none at (at + 0) w (omega arith) };
   ends = omega arith;
   are = λ q l. absurd (omega arith);
   light = omega arith;
@@ -117,7 +118,7 @@ module _ {a : Area} {w v : List ℕ} {at end list i : ℕ} (h : Gathering a w v 
 
   module _ (p : 0 < i) (q : i < a.free) (room : at + sizes (trees_in a list) ≤ length w) where
     pub gathering_room : end + size (tree_in a i) ≤ length v
-    gathering_room = omega (arith, h.ends, h.light, h.wrote.len, heft_count a.sheet.now a.work.now h.cells, list_size a i p q refl)
+    gathering_room = omega (arith, h.ends, h.light, h.wrote.outside.len, heft_count a.sheet.now a.work.now h.cells, list_size a i p q refl)
 
     pub gathering_next : {u : List ℕ} {to j : ℕ} → CollectsCells a v u end to (size (tree_in a i)) (summands (tree_in a i)) → j ≡ next_in a i → j < i → Gathering a w u at to list j
     unfolding summands

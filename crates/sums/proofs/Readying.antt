@@ -9,8 +9,7 @@ use Rattle.std.proofs.lemmas.List.{get_or-append_right}
 use Rattle.rules.specs.Tree.{Tree, size}
 use Rattle.rules.specs.Sums.{summands}
 use Rattle.rules.specs.Solving.{cancel}
-use Rattle.text.specs.Frames.{Outside}
-use Rattle.text.specs.Sorting.{Wrote}
+use Rattle.text.specs.Frames.{Outside, Wrote}
 use Rattle.tree.specs.declared.area.Area.{Area}
 use Rattle.tree.specs.Areas.{tree_in, Lent}
 use Rattle.tree.proofs.Parting.{Parted, joined_below, joined_outside}
@@ -34,7 +33,7 @@ module _ {a : Area} {w v : List ℕ} {mid : ℕ} (i j : ℕ) (room : 17 * (size 
   first_count = omega (arith, g.light, heft_count a.sheet.now a.work.now g.cells)
 
   pub second_room : mid + size (tree_in a j) ≤ length v
-  second_room = omega (arith, g.ends, g.wrote.len, first_count)
+  second_room = omega (arith, g.ends, g.wrote.outside.len, first_count)
 
   module _ {u : List ℕ} {end : ℕ} (x y : List ℕ) (h : CollectsCells a v u mid end (size (tree_in a j)) (summands (tree_in a j))) (e : u ≡ x ++ y) (f : length x ≡ end) where
     second_count : length h.cells ≤ size (tree_in a j)
@@ -59,7 +58,7 @@ module _ {a : Area} {w v : List ℕ} {mid : ℕ} (i j : ℕ) (room : 17 * (size 
     strike_small k = omega (arith, both_heft)
 
     pub strike_room : length x + 15 * heft_in a x + 2 ≤ length y
-    strike_room = omega (arith, both_heft, f, g.ends, h.ends, first_count, second_count, ap length e, length-append x y, h.wrote.len, g.wrote.len, room)
+    strike_room = omega (arith, both_heft, f, g.ends, h.ends, first_count, second_count, ap length e, length-append x y, h.wrote.outside.len, g.wrote.outside.len, room)
 
     pub cancels : {c : Cancelling} {x₁ z : List ℕ} (y₁ : List ℕ) → StrikesCells a x x₁ mid c → z ≡ x₁ ++ y₁ → CancelsIn a z mid end (size (tree_in a i) + size (tree_in a j)) (tree_in a i) (tree_in a j) c
     cancels {c} {x₁} y₁ s o =

@@ -6,8 +6,8 @@ use mathlib.Core.Logic.{inl, inr, ⊎_elim, ◌⊎◌}
 use mathlib.Core.List.{List, [], ◌∷◌, ◌++◌, append-nil, append_assoc}
 use Rattle.std.specs.Prelude.{Option, Some, None}
 use lib.Dec.{eqb}
-use lib.ListN.{length, get_or, set, take, drop, length-set, length-append, get_or-append, drop_of_length-le}
-use lib.Seq.{drop-cons, drop-drop, drop-set-lt, take-suc, take-length, take-append_seam, drop-append_seam, get_or-drop, get_or-set_same, get_or-set_other}
+use lib.ListN.{length, get_or, set, take, drop, length-set, length-take, length-drop, length-append, get_or-append, drop_of_length-le}
+use lib.Seq.{drop-cons, drop-drop, drop-set-lt, get_or-take, take-suc, take-length, take-append_seam, drop-append_seam, get_or-drop, get_or-set_same, get_or-set_other}
 use native.Mathlib.Omega.{arith}
 use native.Mathlib.Decide.{dec_lt, ℕ_discrete}
 use native.Mathlib.Numerals.{add-one}
@@ -84,35 +84,51 @@ item_place cs k i x l e =
 item_at : (cs : List ℕ) (k : ℕ) → k < length cs → ◌≡◌ {A = ℕ × ℕ} (get_or (enumerate_from 0 cs) k (0, 0)) (k, get_or cs k 0)
 item_at cs k l = let z : 0 + k ≡ k = omega arith in get_or-enumerate_from 0 cs k (0, 0) l ∙ ap (λ (j : ℕ). (j, get_or cs k 0)) z
 
--- what the search tells of an item: whether its tree is the partner, by the texts of the trees
-module _ (s starts words : List ℕ) (p n : ℕ) where
+-- the m fingerprints from the n-th word on
+abbrev pub marks_of : List ℕ → ℕ → ℕ → List ℕ
+marks_of words n m = take (n + m - n) (drop n words)
+
+pub marks_count : (words : List ℕ) (n m : ℕ) → n + m ≤ length words → length (marks_of words n m) ≡ m
+marks_count words n m h = omega (arith, length-take (n + m - n) (drop n words), length-drop n words)
+
+marks_at : (words : List ℕ) (n m k : ℕ) → k < m → get_or (marks_of words n m) k 0 ≡ get_or words (n + k) 0
+marks_at words n m k l = get_or-take (n + m - n) (drop n words) k 0 (omega arith) ∙ get_or-drop n words k 0
+
+-- what the search tells of a fingerprint and its place: whether the tree of the cell there is the partner, by the texts of the trees
+module _ (s starts words cs : List ℕ) (p n : ℕ) where
   abbrev pub Told : Bool → ℕ × ℕ → Type 0
   Told b y = (t u : Tree) → TextIs s starts words p t → TextIs s starts words (n + y.0) u → equivalent t u ≡ b
 
   abbrev pub Partner : ℕ × ℕ → Type 0
-  Partner y = (y.1 ≡ 0 → ⊥) × Told true y
+  Partner y = (get_or cs y.0 0 ≡ 0 → ⊥) × Told true y
 
   abbrev pub Other : ℕ × ℕ → Type 0
-  Other y = (y.1 ≡ 0 → ⊥) → Told false y
+  Other y = y.1 ≡ get_or words (n + y.0) 0 → (get_or cs y.0 0 ≡ 0 → ⊥) → Told false y
 
-module _ {starts words : List ℕ} (a : Area) (t : Tree) (p : ℕ) (cs : List ℕ) (n : ℕ) (x : TextIs a.sheet.now starts words p t) (h : TextsIn a cs n starts words) where
-  others : (m : ℕ) → AllWithin (Other a.sheet.now starts words p n) (enumerate_from 0 cs) 0 m → m ≤ length cs → (k : ℕ) → k ≤ m → Finding a t cs k
+module _ {starts words : List ℕ} (a : Area) (t : Tree) (p : ℕ) (cs : List ℕ) (n : ℕ) (room : n + length cs ≤ length words) (x : TextIs a.sheet.now starts words p t) (h : TextsIn a cs n starts words) where
+  abbrev ms : List ℕ
+  ms = marks_of words n (length cs)
+
+  len : length ms ≡ length cs
+  len = marks_count words n (length cs) room
+
+  others : (m : ℕ) → AllWithin (Other a.sheet.now starts words cs p n) (enumerate_from 0 ms) 0 m → m ≤ length cs → (k : ℕ) → k ≤ m → Finding a t cs k
   others m o l zero r = finding_starts a t cs
   others m o l (suc k) r =
       let f = others m o l k (omega arith) in
       let q : k < length cs = omega arith in
       rw (← add-one k) (elim (ℕ_discrete (get_or cs k 0) 0) [
         | yes z ↦ finding_zero a t f q z
-        | no z ↦ finding_other a t f q z (subst (Other a.sheet.now starts words p n) (item_at cs k q) (o k (0, 0) (omega arith) (omega arith)) z t (tree_in a (get_or cs k 0)) x (h k q (omega arith)).1)
+        | no z ↦ finding_other a t f q z (subst (Other a.sheet.now starts words cs p n) (item_at ms k (omega (arith, len))) (o k (0, 0) (omega arith) (omega arith)) (marks_at words n (length cs) k q) z t (tree_in a (get_or cs k 0)) x (h k q (omega arith)).1)
       ])
 
-  pub finds_partner : (r : Option ℕ) → MatchOption r (AllWithin (Other a.sheet.now starts words p n) (enumerate_from 0 cs) 0 (length (enumerate_from 0 cs))) (λ k. (k < length (enumerate_from 0 cs)) × HoldsAt (Partner a.sheet.now starts words p n) (enumerate_from 0 cs) k × AllWithin (Other a.sheet.now starts words p n) (enumerate_from 0 cs) 0 k)
+  pub finds_partner : (r : Option ℕ) → MatchOption r (AllWithin (Other a.sheet.now starts words cs p n) (enumerate_from 0 ms) 0 (length (enumerate_from 0 ms))) (λ k. (k < length (enumerate_from 0 ms)) × HoldsAt (Partner a.sheet.now starts words cs p n) (enumerate_from 0 ms) k × AllWithin (Other a.sheet.now starts words cs p n) (enumerate_from 0 ms) 0 k)
       → FindsPartner a t cs r
-  finds_partner None o = let e = length-enumerate_from 0 cs in finding_ends a t (others (length (enumerate_from 0 cs)) o (omega arith) (length cs) (omega arith)) (omega arith)
+  finds_partner None o = let e = length-enumerate_from 0 ms in finding_ends a t (others (length (enumerate_from 0 ms)) o (omega (arith, len)) (length cs) (omega (arith, len))) (omega (arith, len))
   finds_partner (Some k) o =
-      let e = length-enumerate_from 0 cs in
-      let q : k < length cs = omega (arith, o.0) in
-      let y = subst (Partner a.sheet.now starts words p n) (item_at cs k q) (o.1 (0, 0)) in
+      let e = length-enumerate_from 0 ms in
+      let q : k < length cs = omega (arith, o.0, len) in
+      let y = subst (Partner a.sheet.now starts words cs p n) (item_at ms k (omega (arith, len))) (o.1 (0, 0)) in
       finding_finds a t (others k o.2 (omega arith) k (omega arith)) q y.0 (y.1 t (tree_in a (get_or cs k 0)) x (h k q (let z = y.0 in omega arith)).1)
 
 -- tests that agree remove the same

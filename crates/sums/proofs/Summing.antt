@@ -79,7 +79,7 @@ module _ {a b : Area} {at end k : ℕ} {o : Option ℕ} (h : Summing a b at end 
     sum_room = let t = top in let e = h.summed.adds.grown.len in let g = h.summed.adds.grew in let u = h.high in (omega arith, omega arith, g, omega arith)
 
     pub word_kept : get_or b.work.now (k - 1) 0 ≡ get_or a.work.now (k - 1) 0
-    word_kept = let t = top in let u = h.high in sym (h.summed.adds.grown.above (k - 1) (omega arith))
+    word_kept = let t = top in let u = h.high in h.summed.adds.grown.above (k - 1) (omega arith)
 
     ahead : slice (k - 1) end a.work.now ≡ get_or a.work.now (k - 1) 0 ∷ slice k end a.work.now
     ahead =

@@ -7,7 +7,7 @@ use Rattle.rules.specs.Sums.{canonical, equivalent}
 use Rattle.rules.specs.Solving.{remove, cancel}
 use Rattle.tree.specs.declared.area.Area.{Area}
 use Rattle.tree.specs.Areas.{tree_in}
-use Rattle.text.specs.Sorting.{Wrote}
+use Rattle.text.specs.Frames.{Wrote}
 use Rattle.flattening.specs.declared.writer.Writer.{Writer}
 use Rattle.runs.specs.Texts.{texts, Tokens}
 use Rattle.fingerprints.specs.Fingerprints.{fingerprint}

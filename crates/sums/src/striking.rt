@@ -43,6 +43,7 @@ fn strike_one(
     requires cell { CellIn area.now left.old }
     requires text { TextFits area.now.sheet.now texts.starts.now texts.words.now p × TextIs area.now.sheet.now texts.starts.now texts.words.now p (tree_in area.now left.old) }
     requires texts { TextsIn area.now rights.old first texts.starts.now texts.words.now }
+    requires marks { first + length rights.old ≤ length texts.words.now }
     ensures { StrikesOne area.now left.old rights.old left.new rights.new cancelling }
 {
     if !cancelling.admits(area, *left as usize) {
@@ -64,6 +65,7 @@ fn strike_each(
 )
     requires cells { AreCells area.now lefts.old }
     requires texts { TextsIn area.now lefts.old 0 texts.starts.now texts.words.now × TextsIn area.now rights.old (length lefts.old) texts.starts.now texts.words.now }
+    requires marks { length lefts.old + length rights.old ≤ length texts.words.now }
     ensures { Strikes area.now lefts.old rights.old lefts.new rights.new cancelling }
 {
     let first = lefts.len();

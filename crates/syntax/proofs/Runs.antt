@@ -1,15 +1,14 @@
 -- The run in front of a text is the front that passes the test.
-use mathlib.Core.Path.{◌≡◌, refl, ap, ◌∙◌}
+use mathlib.Core.Path.{◌≡◌, refl, sym, ap, ◌∙◌}
 use mathlib.Core.List.{List, [], ◌∷◌}
 use mathlib.Core.Bool.{Bool, true, false, cond}
-use Prim.Native.Nat.{ℕ, suc, ◌+◌, ◌≤◌}
+use Prim.Native.Nat.{ℕ, suc, ◌+◌, ◌<◌, ◌≤◌}
 use native.Mathlib.Omega.{arith}
-use lib.ListN.{length, drop, drop_of_length-le}
-use Rattle.std.specs.List.{prefix_len, take_while, slice_range}
+use lib.ListN.{length, get_or, drop, drop_of_length-le}
+use Rattle.std.specs.List.{prefix_len}
 use Rattle.std.proofs.lemmas.List.Sums.{prefix_len-le-length}
-use Rattle.std.proofs.lemmas.List.Folds.{length-prefix_len}
-use Rattle.std.proofs.lemmas.Grind.{common_steps}
 use Rattle.rules.specs.Tokens.{run_length}
+use Rattle.text.proofs.Loops.{drop_next}
 
 run_is : (p : ℕ → Bool) (s : List ℕ) → prefix_len p s ≡ run_length p s
 unfolding run_length
@@ -20,20 +19,20 @@ run_is p (a ∷ s) = go (p a) (run_is p s)
     go true e = omega arith
     go false e = refl
 
-run_counts : (p : ℕ → Bool) (s : List ℕ) → length (take_while p s) ≡ run_length p s
-run_counts p s = length-prefix_len p s ∙ run_is p s
+run_at : (p : ℕ → Bool) (a : ℕ) (s : List ℕ) (t : Bool) → t ≡ p a → run_length p (a ∷ s) ≡ elim t [ true ↦ suc (run_length p s) | false ↦ 0 ]
+unfolding run_length
+run_at p a s t e = ap (λ (t : Bool). elim t [ true ↦ suc (run_length p s) | false ↦ 0 ]) (sym e)
 
--- the run from a place within the text, and from one past its end
-pub run_rest : (p : ℕ → Bool) (s rest : List ℕ) (at : ℕ) → rest ≡ slice_range s at (length s) → length (take_while p rest) ≡ run_length p (drop at s)
-run_rest p s rest at e =
-    let d : rest ≡ drop at s = grind (arith, common_steps) in
-    run_counts p rest ∙ ap (run_length p) d
+-- the run from a place within the text, by the byte there, and from one past its end
+pub run_on : (p : ℕ → Bool) (s : List ℕ) (at : ℕ) → at < length s → true ≡ p (get_or s at 0) → run_length p (drop at s) ≡ suc (run_length p (drop (at + 1) s))
+run_on p s at h e = ap (run_length p) (drop_next s at h) ∙ run_at p (get_or s at 0) (drop (at + 1) s) true e
+
+pub run_stops : (p : ℕ → Bool) (s : List ℕ) (at : ℕ) → at < length s → false ≡ p (get_or s at 0) → run_length p (drop at s) ≡ 0
+run_stops p s at h e = ap (run_length p) (drop_next s at h) ∙ run_at p (get_or s at 0) (drop (at + 1) s) false e
 
 pub run_past : (p : ℕ → Bool) (s : List ℕ) (at : ℕ) → length s ≤ at → run_length p (drop at s) ≡ 0
 unfolding run_length
 run_past p s at h = rw (drop_of_length-le s h)
-
-pub ruleset runs = (run_rest, run_past)
 
 -- a run stays within the list
 pub run_le : (p : ℕ → Bool) (s : List ℕ) → run_length p s ≤ length s

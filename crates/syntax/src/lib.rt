@@ -5,7 +5,6 @@
 pub mod symbols; // symbols.rt: the next symbol of a text
 
 ghost use Rattle.std.specs.Prelude.{◌≡◌, ℕ, ◌+◌, ◌<◌, Bool, length, get_or, drop};
-ghost use Rattle.std.specs.List.{take_while};
 ghost use Rattle.rules.specs.Names.{digit, alphanumeric};
 ghost use Rattle.rules.specs.Tokens.{run_length, sigil, mark, sort_length, variable_rest, plain_rest, rest_length};
 ghost use Rattle.syntax.specs.Next.{blank, end_of};
@@ -61,22 +60,16 @@ fn is_mark(b: u8) -> bool
     matches!(b, b'(' | b')' | b',')
 }
 
-// How many bytes of a class stand in front of a text.
-fn run_length<C: Class>(text: &[u8]) -> usize
-    ensures { result ≡ length (take_while C.has text.now) }
-{
-    text.iter().take_while(|b| C::has(**b)).count()
-}
-
 // Where the run of a class ends that starts at `at`.
-#[tactic(auto, using(crate::proofs::Runs::runs))]
+// A loop over places: a slice of what is left and its count took ten instructions more for each symbol.
 pub fn run_end<C: Class>(text: &[u8], at: usize) -> usize
     ensures { result ≡ at + run_length C.has (drop at text.now) }
 {
-    match text.get(at..) {
-        Some(rest) => at + run_length::<C>(rest),
-        None => at,
+    let mut end = at;
+    while end < text.len() && C::has(text[end]) {
+        end += 1;
     }
+    end
 }
 
 // Where a colon, a letter, and then letters and digits end.

@@ -1,7 +1,7 @@
 -- Decimal numbers at a position of a text, and the digits of a number one at a time from the last.
 use mathlib.Core.Path.{◌≡◌, refl, ap, sym, ◌∙◌}
 use mathlib.Core.List.{List, [], ◌∷◌, ◌++◌, append_assoc}
-use mathlib.Core.Bool.{Bool, true, false, not, ◌&&◌}
+use mathlib.Core.Bool.{Bool, true, false, not, ◌&&◌, and-false}
 use Prim.Native.Nat.{ℕ, zero, suc, ◌+◌, ◌-◌, ◌*◌, ◌/◌, ◌%◌, ◌<◌, ◌≤◌, ◌^◌}
 use native.Mathlib.Omega.{arith}
 use native.Mathlib.Decide.{dec_lt}
@@ -14,7 +14,6 @@ use Rattle.rules.specs.Decimal.{value_from, proper, number_up_to, digits_in, dec
 use Rattle.laws.proofs.Basics.Tests.{and_left, and_right, leb_true}
 use Rattle.std.specs.Prelude.{Option, Some, None, IfNone, IfSome, MatchOption}
 use Rattle.text.proofs.Loops.{drop_next}
-use Rattle.text.proofs.Sameness.{and_false}
 
 -- ---- reading
 
@@ -67,11 +66,11 @@ module _ (bound : ℕ) (s : List ℕ) where
 
   pub number_foreign : all digit s ≡ false → None ≡ number_up_to bound s
   unfolding number_up_to
-  number_foreign a = rw (proper_is s, a, and_false (led s))
+  number_foreign a = rw (proper_is s, a, and-false (led s))
 
   number_large : bound < value_from 0 s → None ≡ number_up_to bound s
   unfolding number_up_to
-  number_large h = rw (lt-leb _ _ h, and_false (proper s))
+  number_large h = rw (lt-leb _ _ h, and-false (proper s))
 
   pub number_is : {n : ℕ} → led s ≡ true → all digit s ≡ true → n ≡ value_from 0 s → n ≤ bound → Some n ≡ number_up_to bound s
   unfolding number_up_to

@@ -2,6 +2,7 @@ pub mod Loops
 pub mod Prefixes
 pub mod Sameness
 pub mod Slices
+pub mod Frames
 pub mod Merging
 pub mod Halves
 pub mod Decimals

@@ -1,6 +1,10 @@
 -- Places in a sheet: start * 65536 + length of a text. Definitions only.
-use Rattle.std.specs.Prelude.{ℕ, ◌/◌, ◌%◌, Bool, List, take, drop}
+use Rattle.std.specs.Prelude.{ℕ, ◌+◌, ◌-◌, ◌*◌, ◌/◌, ◌%◌, Bool, List, take, drop}
 use Rattle.rules.specs.Bytes.{Text, upto}
+
+-- the place from one position to another
+abbrev pub place_word : ℕ → ℕ → ℕ
+place_word from to = from * 65536 + (to - from)
 
 -- the items at a place; what reaches past the end is cut
 abbrev pub slice_at : {A : Type 0} → List A → ℕ → List A

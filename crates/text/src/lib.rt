@@ -53,9 +53,13 @@ pub fn screen(sheet: &[u8]) -> Result<(), Refusal>
     Ok(())
 }
 
-// How often a byte stands in a text.
+// How often a byte stands in a text. The compiler makes sixteen steps at once of this sum, and none of `filter` with `count`.
 pub fn count_of(text: &[u8], b: u8) -> usize
     ensures { result ≡ count_of b text.now }
 {
-    text.iter().filter(|x| **x == b).count()
+    let mut count = 0;
+    for x in text {
+        count += usize::from(*x == b);
+    }
+    count
 }

@@ -1,4 +1,4 @@
--- Areas that keep the cells below one, and growth of an area.
+-- Areas that keep the cells below one.
 use Prim.Native.Nat.{ℕ, ◌*◌, ◌≤◌}
 use mathlib.Core.Path.{◌≡◌, refl, sym, ◌∙◌}
 use mathlib.Core.List.{List}
@@ -6,7 +6,8 @@ use lib.ListN.{length, set, length-set}
 use lib.Seq.{get_or-set_other}
 use native.Mathlib.Omega.{arith}
 use Rattle.rules.specs.Bytes.{Text}
-use Rattle.tree.specs.Arena.{Arena, Below, Grown}
+use Rattle.text.specs.Frames.{Outside}
+use Rattle.tree.specs.Arena.{Arena, Below}
 use Rattle.tree.proofs.Decoding.{Agree, same_first, same_next}
 use Rattle.tree.proofs.Pushing.{cell_frame}
 
@@ -38,30 +39,9 @@ below_same w n = record { len = refl; words = λ p h. refl }
 pub below_then : {w v u : List ℕ} {n m : ℕ} → Below w v n → Below v u m → n ≤ m → Below w u n
 below_then g h p = record { len = h.len ∙ g.len; words = λ k l. g.words k l ∙ h.words k (omega arith) }
 
-pub below_grown : {w v : List ℕ} {n m : ℕ} → Grown w v n m → Below w v n
-below_grown g = record { len = g.len; words = g.below }
-
--- no growth
-pub grown_same : (w : List ℕ) (n m : ℕ) → Grown w w n m
-grown_same w n m = record { len = refl; below = λ p h. refl; above = λ p h. refl }
-
-pub grown_within : {w v : List ℕ} {n m n₁ m₁ : ℕ} → Grown w v n₁ m₁ → n ≤ n₁ → m₁ ≤ m → Grown w v n m
-grown_within h p q = record {
-  len = h.len;
-  below = λ k l. h.below k (omega arith);
-  above = λ k l. h.above k (omega arith);
-}
-
--- one growth after another, within the bounds of both
-pub grown_then : {w v u : List ℕ} {n m n₁ m₁ m₂ : ℕ} → Grown w v n m → Grown v u n₁ m₁ → n ≤ n₁ → m ≤ m₂ → m₁ ≤ m₂ → Grown w u n m₂
-grown_then g h p q r = record {
-  len = h.len ∙ g.len;
-  below = λ k l. g.below k l ∙ h.below k (omega arith);
-  above = λ k l. g.above k (omega arith) ∙ h.above k (omega arith);
-}
-
-pub grown_on : {w v u : List ℕ} {n m l : ℕ} → n ≤ m → m ≤ l → Grown w v n m → Grown v u m l → Grown w u n l
-grown_on a b g h = grown_then g h a b (omega arith)
+-- words written above the cells keep these
+pub outside_below : {w v : List ℕ} {n e : ℕ} → Outside w v (4 * n) e → Below w v n
+outside_below o = record { len = o.len; words = λ p q. sym (o.below p q) }
 
 -- a word written above the cells
 pub below_set : (w : List ℕ) (n at x : ℕ) → 4 * n ≤ at → Below w (set w at x) n

@@ -1,32 +1,40 @@
 -- Areas whose cells are kept: trees, names and links there are the same before and after.
-use Prim.Native.Nat.{ℕ, ◌<◌}
+use Prim.Native.Nat.{ℕ, ◌*◌, ◌<◌}
 use mathlib.Core.Path.{◌≡◌, refl, sym, ap, ◌∙◌}
 use lib.ListN.{length}
 use native.Mathlib.Omega.{arith}
 use Rattle.rules.specs.Tree.{Tree, more}
 use Rattle.tree.specs.declared.area.Area.{Area}
-use Rattle.tree.specs.Areas.{cell_kind, coded_kind, first_in, next_in, name_in, tree_in, trees_in, KeepsCells, Grows, Adds, Pushes}
+use Rattle.tree.specs.Areas.{cell_kind, coded_kind, first_in, next_in, name_in, tree_in, trees_in, Lent, KeepsCells, Grows, Adds, Pushes}
 use Rattle.tree.specs.Cells.{name_at, tree_at, trees_at}
-use Rattle.tree.proofs.Areas.{below_same, below_then, below_grown, grown_same, grown_on}
+use Rattle.text.proofs.Frames.{outside_same, outside_then}
+use Rattle.tree.proofs.Areas.{below_same, below_then, outside_below}
 use Rattle.tree.proofs.Decoding.{same_kind, same_first, same_next, same_name, frame_tree, frame_trees}
+
+-- the sheet and the work area are those lent
+pub lent_same : (a : Area) → Lent a a
+lent_same a = record { work = refl; sheet = refl }
+
+pub lent_then : {a b d : Area} → Lent a b → Lent b d → Lent a d
+lent_then g h = record { work = h.work ∙ g.work; sheet = h.sheet ∙ g.sheet }
 
 -- nothing changed
 pub keeps_same : (a : Area) → KeepsCells a a
-keeps_same a = record { lent = record { work = refl; sheet = refl }; end = refl; below = below_same a.work.now a.free }
+keeps_same a = record { lent = lent_same a; end = refl; below = below_same a.work.now a.free }
 
 pub grows_same : (a : Area) → Grows a a
-grows_same a = record { lent = record { work = refl; sheet = refl }; grew = omega arith; below = below_same a.work.now a.free }
+grows_same a = record { lent = lent_same a; grew = omega arith; below = below_same a.work.now a.free }
 
 pub grows_keeps : {a b : Area} → KeepsCells a b → Grows a b
 grows_keeps h = record { lent = h.lent; grew = omega (arith, h.end); below = h.below }
 
 pub grows_push : {a b : Area} {k n : ℕ} {t : Tree} → Pushes a b k n t → Grows a b
-grows_push h = record { lent = h.lent; grew = omega (arith, h.end); below = below_grown h.linked.grown }
+grows_push h = record { lent = h.lent; grew = omega (arith, h.end); below = outside_below h.linked.grown }
 
 -- one change after another
 pub grows_then : {a b d : Area} → Grows a b → Grows b d → Grows a d
 grows_then g h = record {
-  lent = record { work = h.lent.work ∙ g.lent.work; sheet = h.lent.sheet ∙ g.lent.sheet };
+  lent = lent_then g.lent h.lent;
   grew = omega (arith, g.grew, h.grew);
   below = below_then g.below h.below g.grew;
 }
@@ -59,16 +67,16 @@ module _ {a b : Area} (h : Grows a b) (k : ℕ) (q : k < a.free) where
 
 -- new cells and no other change
 pub adds_same : (a : Area) → Adds a a
-adds_same a = record { lent = record { work = refl; sheet = refl }; grew = omega arith; grown = grown_same a.work.now a.free a.free }
+adds_same a = record { lent = lent_same a; grew = omega arith; grown = outside_same a.work.now (4 * a.free) (4 * a.free) }
 
 pub adds_grows : {a b : Area} → Adds a b → Grows a b
-adds_grows h = record { lent = h.lent; grew = h.grew; below = below_grown h.grown }
+adds_grows h = record { lent = h.lent; grew = h.grew; below = outside_below h.grown }
 
 pub adds_then : {a b d : Area} → Adds a b → Adds b d → Adds a d
 adds_then g h = record {
-  lent = record { work = h.lent.work ∙ g.lent.work; sheet = h.lent.sheet ∙ g.lent.sheet };
+  lent = lent_then g.lent h.lent;
   grew = omega (arith, g.grew, h.grew);
-  grown = grown_on g.grew h.grew g.grown h.grown;
+  grown = outside_then (omega (arith, g.grew)) (omega (arith, h.grew)) (omega arith) g.grown h.grown;
 }
 
 -- a cell written

@@ -9,7 +9,7 @@ use lib.Pointwise.{pointwise}
 use lib.Seq.{drop-append_seam}
 use native.Mathlib.Omega.{arith}
 use borrow.Rule.Slice.PartMut.{put_mid}
-use borrow.Author.Tests.{ne_eqb, eqb-true, eqb-false}
+use borrow.Author.Tests.{ne_eqb}
 use Rattle.std.specs.List.{list_all}
 use Rattle.rules.specs.Bytes.{Text, same}
 use Rattle.rules.specs.Text.{bytes}
@@ -19,7 +19,7 @@ use Rattle.laws.proofs.Renaming.Unspelled.{unspelled_length}
 use Rattle.text.specs.Printing.{Printed}
 use Rattle.tree.proofs.Printing.{put_part, written_byte, length_written, printed_then}
 use Rattle.text.proofs.Library.{same_is}
-use Rattle.text.proofs.Sameness.{same_lengths}
+use Rattle.text.proofs.Sameness.{eqb_swap, same_lengths}
 
 abbrev msg : Text
 msg = bytes ":Msg"
@@ -28,15 +28,6 @@ zeros_length : (n : ℕ) → length (zeros n) ≡ n
 unfolding zeros
 zeros_length zero = refl
 zeros_length (suc n) = ap suc (zeros_length n)
-
-eqb_swap : (x y : ℕ) → eqb x y ≡ eqb y x
-eqb_swap x y = go (eqb x y) (eqb y x) refl refl
-  where
-    go : (p q : Bool) → eqb x y ≡ p → eqb y x ≡ q → eqb x y ≡ eqb y x
-    go true true e f = e ∙ sym f
-    go false false e f = e ∙ sym f
-    go true false e f = absurd (eqb-false y x f (sym (eqb-true x y e)))
-    go false true e f = absurd (eqb-false x y e (sym (eqb-true y x f)))
 
 -- where one name is a text, the text begins with its x and ends as it does
 unless : {b : Bool} (s t : Text) → (s ≡ t → b ≡ true) → b ≡ false → false ≡ same s t

@@ -25,7 +25,7 @@ parted w c r m e f = record { whole = e; first = f }
 
 module _ {w c r : List ℕ} {m : ℕ} (h : Parted w c r m) where
   module _ (n : ℕ) (l : 4 * n ≤ m) where
-    part_agree : Agree w c n
+    pub part_agree : Agree w c n
     part_agree p q = ap (λ (x : List ℕ). get_or x p 0) h.whole ∙ get_or-append c r 0 p (omega (arith, h.first))
 
     -- the first part

@@ -10,7 +10,8 @@ use native.Mathlib.Decide.{dec_lt}
 use Rattle.rules.specs.Bytes.{Text}
 use Rattle.rules.specs.Tree.{Tree, more, size}
 use Rattle.tree.specs.Cells.{start_of, length_of, kind_of, first_of, next_of, nodes_of, named, name_at, variable_kind, made, trees_at, tree_at}
-use Rattle.tree.specs.Arena.{Links, Place, Cell, Arena, WroteCell, Linked}
+use Rattle.text.proofs.Frames.{outside_same, outside_set}
+use Rattle.tree.specs.Arena.{Links, Place, Cell, Arena, Grown, WroteCell, Linked}
 use Rattle.tree.proofs.Decoding.{Agree, same_start, same_length, same_kind, same_count, same_first, same_next, same_name, frame_tree, frame_trees, trees_more}
 
 -- two numbers in one word
@@ -34,17 +35,12 @@ module _ (w : List ℕ) (n a b c d : ℕ) where
   abbrev w₄ : List ℕ
   w₄ = set w₃ (4 * n + 3) d
 
-  -- a word outside the cell
-  pub other : (p : ℕ) → (p < 4 * n) ⊎ (4 * (n + 1) ≤ p) → get_or w p 0 ≡ get_or w₄ p 0
-  other p h = sym (get_or-set_other w₃ (4 * n + 3) p d 0 (no h 3 (omega arith)) ∙ get_or-set_other w₂ (4 * n + 2) p c 0 (no h 2 (omega arith)) ∙ get_or-set_other w₁ (4 * n + 1) p b 0 (no h 1 (omega arith)) ∙ get_or-set_other w (4 * n) p a 0 (no_first h))
-    where
-      no : (p < 4 * n) ⊎ (4 * (n + 1) ≤ p) → (i : ℕ) → i < 4 → p ≡ 4 * n + i → ⊥
-      no (inl h) i l e = omega arith
-      no (inr h) i l e = omega arith
-
-      no_first : (p < 4 * n) ⊎ (4 * (n + 1) ≤ p) → p ≡ 4 * n → ⊥
-      no_first (inl h) e = omega arith
-      no_first (inr h) e = omega arith
+  new_words : Grown w w₄ n (n + 1)
+  new_words =
+      outside_set (4 * n + 3) d (omega arith) (omega arith)
+      (outside_set (4 * n + 2) c (omega arith) (omega arith)
+      (outside_set (4 * n + 1) b (omega arith) (omega arith)
+      (outside_set (4 * n) a (omega arith) (omega arith) (outside_same w (4 * n) (4 * (n + 1))))))
 
 module _ (w : List ℕ) (n a b c d : ℕ) (room : 4 * n + 4 ≤ length w) where
   at_0 : get_or (w₄ w n a b c d) (4 * n) 0 ≡ a
@@ -66,7 +62,7 @@ wrote w n start len kind first next count room l c =
     let a = start * 65536 + len in
     let b = kind * 65536 + count in
     record {
-      grown = record { len = simp length-set; below = λ p h. other w n a b first next p (inl h); above = λ p h. other w n a b first next p (inr h) };
+      grown = new_words w n a b first next;
       start_is = ap (λ (x : ℕ). x / 65536) (at_0 w n a b first next room) ∙ quotient start len l;
       length_is = ap (λ (x : ℕ). x % 65536) (at_0 w n a b first next room) ∙ rest start len l;
       kind_is = ap (λ (x : ℕ). x / 65536) (at_1 w n a b first next room) ∙ quotient kind count c;
@@ -95,6 +91,9 @@ below_or_at k n h = elim (dec_lt k n) [ yes p ↦ inl p | no p ↦ inr (omega ar
 
 -- the links and the cells after a cell is written
 module _ {w v : List ℕ} {n start len kind first next count : ℕ} (x : WroteCell w v n start len kind first next count) where
+  agrees : Agree w v n
+  agrees p q = sym (x.grown.below p q)
+
   pub links_push : Links w n → 4 * n + 4 ≤ length w → first < n → next < n → Links v (n + 1)
   links_push l room f g = record {
     some = omega arith;
@@ -104,11 +103,11 @@ module _ {w v : List ℕ} {n start len kind first next count : ℕ} (x : WroteCe
   }
     where
       at_first : (k : ℕ) → 0 < k → (k < n) ⊎ (k ≡ n) → first_of v k < k
-      at_first k p (inl q) = omega (arith, same_first w v x.grown.below k q, l.first k p q)
+      at_first k p (inl q) = omega (arith, same_first w v agrees k q, l.first k p q)
       at_first k p (inr q) = rw q (rw x.first_is f)
 
       at_next : (k : ℕ) → 0 < k → (k < n) ⊎ (k ≡ n) → next_of v k < k
-      at_next k p (inl q) = omega (arith, same_next w v x.grown.below k q, l.next k p q)
+      at_next k p (inl q) = omega (arith, same_next w v agrees k q, l.next k p q)
       at_next k p (inr q) = rw q (rw x.next_is g)
 
   -- the new cell's name: that of its place
@@ -119,7 +118,7 @@ module _ {w v : List ℕ} {n start len kind first next count : ℕ} (x : WroteCe
   -- the new cell's tree
   pub tree_push : (s : Text) → Links w n → first < n → tree_at s v n ≡ made kind (name_at s v n) (trees_at s w first)
   unfolding tree_at
-  tree_push s l f = rw (x.kind_is, x.first_is, frame_trees s v l x.grown.below first f)
+  tree_push s l f = rw (x.kind_is, x.first_is, frame_trees s v l agrees first f)
 
   pub arena_push : (s : Text) → Arena s w n → 4 * n + 4 ≤ length w → first < n → next < n → Place s start len → kind < 256
       → (0 < kind → kind < 7 → kind ≡ variable_kind (name_at s v n)) → (kind < 7 → get_or (name_at s v n) 1 0 ≡ 40 → ⊥)
@@ -130,7 +129,7 @@ module _ {w v : List ℕ} {n start len kind first next count : ℕ} (x : WroteCe
   }
     where
       at : (k : ℕ) → 0 < k → (k < n) ⊎ (k ≡ n) → Cell s v k
-      at k p (inl q) = cell_frame s a.links x.grown.below k p q (a.cell k p q)
+      at k p (inl q) = cell_frame s a.links agrees k p q (a.cell k p q)
       at k p (inr q) = rw q record {
         placed = rw (x.start_is, x.length_is) placed;
         small = rw x.kind_is small;
@@ -148,7 +147,7 @@ module _ {w v : List ℕ} {n start len kind first next count : ℕ} (x : WroteCe
         grown = x.grown;
         tree = t;
         link = x.next_is;
-        trees = trees_more s a.links n l.some (omega arith) ∙ ap₂ more t (ap (trees_at s v) x.next_is ∙ sym (frame_trees s v l x.grown.below next g));
+        trees = trees_more s a.links n l.some (omega arith) ∙ ap₂ more t (ap (trees_at s v) x.next_is ∙ sym (frame_trees s v l agrees next g));
       }
 
 -- an area with no cell

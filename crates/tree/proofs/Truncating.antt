@@ -7,6 +7,7 @@ use Rattle.rules.specs.Bytes.{Text}
 use Rattle.tree.specs.declared.area.Area.{Area}
 use Rattle.tree.specs.Arena.{Arena}
 use Rattle.tree.specs.Areas.{Lent, KeepsCells, Grows}
+use Rattle.tree.proofs.Keeping.{lent_then}
 
 pub arena_fewer : {s : Text} {w : List ℕ} {m n : ℕ} → Arena s w n → 0 < m → m ≤ n → Arena s w m
 arena_fewer a p q =
@@ -18,4 +19,4 @@ arena_fewer a p q =
 
 -- more cells, and all of these given back
 pub keeps_truncated : {a b d : Area} {n : ℕ} → n ≡ a.free → Grows a b → Lent b d → d.free ≡ n → d.work.now ≡ b.work.now → KeepsCells a d
-keeps_truncated e g l f h = record { lent = record { work = l.work ∙ g.lent.work; sheet = l.sheet ∙ g.lent.sheet }; end = f ∙ e; below = rw h g.below }
+keeps_truncated e g l f h = record { lent = lent_then g.lent l; end = f ∙ e; below = rw h g.below }

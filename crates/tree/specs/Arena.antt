@@ -2,6 +2,7 @@
 use Rattle.std.specs.Prelude.{ℕ, ◌+◌, ◌*◌, ◌<◌, ◌≤◌, ◌≡◌, List, length, get_or}
 use Rattle.rules.specs.Bytes.{Text}
 use Rattle.rules.specs.Tree.{Tree, more, size}
+use Rattle.text.specs.Frames.{Outside}
 use Rattle.tree.specs.Cells.{start_of, length_of, kind_of, nodes_of, first_of, next_of, name_at, variable_kind, tree_at, trees_at}
 
 -- the links of cells 1 to n - 1 fall
@@ -34,11 +35,9 @@ pub record Below (w v : List ℕ) (n : ℕ) : Type 0 where
   pub len : length v ≡ length w
   pub words : (p : ℕ) → p < 4 * n → get_or w p 0 ≡ get_or v p 0
 
--- w with new words in the cells n to m - 1 alone
-pub record Grown (w v : List ℕ) (n m : ℕ) : Type 0 where
-  pub len : length v ≡ length w
-  pub below : (p : ℕ) → p < 4 * n → get_or w p 0 ≡ get_or v p 0
-  pub above : (p : ℕ) → 4 * m ≤ p → get_or w p 0 ≡ get_or v p 0
+-- v is w with new words in the cells n to m - 1 alone
+abbrev pub Grown : List ℕ → List ℕ → ℕ → ℕ → Type 0
+Grown w v n m = Outside w v (4 * n) (4 * m)
 
 -- v is w with the words of cell n written
 pub record WroteCell (w v : List ℕ) (n start len kind first next count : ℕ) : Type 0 where

@@ -1,4 +1,3 @@
 pub mod Resuming
-pub mod Parts
 pub mod Taking
 pub mod Sparing

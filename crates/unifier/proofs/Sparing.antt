@@ -1,8 +1,8 @@
 -- A run in the first words of a work area: its pairs there, and its answer in the whole of it.
 use Prim.Native.Nat.{ℕ, ◌+◌, ◌*◌, ◌<◌, ◌≤◌, ◌^◌}
-use mathlib.Core.Path.{◌≡◌, sym, ap, subst, ◌∙◌}
+use mathlib.Core.Path.{◌≡◌, refl, sym, ap, subst, ◌∙◌}
 use mathlib.Core.List.{List, ◌++◌}
-use lib.ListN.{length, take, drop}
+use lib.ListN.{length, take, drop, length-append, length-drop, take-append-drop}
 use lib.Seq.{length-take-le, take-append_seam, drop-append_seam}
 use native.Mathlib.Omega.{arith}
 use Rattle.rules.specs.Bytes.{Text}
@@ -12,7 +12,9 @@ use Rattle.laws.proofs.Solving.Weights.{weight_size}
 use Rattle.laws.proofs.Solving.Budget.{flatten_size}
 use Rattle.tree.specs.Cells.{trees_at}
 use Rattle.tree.specs.Arena.{Arena, Below}
-use Rattle.tree.proofs.Decoding.{frame_trees}
+use Rattle.tree.proofs.Areas.{arena_agrees}
+use Rattle.tree.proofs.Decoding.{Agree, frame_trees}
+use Rattle.tree.proofs.Parting.{Parted, parted, part_agree, part_arena, part_trees}
 use Rattle.unifier.specs.Running.{Roomy}
 use Rattle.std.specs.Prelude.{Result, Ok, Err}
 use Rattle.rules.specs.declared.Ending.{Ending}
@@ -22,7 +24,6 @@ use Rattle.tree.specs.Areas.{trees_in, Lent, Grows}
 use Rattle.substitution.specs.Bindings.{bindings_of, Chain}
 use Rattle.elimination.specs.declared.room.TheConstants.{STEP_WORDS}
 use Rattle.unifier.specs.Areas.{NamesFew, spared_end, HoldsBound, AnswersIn, EndsIn}
-use Rattle.unifier.proofs.Parts.{part_agrees, part_arena, back_agrees, back_arena, back_below}
 
 -- the room of a run, by the nodes of its pairs, in so many words
 pub roomy_few : {w : List ℕ} {ps : List Pair} (n fuel nodes names : ℕ) → 4 * spared_end n nodes fuel names + STEP_WORDS ≤ length w → spared_end n nodes fuel names + 65536 < 2 ^ 32
@@ -38,11 +39,14 @@ pub part_is : (w f r : List ℕ) (limit : ℕ) → w ≡ f ++ r → length f ≡
 part_is w f r limit e l = rw (e, ← l) (sym (take-append_seam f r), sym (drop-append_seam f r))
 
 module _ {s : Text} {w : List ℕ} {n : ℕ} (limit : ℕ) (h : limit ≤ length w) (l : 4 * n ≤ limit) (a : Arena s w n) where
+  parts : Parted w (take limit w) (drop limit w) limit
+  parts = parted _ _ _ _ (sym (take-append-drop limit w)) (length-take-le limit w h)
+
   pub spared_arena : Arena s (take limit w) n
-  spared_arena = part_arena limit w h n l s a
+  spared_arena = part_arena parts n l s a
 
   pub spared_trees : (k : ℕ) → k < n → trees_at s w k ≡ trees_at s (take limit w) k
-  spared_trees k q = frame_trees s (take limit w) a.links (part_agrees limit w h n l) k q
+  spared_trees k q = sym (part_trees parts n l s a k q)
 
   pub spared_length : limit ≤ length (take limit w)
   spared_length = omega (arith, length-take-le limit w h)
@@ -51,15 +55,24 @@ module _ {s : Text} {w : List ℕ} {n : ℕ} (limit : ℕ) (h : limit ≤ length
     pub long : length u ≡ limit
     long = b.len ∙ length-take-le limit w h
 
+    whole : Parted (u ++ drop limit w) u (drop limit w) limit
+    whole = parted _ _ _ _ refl long
+
     pub spared_below : Below w (u ++ drop limit w) n
-    spared_below = back_below limit w h n l u long b
+    spared_below = record {
+      len = simp (length-append, length-drop) (omega (arith, long));
+      words = λ p q. part_agree parts n l p q ∙ b.words p q ∙ sym (part_agree whole n l p q);
+    }
 
     module _ {m : ℕ} (t : 4 * m ≤ limit) (c : Arena s u m) where
+      back : Agree u (u ++ drop limit w) m
+      back p q = sym (part_agree whole m t p q)
+
       pub whole_arena : Arena s (u ++ drop limit w) m
-      whole_arena = back_arena limit w h m t u long s c
+      whole_arena = arena_agrees s c (omega (arith, spared_below.len)) back
 
       pub whole_trees : (k : ℕ) → k < m → trees_at s u k ≡ trees_at s (u ++ drop limit w) k
-      whole_trees k q = frame_trees s (u ++ drop limit w) c.links (back_agrees limit w h m t u long) k q
+      whole_trees k q = frame_trees s (u ++ drop limit w) c.links back k q
 
 -- the same over areas: p is the part of a, q what a run makes of it, u its words then
 module _ {p q : Area} (a : Area) (limit : ℕ) (h : limit ≤ length a.work.now) (l : 4 * a.free ≤ limit) (sp : p.sheet ≡ a.sheet) (wp : p.work.now ≡ take limit a.work.now) (fp : p.free ≡ a.free) (g : Grows p q) (u : List ℕ) (e : u ≡ q.work.now) where

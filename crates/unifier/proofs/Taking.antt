@@ -18,16 +18,16 @@ use Rattle.tree.specs.declared.area.Area.{Area}
 use Rattle.tree.specs.Areas.{tree_in, trees_in, Grows, CellIn, HasRoom}
 use Rattle.tree.specs.Lists.{Lists}
 use Rattle.tree.proofs.Decoding.{trees_none}
-use Rattle.tree.proofs.Areas.{below_grown}
 use Rattle.tree.proofs.Keeping.{grows_same, grows_then, grows_trees, adds_grows}
+use Rattle.substitution.proofs.Listing.{within_grows}
 use Rattle.substitution.specs.Bindings.{bindings_of, flatten_bindings, Chain}
 use Rattle.substitution.specs.Areas.{bindings_in, ComposedIn, ComposesIn, WithinArea}
 use Rattle.substitution.proofs.Chains.{bindings_flatten, chain_flatten}
 use Rattle.elimination.specs.Stack.{Whole, Fit, FitPairs}
 use Rattle.elimination.specs.Area.{Room}
-use Rattle.elimination.specs.Areas.{last_step, ApartIn, GoesOnIn, BindsIn}
+use Rattle.elimination.specs.Areas.{last_step, ApartIn, GoesOnIn, BindsIn, pairs_in}
 use Rattle.unifier.specs.Running.{Roomy}
-use Rattle.unifier.specs.Areas.{stack_in, RunsIn, AnswersIn}
+use Rattle.unifier.specs.Areas.{RunsIn, AnswersIn}
 use Rattle.steps.proofs.Fitting.{FitStep, step_fit}
 use Rattle.elimination.proofs.Tops.{pairs_are, top_weight, top_fit}
 use Rattle.elimination.specs.declared.front.Front.{Front}
@@ -52,11 +52,11 @@ pub record HoldsIn (a b : Area) (start : List Pair) (fuel left waiting made : �
   pub room : Room b.work.now (b.free + weight ps + 2 * left + 8196 * length ns + 4097 * (length ns + length bs))
   pub ran : run fuel start ≡ resumed bs (fuel - left) (run left ps)
 
-pub holds_start : {a : Area} {stack fuel : ℕ} → stack < a.free → Whole (trees_in a stack) → FitPairs (stack_in a stack) → Roomy a.work.now a.free fuel (stack_in a stack)
-    → HoldsIn a a (stack_in a stack) fuel fuel stack 0 None
+pub holds_start : {a : Area} {stack fuel : ℕ} → stack < a.free → Whole (trees_in a stack) → FitPairs (pairs_in a stack) → Roomy a.work.now a.free fuel (pairs_in a stack)
+    → HoldsIn a a (pairs_in a stack) fuel fuel stack 0 None
 unfolding flatten_bindings
 holds_start {a} {stack} {fuel} q whole fit r =
-    let x = run fuel (stack_in a stack) in
+    let x = run fuel (pairs_in a stack) in
     let z : x.1 ≡ fuel - fuel + x.1 = omega arith in
     let room = r.room in
     record {
@@ -64,7 +64,7 @@ holds_start {a} {stack} {fuel} q whole fit r =
       stack = q;
       list = a.arena.links.some;
       within = omega arith;
-      ps = stack_in a stack;
+      ps = pairs_in a stack;
       bs = [];
       ns = r.names;
       waits = sym whole;
@@ -83,7 +83,7 @@ module _ {a b : Area} {start : List Pair} {fuel left waiting made : ℕ} {apart 
 
   -- The ends
 
-  pub holds_solved : 0 < left → stack_in b waiting ≡ [] → RunsIn a b (run fuel start) (record { verdict = Ok made; spent = fuel - (left - 1) - 1 })
+  pub holds_solved : 0 < left → pairs_in b waiting ≡ [] → RunsIn a b (run fuel start) (record { verdict = Ok made; spent = fuel - (left - 1) - 1 })
   holds_solved p e =
       let empty = sym (pairs_are h.ps h.waits) ∙ e in
       let z : fuel - left + 0 ≡ fuel - (left - 1) - 1 = omega arith in
@@ -107,22 +107,22 @@ module _ {a b : Area} {start : List Pair} {fuel left waiting made : ℕ} {apart 
 
   -- The pair on top
 
-  module _ (f : Front) (t : stack_in b waiting ≡ (tree_in b f.left, tree_in b f.right) ∷ stack_in b f.rest) (p : 0 < left) where
-    on_top : h.ps ≡ (tree_in b f.left, tree_in b f.right) ∷ stack_in b f.rest
+  module _ (f : Front) (t : pairs_in b waiting ≡ (tree_in b f.left, tree_in b f.right) ∷ pairs_in b f.rest) (p : 0 < left) where
+    on_top : h.ps ≡ (tree_in b f.left, tree_in b f.right) ∷ pairs_in b f.rest
     on_top = sym (pairs_are h.ps h.waits) ∙ t
 
     -- what the step takes and makes of it
     abbrev pub taken_step : Step
-    taken_step = step (tree_in b f.left) (tree_in b f.right) (stack_in b f.rest)
+    taken_step = step (tree_in b f.left) (tree_in b f.right) (pairs_in b f.rest)
 
-    pub step_apart : ApartIn apart ((tree_in b f.left, tree_in b f.right) ∷ stack_in b f.rest)
+    pub step_apart : ApartIn apart ((tree_in b f.left, tree_in b f.right) ∷ pairs_in b f.rest)
     step_apart = subst (ApartIn apart) on_top h.differs
 
-    weighs : weight h.ps ≡ load_in b f + weight (stack_in b f.rest)
-    weighs = top_weight (tree_in b f.left) (tree_in b f.right) (stack_in b f.rest) on_top
+    weighs : weight h.ps ≡ load_in b f + weight (pairs_in b f.rest)
+    weighs = top_weight (tree_in b f.left) (tree_in b f.right) (pairs_in b f.rest) on_top
 
-    fits : Fit (tree_in b f.left) × Fit (tree_in b f.right) × FitPairs (stack_in b f.rest)
-    fits = top_fit (tree_in b f.left) (tree_in b f.right) (stack_in b f.rest) on_top h.fit
+    fits : Fit (tree_in b f.left) × Fit (tree_in b f.right) × FitPairs (pairs_in b f.rest)
+    fits = top_fit (tree_in b f.left) (tree_in b f.right) (pairs_in b f.rest) on_top h.fit
 
     pub step_fit_front : FitFront b f
     step_fit_front = (fits.0, fits.1)
@@ -133,15 +133,15 @@ module _ {a b : Area} {start : List Pair} {fuel left waiting made : ℕ} {apart 
     step_names : StepOver h.ns taken_step
     step_names =
         let o = subst (OverPairs h.ns) on_top h.over in
-        step_over h.ns (tree_in b f.left) (tree_in b f.right) (stack_in b f.rest) o.0 o.1 o.2
+        step_over h.ns (tree_in b f.left) (tree_in b f.right) (pairs_in b f.rest) o.0 o.1 o.2
 
     step_fits : FitStep taken_step
-    step_fits = step_fit (tree_in b f.left) (tree_in b f.right) (stack_in b f.rest) fits.0 fits.1 fits.2
+    step_fits = step_fit (tree_in b f.left) (tree_in b f.right) (pairs_in b f.rest) fits.0 fits.1 fits.2
 
     taken_run : (d : Step) → taken_step ≡ d → run fuel start ≡ resumed h.bs (fuel - left) (after d (λ qs. run (left - 1) qs))
     taken_run d e =
         h.ran ∙ ap (λ (qs : List Pair). resumed h.bs (fuel - left) (run left qs)) on_top
-        ∙ ap (λ (x : Answer). resumed h.bs (fuel - left) x) (run_step left (tree_in b f.left) (tree_in b f.right) (stack_in b f.rest) p)
+        ∙ ap (λ (x : Answer). resumed h.bs (fuel - left) x) (run_step left (tree_in b f.left) (tree_in b f.right) (pairs_in b f.rest) p)
         ∙ ap (λ (d : Step). resumed h.bs (fuel - left) (after d (λ qs. run (left - 1) qs))) e
 
     counted : (k : ℕ) → fuel - left + (1 + k) ≡ fuel - (left - 1) + k
@@ -155,7 +155,7 @@ module _ {a b : Area} {start : List Pair} {fuel left waiting made : ℕ} {apart 
       holds_over ending.Failed g = record { grows = grows_then h.grows g.1; is = taken_run fails g.0 ∙ ap (λ (k : ℕ). (failed, k)) last; made = tt }
       holds_over ending.Unsupported g = record { grows = grows_then h.grows g.1; is = taken_run unknown g.0 ∙ ap (λ (k : ℕ). (unsupported, k)) last; made = tt }
 
-      pub holds_next : {st : ℕ} {j : Option ℕ} → GoesOnIn b d (load_in b f + weight (stack_in b f.rest)) taken_step st j
+      pub holds_next : {st : ℕ} {j : Option ℕ} → GoesOnIn b d (load_in b f + weight (pairs_in b f.rest)) taken_step st j
           → HoldsIn a d start fuel (left - 1) st made j
       holds_next {st} {j} g =
           let k = g.waits in
@@ -232,7 +232,7 @@ module _ {a b d : Area} {made spent : ℕ} (fuel : ℕ) (ps : List Pair) (r : Ru
 
   composed_over : (compose (reverse (bindings_in b made)) ≡ None) × WithinArea b d (4097 * length (bindings_in b made)) → AnswersIn a d (unify fuel ps) (record { verdict = Err ending.Unsupported; spent = spent })
   composed_over j = record {
-    grows = grows_then r.grows (record { lent = j.1.lent; grew = j.1.grew; below = below_grown j.1.grown });
+    grows = grows_then r.grows (within_grows j.1);
     is = finished fuel ps _ r.is ∙ ap (λ (o : Option (List Binding)). (composed o, spent)) j.0;
     bound = tt;
   }

@@ -11,12 +11,7 @@ use Rattle.substitution.specs.Bindings.{Chain}
 use Rattle.substitution.specs.Areas.{bindings_in}
 use Rattle.substitution.specs.Answers.{stopped, answer_in}
 use Rattle.substitution.specs.declared.answer.Answer.{Answer}
-use Rattle.elimination.specs.Stack.{pairs_at}
 use Rattle.elimination.specs.declared.room.TheConstants.{STEP_WORDS, NAME_CELLS}
-
--- the pairs from cell k on
-abbrev pub stack_in : Area → ℕ → List Pair
-stack_in a k = pairs_at a.sheet.now a.work.now k
 
 -- the list from cell k on is one of bindings, and the words of one step are free above the cells
 pub record BoundIn (a : Area) (k : ℕ) : Type 0 where

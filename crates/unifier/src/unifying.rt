@@ -1,12 +1,13 @@
 // `unify` over an area: the pairs and the bindings are lists of its cells.
-ghost use Rattle.std.specs.Prelude.{◌≡◌, ◌<◌, ◌≤◌};
+ghost use Rattle.std.specs.Prelude.{◌≡◌, ◌≤◌};
 ghost use Rattle.rules.specs.Tree.{sizes};
 ghost use Rattle.rules.specs.Solving.{run, unify};
 ghost use Rattle.tree.specs.Areas.{trees_in};
 ghost use Rattle.elimination.specs.Area.{Room};
-ghost use Rattle.elimination.specs.Stack.{Whole, FitPairs};
 ghost use Rattle.unifier.specs.Running.{Roomy};
-ghost use Rattle.unifier.specs.Areas.{stack_in, NamesFew, spared_end, RunsIn, AnswersIn, EndsIn};
+ghost use Rattle.elimination.specs.Areas.{pairs_in};
+ghost use Rattle.elimination.specs.Fronts.{StackIn};
+ghost use Rattle.unifier.specs.Areas.{NamesFew, spared_end, RunsIn, AnswersIn, EndsIn};
 
 use elimination::Taken;
 use elimination::front::Front;
@@ -23,10 +24,10 @@ use tree::area::Area;
 // Each step pushes cells into the area, which an iterator over the pairs would hold. `matcher` has a loop like it: a trait for both would
 // have to state the invariants of the two and how each starts, goes on and ends, and be longer than they are.
 fn run(area: &mut Area, stack: usize, fuel: usize) -> Answer
-    requires stack { (stack < area.old.free) × Whole (trees_in area.old stack) × FitPairs (stack_in area.old stack) }
+    requires stack { StackIn area.old stack }
     requires fuel { fuel ≤ 65536 }
-    requires room { Roomy area.old.work.now area.old.free fuel (stack_in area.old stack) }
-    ensures { RunsIn area.old area.new (run fuel (stack_in area.old stack)) result }
+    requires room { Roomy area.old.work.now area.old.free fuel (pairs_in area.old stack) }
+    ensures { RunsIn area.old area.new (run fuel (pairs_in area.old stack)) result }
 {
     let mut waiting = stack;
     let mut made = 0;
@@ -70,10 +71,10 @@ fn run(area: &mut Area, stack: usize, fuel: usize) -> Answer
 
 // Unifies the pairs from cell stack on.
 pub fn unify(area: &mut Area, stack: usize, fuel: usize) -> Answer
-    requires stack { (stack < area.old.free) × Whole (trees_in area.old stack) × FitPairs (stack_in area.old stack) }
+    requires stack { StackIn area.old stack }
     requires fuel { fuel ≤ 65536 }
-    requires room { Roomy area.old.work.now area.old.free fuel (stack_in area.old stack) }
-    ensures { AnswersIn area.old area.new (unify fuel (stack_in area.old stack)) result }
+    requires room { Roomy area.old.work.now area.old.free fuel (pairs_in area.old stack) }
+    ensures { AnswersIn area.old area.new (unify fuel (pairs_in area.old stack)) result }
 {
     let ran = run(area, stack, fuel);
     let Ok(made) = ran.verdict else {
@@ -95,11 +96,11 @@ pub fn unify_sparing(
     nodes: usize,
     names: usize,
 ) -> Answer
-    requires stack { (stack < area.old.free) × Whole (trees_in area.old stack) × FitPairs (stack_in area.old stack) }
+    requires stack { StackIn area.old stack }
     requires fuel { fuel ≤ 65536 }
-    requires counts { (nodes ≡ sizes (trees_in area.old stack)) × NamesFew names (stack_in area.old stack) }
+    requires counts { (nodes ≡ sizes (trees_in area.old stack)) × NamesFew names (pairs_in area.old stack) }
     requires room { Room area.old.work.now (spared_end area.old.free nodes fuel names) }
-    ensures answers { AnswersIn area.old area.new (unify fuel (stack_in area.old stack)) result }
+    ensures answers { AnswersIn area.old area.new (unify fuel (pairs_in area.old stack)) result }
     ensures ends { EndsIn area.new result.verdict (spared_end area.old.free nodes fuel names) }
 {
     let limit = 4 * (area.free + nodes + 2 * fuel + NAME_CELLS * names) + STEP_WORDS;

@@ -1,6 +1,6 @@
 -- Whether a member covers, from the trees that its entries give the variables.
 use mathlib.Core.Path.{◌≡◌, refl, sym, ap, ◌∙◌}
-use mathlib.Core.Bool.{Bool, true, false, ◌||◌, true≢false}
+use mathlib.Core.Bool.{Bool, true, false, ◌||◌, true≢false, or-false}
 use mathlib.Core.List.{List, [], ◌∷◌, map}
 use mathlib.Core.Logic.{◌⊎◌, inl, inr}
 use Rattle.std.specs.Prelude.{Option, Some, None}
@@ -27,13 +27,9 @@ unfolding is_one_of backwards
 one_backwards [] l y = refl
 one_backwards (x ∷ xs) l y = one_backwards xs (x ∷ l) y ∙ sym (either (same y x) (is_one_of xs y) (is_one_of l y))
 
-or_false : (a : Bool) → (a || false) ≡ a
-or_false true = refl
-or_false false = refl
-
 pub one_listed : (xs : List Text) (y : Text) → is_one_of (backwards xs []) y ≡ is_one_of xs y
 unfolding is_one_of
-one_listed xs y = one_backwards xs [] y ∙ or_false (is_one_of xs y)
+one_listed xs y = one_backwards xs [] y ∙ or-false (is_one_of xs y)
 
 -- ---- one member
 

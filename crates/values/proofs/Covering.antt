@@ -1,8 +1,7 @@
 -- The pairs of one member over an area, from its values and the variables.
-use Prim.Native.Nat.{ℕ, ◌+◌, ◌*◌, ◌<◌, ◌≤◌, ◌^◌}
+use Prim.Native.Nat.{ℕ, ◌*◌, ◌<◌}
 use mathlib.Core.Path.{◌≡◌, refl, sym, ap, ap₂, ◌∙◌}
 use mathlib.Core.List.{List, []}
-use lib.ListN.{length}
 use native.Mathlib.Omega.{arith}
 use Rattle.std.specs.Prelude.{Some, None}
 use Rattle.rules.specs.Bytes.{Text}
@@ -22,7 +21,7 @@ use Rattle.variables.specs.declared.pairing.Solution.{Solution}
 use Rattle.variables.proofs.Pairings.{before_none}
 use Rattle.variables.proofs.Listed.{solution_grown}
 use Rattle.values.specs.Values.{OneUnread}
-use Rattle.values.specs.Areas.{ValuesIn, MemberPairedIn, PairsUpMemberIn}
+use Rattle.values.specs.Areas.{ValuesIn, MemberPairedIn, PairsUpMemberIn, PairsRoomIn}
 use Rattle.values.proofs.CoverLaws.{one_listed, pairs_every, pairs_none}
 
 pub pairs_unread : {a b : Area} (s : Solution) (at : ℕ) → OneUnread a.sheet.now (names_of (trees_in a s.names)) at × Grows a b → PairsUpMemberIn a b s at None
@@ -44,8 +43,7 @@ module _ {a b : Area} {s : Solution} {at : ℕ} {r : Read ℕ} (k : SolutionIn a
   pub pairs_solution : SolutionIn b s
   pairs_solution = solution_grown h.grows k
 
-  pub pairs_words : (4 * a.free + 11 * length a.sheet.now + 9 + 8 * count (trees_in a s.names) ≤ length a.work.now) × (a.free + 2 * length a.sheet.now + 2 + 2 * count (trees_in a s.names) < 2 ^ 32)
-      → HasRoom b (2 * count (trees_in b s.names))
+  pub pairs_words : PairsRoomIn a s.names → HasRoom b (2 * count (trees_in b s.names))
   pairs_words w =
       let k = ap count names_are in
       (omega (arith, w.0, h.used, h.high, grows_length h.grows), omega (arith, w.1, h.used, h.high))

@@ -1,6 +1,6 @@
 -- The values that a member gives variables as bindings in an area, and the pairs by which it covers as a list of trees there. Definitions
 -- only.
-use Rattle.std.specs.Prelude.{ℕ, ◌+◌, ◌*◌, ◌-◌, ◌<◌, ◌≤◌, ◌≡◌, true, false, List, ◌∷◌, map, length, Option, Some, None}
+use Rattle.std.specs.Prelude.{ℕ, ◌+◌, ◌*◌, ◌-◌, ◌^◌, ◌<◌, ◌≤◌, ◌≡◌, true, false, List, ◌∷◌, map, length, Option, Some, None}
 use Rattle.rules.specs.Bytes.{Text}
 use Rattle.rules.specs.Text.{is_one_of}
 use Rattle.rules.specs.Maybe.{every}
@@ -66,6 +66,10 @@ pub record ValuesIn (a b : Area) (ns : List Text) (at : ℕ) (r : Read ℕ) : Ty
 abbrev pub ReadsValuesIn : Area → Area → List Text → ℕ → Option (Read ℕ) → Type 0
 ReadsValuesIn a b ns at (Some r) = ValuesIn a b ns at r
 ReadsValuesIn a b ns at None = OneUnread a.sheet.now ns at × Grows a b
+
+-- room for the pairs of a member's values and a list of names: two cells for each byte of the sheet and for each name
+abbrev pub PairsRoomIn : Area → ℕ → Type 0
+PairsRoomIn a names = (4 * a.free + 11 * length a.sheet.now + 9 + 8 * count (trees_in a names) ≤ length a.work.now) × (a.free + 2 * length a.sheet.now + 2 + 2 * count (trees_in a names) < 2 ^ 32)
 
 -- the list from a cell on in b is that of the pairs of a solution and a member with the entries from `at` to a cursor
 pub record MemberPairedIn (a b : Area) (s : Solution) (at : ℕ) (p : Read ℕ) : Type 0 where

@@ -1,10 +1,8 @@
 // The pairs by which one member covers, in an area.
-ghost use Rattle.std.specs.Prelude.{◌+◌, ◌*◌, ◌<◌, ◌≤◌, ◌^◌, length};
-ghost use Rattle.rules.specs.Tree.{count};
-ghost use Rattle.tree.specs.Areas.{trees_in};
+ghost use Rattle.std.specs.Prelude.{◌≤◌, length};
 ghost use Rattle.forms.specs.Members.{EntriesThere};
 ghost use Rattle.variables.specs.Areas.{SolutionIn};
-ghost use Rattle.values.specs.Areas.{PairsUpMemberIn};
+ghost use Rattle.values.specs.Areas.{PairsRoomIn, PairsUpMemberIn};
 
 use crate::values::read_values;
 use sheet::{Cursor, Read};
@@ -16,7 +14,7 @@ use variables::pairing::{Solution, pair_values};
 pub fn pair_member(area: &mut Area, solution: Solution, start: Cursor) -> Option<Read<usize>>
     requires solution { SolutionIn area.old solution }
     requires start { (start.at ≤ length area.old.sheet.now) × (length area.old.sheet.now ≤ 65536) }
-    requires room { (4 * area.old.free + 11 * length area.old.sheet.now + 9 + 8 * count (trees_in area.old solution.names) ≤ length area.old.work.now) × (area.old.free + 2 * length area.old.sheet.now + 2 + 2 * count (trees_in area.old solution.names) < 2 ^ 32) }
+    requires room { PairsRoomIn area.old solution.names }
     requires entries_there { EntriesThere area.old.sheet.now start.at }
     ensures { PairsUpMemberIn area.old area.new solution start.at result }
 {

@@ -15,7 +15,7 @@ use Rattle.tree.specs.declared.kinds.Kind.TheVariants.{Application, Variable, At
 use Rattle.tree.specs.Cells.{kind_of, trees_at}
 use Rattle.tree.specs.Areas.{cell_kind, first_in, next_in, tree_in, trees_in, CellIn, Lent}
 use Rattle.tree.specs.Lists.{cells_from}
-use Rattle.tree.proofs.Decoding.{size_apply, sizes_is, sizes_more, trees_none}
+use Rattle.tree.proofs.Decoding.{sizes_more, trees_none}
 use Rattle.tree.proofs.ByKind.{number_application, number_variable, number_atom}
 use Rattle.tree.proofs.Parting.{Parted, part_trees, joined_below}
 use Rattle.tree.proofs.Walks.{walk_ends, walk_goes}
@@ -43,9 +43,6 @@ collect_atom a i c o e = record { lent = refl; named = named_atom a.sheet.now a.
 module _ (a : Area) (i j : ℕ) (e : cell_kind a i ≡ Application) (f : j ≡ first_in a i) where
   pub children_readable : Readable (tree_in a i) → ReadableAll (trees_in a j)
   children_readable r = list_spelled a.sheet.now a.work.now i j (number_application (kind_of a.work.now i) e) f r
-
-  pub children_sizes : size (tree_in a i) ≡ 1 + sizes (trees_in a j)
-  children_sizes = omega (arith, size_apply a.sheet.now a.work.now i (number_application (kind_of a.work.now i) e), sizes_is a.sheet.now a.work.now f)
 
   pub collect_children : {o p : Writer} → PlacesWritten a.sheet.now o p (sizes (trees_in a j)) (variable_names_in (trees_in a j))
       → PlacesWritten a.sheet.now o p (size (tree_in a i)) (variable_names (tree_in a i))

@@ -7,18 +7,18 @@ use lib.ListN.{length, get_or, set, take, drop, length-set, length-drop, length-
 use lib.Seq.{slice, slice-cons, get_or-set_other, get_or-drop, get_or-take, ext_get_or, length-take-le, take-suc-set, take-length, drop-append_seam}
 use native.Mathlib.Omega.{arith}
 use native.Mathlib.Numerals.{add-one}
-use Rattle.std.proofs.lemmas.List.{get_or-append_right}
+use Rattle.std.proofs.lemmas.List.{get_or-append_right, map-append}
 use Rattle.rules.specs.Bytes.{Text, sort}
 use Rattle.text.specs.Places.{text_at, places_upto}
-use Rattle.text.specs.Sorting.{sort_by}
+use Rattle.laws.specs.Sorting.{sort_by}
 use Rattle.text.proofs.Loops.{drop_next}
-use Rattle.text.proofs.Merging.{sort_texts, length_sort}
+use Rattle.laws.proofs.Basics.Sorting.{sort_texts, length_sort}
 use Rattle.text.proofs.Slices.{drop_take}
 use Rattle.tree.proofs.Parting.{Parted, joined_outside}
 use Rattle.variables.specs.Ordered.{unique}
 use Rattle.variables.specs.Variables.{Variable, Variables, VariablePlaces, repeats, Dropped, Ordered}
 use Rattle.variables.proofs.Ordering.{unique_skip, unique_keep, unique_sort}
-use Rattle.variables.proofs.Naming.{texts_append, variables_append, variables_sort}
+use Rattle.variables.proofs.Naming.{variables_append, variables_sort}
 
 module _ (s : Text) (w : List ℕ) (i end : ℕ) (p : i < end) (q : end ≤ length w) where
   pub first_word : slice i end w ≡ get_or w i 0 ∷ slice (i + 1) end w
@@ -91,7 +91,7 @@ module _ {s : Text} {w v : List ℕ} {i kept : ℕ} (d : Dropping s w v i kept) 
       let m = d.mid in
       let same_word : x ≡ get_or w i 0 = e ∙ d.rest i (omega arith) in
       let longer : take (kept + 1) (set v kept x) ≡ take kept v ++ (x ∷ []) = rw add-one (take-suc-set v kept x (omega arith)) in
-      let front : texts s (take (kept + 1) (set v kept x)) ≡ texts s (take kept v) ++ (text_at s x ∷ []) = ap (map (text_at s)) longer ∙ texts_append s (take kept v) (x ∷ []) in
+      let front : texts s (take (kept + 1) (set v kept x)) ≡ texts s (take kept v) ++ (text_at s x ∷ []) = ap (map (text_at s)) longer ∙ map-append (text_at s) (take kept v) (x ∷ []) in
       let back : text_at s x ∷ unique (texts s (drop (i + 1) w)) ≡ unique (texts s (drop i w)) =
       ap (λ (y : ℕ). text_at s y ∷ unique (texts s (drop (i + 1) w))) same_word
       ∙ sym (ap unique first_text ∙ unique_keep (text_at s (get_or w i 0)) (texts s (drop (i + 1) w)) (told r))

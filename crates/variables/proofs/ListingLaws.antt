@@ -73,7 +73,7 @@ module _ {a b : Area} {p : Places} {i list : ℕ} (h : ListingIn a b p i list) w
     lists_room = omega (arith, h.used, h.low)
 
     lists_word : get_or b.work.now i 0 ≡ get_or a.work.now i 0
-    lists_word = sym (h.lists.adds.grown.above i (omega (arith, lists_room, h.low)))
+    lists_word = h.lists.adds.grown.above i (omega (arith, lists_room, h.low))
 
     lists_text : text_at b.sheet.now (get_or b.work.now i 0) ≡ text_at a.sheet.now (get_or a.work.now i 0)
     lists_text = ap (λ s. text_at s.now (get_or b.work.now i 0)) h.lists.adds.lent.sheet ∙ ap (text_at a.sheet.now) lists_word

@@ -1,13 +1,14 @@
 -- The places of variables, gathered, sorted and without repeats.
 use Prim.Native.Nat.{ℕ, zero, suc, ◌+◌, ◌*◌, ◌<◌, ◌≤◌}
 use mathlib.Core.Path.{◌≡◌, refl, sym, ap, ap₂, subst, ◌∙◌}
-use mathlib.Core.Bool.{Bool, true, false, cond, false≢true}
+use mathlib.Core.Bool.{Bool, true, false≢true}
 use mathlib.Core.List.Memᴰ
-use mathlib.Core.List.{List, [], ◌∷◌, ◌++◌, map, Memᴰ}
+use mathlib.Core.List.{List, [], ◌∷◌, ◌++◌, map, Memᴰ, Permᴰ}
 use lib.ListN.{length, get_or}
 use lib.Seq.{slice}
 use native.Mathlib.Omega.{arith}
 use native.Mathlib.Decide.{dec_lt}
+use Rattle.std.proofs.lemmas.List.{map-append}
 use Rattle.rules.specs.Bytes.{Text}
 use Rattle.rules.specs.Names.{variable_token}
 use Rattle.rules.specs.Tree.{Tree, apply, Trees, more, size, sizes, variable_names, variable_names_in}
@@ -15,7 +16,10 @@ use Rattle.rules.specs.Tidy.{Built, Builts, both}
 use Rattle.laws.proofs.Sheets.BuiltRun.{name_token}
 use Rattle.laws.proofs.Equality.Building.{built_children}
 use Rattle.text.specs.Places.{text_at}
-use Rattle.text.specs.Sorting.{Wrote, insert_by, sort_by}
+use Rattle.laws.specs.Sorting.{sort_by}
+use Rattle.laws.proofs.Basics.Sorting.{sort_by_perm}
+use Rattle.text.specs.Frames.{Wrote}
+use Rattle.text.proofs.Frames.{outside_same, outside_then, outside_within}
 use Rattle.text.proofs.Slices.{slice_same, slice_join, slice_none}
 use Rattle.tree.specs.Cells.{start_of, length_of, kind_of, first_of, next_of, fixed_name, name_at, tree_at, trees_at}
 use Rattle.tree.specs.Arena.{Cell, Arena}
@@ -26,30 +30,21 @@ use Rattle.variables.specs.Variables.{Readable, ReadableAll, Variable, Variables
 
 -- ---- lists of places
 
-pub texts_append : (s : Text) (xs ys : List ℕ) → map (text_at s) (xs ++ ys) ≡ map (text_at s) xs ++ map (text_at s) ys
-texts_append s [] ys = refl
-texts_append s (x ∷ xs) ys = ap (λ (l : List Text). text_at s x ∷ l) (texts_append s xs ys)
-
 module _ (s : Text) where
   pub variables_append : (xs ys : List ℕ) → Variables s xs → Variables s ys → Variables s (xs ++ ys)
   unfolding Variables
   variables_append [] ys p q = q
   variables_append (x ∷ xs) ys p q = (p.0, variables_append xs ys p.1 q)
 
-  module _ (le : ℕ → ℕ → Bool) where
-    variables_insert : (x : ℕ) (xs : List ℕ) → Variable s x → Variables s xs → Variables s (insert_by le x xs)
-    unfolding Variables insert_by
-    variables_insert x [] p q = (p, tt)
-    variables_insert x (y ∷ xs) p q = go (le x y) (variables_insert x xs p q.1)
-      where
-        go : (b : Bool) → Variables s (insert_by le x xs) → Variables s (cond b (x ∷ y ∷ xs) (y ∷ insert_by le x xs))
-        go true h = (p, q)
-        go false h = (q.0, h)
+  variables_perm : {xs ys : List ℕ} → Permᴰ xs ys → Variables s ys → Variables s xs
+  unfolding Variables
+  variables_perm Permᴰ.nil p = p
+  variables_perm (Permᴰ.cons e h) p = (rw e p.0, variables_perm h p.1)
+  variables_perm (Permᴰ.swap e f) p = (rw e p.1.0, (rw f p.0, p.1.1))
+  variables_perm (Permᴰ.trans g h) p = variables_perm g (variables_perm h p)
 
-    pub variables_sort : (xs : List ℕ) → Variables s xs → Variables s (sort_by le xs)
-    unfolding Variables sort_by
-    variables_sort [] p = tt
-    variables_sort (x ∷ xs) p = variables_insert x (sort_by le xs) p.0 (variables_sort xs p.1)
+  pub variables_sort : (le : ℕ → ℕ → Bool) (xs : List ℕ) → Variables s xs → Variables s (sort_by le xs)
+  variables_sort le xs = variables_perm (sort_by_perm le xs)
 
 -- ---- the place of a variable's cell
 
@@ -119,15 +114,11 @@ named_append s w v u at mid end a b ns ms g h room =
     let first : slice at mid u ≡ slice at mid v = slice_same at mid u v (omega arith) (omega arith) (λ x y z. h.kept.below x z) in
     let split : slice at end u ≡ slice at mid v ++ slice mid end u = sym (slice_join at mid end u e₁ e₂ (omega arith)) ∙ ap (λ (l : List ℕ). l ++ slice mid end u) first in
     record {
-      kept = record {
-        len = h.kept.len ∙ g.kept.len;
-        below = λ x y. h.kept.below x (omega arith) ∙ g.kept.below x y;
-        above = λ x y. h.kept.above x y ∙ g.kept.above x (omega arith);
-      };
+      kept = outside_then e₁ e₂ (omega arith) g.kept h.kept;
       grew = omega arith;
       most_is = omega arith;
       places = subst (Variables s) (sym split) (variables_append s (slice at mid v) (slice mid end u) g.places h.places);
-      are = ap (map (text_at s)) split ∙ texts_append s (slice at mid v) (slice mid end u) ∙ ap₂ (λ (x y : List Text). x ++ y) g.are h.are;
+      are = ap (map (text_at s)) split ∙ map-append (text_at s) (slice at mid v) (slice mid end u) ∙ ap₂ (λ (x y : List Text). x ++ y) g.are h.are;
     }
 
 pub named_empty : (s : Text) (w : List ℕ) (at r most : ℕ) (ns : List Text) → r ≡ at → ns ≡ [] → VariablePlaces s w w at r most ns
@@ -135,7 +126,7 @@ unfolding Variables
 named_empty s w at r most ns e f =
     let y : slice at r w ≡ [] = slice_none at r w (omega arith) in
     record {
-      kept = record { len = refl; below = λ p h. refl; above = λ p h. refl };
+      kept = outside_same w at r;
       grew = omega arith;
       most_is = omega arith;
       places = subst (Variables s) (sym y) tt;
@@ -151,7 +142,7 @@ module _ (s : Text) (w : List ℕ) (i : ℕ) where
       let o = size_pos (tree_at s w i) in
       let y : slice at r v ≡ get_or w (4 * i) 0 ∷ [] = ap (λ (t : ℕ). slice at t v) e ∙ g.words ∙ ap (λ (t : ℕ). t ∷ []) f in
       record {
-        kept = record { len = g.len; below = g.below; above = λ z h. g.above z (omega arith) };
+        kept = outside_within (omega arith) (omega arith) g.outside;
         grew = omega arith;
         most_is = omega arith;
         places = subst (Variables s) (sym y) (place_variable s w i c p q b, tt);

@@ -7,7 +7,7 @@ use Rattle.rules.specs.Tree.{Tree, variable, atom, apply, Trees, none, more, var
 use Rattle.rules.specs.Substitution.{Pair, flatten}
 use Rattle.rules.specs.Cover.{insert_once, variables, variables_in, variables_of}
 use Rattle.laws.proofs.Basics.Tests.{same_eq, same_of_eq, differ_of_ne, ne_of_differ}
-use Rattle.laws.proofs.Basics.Order.{upto_equal, upto_other, upto_one, upto_after}
+use Rattle.laws.proofs.Basics.Order.{upto_equal, upto_other, upto_one, upto_after, insert_before, insert_after}
 use Rattle.laws.proofs.Solving.Keeping.{other_way}
 use Rattle.variables.specs.Ordered.{inserted, ordered_once, unique}
 use Rattle.variables.specs.Variables.{repeats}
@@ -49,14 +49,6 @@ module _ (x y : Text) (l : List Text) where
 
   once_after : upto x y ≡ false → insert_once x (y ∷ l) ≡ y ∷ insert_once x l
   once_after f = by_order (differs x y f) f
-
-  plain_before : upto x y ≡ true → insert x (y ∷ l) ≡ x ∷ y ∷ l
-  unfolding insert
-  plain_before e = rw e
-
-  plain_after : upto x y ≡ false → insert x (y ∷ l) ≡ y ∷ insert x l
-  unfolding insert
-  plain_after e = rw e
 
   unique_same : same x y ≡ true → unique (x ∷ y ∷ l) ≡ unique (y ∷ l)
   unfolding unique
@@ -165,29 +157,29 @@ unique_insert x [] = refl
 unique_insert x (a ∷ []) = go (order x a)
   where
     go : Order x a → unique (insert x (a ∷ [])) ≡ insert_once x (a ∷ [])
-    go (equal p) = ap unique (plain_before x a [] (upto_equal p)) ∙ unique_same x a [] (same_of_eq p) ∙ sym (once_same x a [] p)
-    go (before e f g) = ap unique (plain_before x a [] f) ∙ unique_differ x a [] e ∙ sym (once_before x a [] e f)
-    go (after f g) = ap unique (plain_after x a [] f) ∙ unique_differ a x [] (other_way x a (differs x a f)) ∙ sym (once_after x a [] f)
+    go (equal p) = ap unique (insert_before x a [] (upto_equal p)) ∙ unique_same x a [] (same_of_eq p) ∙ sym (once_same x a [] p)
+    go (before e f g) = ap unique (insert_before x a [] f) ∙ unique_differ x a [] e ∙ sym (once_before x a [] e f)
+    go (after f g) = ap unique (insert_after x a [] f) ∙ unique_differ a x [] (other_way x a (differs x a f)) ∙ sym (once_after x a [] f)
 unique_insert x (a ∷ b ∷ l) = go (order x a) (unique_head a (b ∷ l)) (unique_insert x (b ∷ l))
   where
     next : (t s : Bool) → same a b ≡ t → upto x b ≡ s → upto x a ≡ false → unique (insert x (b ∷ l)) ≡ insert_once x (unique (b ∷ l))
         → unique (a ∷ insert x (b ∷ l)) ≡ insert_once x (unique (a ∷ b ∷ l))
     next true s e k f h =
         let q : upto x b ≡ false = ap (upto x) (sym (same_eq a b e)) ∙ f in
-        ap (λ (m : List Text). unique (a ∷ m)) (plain_after x b l q) ∙ unique_same a b (insert x l) e ∙ ap unique (sym (plain_after x b l q)) ∙ h ∙ ap (insert_once x) (sym (unique_same a b l e))
+        ap (λ (m : List Text). unique (a ∷ m)) (insert_after x b l q) ∙ unique_same a b (insert x l) e ∙ ap unique (sym (insert_after x b l q)) ∙ h ∙ ap (insert_once x) (sym (unique_same a b l e))
     next false true e k f h =
-        ap (λ (m : List Text). unique (a ∷ m)) (plain_before x b l k) ∙ unique_differ a x (b ∷ l) (other_way x a (differs x a f))
-        ∙ ap (λ (m : List Text). a ∷ m) (ap unique (sym (plain_before x b l k)) ∙ h)
+        ap (λ (m : List Text). unique (a ∷ m)) (insert_before x b l k) ∙ unique_differ a x (b ∷ l) (other_way x a (differs x a f))
+        ∙ ap (λ (m : List Text). a ∷ m) (ap unique (sym (insert_before x b l k)) ∙ h)
         ∙ sym (ap (insert_once x) (unique_differ a b l e) ∙ once_after x a (unique (b ∷ l)) f)
     next false false e k f h =
-        ap (λ (m : List Text). unique (a ∷ m)) (plain_after x b l k) ∙ unique_differ a b (insert x l) e
-        ∙ ap (λ (m : List Text). a ∷ m) (ap unique (sym (plain_after x b l k)) ∙ h)
+        ap (λ (m : List Text). unique (a ∷ m)) (insert_after x b l k) ∙ unique_differ a b (insert x l) e
+        ∙ ap (λ (m : List Text). a ∷ m) (ap unique (sym (insert_after x b l k)) ∙ h)
         ∙ sym (ap (insert_once x) (unique_differ a b l e) ∙ once_after x a (unique (b ∷ l)) f)
 
     go : Order x a → (m : List Text) × (unique (a ∷ b ∷ l) ≡ a ∷ m) → unique (insert x (b ∷ l)) ≡ insert_once x (unique (b ∷ l)) → unique (insert x (a ∷ b ∷ l)) ≡ insert_once x (unique (a ∷ b ∷ l))
-    go (equal p) (m, h) i = ap unique (plain_before x a (b ∷ l) (upto_equal p)) ∙ unique_same x a (b ∷ l) (same_of_eq p) ∙ h ∙ sym (once_same x a m p) ∙ ap (insert_once x) (sym h)
-    go (before e f g) (m, h) i = ap unique (plain_before x a (b ∷ l) f) ∙ unique_differ x a (b ∷ l) e ∙ ap (λ (k : List Text). x ∷ k) h ∙ sym (once_before x a m e f) ∙ ap (insert_once x) (sym h)
-    go (after f g) (m, h) i = ap unique (plain_after x a (b ∷ l) f) ∙ next (same a b) (upto x b) refl refl f i
+    go (equal p) (m, h) i = ap unique (insert_before x a (b ∷ l) (upto_equal p)) ∙ unique_same x a (b ∷ l) (same_of_eq p) ∙ h ∙ sym (once_same x a m p) ∙ ap (insert_once x) (sym h)
+    go (before e f g) (m, h) i = ap unique (insert_before x a (b ∷ l) f) ∙ unique_differ x a (b ∷ l) e ∙ ap (λ (k : List Text). x ∷ k) h ∙ sym (once_before x a m e f) ∙ ap (insert_once x) (sym h)
+    go (after f g) (m, h) i = ap unique (insert_after x a (b ∷ l) f) ∙ next (same a b) (upto x b) refl refl f i
 
 pub unique_sort : (ns : List Text) → unique (sort ns) ≡ ordered_once ns
 unfolding sort inserted unique

@@ -14,7 +14,7 @@ use text::places::text_at;
 use tree::area::Area;
 
 // Writes the variable at a place before the list at `next`, and answers its cell.
-pub fn push_variable(area: &mut Area, x: u32, next: usize) -> usize
+fn push_variable(area: &mut Area, x: u32, next: usize) -> usize
     requires variable { Variable area.old.sheet.now x × (length area.old.sheet.now ≤ 65536) }
     requires link { next < area.old.free }
     requires room { HasRoom area.old 1 }

@@ -13,8 +13,8 @@ use Rattle.rules.specs.Variants.{sound}
 use Rattle.laws.proofs.Reduction.Sizes.{normalize_size}
 use Rattle.tree.specs.declared.area.Area.{Area}
 use Rattle.tree.specs.Areas.{tree_in, KeepsCells, Grows}
-use Rattle.tree.proofs.Areas.{below_grown}
 use Rattle.tree.proofs.Keeping.{adds_grows, grows_keeps, grows_then, grows_tree}
+use Rattle.substitution.proofs.Listing.{within_grows}
 use Rattle.substitution.specs.Areas.{bindings_in, instance_in, WithinArea, Places}
 use Rattle.substitution.specs.declared.instances.Built.{Built}
 use Rattle.reduction.specs.Areas.{Becomes}
@@ -28,7 +28,7 @@ use Rattle.variants.proofs.Claiming.{instance_over, instance_there, sound_unread
 pub instance_large : {a b : Area} (term : ℕ) (v : Variant) → (4096 < size (instance_in a v.bindings term)) × WithinArea a b 4096 → ClaimsInstanceIn a b term v None
 instance_large {a} term v h = (
   instance_over (bindings_in a v.bindings) (tree_in a term) (tree_in a v.value) h.0,
-  record { lent = h.1.lent; grew = h.1.grew; below = below_grown h.1.grown },
+  within_grows h.1,
 )
 
 module _ {a m : Area} (term : ℕ) (v : Variant) {r : Built} (one : Places a m 4096 0 (instance_in a v.bindings term) r) where

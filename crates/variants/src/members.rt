@@ -1,9 +1,9 @@
 // A member's texts as trees of an area: its own, and the values of its keys, with the keys, as one list of bindings.
-ghost use Rattle.std.specs.Prelude.{◌≡◌, ◌+◌, ◌*◌, ◌<◌, ◌≤◌, ◌^◌, length};
+ghost use Rattle.std.specs.Prelude.{◌≡◌, ◌+◌, ◌<◌, ◌≤◌, length};
 ghost use Rattle.forms.specs.Form.{Inside};
 ghost use Rattle.tree.specs.Areas.{CellIn, HasRoom, tree_in, trees_in};
 ghost use Rattle.tree.specs.Spelled.{text_in};
-ghost use Rattle.reading.specs.Areas.{TextsRoomIn};
+ghost use Rattle.reading.specs.Areas.{ReaderRoomIn, TextsRoomIn};
 ghost use Rattle.substitution.specs.Areas.{Lists};
 ghost use Rattle.variants.specs.Members.{nameable, binding_before, entry_end, DistinctEntries, MemberThere};
 ghost use Rattle.variants.specs.Areas.{ReadsEntryIn, ReadsEntriesIn, ReadsMemberIn};
@@ -22,7 +22,7 @@ pub struct Variant {
 }
 
 // Whether a variable's cell may have a text for its name: it is not empty, and no atom's text.
-pub(crate) fn is_nameable(text: &[u8]) -> bool
+fn is_nameable(text: &[u8]) -> bool
     ensures { result ≡ nameable text.now }
 {
     !matches!(text, [] | [_, b'(', ..])
@@ -48,7 +48,7 @@ fn push_entry(area: &mut Area, key: Place, value: usize, list: usize) -> usize
 // Reads the value of a key, and puts both before the list from cell `list` on.
 fn read_entry(area: &mut Area, entry: Sides, list: usize) -> Option<usize>
     requires inside { Inside area.old.sheet.now entry.left × Inside area.old.sheet.now entry.right × (list < area.old.free) }
-    requires room { (length area.old.sheet.now ≤ 65536) × (4 * entry_end area.old.free entry.right + 3 * length area.old.sheet.now < length area.old.work.now) × (entry_end area.old.free entry.right < 2 ^ 32) }
+    requires room { ReaderRoomIn area.old (entry_end area.old.free entry.right) }
     ensures { ReadsEntryIn area.old area.new entry list result }
 {
     let value = parse(area, entry.right)?;

@@ -11,6 +11,7 @@ use Rattle.rules.specs.Call.{Reply, refused, admitted, settled, call, refusal_nu
 use Rattle.tree.specs.declared.area.Area.{Area}
 use Rattle.forms.specs.Form.{sheet_of, EnoughWords}
 use Rattle.forms.specs.declared.form.Form.{Form}
+use Rattle.forms.proofs.WordLaws.{bare_words}
 use Rattle.answers.specs.Deciding.{reply_of, Standing}
 use Rattle.answers.specs.Settling.{within_room, Settles}
 use Rattle.admission.specs.Admission.{Decoded, Stands}
@@ -44,7 +45,7 @@ module _ (s : Text) (w : List ℕ) (out : Text) where
 
   module _ (f : Form) (needed : ℕ) (a : Stands s (length w) f needed) where
     pub enough_words : EnoughWords s f needed
-    enough_words = record { sheet = a.decoded.sheet; stands = a.decoded.decodes; enough = omega (arith, a.need) }
+    enough_words = omega (arith, a.need, bare_words s f a.decoded.sheet a.decoded.decodes)
 
     pub settled_answers : (v : List ℕ) (after : Text) (r : Result ℕ Refusal) → SettlesForm (sheet_of s f) out after r → v ≡ zeroed needed w → CallAnswers s w v out after r
     unfolding call work_after

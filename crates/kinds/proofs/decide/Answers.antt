@@ -1,14 +1,14 @@
 use Rattle.kinds.proofs.Solves.{solve_asked}
 use Rattle.kinds.proofs.Covers.{cover_asked}
 use Rattle.kinds.proofs.Completes.{complete_asked}
-use Rattle.kinds.proofs.KindLaws.{form_decided, colon_words, complete_words, sound_asked}
+use Rattle.kinds.proofs.KindLaws.{form_decided, words_for, sound_asked}
 use Rattle.kinds.proofs.decide.Goals as goal
 
 pub solve_pairs-requires-clause-asked : goal.solve_pairs-requires-clause-asked
 solve_pairs-requires-clause-asked c = solve_asked _ _ _ _ c.args.form c.in-Solve.is c.requires.decoded
 
 pub solve_pairs-requires-clause-words : goal.solve_pairs-requires-clause-words
-solve_pairs-requires-clause-words c = colon_words _ c.args.form c.requires.enough_words
+solve_pairs-requires-clause-words c = words_for _ c.args.form c.requires.decoded c.requires.enough_words
 
 pub sound_of-requires-clause-one_member : goal.sound_of-requires-clause-one_member
 sound_of-requires-clause-one_member c = sound_asked _ _ _ c.args.form c.in-Sound.is c.requires.decoded
@@ -17,13 +17,13 @@ pub cover_of-requires-clause-asked : goal.cover_of-requires-clause-asked
 cover_of-requires-clause-asked c = cover_asked _ _ _ c.args.form c.in-Cover.is c.requires.decoded
 
 pub cover_of-requires-clause-words : goal.cover_of-requires-clause-words
-cover_of-requires-clause-words c = colon_words _ c.args.form c.requires.enough_words
+cover_of-requires-clause-words c = words_for _ c.args.form c.requires.decoded c.requires.enough_words
 
 pub complete_of-requires-clause-asked : goal.complete_of-requires-clause-asked
 complete_of-requires-clause-asked c = complete_asked _ _ _ c.args.form c.in-Complete.is c.requires.decoded
 
 pub complete_of-requires-clause-words : goal.complete_of-requires-clause-words
-complete_of-requires-clause-words c = complete_words _ _ _ c.args.form c.in-Complete.is c.requires.enough_words
+complete_of-requires-clause-words c = words_for _ c.args.form c.requires.decoded c.requires.enough_words
 
 pub returns-in-Equal : goal.returns-in-Equal
 returns-in-Equal c = rw c.in-Equal.is c.equal.ensures

@@ -4,15 +4,16 @@ use mathlib.Core.Path.{◌≡◌, refl, sym, ◌∙◌, ap, ap₂, subst}
 use mathlib.Core.Logic.{◌≢◌, ◌⊎◌, inl, inr}
 use mathlib.Core.Bool.{Bool, true, false, cond, ◌&&◌, ◌||◌, true≢false, false≢true}
 use mathlib.Core.List.{[], ◌∷◌, cons≢nil, head-eq_of_cons-eq, tail-eq_of_cons-eq, append_cancel_right}
-use Prim.Native.Nat.{ℕ}
+use Prim.Native.Nat.{ℕ, ◌+◌}
 use native.Mathlib.Omega.{arith}
 use lib.Dec.{eqb}
 use Rattle.rules.specs.Bytes.{Text}
+use Rattle.rules.specs.Text.{count_of}
 use Rattle.rules.specs.Names.{digit, alphabetic, alphanumeric, all, identifier, number, word, indexed, variable_token, letter}
 use Rattle.rules.specs.Tree.{Tree, variable, atom, apply, Trees, atom_text, head, children, count}
 use Rattle.rules.specs.Equality.{Ac, reflexive, congruent, ACs}
 use Rattle.rules.specs.Tidy.{Tidy}
-use Rattle.laws.proofs.Basics.Tests.{and_left, and_right, or_cases, eqb_true}
+use Rattle.laws.proofs.Basics.Tests.{and_left, and_right, and_both, or_cases, or_left, eqb_true}
 
 -- no bracket and no comma
 pub data Plain : Text → Type 0 where
@@ -176,3 +177,60 @@ pub same_root : {t u : Tree} → SameHead t u → ACs (children t) (children u) 
 unfolding children
 same_root {t} (equal e c) h = subst (Ac t) e reflexive
 same_root (applications {f = f} {ts = ts} {us = us} e c) h = subst (λ (g : Text). Ac (apply f ts) (apply g us)) e (congruent h)
+
+-- A leaf with a colon is a variable
+
+pub differs : (c : ℕ) → alphanumeric c ≡ true → eqb c 58 ≡ false
+unfolding alphanumeric
+differs c h = go (eqb c 58) refl
+  where
+    go : (b : Bool) → eqb c 58 ≡ b → b ≡ false
+    go true e = absurd (false≢true (subst (λ (x : ℕ). alphanumeric x ≡ true) (eqb_true c 58 e) h))
+    go false e = refl
+
+pub no_colons : (n : Text) → all alphanumeric n ≡ true → count_of 58 n ≡ 0
+unfolding all count_of
+no_colons [] h = refl
+no_colons (b ∷ n) h =
+    rw (differs b (and_left (alphanumeric b) (all alphanumeric n) h), no_colons n (and_right (alphanumeric b) (all alphanumeric n) h)) refl
+
+pub identifier_all : (n : Text) → identifier n ≡ true → all alphanumeric n ≡ true
+unfolding identifier all alphanumeric
+identifier_all [] h = refl
+identifier_all (b ∷ n) h =
+    and_both (alphabetic b || digit b) (all alphanumeric n) (or_left (alphabetic b) (digit b) (and_left (alphabetic b) _ h)) (and_right (alphabetic b) _ h)
+
+pub number_all : (n : Text) → number n ≡ true → all digit n ≡ true
+unfolding number all
+number_all [] h = refl
+number_all (b ∷ n) h = h
+
+pub word_colons : (n : Text) → word n ≡ true → count_of 58 n ≡ 0
+unfolding word
+word_colons n h = go (identifier n) refl h
+  where
+    go : (x : Bool) → identifier n ≡ x → (x || number n) ≡ true → count_of 58 n ≡ 0
+    go true e k = no_colons n (identifier_all n e)
+    go false e k = no_colons n (digits_alphanumeric n (number_all n k))
+
+some_colon : (n : Text) → indexed n ≡ true → count_of 58 n ≡ 0 → ⊥
+unfolding indexed count_of
+some_colon [] h e = false≢true h
+some_colon (b ∷ n) h e = go (eqb b 58) h e (some_colon n)
+  where
+    go : (x : Bool) → cond x (identifier n) (digit b && indexed n) ≡ true → cond x 1 0 + count_of 58 n ≡ 0 → (indexed n ≡ true → count_of 58 n ≡ 0 → ⊥) → ⊥
+    go true k f g = omega arith
+    go false k f g = g (and_right (digit b) (indexed n) k) (omega arith)
+
+pub variable_colon : (n : Text) → variable_token n ≡ true → count_of 58 n ≡ 0 → ⊥
+unfolding variable_token count_of
+variable_colon [] h e = false≢true h
+variable_colon (b ∷ []) h e = false≢true h
+variable_colon (b ∷ c ∷ n) h e = some_colon n (and_right (digit c) (indexed n) (and_right (eqb b 120 || eqb b 35 || eqb b 37) (digit c && indexed n) h)) (omega arith)
+
+pub not_zero : (k : ℕ) → (k ≡ 0 → ⊥) → eqb k 0 ≡ false
+not_zero k h = go (eqb k 0) refl
+  where
+    go : (x : Bool) → eqb k 0 ≡ x → x ≡ false
+    go true e = absurd (h (eqb_true k 0 e))
+    go false e = refl

@@ -13,6 +13,7 @@ use Rattle.rules.specs.Sums.{Canonical, parts, canon}
 use Rattle.rules.specs.Equality.{Ac}
 use Rattle.rules.specs.Tidy.{Built}
 use Rattle.laws.proofs.Basics.Tests.{same_eq, same_self}
+use Rattle.laws.proofs.Basics.Sorting.{perm_total}
 use Rattle.laws.proofs.Basics.Order.{sort_same, sort_perm}
 use Rattle.laws.proofs.Equality.Sound.{sound, canon_plus}
 use Rattle.laws.proofs.Equality.Rebuilding.{filled}
@@ -34,10 +35,7 @@ tally_append w (x ∷ l) m = let h = tally_append w l m in omega arith
 
 tally_perm : (w : Text) {l m : List Text} → Permᴰ l m → tally w l ≡ tally w m
 unfolding tally
-tally_perm w Permᴰ.nil = refl
-tally_perm w (Permᴰ.cons e p) = let h = tally_perm w p in let k = ap (λ (x : Text). one_if (same w x)) e in omega arith
-tally_perm w (Permᴰ.swap e f) = let h = ap (λ (x : Text). one_if (same w x)) e in let k = ap (λ (x : Text). one_if (same w x)) f in omega arith
-tally_perm w (Permᴰ.trans p q) = tally_perm w p ∙ tally_perm w q
+tally_perm w = perm_total (tally w) (λ x. one_if (same w x)) (λ x l. refl)
 
 tally_first : (w : Text) (l : List Text) → 0 < tally w (w ∷ l)
 unfolding tally

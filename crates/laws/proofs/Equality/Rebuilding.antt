@@ -1,16 +1,15 @@
 -- A tree as reading builds it is Ac equal to its normal form with sums of two, since the order and the grouping of summands
 -- are free.
-use mathlib.Core.Path.{◌≡◌, refl, ap}
-use mathlib.Core.Bool.{Bool, true, false, cond}
+use mathlib.Core.Path.{◌≡◌, refl, ◌∙◌, ap}
+use mathlib.Core.Bool.{Bool, true, false}
 use mathlib.Core.List.Permᴰ
-use mathlib.Core.List.{List, [], ◌∷◌, ◌++◌, append-nil, map, map-append, Permᴰ}
-use Rattle.rules.specs.Bytes.{Text, same, upto}
+use mathlib.Core.List.{List, [], ◌∷◌, ◌++◌, append-nil, length, map, map-append, Permᴰ}
+use Rattle.rules.specs.Bytes.{Text, same}
 use Rattle.rules.specs.Tree.{Tree, variable, atom, apply, Trees, none, more, tamtplus, plus}
-use Rattle.rules.specs.Writing.{render}
 use Rattle.rules.specs.Sums.{rebuild}
 use Rattle.rules.specs.Equality.{Ac, reflexive, symmetric, transitive, congruent, swap, regroup, ACs, nil, both}
 use Rattle.rules.specs.Tidy.{Built, a_variable, an_atom, a_leaf, a_list, a_sum, Builts}
-use Rattle.laws.proofs.Equality.Normal.{Normal, many, single, trees, tree, pieces, insert_tree, sort_trees, norm, norms, sort_trees_perm}
+use Rattle.laws.proofs.Equality.Normal.{Normal, many, single, trees, tree, pieces, sort_trees, norm, norms, sort_trees_perm}
 
 -- an application of trees: a sum of two and two, where the test says so
 unfoldable pub rebuilt : Bool → Text → List Tree → Tree
@@ -95,18 +94,12 @@ whole (single t) = refl
 abbrev pub Filled : List Tree → Type 0
 Filled l = (t : Tree) × (m : List Tree) × (l ≡ t ∷ m)
 
-insert_filled : (a : Tree) (l : List Tree) → Filled (insert_tree a l)
-unfolding insert_tree
-insert_filled a [] = (a, [], refl)
-insert_filled a (b ∷ l) = go (upto (render a) (render b))
-  where
-    go : (s : Bool) → Filled (cond s (a ∷ b ∷ l) (b ∷ insert_tree a l))
-    go true = (a, b ∷ l, refl)
-    go false = (b, insert_tree a l, refl)
+perm_filled : {l m : List Tree} → Permᴰ l m → Filled m → Filled l
+perm_filled {l = []} p (t, k, e) = absurd (cc (Permᴰ.length-eq p ∙ ap length e))
+perm_filled {l = x ∷ l} p f = (x, l, refl)
 
 pub sort_filled : (l m : List Tree) → Filled l → Filled (sort_trees (l ++ m))
-unfolding sort_trees
-sort_filled l m (t, k, e) = rw e (insert_filled t (sort_trees (k ++ m)))
+sort_filled l m (t, k, e) = perm_filled (sort_trees_perm (l ++ m)) (t, k ++ m, ap (λ (n : List Tree). n ++ m) e)
 
 pub filled : {t : Tree} → Built t → Filled (pieces (norm t))
 unfolding norm pieces same

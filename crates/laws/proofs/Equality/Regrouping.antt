@@ -6,7 +6,6 @@ use mathlib.Core.List.{List, [], ◌∷◌, ◌++◌, append_assoc, append-nil, 
 use Rattle.rules.specs.Bytes.{Text, same, sort}
 use Rattle.rules.specs.Tree.{Tree, variable, atom, apply, Trees, none, more, tamtplus}
 use Rattle.rules.specs.Sums.{sum, parts, flat, gather, canon, canons}
-use Rattle.rules.specs.Equality as Ac
 use Rattle.rules.specs.Equality.{Ac, ACs}
 use Rattle.rules.specs.Grouping.{sum_of_all, SameSums, reflexive, symmetric, transitive, congruent, rearranged, AllSameSums, nil, both, Rearranges, later, swap, regroup, sum_of_one}
 use Rattle.laws.proofs.Basics.Tests.{same_eq}

@@ -9,16 +9,21 @@ use Rattle.rules.specs.Names.{word}
 use Rattle.rules.specs.Tree.{Tree, variable, atom, apply, Trees, none, more, tamtplus, plus}
 use Rattle.rules.specs.Substitution.{Substitution, substitute, substitutes}
 use Rattle.rules.specs.Sums.{unless_sum, summands, summands_of, rebuild}
-use Rattle.rules.specs.Tidy.{Built, Builts, Arity, Tidy, Tidies}
+use Rattle.rules.specs.Tidy.{Built, Builts, nil, both, Arity, Tidy, Tidies}
 use Rattle.rules.specs.Meaning.{WellSorted, Free, Frees}
 use Rattle.laws.proofs.Basics.Tests.{same_eq}
-use Rattle.laws.proofs.Equality.Building.{built_first, built_rest, built_children, tidy_built}
+use Rattle.laws.proofs.Equality.Building.{built_children, tidy_built}
 use Rattle.laws.proofs.Equality.Bags.{weight, weight_plus, weight_some}
 use Rattle.laws.proofs.Sorts.Instances.{substitute_tidy}
 
 abbrev pub AllOf : (Tree → Type 0) → List Tree → Type 0
 AllOf P [] = Unit {0}
 AllOf P (x ∷ xs) = P x × AllOf P xs
+
+-- of every tree of a list of arguments
+abbrev pub AllIn : (Tree → Type 0) → Trees → Type 0
+AllIn P none = Unit {0}
+AllIn P (more t ts) = P t × AllIn P ts
 
 module _ (P : Tree → Type 0) where
   pub all_append : (xs ys : List Tree) → AllOf P xs → AllOf P ys → AllOf P (xs ++ ys)
@@ -37,37 +42,41 @@ module _ (P : Tree → Type 0) where
   all_unless true ts t p q = p
   all_unless false ts t p q = (q, tt)
 
+  -- what goes from applications to their arguments goes to summands
+  module _ (parts : (f : Text) (ts : Trees) → P (apply f ts) → AllIn P ts) where
+    mutual
+      unfolding summands
+
+      pub summands_all : (t : Tree) → P t → AllOf P (summands t)
+      summands_all (variable x) h = (h, tt)
+      summands_all (atom c d) h = (h, tt)
+      summands_all (apply f ts) h = all_unless (same f tamtplus) (summands_of ts) (apply f ts) (summands_of_all ts (parts f ts h)) h
+
+      summands_of_all : (ts : Trees) → AllIn P ts → AllOf P (summands_of ts)
+      summands_of_all none h = tt
+      summands_of_all (more t ts) h = all_append (summands t) (summands_of ts) (summands_all t h.0) (summands_of_all ts h.1)
+
 -- trees as reading builds them
 
 abbrev pub BuiltList : List Tree → Type 0
 BuiltList = AllOf Built
 
-mutual
-  unfolding summands
+pub all_built : {ts : Trees} → Builts ts → AllIn Built ts
+all_built nil = tt
+all_built (both b bs) = (b, all_built bs)
 
-  pub summands_built : (t : Tree) → Built t → BuiltList (summands t)
-  summands_built (variable x) b = (b, tt)
-  summands_built (atom c d) b = (b, tt)
-  summands_built (apply f ts) b = all_unless Built (same f tamtplus) (summands_of ts) (apply f ts) (summands_of_built ts (built_children b)) b
-
-  summands_of_built : (ts : Trees) → Builts ts → BuiltList (summands_of ts)
-  summands_of_built none b = tt
-  summands_of_built (more t ts) b = all_append Built (summands t) (summands_of ts) (summands_built t (built_first b)) (summands_of_built ts (built_rest b))
+pub summands_built : (t : Tree) → Built t → BuiltList (summands t)
+summands_built = summands_all Built (λ f ts b. all_built (built_children b))
 
 -- variables
 
 module _ (y : Text) where
-  mutual
-    unfolding summands
+  all_free : (ts : Trees) → Frees y ts → AllIn (Free y) ts
+  all_free none d = tt
+  all_free (more t ts) d = (d.0, all_free ts d.1)
 
-    pub summands_free : (t : Tree) → Free y t → AllOf (Free y) (summands t)
-    summands_free (variable x) d = (d, tt)
-    summands_free (atom c n) d = (d, tt)
-    summands_free (apply f ts) d = all_unless (Free y) (same f tamtplus) (summands_of ts) (apply f ts) (summands_of_free ts d) d
-
-    summands_of_free : (ts : Trees) → Frees y ts → AllOf (Free y) (summands_of ts)
-    summands_of_free none d = tt
-    summands_of_free (more t ts) d = all_append (Free y) (summands t) (summands_of ts) (summands_free t d.0) (summands_of_free ts d.1)
+  pub summands_free : (t : Tree) → Free y t → AllOf (Free y) (summands t)
+  summands_free = summands_all (Free y) (λ f ts d. all_free ts d)
 
   unless_free : (b : Bool) (us : List Tree) (f : Text) (ts : Trees) → (AllOf (Free y) us → Frees y ts) → AllOf (Free y) (unless_sum b us (apply f ts))
       → Frees y ts
@@ -109,17 +118,12 @@ weigh_rebuild σ w a [] = omega arith
 weigh_rebuild σ w a (b ∷ bs) = let h = weigh_rebuild σ w b bs in let k = weight_plus w (substitute σ a) (substitute σ (rebuild b bs)) in omega arith
 
 module _ (arity : Text → ℕ) (counts : Arity arity) where
-  mutual
-    unfolding summands
+  all_tidy : (ts : Trees) → Tidies arity ts → AllIn (Tidy arity) ts
+  all_tidy none d = tt
+  all_tidy (more t ts) d = (d.0, all_tidy ts d.1)
 
-    pub summands_tidy : (t : Tree) → Tidy arity t → AllOf (Tidy arity) (summands t)
-    summands_tidy (variable x) d = (d, tt)
-    summands_tidy (atom c n) d = (d, tt)
-    summands_tidy (apply f ts) d = all_unless (Tidy arity) (same f tamtplus) (summands_of ts) (apply f ts) (summands_of_tidy ts d.2) d
-
-    summands_of_tidy : (ts : Trees) → Tidies arity ts → AllOf (Tidy arity) (summands_of ts)
-    summands_of_tidy none d = tt
-    summands_of_tidy (more t ts) d = all_append (Tidy arity) (summands t) (summands_of ts) (summands_tidy t d.0) (summands_of_tidy ts d.1)
+  pub summands_tidy : (t : Tree) → Tidy arity t → AllOf (Tidy arity) (summands t)
+  summands_tidy = summands_all (Tidy arity) (λ f ts d. all_tidy ts d.2)
 
   plus_tidy : (a b : Tree) → Tidy arity a → Tidy arity b → Tidy arity (plus a b)
   unfolding word

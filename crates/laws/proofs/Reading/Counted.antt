@@ -18,7 +18,7 @@ use Rattle.rules.specs.Reading.{leaf, single, constant_name, atom_of, nested, su
 use Rattle.rules.specs.Counting.{count_term, count_list, parse_counted}
 use Rattle.laws.proofs.Basics.Tests.{leb_false, false_leb}
 use Rattle.laws.proofs.Basics.Options.{bound}
-use Rattle.laws.proofs.Reading.SameText.{the_only, the_name}
+use Rattle.laws.proofs.Reading.Closes.{the_only, the_name}
 use Rattle.laws.proofs.Reading.TokenKinds.{is_mark}
 
 -- the most that the counter goes up where a tree is read

@@ -21,7 +21,8 @@ use Rattle.laws.proofs.Basics.Tests.{same_eq}
 use Rattle.laws.proofs.Reading.TokenKinds.{is_mark}
 use Rattle.laws.proofs.Reading.Rereading.{tree_tokens, rest_tokens}
 use Rattle.laws.proofs.Reading.RoundTrip.{tokens_written}
-use Rattle.laws.proofs.Reading.Written.{lexes, writes, written_reread}
+use Rattle.laws.proofs.Reading.Closes.{writes}
+use Rattle.laws.proofs.Reading.Written.{lexes, written_reread}
 
 abbrev Term : Type 0
 Term = Tree × List Text

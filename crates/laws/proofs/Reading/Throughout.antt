@@ -14,6 +14,7 @@ use Rattle.rules.specs.Tree.{Tree, Trees, none, more}
 use Rattle.rules.specs.Tokens.{tokens}
 use Rattle.rules.specs.Reading.{leaf, after_token, wholly, read_term, read_list, read_text}
 use Rattle.laws.proofs.Basics.Options.{bound, guarded}
+pub use Rattle.laws.proofs.Equality.Summands.{AllIn}
 use Rattle.laws.proofs.Reading.TokenKinds.{is_mark, is_token, Tokens, kinds}
 
 next_tokens : (s : Text) (ts us : List Text) → after_token s ts ≡ Some us → Tokens ts → Tokens us
@@ -38,12 +39,7 @@ Term = Tree × List Text
 abbrev Listed : Type 0
 Listed = Trees × List Text
 
--- it holds of every tree of a list
-abbrev pub AllIn : (Tree → Type 0) → Trees → Type 0
-AllIn P none = Unit {0}
-AllIn P (more t ts) = P t × AllIn P ts
-
--- and the list is not empty
+-- it holds of every tree of a list that is not empty
 abbrev NonEmpty : (Tree → Type 0) → Trees → Type 0
 NonEmpty P none = ⊥
 NonEmpty P (more t ts) = P t × AllIn P ts

@@ -9,44 +9,24 @@ use Rattle.std.specs.Prelude.{Some}
 use Rattle.laws.proofs.Basics.Somes.{some_injective}
 use native.Mathlib.Omega.{arith}
 use Rattle.rules.specs.Bytes.{Text, same}
-use Rattle.rules.specs.Text.{count_of}
 use Rattle.rules.specs.Names.{word, variable_token}
-use Rattle.rules.specs.Tree.{Tree, apply, Trees, none, more, tamtplus}
+use Rattle.rules.specs.Tree.{Tree, apply, Trees, more, tamtplus}
 use Rattle.rules.specs.Writing.{render}
 use Rattle.rules.specs.Sums.{shown, canonical}
 use Rattle.rules.specs.Equality.{Ac}
 use Rattle.rules.specs.Grouping.{read_written, Written, a_variable, a_leaf, a_list, Writtens, no_more, one_more, SameSums, symmetric, transitive}
 use Rattle.rules.specs.Tidy.{Built}
-use Rattle.rules.specs.Reading.{leaf, as_written, parse, canonical_text}
+use Rattle.rules.specs.Reading.{as_written, parse, canonical_text}
 use Rattle.laws.proofs.Basics.Options.{bound}
 use Rattle.laws.proofs.Equality.Normal.{Normal, many, single, trees, tree, pieces, flats, gathered, norm, norms, sort_trees_perm, tree_text, canon_norm}
 use Rattle.laws.proofs.Equality.Canonical.{canonical_sound, canonical_complete}
 use Rattle.laws.proofs.Equality.Regrouping.{same_normal, same_canon, two_same}
-use Rattle.laws.proofs.Reading.Builds.{word_colons, variable_colon, not_zero, builds}
-use Rattle.laws.proofs.Reading.Throughout.{AllIn, throughout}
+use Rattle.laws.proofs.Reading.Builds.{builds}
+use Rattle.laws.proofs.Reading.Closes.{writes}
 use Rattle.laws.proofs.Reading.Rereading.{Reads, Continues, reads_variable, reads_leaf, reads_applied, continues_none, continues_more}
 use Rattle.laws.proofs.Reading.Lexing.{word_lex, variable_lex}
 use Rattle.laws.proofs.Reading.RoundTrip.{Lexes, LexesRest, rest_none, rest_more, lexes_list, whole_read}
 use Rattle.laws.proofs.Reading.SameText.{same_text}
-
--- What is read
-
-leaf_written : (n : Text) → (word n || variable_token n) ≡ true → Written (leaf n)
-unfolding leaf
-leaf_written n h = go (word n) refl h
-  where
-    go : (x : Bool) → word n ≡ x → (x || variable_token n) ≡ true → Written (leaf n)
-    go true e k = rw (word_colons n e) (a_leaf e)
-    go false e k = rw (not_zero (count_of 58 n) (variable_colon n k)) (a_variable k)
-
-all_written : (ts : Trees) → AllIn Written ts → Writtens ts
-all_written none h = no_more
-all_written (more t ts) h = one_more h.0 (all_written ts h.1)
-
-pub writes : (s : Text) (t : Tree) → read_written s ≡ Some t → Written t
-unfolding read_written
-writes = throughout as_written Written leaf_written
-    (λ n t us v w h hs e. subst Written (some_injective (apply n (more t us)) v e) (a_list w h (all_written us hs)))
 
 -- What is written out
 

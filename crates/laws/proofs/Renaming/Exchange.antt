@@ -21,7 +21,7 @@ use Rattle.laws.specs.Unspelled.{zeros, unspelled, chosen}
 use Rattle.laws.proofs.Basics.Tests.{and_left, and_right, and_both, leb_true, true_leb, same_eq, same_of_eq, differ_of_ne}
 use Rattle.laws.proofs.Basics.Numerals.{decimal_number, decimal_proper, decimal_value}
 use Rattle.laws.proofs.Reading.TokenKinds.{no_colon}
-use Rattle.laws.proofs.Reading.Builds.{number_all}
+use Rattle.laws.proofs.Basics.Spelling.{number_all}
 use Rattle.laws.proofs.Variants.Targets.{fresh_tokens}
 use Rattle.laws.proofs.Renaming.Renamed.{Renaming}
 use Rattle.laws.proofs.Renaming.Unspelled.{unspelled_begins, unspelled_token, unspelled_sort, unspelled_unindexed, unspelled_length, Spellable}

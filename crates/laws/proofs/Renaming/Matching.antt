@@ -16,13 +16,13 @@ use Rattle.rules.specs.Sorts.{variable_sort, sorted}
 use Rattle.rules.specs.Solving.{Rest, emptied, mismatch, stuck, equation, cancel_sums, push_children, Verdict, solved, failed, unsupported, Answer}
 use Rattle.rules.specs.Matching.{or_else, bound, Move, onward, clash, beyond, agree, bind_new, sort_new, match_key, match_rest, ground_eq, match_at, match_roots, move, moved, matching, matcher}
 use Rattle.rules.specs.Cover.{is_failed, covering}
-use Rattle.rules.specs.Tidy.{Built, a_sum, Builts}
+use Rattle.rules.specs.Tidy.{Built, a_sum}
 use Rattle.laws.proofs.Basics.Tests.{differ_of_ne}
 use Rattle.laws.proofs.Equality.Building.{built_children}
-use Rattle.laws.proofs.Equality.Summands.{summands_built}
+use Rattle.laws.proofs.Equality.Summands.{summands_built, all_built}
 use Rattle.laws.proofs.Solving.Substituting.{substitute_ground}
 use Rattle.laws.proofs.Solving.Keeping.{AllIn, Sides, Kept, Extends, unchanged, added, KeptMove, move_keep}
-use Rattle.laws.proofs.Sheets.BuiltRun.{name_token}
+use Rattle.laws.proofs.Sheets.BuiltRun.{BuiltValues, name_token, built_kept}
 use Rattle.laws.proofs.Renaming.Renamed.{Renaming, as_variable, rename, renames, mapped, same_renamed, equivalent_renamed, sorted_renamed, children_renamed}
 use Rattle.laws.proofs.Renaming.Sums.{rest_map, sums_over, renaming_over, identity_over}
 
@@ -69,13 +69,6 @@ module _ (r : Text → Text) where
 
 -- Patterns and subjects stay such
 
-all_built : {ts : Trees} → Builts ts → AllIn Built ts
-all_built Builts.nil = tt
-all_built (Builts.both b bs) = (b, all_built bs)
-
-pub built_kept : Kept Built
-built_kept = record { parts = λ f ts b. all_built (built_children b); sums = λ a b p q. a_sum p q }
-
 module _ (r : Text → Text) where
   all_patterns : (ts : Trees) → AllIn Built ts → FixNames r ts → AllIn (Pattern r) ts
   all_patterns none b n = tt
@@ -90,10 +83,6 @@ module _ (r : Text → Text) where
     parts = λ f ts p. all_patterns ts (all_built (built_children p.0)) p.1.1;
     sums = λ a b p q. (a_sum p.0 q.0, (sum_name, (p.1, (q.1, tt))));
   }
-
-abbrev BuiltValues : List Binding → Type 0
-BuiltValues [] = Unit {0}
-BuiltValues (b ∷ bs) = Built b.1 × BuiltValues bs
 
 extended_built : {P : Tree → Type 0} {bs cs : List Binding} → Extends P Built bs cs → BuiltValues bs → BuiltValues cs
 extended_built unchanged v = v

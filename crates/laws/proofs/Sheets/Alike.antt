@@ -1,7 +1,7 @@
 -- Two sheets alike in all but fuel, of which the one with less is answered: their second line makes them `unify` or `match` sheets of
 -- the same pairs, and a solved or failed answer is the other's answer, unless its length, its words or its room refuse it.
 use mathlib.Core.Path.{◌≡◌, refl, sym, ◌∙◌, ap, subst}
-use mathlib.Core.Bool.{Bool, true, false, ◌&&◌}
+use mathlib.Core.Bool.{Bool, true, false, ◌&&◌, and_assoc}
 use mathlib.Core.List.{List, [], ◌∷◌, ◌++◌}
 use mathlib.Core.Logic.{◌↔◌, inr}
 use Rattle.std.specs.Prelude.{Option, Some, None}
@@ -30,6 +30,7 @@ use Rattle.rules.specs.Refusals.{Screened, Admitted, Outcome}
 use Rattle.laws.proofs.Basics.Tests.{and_left, and_right, and_both, leb_true, leb_false}
 use Rattle.laws.proofs.Basics.Options.{bound}
 use Rattle.laws.proofs.Basics.Numerals.{decimal_number}
+use Rattle.laws.proofs.Basics.Spelling.{number_all}
 use Rattle.laws.proofs.Sheets.Calls.{call_sheet}
 use Rattle.laws.proofs.Sheets.LineForms.{lines_has, number_found}
 use Rattle.laws.proofs.Sheets.Forms.{reads_form}
@@ -149,11 +150,7 @@ same_texts {s} {r} {k} {m} c sheet e =
 all_append : (s r : Text) → all plain (s ++ r) ≡ (all plain s && all plain r)
 unfolding all
 all_append [] r = refl
-all_append (b ∷ s) r = ap (λ (c : Bool). plain b && c) (all_append s r) ∙ grouped (plain b) (all plain s) (all plain r)
-  where
-    grouped : (x y z : Bool) → (x && (y && z)) ≡ ((x && y) && z)
-    grouped true y z = refl
-    grouped false y z = refl
+all_append (b ∷ s) r = ap (λ (c : Bool). plain b && c) (all_append s r) ∙ sym (and_assoc (plain b) (all plain s) (all plain r))
 
 -- the bytes of lines are those of the text, but for byte 10
 abbrev PlainLines : List Text → Type 0
@@ -181,15 +178,10 @@ digits_plain (b ∷ s) e =
     let h = leb_true b 57 (and_right (leb 48 b) (leb b 57) d) in
     and_both (plain b) (all plain s) (allowed_plain b (inr (omega arith, omega arith))) (digits_plain s (and_right (digit b) (all digit s) e))
 
-number_digits : (s : Text) → number s ≡ true → all digit s ≡ true
-unfolding number all
-number_digits [] e = refl
-number_digits (b ∷ s) e = e
-
 fuel_plain : (digits : Text) (n : ℕ) → number_up_to 65536 digits ≡ Some n → all plain (fuel_line digits) ≡ true
 unfolding all
 fuel_plain digits n e =
-    digits_plain digits (number_digits digits (subst (λ (z : Text). number z ≡ true) (sym (number_found 65536 digits n e).0) (decimal_number n)))
+    digits_plain digits (number_all digits (subst (λ (z : Text). number z ≡ true) (sym (number_found 65536 digits n e).0) (decimal_number n)))
 
 -- the other sheet's bytes are allowed too
 alike_plain : {s r : Text} {k m : ℕ} → AlikeButFuel s r k m → all plain s ≡ true → all plain r ≡ true
@@ -211,7 +203,7 @@ module _ (r : Text) (words room : ℕ) (a : Text) (sheet : Sheet) (form : IsShee
 
   outcome : {reply : Reply Text} → AlikeOutcome r sheet words room a reply → Outcome r words room reply
   outcome (AlikeOutcome.too_long h) = Outcome.too_long h
-  outcome (AlikeOutcome.short_work h k) = Outcome.short_work (screened h) form k
+  outcome (AlikeOutcome.short_work_area h k) = Outcome.short_work_area (screened h) form k
   outcome (AlikeOutcome.short_output h k l) = Outcome.short_output (admitted h k) answers l
   outcome (AlikeOutcome.same_bytes h k l) = Outcome.answered (admitted h k) answers l
 
@@ -224,7 +216,7 @@ module _ (r : Text) (words room : ℕ) (a : Text) (sheet : Sheet) (form : IsShee
 
   by_words : length r ≤ 65536 → (b : Bool) → leb (words_needed r sheet) words ≡ b → Settled
   by_words h true e = by_room h (leb_true (words_needed r sheet) words e) (leb (length a) room) refl
-  by_words h false e = (refused (number_for ShortWorkArea), AlikeOutcome.short_work h (leb_false (words_needed r sheet) words e))
+  by_words h false e = (refused (number_for ShortWorkArea), AlikeOutcome.short_work_area h (leb_false (words_needed r sheet) words e))
 
   by_length : (b : Bool) → leb (length r) 65536 ≡ b → Settled
   by_length true e = by_words (leb_true (length r) 65536 e) (leb (words_needed r sheet) words) refl

@@ -5,18 +5,17 @@ use mathlib.Core.List.{List, [], ◌∷◌, ◌++◌}
 use Rattle.std.specs.Prelude.{Option, Some, None}
 use Prim.Native.Nat.{ℕ, zero, suc, ◌+◌, ◌≤◌}
 use native.Mathlib.Omega.{arith}
-use Rattle.rules.specs.Bytes.{Text, same}
-use Rattle.rules.specs.Names.{variable_token}
-use Rattle.rules.specs.Tree.{Tree, variable, atom, apply, Trees, none, more, head, children, size, sizes, tamtplus}
+use Rattle.rules.specs.Bytes.{same}
+use Rattle.rules.specs.Tree.{Tree, variable, atom, apply, Trees, none, more, children, size, sizes, tamtplus}
 use Rattle.rules.specs.Substitution.{Binding, Pair}
-use Rattle.rules.specs.Sums.{summands, summands_of, unless_sum, rebuild, equivalent}
-use Rattle.rules.specs.declared.Sort.{Sort}
-use Rattle.rules.specs.Sorts.{variable_sort, sorted}
-use Rattle.rules.specs.Solving.{Answer, Rest, emptied, mismatch, stuck, equation, keep, remove_at, remove, cancel_at, cancel, remainder, cancel_sums, push_children}
-use Rattle.rules.specs.Matching.{Move, onward, clash, beyond, bound, agree, bind_new, sort_new, match_key, match_rest, ground_eq, match_at, match_roots, move, moved, matching, matcher}
-use Rattle.rules.specs.Tidy.{Built, a_variable, an_atom, a_leaf, a_list, a_sum}
+use Rattle.rules.specs.Sums.{summands, summands_of, unless_sum, rebuild}
+use Rattle.rules.specs.Solving.{Answer, Rest, emptied, mismatch, stuck, equation, keep, remove_at, remove, cancel_at, cancel, remainder, cancel_sums}
+use Rattle.rules.specs.Matching.{Move, onward, clash, beyond, move, moved, matching, matcher}
+use Rattle.rules.specs.Tidy.{Built, a_variable, an_atom, a_leaf, a_list, a_sum, Builts, both}
 use Rattle.laws.proofs.Basics.Tests.{true_leb}
-use Rattle.laws.proofs.Sheets.BuiltRun.{BuiltPairs, SmallPairs, BuiltBindings, BuiltRest, sums_built, name_token, zip_built, parts_built, Within, Writable}
+use Rattle.laws.proofs.Equality.Building.{built_children}
+use Rattle.laws.proofs.Solving.Keeping.{AllIn, Sides, KeptSides, KeptRest, sums_keep, children_keep, Extends, unchanged, added, KeptMove, move_sides}
+use Rattle.laws.proofs.Sheets.BuiltRun.{BuiltPairs, SmallPairs, BuiltBindings, built_kept, name_token, Within, Writable}
 
 -- Sizes of sums: each summand counts one node more than it has
 
@@ -81,115 +80,95 @@ cancel_mass test (t ∷ ts) us = go (remove test t us) (remove_mass test t us) (
     go None m r = r us
     go (Some vs) m r = let h = r vs in omega arith
 
-abbrev SmallRest : ℕ → Rest → Type 0
-SmallRest n emptied = Unit {0}
-SmallRest n mismatch = Unit {0}
-SmallRest n stuck = Unit {0}
-SmallRest n (equation a b) = suc (size b) ≤ n
+-- cancelling leaves no more on the left either
+pub cancel_mass_left : (test : Tree → Tree → Bool) (ts us : List Tree) → mass (cancel test ts us).0 ≤ mass ts
+unfolding cancel
+cancel_mass_left test [] us = omega arith
+cancel_mass_left test (t ∷ ts) us = go (remove test t us) (λ vs. cancel_mass_left test ts vs)
+  where
+    go : (o : Option (List Tree)) → ((vs : List Tree) → mass (cancel test ts vs).0 ≤ mass ts) → mass (cancel_at o t (λ vs. cancel test ts vs) us).0 ≤ mass (t ∷ ts)
+    go None r = let h = r us in omega arith
+    go (Some vs) r = let h = r vs in omega arith
 
-remainder_small : (n : ℕ) (ks os : List Tree) → mass os ≤ n → SmallRest n (remainder false ks os)
-remainder_small n [] [] h = tt
-remainder_small n [] (o ∷ os) h = tt
-remainder_small n (k ∷ ks) [] h = tt
-remainder_small n (k ∷ []) (o ∷ os) h = let e = rebuild_mass o os in omega arith
-remainder_small n (k ∷ j ∷ ks) (o ∷ []) h = tt
-remainder_small n (k ∷ j ∷ ks) (o ∷ p ∷ os) h = tt
+-- what two sums leave is no larger than they
+abbrev pub Upto : ℕ → Tree → Type 0
+Upto n t = size t ≤ n
 
-sums_small : (test : Tree → Tree → Bool) (l r : Tree) → Built r → SmallRest (suc (size r)) (cancel_sums false test l r)
+remainder_small : (b : Bool) (m n : ℕ) (ks os : List Tree) → mass ks ≤ suc m → mass os ≤ suc n → KeptRest (Upto m) (Upto n) (remainder b ks os)
+remainder_small b m n [] [] h k = tt
+remainder_small b m n [] (o ∷ os) h k = tt
+remainder_small b m n (x ∷ ks) [] h k = tt
+remainder_small b m n (x ∷ []) (o ∷ os) h k = (omega arith, omega (arith, rebuild_mass o os))
+remainder_small true m n (x ∷ j ∷ ks) (o ∷ []) h k = (omega (arith, rebuild_mass x (j ∷ ks)), omega arith)
+remainder_small false m n (x ∷ j ∷ ks) (o ∷ []) h k = tt
+remainder_small true m n (x ∷ j ∷ ks) (o ∷ p ∷ os) h k = tt
+remainder_small false m n (x ∷ j ∷ ks) (o ∷ p ∷ os) h k = tt
+
+pub sums_small : (b : Bool) (test : Tree → Tree → Bool) (l r : Tree) → Built l → Built r → KeptRest (Upto (size l)) (Upto (size r)) (cancel_sums b test l r)
 unfolding cancel_sums
-sums_small test l r b =
-    let h = cancel_mass test (summands l) (summands r) in
-    let k = summands_mass b in
-    remainder_small (suc (size r)) (cancel test (summands l) (summands r)).0 (cancel test (summands l) (summands r)).1 (omega arith)
+sums_small b test l r p q =
+    let h = cancel_mass_left test (summands l) (summands r) in
+    let k = cancel_mass test (summands l) (summands r) in
+    let i = summands_mass p in
+    let j = summands_mass q in
+    remainder_small b (size l) (size r) (cancel test (summands l) (summands r)).0 (cancel test (summands l) (summands r)).1 (omega arith) (omega arith)
 
--- Children
+-- One move: right sides are within the limit
 
-abbrev SmallTrees : Trees → Type 0
-SmallTrees none = Unit {0}
-SmallTrees (more t ts) = (size t ≤ 4096) × SmallTrees ts
+abbrev Small : Tree → Type 0
+Small t = Built t × Upto 4096 t
 
-trees_small : (ts : Trees) → sizes ts ≤ 4096 → SmallTrees ts
+all_small : (ts : Trees) → Builts ts → sizes ts ≤ 4096 → AllIn Small ts
 unfolding size
-trees_small none h = tt
-trees_small (more t ts) h = (omega arith, trees_small ts (omega arith))
+all_small none b h = tt
+all_small (more t ts) (both b bs) h = ((b, omega arith), all_small ts bs (omega arith))
 
-parts_small : (t : Tree) → size t ≤ 4096 → SmallTrees (children t)
+small_children : (t : Tree) → Small t → AllIn Small (children t)
 unfolding children size
-parts_small (variable x) h = tt
-parts_small (atom c d) h = tt
-parts_small (apply f ts) h = trees_small ts (omega arith)
+small_children (variable x) h = tt
+small_children (atom c d) h = tt
+small_children (apply f ts) h = let i = h.1 in all_small ts (built_children h.0) (omega arith)
 
-zip_small : (ts us : Trees) (ps : List Pair) → SmallTrees us → SmallPairs ps → SmallPairs (push_children ts us ps)
-unfolding push_children
-zip_small none us ps s k = k
-zip_small (more t ts) none ps s k = k
-zip_small (more t ts) (more u us) ps s k = (s.0, zip_small ts us ps s.1 k)
-
--- One move
-
-abbrev Kept : List Pair → List Binding → Type 0
-Kept ps bs = BuiltPairs ps × SmallPairs ps × BuiltBindings bs × Within bs
-
-abbrev KeptMove : Move → Type 0
-KeptMove (onward ps bs) = Kept ps bs
-KeptMove clash = Unit {0}
-KeptMove beyond = Unit {0}
-
-key_kept : (x : Text) (u : Tree) (ps : List Pair) (bs : List Binding) → variable_token x ≡ true → Built u → size u ≤ 4096 → Kept ps bs
-    → (o : Option Tree) → KeptMove (match_key o x u ps bs)
-key_kept x u ps bs t b s k (Some v) = go (equivalent v u)
+built_small : KeptSides Built Small
+built_small = record {
+  lefts = children_keep Built built_kept;
+  rights = small_children;
+  rests = λ b test l r p q. rest (cancel_sums b test l r) (size l) (size r) q.1 (sums_keep Built Built built_kept built_kept b test l r p q.0) (sums_small b test l r p q.0);
+}
   where
-    go : (c : Bool) → KeptMove (agree c ps bs)
-    go true = k
-    go false = tt
-key_kept x u ps bs t b s k None = for (variable_sort x)
-  where
-    new : (c : Bool) → KeptMove (bind_new c x u ps bs)
-    new true = (k.0, k.1, (t, b, k.2), (true_leb (size u) 4096 s, k.3))
-    new false = tt
-
-    for : (o : Option Sort) → KeptMove (sort_new o x u ps bs)
-    for None = tt
-    for (Some r) = new (sorted r u)
-
-roots_kept : (t u : Tree) (ps : List Pair) (bs : List Binding) → Built t → Built u → size u ≤ 4096 → Kept ps bs → KeptMove (match_roots t u ps bs)
-unfolding match_roots
-roots_kept t u ps bs p q s k = go (same (head t) (head u)) (same (head t) tamtplus)
-  where
-    rest : (w : Rest) → BuiltRest w → SmallRest (suc (size u)) w → KeptMove (match_rest w ps bs)
-    rest emptied m l = k
-    rest mismatch m l = tt
-    rest (equation a b) m l = ((m.0, m.1, k.0), (omega arith, k.1), k.2, k.3)
-    rest stuck m l = tt
-
-    go : (b c : Bool) → KeptMove (match_at b c t u ps bs)
-    go false c = tt
-    go true true = rest (cancel_sums false ground_eq t u) (sums_built false ground_eq t u p q) (sums_small ground_eq t u q)
-    go true false =
-        (zip_built (children t) (children u) ps (parts_built t p) (parts_built u q) k.0, zip_small (children t) (children u) ps (parts_small u s) k.1, k.2, k.3)
-
-move_kept : (t u : Tree) (ps : List Pair) (bs : List Binding) → Built t → Built u → size u ≤ 4096 → Kept ps bs → KeptMove (move t u ps bs)
-unfolding move
-move_kept (variable x) u ps bs p q s k = key_kept x u ps bs (name_token p) q s k (bound x bs)
-move_kept (atom c d) u ps bs p q s k = roots_kept (atom c d) u ps bs p q s k
-move_kept (apply f ts) u ps bs p q s k = roots_kept (apply f ts) u ps bs p q s k
+    rest : (w : Rest) (m n : ℕ) → n ≤ 4096 → KeptRest Built Built w → KeptRest (Upto m) (Upto n) w → KeptRest Built Small w
+    rest emptied m n h k i = tt
+    rest mismatch m n h k i = tt
+    rest stuck m n h k i = tt
+    rest (equation a b) m n h k i = let j = i.1 in (k.0, (k.1, omega arith))
 
 -- The run
 
-moved_writable : (m : Move) (go : List Pair → List Binding → Answer) → KeptMove m → ((qs : List Pair) (cs : List Binding) → Kept qs cs → Writable (go qs cs).0)
-    → Writable (moved m go).0
-moved_writable (onward ps bs) go k h = h ps bs k
-moved_writable clash go k h = tt
-moved_writable beyond go k h = tt
+abbrev Values : List Binding → Type 0
+Values bs = BuiltBindings bs × Within bs
 
-matching_writable : (n : ℕ) (ps : List Pair) (bs : List Binding) → Kept ps bs → Writable (matching n ps bs).0
+values_kept : {bs cs : List Binding} → Extends Built Small bs cs → Values bs → Values cs
+values_kept unchanged k = k
+values_kept (added {u = u} v b n) k = ((name_token v, b.0, k.0), (true_leb (size u) 4096 b.1, k.1))
+
+moved_writable : (bs : List Binding) (m : Move) (go : List Pair → List Binding → Answer) → Values bs → KeptMove Built Small bs m
+    → ((qs : List Pair) (cs : List Binding) → Sides Built Small qs → Values cs → Writable (go qs cs).0) → Writable (moved m go).0
+moved_writable bs (onward qs cs) go k m h = h qs cs m.0 (values_kept m.1 k)
+moved_writable bs clash go k m h = tt
+moved_writable bs beyond go k m h = tt
+
+matching_writable : (n : ℕ) (ps : List Pair) (bs : List Binding) → Sides Built Small ps → Values bs → Writable (matching n ps bs).0
 unfolding matching
-matching_writable zero ps bs k = tt
-matching_writable (suc n) [] bs k = (k.2, k.3)
-matching_writable (suc n) (p ∷ ps) bs k =
-    moved_writable (move p.0 p.1 ps bs) (λ qs cs. matching n qs cs)
-    (move_kept p.0 p.1 ps bs k.0.0 k.0.1 k.1.0 (k.0.2, k.1.1, k.2, k.3)) (λ qs cs j. matching_writable n qs cs j)
+matching_writable zero ps bs s k = tt
+matching_writable (suc n) [] bs s k = k
+matching_writable (suc n) (p ∷ ps) bs s k =
+    moved_writable bs (move p.0 p.1 ps bs) (λ qs cs. matching n qs cs) k
+    (move_sides Built Small built_small ps s.2 bs p.0 p.1 s.0 s.1) (λ qs cs t j. matching_writable n qs cs t j)
+
+small_sides : (ps : List Pair) → BuiltPairs ps → SmallPairs ps → Sides Built Small ps
+small_sides [] b s = tt
+small_sides (p ∷ ps) b s = (b.0, (b.1, s.0), small_sides ps b.2 s.1)
 
 pub matcher_writable : (n : ℕ) (ps : List Pair) → BuiltPairs ps → SmallPairs ps → Writable (matcher n ps).0
 unfolding matcher
-matcher_writable n ps b s = matching_writable n ps [] (b, s, tt, tt)
+matcher_writable n ps b s = matching_writable n ps [] (small_sides ps b s) (tt, tt)

@@ -9,7 +9,7 @@ use lib.Dec.{leb}
 use lib.ListN.{length}
 use Rattle.rules.specs.Bytes.{Text}
 use Rattle.rules.specs.Names.{all}
-use Rattle.rules.specs.Maybe.{◌>>=◌, every}
+use Rattle.rules.specs.Maybe.{every}
 use Rattle.rules.specs.Substitution.{Pair}
 use Rattle.rules.specs.Reading.{parse}
 use Rattle.rules.specs.Sheet.{Sheet, Entry, asks_unify, asks_match, read_sheet, words_needed}

@@ -3,7 +3,8 @@ use mathlib.Core.Path.{◌≡◌, refl}
 use mathlib.Core.Bool.{true}
 use Rattle.rules.specs.Variants.{fresh_name}
 use Rattle.rules.specs.Table.{right}
-use Rattle.rules.specs.MoreRows.{long_sums, rule_members, two_rules, unranked}
+use Rattle.rules.specs.RefusalTable.{least_words}
+use Rattle.rules.specs.MoreRows.{long_sums, rule_members, two_rules, unranked, fresh_and_node, indices, tone_sums, two_bindings, ground_sums}
 
 pub long_sum_rows : right long_sums ≡ true
 unfolding right
@@ -20,3 +21,27 @@ two_rule_rows = refl
 pub unranked_rows : right unranked ≡ true
 unfolding right
 unranked_rows = refl
+
+pub least_word_rows : right least_words ≡ true
+unfolding right
+least_word_rows = refl
+
+pub fresh_node_rows : right fresh_and_node ≡ true
+unfolding right
+fresh_node_rows = refl
+
+pub index_rows : right indices ≡ true
+unfolding right
+index_rows = refl
+
+pub tone_sum_rows : right tone_sums ≡ true
+unfolding right
+tone_sum_rows = refl
+
+pub two_binding_rows : right two_bindings ≡ true
+unfolding right
+two_binding_rows = refl
+
+pub ground_sum_rows : right ground_sums ≡ true
+unfolding right
+ground_sum_rows = refl

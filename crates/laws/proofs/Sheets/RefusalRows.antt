@@ -44,7 +44,7 @@ blank_first : (s : Text) (sheet : Sheet) → ¬ IsSheet (32 ∷ s) sheet
 blank_first s sheet h = let e = ap (λ (z : Text). get_or z 0 0) h.has.text in let f = first_byte h.form in omega arith
 
 not_too_many : (n words room : ℕ) → n < 65536 → call (blanks (suc n)) words room ≡ refused (number_for LineOutOfPlace)
-not_too_many n words room h = (call_outcome (blanks (suc n)) words room (refused (number_for LineOutOfPlace))).1 (Outcome.out_of_place allowed (blank_first (blanks n)))
+not_too_many n words room h = (call_outcome (blanks (suc n)) words room (refused (number_for LineOutOfPlace))).1 (Outcome.line_out_of_place allowed (blank_first (blanks n)))
   where
     allowed : Screened (blanks (suc n))
     allowed = record {

@@ -18,7 +18,7 @@ use Rattle.rules.specs.Answer.{answer_of}
 use Rattle.rules.specs.declared.Refusal.TheVariants.{TooLong, ForeignByte, LineOutOfPlace, UnreadableTerm, ShortWorkArea, ShortOutput}
 use Rattle.rules.specs.RefusalNumbers.{number_for}
 use Rattle.rules.specs.Call.{Reply, refused, passed, refusal_number, plain, admitted, settled, call, written, output_after, work_after}
-use Rattle.rules.specs.Refusals.{Allowed, Screened, Admitted, Outcome, too_long, foreign_byte, out_of_place, short_work, unreadable, short_output, answered, Overwritten, KeepsWork, Cleared}
+use Rattle.rules.specs.Refusals.{Allowed, Screened, Admitted, Outcome, too_long, foreign_byte, line_out_of_place, short_work_area, unreadable_term, short_output, answered, Overwritten, KeepsWork, Cleared}
 use Rattle.rules.specs.SheetLines.{IsSheet}
 use Rattle.laws.proofs.Basics.Tests.{and_left, and_right, and_both, and_split, or_cases, or_left, or_right, eqb_true, eqb_self, leb_true, leb_false, true_leb, false_leb}
 use Rattle.laws.proofs.Sheets.Forms.{reads_form, unread_form}
@@ -73,21 +73,21 @@ not_plain s p h k = go (all plain s) refl
 -- What the relation says is what the call gives
 
 module _ (s : Text) (words : ℕ) where
-  pub refuses_1 : 65536 < length s → admitted s words ≡ refused (number_for TooLong)
+  pub refuses_too_long : 65536 < length s → admitted s words ≡ refused (number_for TooLong)
   unfolding admitted
-  refuses_1 h = rw (false_leb (length s) 65536 h)
+  refuses_too_long h = rw (false_leb (length s) 65536 h)
 
-  pub refuses_2 : length s ≤ 65536 → all plain s ≡ false → admitted s words ≡ refused (number_for ForeignByte)
+  pub refuses_foreign_byte : length s ≤ 65536 → all plain s ≡ false → admitted s words ≡ refused (number_for ForeignByte)
   unfolding admitted
-  refuses_2 h e = rw (true_leb (length s) 65536 h, e)
+  refuses_foreign_byte h e = rw (true_leb (length s) 65536 h, e)
 
-  refuses_3 : Screened s → read_sheet s ≡ None → admitted s words ≡ refused (number_for LineOutOfPlace)
+  refuses_line_out_of_place : Screened s → read_sheet s ≡ None → admitted s words ≡ refused (number_for LineOutOfPlace)
   unfolding admitted
-  refuses_3 h e = rw (true_leb (length s) 65536 h.short, all_plain h, e)
+  refuses_line_out_of_place h e = rw (true_leb (length s) 65536 h.short, all_plain h, e)
 
-  refuses_11 : (sheet : Sheet) → Screened s → read_sheet s ≡ Some sheet → words < words_needed s sheet → admitted s words ≡ refused (number_for ShortWorkArea)
+  refuses_short_work_area : (sheet : Sheet) → Screened s → read_sheet s ≡ Some sheet → words < words_needed s sheet → admitted s words ≡ refused (number_for ShortWorkArea)
   unfolding admitted
-  refuses_11 sheet h e k = rw (true_leb (length s) 65536 h.short, all_plain h, e, false_leb (words_needed s sheet) words k)
+  refuses_short_work_area sheet h e k = rw (true_leb (length s) 65536 h.short, all_plain h, e, false_leb (words_needed s sheet) words k)
 
   admits : (sheet : Sheet) → Admitted s words sheet → admitted s words ≡ passed sheet
   unfolding admitted
@@ -103,25 +103,25 @@ module _ (s : Text) (words room : ℕ) where
   unfolding call
   goes_on sheet r h e = rw (admits s words sheet h) e
 
-  refuses_4 : (sheet : Sheet) → answer_of sheet ≡ None → settled sheet room ≡ refused (number_for UnreadableTerm)
+  refuses_unreadable_term : (sheet : Sheet) → answer_of sheet ≡ None → settled sheet room ≡ refused (number_for UnreadableTerm)
   unfolding settled
-  refuses_4 sheet e = rw e
+  refuses_unreadable_term sheet e = rw e
 
-  refuses_12 : (sheet : Sheet) (answer : Text) → answer_of sheet ≡ Some answer → room < length answer → settled sheet room ≡ refused (number_for ShortOutput)
+  refuses_short_output : (sheet : Sheet) (answer : Text) → answer_of sheet ≡ Some answer → room < length answer → settled sheet room ≡ refused (number_for ShortOutput)
   unfolding settled
-  refuses_12 sheet answer e h = rw (e, false_leb (length answer) room h)
+  refuses_short_output sheet answer e h = rw (e, false_leb (length answer) room h)
 
   answers : (sheet : Sheet) (answer : Text) → answer_of sheet ≡ Some answer → length answer ≤ room → settled sheet room ≡ passed answer
   unfolding settled
   answers sheet answer e h = rw (e, true_leb (length answer) room h)
 
   gives : {r : Reply Text} → Outcome s words room r → call s words room ≡ r
-  gives (too_long h) = ends (number_for TooLong) (refuses_1 s words h)
-  gives (foreign_byte h p k a) = ends (number_for ForeignByte) (refuses_2 s words h (not_plain s p k a))
-  gives (out_of_place h e) = ends (number_for LineOutOfPlace) (refuses_3 s words h ((unread_form s).1 e))
-  gives (short_work {sheet} h e k) = ends (number_for ShortWorkArea) (refuses_11 s words sheet h ((reads_form s sheet).1 e) k)
-  gives (unreadable {sheet} h e) = goes_on sheet (refused (number_for UnreadableTerm)) h (refuses_4 sheet ((sheet_unread sheet).1 e))
-  gives (short_output {sheet} {answer} h e k) = goes_on sheet (refused (number_for ShortOutput)) h (refuses_12 sheet answer e k)
+  gives (too_long h) = ends (number_for TooLong) (refuses_too_long s words h)
+  gives (foreign_byte h p k a) = ends (number_for ForeignByte) (refuses_foreign_byte s words h (not_plain s p k a))
+  gives (line_out_of_place h e) = ends (number_for LineOutOfPlace) (refuses_line_out_of_place s words h ((unread_form s).1 e))
+  gives (short_work_area {sheet} h e k) = ends (number_for ShortWorkArea) (refuses_short_work_area s words sheet h ((reads_form s sheet).1 e) k)
+  gives (unreadable_term {sheet} h e) = goes_on sheet (refused (number_for UnreadableTerm)) h (refuses_unreadable_term sheet ((sheet_unread sheet).1 e))
+  gives (short_output {sheet} {answer} h e k) = goes_on sheet (refused (number_for ShortOutput)) h (refuses_short_output sheet answer e k)
   gives (answered {sheet} {answer} h e k) = goes_on sheet (passed answer) h (answers sheet answer e k)
 
   -- One of the seven cases holds
@@ -134,16 +134,16 @@ module _ (s : Text) (words room : ℕ) where
   by_room {answer = answer} h e false k = (refused (number_for ShortOutput), short_output h e (leb_false (length answer) room k))
 
   by_answer : {sheet : Sheet} → Admitted s words sheet → (o : Option Text) → answer_of sheet ≡ o → Settled
-  by_answer {sheet} h None e = (refused (number_for UnreadableTerm), unreadable h ((sheet_unread sheet).0 e))
+  by_answer {sheet} h None e = (refused (number_for UnreadableTerm), unreadable_term h ((sheet_unread sheet).0 e))
   by_answer h (Some answer) e = by_room h e (leb (length answer) room) refl
 
   by_words : {sheet : Sheet} → Screened s → IsSheet s sheet → (b : Bool) → leb (words_needed s sheet) words ≡ b → Settled
   by_words {sheet} h e true k =
       by_answer (record { screened = h; form = e; enough = leb_true (words_needed s sheet) words k }) (answer_of sheet) refl
-  by_words {sheet} h e false k = (refused (number_for ShortWorkArea), short_work h e (leb_false (words_needed s sheet) words k))
+  by_words {sheet} h e false k = (refused (number_for ShortWorkArea), short_work_area h e (leb_false (words_needed s sheet) words k))
 
   by_lines : Screened s → (o : Option Sheet) → read_sheet s ≡ o → Settled
-  by_lines h None e = (refused (number_for LineOutOfPlace), out_of_place h ((unread_form s).0 e))
+  by_lines h None e = (refused (number_for LineOutOfPlace), line_out_of_place h ((unread_form s).0 e))
   by_lines h (Some sheet) e = by_words h ((reads_form s sheet).0 e) (leb (words_needed s sheet) words) refl
 
   by_bytes : length s ≤ 65536 → (b : Bool) → all plain s ≡ b → Settled
@@ -170,9 +170,9 @@ module _ (s : Text) (words room : ℕ) where
       go : {r : Reply Text} {P : Type 0} → Outcome s words room r → refusal_number r ≡ 0 → ((answer : Text) → r ≡ passed answer → P) → P
       go (too_long h) e f = absurd (omega arith)
       go (foreign_byte h p k a) e f = absurd (omega arith)
-      go (out_of_place h i) e f = absurd (omega arith)
-      go (short_work h i k) e f = absurd (omega arith)
-      go (unreadable h i) e f = absurd (omega arith)
+      go (line_out_of_place h i) e f = absurd (omega arith)
+      go (short_work_area h i k) e f = absurd (omega arith)
+      go (unreadable_term h i) e f = absurd (omega arith)
       go (short_output h i k) e f = absurd (omega arith)
       go (answered {answer = a} h i k) e f = f a refl
 
@@ -245,11 +245,11 @@ module _ (s : Text) (work : List ℕ) where
     work_kept = go (holds s (length work) room)
       where
         go : {r : Reply Text} → Outcome s (length work) room r → KeepsWork r → work_after s work ≡ work
-        go (too_long h) k = keeps (number_for TooLong) (refuses_1 s (length work) h)
-        go (foreign_byte h p l a) k = keeps (number_for ForeignByte) (refuses_2 s (length work) h (not_plain s p l a))
-        go (out_of_place h e) k = keeps (number_for LineOutOfPlace) (refuses_3 s (length work) h ((unread_form s).1 e))
-        go (short_work {sheet} h e l) k = keeps (number_for ShortWorkArea) (refuses_11 s (length work) sheet h ((reads_form s sheet).1 e) l)
-        go (unreadable h e) k = absurd (other_number (number_for UnreadableTerm) (omega arith) (λ i. omega arith) k)
+        go (too_long h) k = keeps (number_for TooLong) (refuses_too_long s (length work) h)
+        go (foreign_byte h p l a) k = keeps (number_for ForeignByte) (refuses_foreign_byte s (length work) h (not_plain s p l a))
+        go (line_out_of_place h e) k = keeps (number_for LineOutOfPlace) (refuses_line_out_of_place s (length work) h ((unread_form s).1 e))
+        go (short_work_area {sheet} h e l) k = keeps (number_for ShortWorkArea) (refuses_short_work_area s (length work) sheet h ((reads_form s sheet).1 e) l)
+        go (unreadable_term h e) k = absurd (other_number (number_for UnreadableTerm) (omega arith) (λ i. omega arith) k)
         go (short_output h e l) k = absurd (other_number (number_for ShortOutput) (omega arith) (λ i. omega arith) k)
         go (answered h e l) k = absurd k
 
@@ -262,8 +262,8 @@ module _ (s : Text) (work : List ℕ) where
             → (sheet : Sheet) × (read_sheet s ≡ Some sheet) × Cleared (words_needed s sheet) work (work_after s work)
         go (too_long h) k = absurd (k (inl refl))
         go (foreign_byte h p l a) k = absurd (k (inr (inl refl)))
-        go (out_of_place h e) k = absurd (k (inr (inr (inl refl))))
-        go (short_work h e l) k = absurd (k (inr (inr (inr refl))))
-        go (unreadable h e) k = clears_needed h
+        go (line_out_of_place h e) k = absurd (k (inr (inr (inl refl))))
+        go (short_work_area h e l) k = absurd (k (inr (inr (inr refl))))
+        go (unreadable_term h e) k = clears_needed h
         go (short_output h e l) k = clears_needed h
         go (answered h e l) k = clears_needed h

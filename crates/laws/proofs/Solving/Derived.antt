@@ -1,5 +1,5 @@
 -- Every run of unify and of match has a derivation, and a derivation gives what the run gives, on trees as reading builds them.
-use mathlib.Core.Path.{◌≡◌, refl, ap, ap₂, sym, subst, ◌∙◌}
+use mathlib.Core.Path.{◌≡◌, refl, ap, ap₂, sym, subst, ◌∙◌, fun_ext}
 use mathlib.Core.Bool.{Bool, true, false}
 use mathlib.Core.List.{List, [], ◌∷◌}
 use mathlib.Core.Logic.{◌↔◌}
@@ -130,19 +130,13 @@ derives_once b d c = one_trace (sym (traced_only b d) ∙ traced_only b c)
 -- Composition
 
 -- a binding, and then others, put in at once
-put_over : (x : Text) (u : Tree) (ds : List Binding) (v : Tree) → instantiate ((x, instantiate ds u) ∷ ds) v ≡ instantiate ds (instantiate ((x, u) ∷ []) v)
+pub put_over : (x : Text) (u : Tree) (ds : List Binding) (v : Tree) → instantiate ((x, instantiate ds u) ∷ ds) v ≡ instantiate ds (instantiate ((x, u) ∷ []) v)
 unfolding lookup substitute
-put_over x u ds v = ap (λ (σ : Substitution). substitute σ v) at_once ∙ sym (substitute_twice (lookup ds) (lookup ((x, u) ∷ [])) v)
+put_over x u ds v = sym (substitute_twice (lookup ds) (lookup ((x, u) ∷ [])) v ∙ ap (λ (σ : Substitution). substitute σ v) (fun_ext (λ y. at y (same x y))))
   where
-    at : (y : Text) → lookup ((x, instantiate ds u) ∷ ds) y ≡ substitute (lookup ds) (lookup ((x, u) ∷ []) y)
-    at y = go (same x y)
-      where
-        go : (c : Bool) → pick c (instantiate ds u) (lookup ds y) ≡ substitute (lookup ds) (pick c u (variable y))
-        go true = refl
-        go false = refl
-
-    at_once : lookup ((x, instantiate ds u) ∷ ds) ≡ (λ (y : Text). substitute (lookup ds) (lookup ((x, u) ∷ []) y))
-    at_once = λ i y. at y i
+    at : (y : Text) (b : Bool) → substitute (lookup ds) (pick b u (variable y)) ≡ pick b (substitute (lookup ds) u) (lookup ds y)
+    at y true = refl
+    at y false = refl
 
 -- what composing gives
 abbrev Composed : List Binding → Option (List Binding) → Type 0

@@ -9,20 +9,17 @@ use lib.Dec.{leb}
 use Rattle.rules.specs.Bytes.{Text, same}
 use Rattle.rules.specs.Tree.{Tree, variable, atom, apply, Trees, none, more, head, children, same_tree, occurs, tamtplus, plus}
 use Rattle.rules.specs.Substitution.{Binding, Pair, instantiate_pairs, size_pairs}
-use Rattle.rules.specs.Sums.{summands, summands_of, rebuild, equivalent}
+use Rattle.rules.specs.Sums.{summands, rebuild, equivalent}
 use Rattle.rules.specs.declared.Sort.{Sort}
 use Rattle.rules.specs.Sorts.{variable_sort, sorted, refinable, sort_refuted}
 use Rattle.rules.specs.Solving.{Step, goes_on, bind, fails, unknown, Rest, emptied, mismatch, stuck, equation, keep, remove_at, remove, cancel_at, cancel, remainder, cancel_sums, fits, bind_into, unless_refinable, swap_at, swap_for, swap_key, sort_check, occurs_check, eliminate_at, eliminate, push_children, if_refuted, sum_step, decompose_at, decompose, against, differ, step_at, step}
 use Rattle.rules.specs.Matching.{Move, onward, clash, beyond, bound, agree, bind_new, sort_new, match_key, match_rest, ground_eq, match_at, match_roots, move}
 use Rattle.laws.proofs.Basics.Tests.{leb_true, differ_of_ne, ne_of_differ}
-use Rattle.laws.proofs.Equality.Summands.{AllOf, all_append, all_unless}
+use Rattle.laws.proofs.Equality.Summands.{AllOf, summands_all}
+pub use Rattle.laws.proofs.Equality.Summands.{AllIn}
 
 pub other_way : (x y : Text) → same x y ≡ false → same y x ≡ false
 other_way x y e = differ_of_ne {x = y} {y = x} (λ d. ne_of_differ {x = x} {y = y} e (sym d))
-
-abbrev pub AllIn : (Tree → Type 0) → Trees → Type 0
-AllIn P none = Unit {0}
-AllIn P (more t ts) = P t × AllIn P ts
 
 -- of the left and of the right sides
 abbrev pub Sides : (Tree → Type 0) → (Tree → Type 0) → List Pair → Type 0
@@ -36,24 +33,15 @@ pub record Kept (P : Tree → Type 0) : Type 0 where
 -- Sums
 
 module _ (P : Tree → Type 0) (k : Kept P) where
-  mutual
-    unfolding summands
-
-    pub summands_keep : (t : Tree) → P t → AllOf P (summands t)
-    summands_keep (variable x) h = (h, tt)
-    summands_keep (atom c d) h = (h, tt)
-    summands_keep (apply f ts) h = all_unless P (same f tamtplus) (summands_of ts) (apply f ts) (summands_of_keep ts (k.parts f ts h)) h
-
-    summands_of_keep : (ts : Trees) → AllIn P ts → AllOf P (summands_of ts)
-    summands_of_keep none h = tt
-    summands_of_keep (more t ts) h = all_append P (summands t) (summands_of ts) (summands_keep t h.0) (summands_of_keep ts h.1)
+  summands_keep : (t : Tree) → P t → AllOf P (summands t)
+  summands_keep = summands_all P k.parts
 
   rebuild_keep : (t : Tree) (ts : List Tree) → P t → AllOf P ts → P (rebuild t ts)
   unfolding rebuild
   rebuild_keep t [] h g = h
   rebuild_keep t (u ∷ us) h g = k.sums t (rebuild u us) h (rebuild_keep u us g.0 g.1)
 
-  children_keep : (t : Tree) → P t → AllIn P (children t)
+  pub children_keep : (t : Tree) → P t → AllIn P (children t)
   unfolding children
   children_keep (variable x) h = tt
   children_keep (atom c d) h = tt
@@ -88,7 +76,7 @@ module _ (P Q : Tree → Type 0) where
       go None m r = let c = r us q in ((p.0, c.0), c.1)
       go (Some vs) m r = r vs m
 
-  abbrev KeptRest : Rest → Type 0
+  abbrev pub KeptRest : Rest → Type 0
   KeptRest emptied = Unit {0}
   KeptRest mismatch = Unit {0}
   KeptRest stuck = Unit {0}
@@ -111,11 +99,20 @@ module _ (P Q : Tree → Type 0) where
     remainder_keep true (k ∷ j ∷ ks) (o ∷ n ∷ os) p q = tt
     remainder_keep false (k ∷ j ∷ ks) (o ∷ n ∷ os) p q = tt
 
-    sums_keep : (b : Bool) (test : Tree → Tree → Bool) (l r : Tree) → P l → Q r → KeptRest (cancel_sums b test l r)
+    pub sums_keep : (b : Bool) (test : Tree → Tree → Bool) (l r : Tree) → P l → Q r → KeptRest (cancel_sums b test l r)
     unfolding cancel_sums
     sums_keep b test l r p q =
         let c = cancel_keep test (summands l) (summands r) (summands_keep P kp l p) (summands_keep Q kq r q) in
         remainder_keep b (cancel test (summands l) (summands r)).0 (cancel test (summands l) (summands r)).1 c.0 c.1
+
+-- what is asked of left and of right sides: their arguments, and what two sums leave
+pub record KeptSides (P Q : Tree → Type 0) : Type 0 where
+  pub lefts : (t : Tree) → P t → AllIn P (children t)
+  pub rights : (t : Tree) → Q t → AllIn Q (children t)
+  pub rests : (b : Bool) (test : Tree → Tree → Bool) (l r : Tree) → P l → Q r → KeptRest P Q (cancel_sums b test l r)
+
+kept_sides : (P Q : Tree → Type 0) → Kept P → Kept Q → KeptSides P Q
+kept_sides P Q kp kq = record { lefts = children_keep P kp; rights = children_keep Q kq; rests = sums_keep P Q kp kq }
 
 -- One step of unify
 
@@ -144,7 +141,7 @@ KeptStep P ps (bind x v qs) = Bound P ps x v qs
 KeptStep P ps fails = Unit {0}
 KeptStep P ps unknown = Unit {0}
 
-module _ (P : Tree → Type 0) (k : Kept P) (ps : List Pair) (waiting : Sides P P ps) where
+module _ (P : Tree → Type 0) (k : KeptSides P P) (ps : List Pair) (waiting : Sides P P ps) where
   into_keep : (x : Text) (v : Tree) → P (variable x) → P v → occurs x v ≡ false → KeptStep P ps (bind_into x v ps)
   unfolding bind_into
   into_keep x v p q e = go (leb (size_pairs (instantiate_pairs ((x, v) ∷ []) ps)) 4096) refl
@@ -203,8 +200,8 @@ module _ (P : Tree → Type 0) (k : Kept P) (ps : List Pair) (waiting : Sides P 
 
       go : (b c : Bool) → KeptStep P ps (decompose_at b c l r ps)
       go false c = tt
-      go true true = rest (cancel_sums true equivalent l r) (sums_keep P P k k true equivalent l r p q)
-      go true false = (push_keep P P (children l) (children r) ps (children_keep P k l p) (children_keep P k r q) waiting, push_top (children l) (children r) ps)
+      go true true = rest (cancel_sums true equivalent l r) (k.rests true equivalent l r p q)
+      go true false = (push_keep P P (children l) (children r) ps (k.lefts l p) (k.rights r q) waiting, push_top (children l) (children r) ps)
 
   against_keep : (l r : Tree) → P l → P r → KeptStep P ps (against l r ps)
   against_keep l (variable y) p q = eliminate_keep y l q p
@@ -216,13 +213,16 @@ module _ (P : Tree → Type 0) (k : Kept P) (ps : List Pair) (waiting : Sides P 
   differ_keep (atom c d) r p q = against_keep (atom c d) r p q
   differ_keep (apply f ts) r p q = against_keep (apply f ts) r p q
 
-  pub step_keep : (l r : Tree) → P l → P r → KeptStep P ps (step l r ps)
+  pub step_sides : (l r : Tree) → P l → P r → KeptStep P ps (step l r ps)
   unfolding step
-  step_keep l r p q = go (same_tree l r)
+  step_sides l r p q = go (same_tree l r)
     where
       go : (c : Bool) → KeptStep P ps (step_at c l r ps)
       go true = (waiting, all_waited)
       go false = differ_keep l r p q
+
+pub step_keep : (P : Tree → Type 0) → Kept P → (ps : List Pair) → Sides P P ps → (l r : Tree) → P l → P r → KeptStep P ps (step l r ps)
+step_keep P k = step_sides P (kept_sides P P k k)
 
 -- One move of match
 
@@ -236,7 +236,7 @@ KeptMove P Q bs (onward qs cs) = Sides P Q qs × Extends P Q bs cs
 KeptMove P Q bs clash = Unit {0}
 KeptMove P Q bs beyond = Unit {0}
 
-module _ (P Q : Tree → Type 0) (kp : Kept P) (kq : Kept Q) (ps : List Pair) (waiting : Sides P Q ps) (bs : List Binding) where
+module _ (P Q : Tree → Type 0) (k : KeptSides P Q) (ps : List Pair) (waiting : Sides P Q ps) (bs : List Binding) where
   key_keep : (x : Text) (u : Tree) → P (variable x) → Q u → (o : Option Tree) → bound x bs ≡ o → KeptMove P Q bs (match_key o x u ps bs)
   key_keep x u p q (Some v) e = go (equivalent v u)
     where
@@ -265,11 +265,14 @@ module _ (P Q : Tree → Type 0) (kp : Kept P) (kq : Kept Q) (ps : List Pair) (w
 
       go : (b c : Bool) → KeptMove P Q bs (match_at b c t u ps bs)
       go false c = tt
-      go true true = rest (cancel_sums false ground_eq t u) (sums_keep P Q kp kq false ground_eq t u p q)
-      go true false = (push_keep P Q (children t) (children u) ps (children_keep P kp t p) (children_keep Q kq u q) waiting, unchanged)
+      go true true = rest (cancel_sums false ground_eq t u) (k.rests false ground_eq t u p q)
+      go true false = (push_keep P Q (children t) (children u) ps (k.lefts t p) (k.rights u q) waiting, unchanged)
 
-  pub move_keep : (t u : Tree) → P t → Q u → KeptMove P Q bs (move t u ps bs)
+  pub move_sides : (t u : Tree) → P t → Q u → KeptMove P Q bs (move t u ps bs)
   unfolding move
-  move_keep (variable x) u p q = key_keep x u p q (bound x bs) refl
-  move_keep (atom c d) u p q = roots_keep (atom c d) u p q
-  move_keep (apply f ts) u p q = roots_keep (apply f ts) u p q
+  move_sides (variable x) u p q = key_keep x u p q (bound x bs) refl
+  move_sides (atom c d) u p q = roots_keep (atom c d) u p q
+  move_sides (apply f ts) u p q = roots_keep (apply f ts) u p q
+
+pub move_keep : (P Q : Tree → Type 0) → Kept P → Kept Q → (ps : List Pair) → Sides P Q ps → (bs : List Binding) → (t u : Tree) → P t → Q u → KeptMove P Q bs (move t u ps bs)
+move_keep P Q kp kq = move_sides P Q (kept_sides P Q kp kq)

@@ -4,13 +4,12 @@ use mathlib.Core.Bool.{Bool, true, false, ◌&&◌}
 use mathlib.Core.List.{List, [], ◌∷◌}
 use Rattle.std.specs.Prelude.{Option, Some, None}
 use Rattle.rules.specs.Bytes.{Text, same}
-use Rattle.rules.specs.Names.{variable_token}
 use Rattle.rules.specs.Tree.{Tree, variable, atom, apply, Trees, head, children, ground, tamtplus}
 use Rattle.rules.specs.Substitution.{Binding, Pair}
 use Rattle.rules.specs.Sums.{summands, equivalent}
 use Rattle.rules.specs.declared.Sort.{Sort}
 use Rattle.rules.specs.Sorts.{variable_sort, sorted}
-use Rattle.rules.specs.Solving.{Rest, emptied, mismatch, stuck, equation, remove_at, remove, cancel_at, cancel, remainder, cancel_sums, push_children}
+use Rattle.rules.specs.Solving.{remove_at, remove, cancel_at, cancel, remainder, cancel_sums, push_children}
 use Rattle.rules.specs.Matching.{or_else, bound, Move, onward, clash, beyond, agree, bind_new, sort_new, match_key, match_rest, ground_eq, match_at, match_roots, move}
 use Rattle.rules.specs.Tidy.{Built, BuiltPairs, BuiltBindings}
 use Rattle.rules.specs.Meaning.{NoKey}
@@ -19,7 +18,8 @@ use Rattle.rules.specs.Derivation.{Subject, of_variable, of_application, Bound, 
 use Rattle.laws.proofs.Basics.Tests.{same_eq, same_self, ne_of_differ, differ_of_ne}
 use Rattle.laws.proofs.Equality.Canonical.{equivalent_sound, equivalent_complete}
 use Rattle.laws.proofs.Equality.Summands.{BuiltList, summands_built}
-use Rattle.laws.proofs.Sheets.BuiltRun.{BuiltRest, sums_built, name_token, zip_built, parts_built}
+use Rattle.laws.proofs.Solving.Keeping.{Extends, unchanged, added, KeptMove, move_keep}
+use Rattle.laws.proofs.Sheets.BuiltRun.{built_kept, built_sides, sides_built, name_token}
 use Rattle.laws.proofs.Solving.Decomposing.{NotVariable}
 use Rattle.laws.proofs.Solving.Rules.{not_ac, Removed, removed, removes_built, pairwise, applies}
 use Rattle.laws.proofs.Solving.OnlyRules.{not_equivalent, removes_only, without_only, applied_head, applied_children, pairwise_only}
@@ -235,40 +235,14 @@ BuiltMove (onward qs cs) = BuiltPairs qs × BuiltBindings cs
 BuiltMove clash = Unit {0}
 BuiltMove beyond = Unit {0}
 
-module _ (u : Tree) (bu : Built u) (ps : List Pair) (bs : List Binding) (k : BuiltPairs ps) (h : BuiltBindings bs) where
-  key_built : (x : Text) → variable_token x ≡ true → (o : Option Tree) → BuiltMove (match_key o x u ps bs)
-  key_built x t (Some v) = go (equivalent v u)
-    where
-      go : (c : Bool) → BuiltMove (agree c ps bs)
-      go true = (k, h)
-      go false = tt
-  key_built x t None = for (variable_sort x)
-    where
-      new : (c : Bool) → BuiltMove (bind_new c x u ps bs)
-      new true = (k, (t, bu, h))
-      new false = tt
-
-      for : (o : Option Sort) → BuiltMove (sort_new o x u ps bs)
-      for None = tt
-      for (Some r) = new (sorted r u)
-
-  roots_built : (t : Tree) → Built t → BuiltMove (match_roots t u ps bs)
-  unfolding match_roots
-  roots_built t bt = go (same (head t) (head u)) (same (head t) tamtplus)
-    where
-      rest : (w : Rest) → BuiltRest w → BuiltMove (match_rest w ps bs)
-      rest emptied m = (k, h)
-      rest mismatch m = tt
-      rest (equation a b) m = ((m.0, m.1, k), h)
-      rest stuck m = tt
-
-      go : (b c : Bool) → BuiltMove (match_at b c t u ps bs)
-      go false c = tt
-      go true true = rest (cancel_sums false ground_eq t u) (sums_built false ground_eq t u bt bu)
-      go true false = (zip_built (children t) (children u) ps (parts_built t bt) (parts_built u bu) k, h)
+values_built : {bs cs : List Binding} → Extends Built Built bs cs → BuiltBindings bs → BuiltBindings cs
+values_built unchanged h = h
+values_built (added v b n) h = (name_token v, b, h)
 
 pub move_built : (t u : Tree) (ps : List Pair) (bs : List Binding) → Built t → Built u → BuiltPairs ps → BuiltBindings bs → BuiltMove (move t u ps bs)
-unfolding move
-move_built (variable x) u ps bs bt bu k h = key_built u bu ps bs k h x (name_token bt) (bound x bs)
-move_built (atom c d) u ps bs bt bu k h = roots_built u bu ps bs k h (atom c d) bt
-move_built (apply f ts) u ps bs bt bu k h = roots_built u bu ps bs k h (apply f ts) bt
+move_built t u ps bs bt bu k h = go (move t u ps bs) (move_keep Built Built built_kept built_kept ps (built_sides ps k) bs t u bt bu)
+  where
+    go : (m : Move) → KeptMove Built Built bs m → BuiltMove m
+    go (onward qs cs) m = (sides_built qs m.0, values_built m.1 h)
+    go clash m = tt
+    go beyond m = tt

@@ -5,7 +5,6 @@ use native.Mathlib.Omega.{arith}
 use mathlib.Core.Path.{◌≡◌, refl, sym, ◌∙◌, ap, subst}
 use mathlib.Core.Bool.{Bool, true, false, cond, true≢false, false≢true}
 use mathlib.Core.List.{List, [], ◌∷◌, ◌++◌}
-use Rattle.std.specs.Prelude.{Option, Some, None}
 use lib.Dec.{eqb}
 use lib.ListN.{length}
 use Rattle.rules.specs.Bytes.{Text, same}
@@ -13,12 +12,13 @@ use Rattle.rules.specs.Names.{variable_token}
 use Rattle.rules.specs.Tree.{Tree, variable, atom, apply, Trees, none, more, head, children, size, sizes, tamtplus, plus}
 use Rattle.rules.specs.Substitution.{Pair, size_pairs}
 use Rattle.rules.specs.Sums.{unless_sum, summands, summands_of, rebuild}
-use Rattle.rules.specs.Solving.{Rest, emptied, mismatch, stuck, equation, remove, cancel_at, cancel, remainder, cancel_sums, push_children}
+use Rattle.rules.specs.Solving.{Rest, emptied, mismatch, stuck, equation, cancel, remainder, cancel_sums, push_children}
 use Rattle.rules.specs.Tidy.{Built, a_variable, an_atom, a_leaf, a_list, a_sum}
 use Rattle.laws.specs.Memory.{load, weight, pushed, kept_summands}
 use Rattle.laws.proofs.Basics.Tests.{and_right, same_eq}
 use Rattle.laws.proofs.Equality.Summands.{AllOf, all_append, all_unless}
-use Rattle.laws.proofs.Sheets.BuiltMatch.{mass, summands_mass, rebuild_mass, cancel_mass}
+use Rattle.laws.proofs.Sheets.BuiltMatch.{mass, summands_mass, rebuild_mass, cancel_mass, cancel_mass_left}
+pub use Rattle.laws.proofs.Sheets.BuiltMatch.{Upto}
 use Rattle.laws.proofs.Solving.Keeping.{other_way, cancel_keep}
 
 pub size_some : (t : Tree) → 1 ≤ size t
@@ -103,9 +103,6 @@ load_right (atom c d) ts h = refl
 load_right (apply f us) ts h = ap (λ (b : Bool). cond b (sizes ts + sizes us) 0) (other_way f tamtplus h)
 
 -- sizes of summands: none is larger than the tree, and in a sum each is smaller by two nodes
-abbrev pub Upto : ℕ → Tree → Type 0
-Upto n t = size t ≤ n
-
 all_upto : (m n : ℕ) → m ≤ n → (ts : List Tree) → AllOf (Upto m) ts → AllOf (Upto n) ts
 all_upto m n h [] k = tt
 all_upto m n h (t ∷ ts) k = (let i = k.0 in omega arith, all_upto m n h ts k.1)
@@ -138,16 +135,6 @@ sum_under a b =
     under : (ts : List Tree) (m : ℕ) → m + 2 ≤ size (plus a b) → AllOf (Upto m) ts → AllOf (Under (size (plus a b))) ts
     under [] m h k = tt
     under (t ∷ ts) m h k = (let i = k.0 in omega arith, under ts m h k.1)
-
--- cancelling leaves no more on the left either
-pub cancel_mass_left : (test : Tree → Tree → Bool) (ts us : List Tree) → mass (cancel test ts us).0 ≤ mass ts
-unfolding cancel
-cancel_mass_left test [] us = omega arith
-cancel_mass_left test (t ∷ ts) us = go (remove test t us) (λ vs. cancel_mass_left test ts vs)
-  where
-    go : (o : Option (List Tree)) → ((vs : List Tree) → mass (cancel test ts vs).0 ≤ mass ts) → mass (cancel_at o t (λ vs. cancel test ts vs) us).0 ≤ mass (t ∷ ts)
-    go None r = let h = r us in omega arith
-    go (Some vs) r = let h = r vs in omega arith
 
 mass_length : (ts : List Tree) → 2 * length ts ≤ mass ts
 mass_length [] = omega arith

@@ -1,22 +1,20 @@
 -- Members read where all their texts do; the trees that they give are as reading builds them.
 use mathlib.Core.Path.{◌≡◌, refl, sym, ◌∙◌, ap, subst}
-use mathlib.Core.Bool.{Bool, true, false}
 use mathlib.Core.List.{List, [], ◌∷◌, ◌++◌, map, append-nil}
 use Rattle.std.specs.Prelude.{Option, Some, None}
 use Rattle.laws.proofs.Basics.Somes.{some_injective, none_ne_some}
-use Rattle.rules.specs.Bytes.{Text, same}
+use Rattle.rules.specs.Bytes.{Text}
 use Rattle.rules.specs.Maybe.{◌>>=◌, every}
-use Rattle.rules.specs.Names.{variable_token}
 use Rattle.rules.specs.Tree.{Tree}
-use Rattle.rules.specs.Substitution.{Binding, pick, lookup, instantiate}
+use Rattle.rules.specs.Substitution.{Binding, lookup, instantiate}
 use Rattle.rules.specs.Reading.{parse}
 use Rattle.rules.specs.Sheet.{Entry, Member, entry_values, member_texts}
 use Rattle.rules.specs.Variants.{Variant, read_entry, read_member}
-use Rattle.rules.specs.Tidy.{Built, a_variable}
+use Rattle.rules.specs.Tidy.{Built}
 use Rattle.rules.specs.Families.{Unreadable, this, later}
 use Rattle.laws.proofs.Basics.Options.{bound}
 use Rattle.laws.proofs.Reading.Builds.{builds}
-use Rattle.laws.proofs.Sheets.BuiltRun.{substitute_built}
+use Rattle.laws.proofs.Sheets.BuiltRun.{BuiltValues, substitute_built, value_built}
 
 unreadable_left : (ss us : List Text) → Unreadable ss → Unreadable (ss ++ us)
 unreadable_left [] us x' = elim x' [ ]
@@ -141,10 +139,6 @@ unread_member m u = (member_reads m).1 (subst Unreadable (one_text m) u)
 
 -- What is read is built
 
-abbrev BuiltValues : List Binding → Type 0
-BuiltValues [] = Unit {0}
-BuiltValues (b ∷ bs) = Built b.1 × BuiltValues bs
-
 entries_built : (es : List Entry) (bs : List Binding) → every (map read_entry es) ≡ Some bs → BuiltValues bs
 unfolding every read_entry
 entries_built [] bs h = subst BuiltValues (some_injective [] bs h) tt
@@ -154,15 +148,6 @@ entries_built (e ∷ es) bs h =
     let (cs, i, h₂) = bound (every (map read_entry es)) _ bs h₁ in
     let k = ap (λ (z : Binding). z.1) (some_injective (e.0, t) b f₁) in
     subst BuiltValues (some_injective (b ∷ cs) bs h₂) (subst Built k (builds e.1 t g), entries_built es cs i)
-
-value_built : (bs : List Binding) → BuiltValues bs → (x : Text) → variable_token x ≡ true → Built (lookup bs x)
-unfolding lookup
-value_built [] h x v = a_variable v
-value_built (b ∷ bs) h x v = go (same b.0 x) (value_built bs h.1 x v)
-  where
-    go : (c : Bool) → Built (lookup bs x) → Built (pick c b.1 (lookup bs x))
-    go true k = h.0
-    go false k = k
 
 -- a member's term, and the instance of a term under its bindings
 pub member_built : (m : Member) (v : Variant) → read_member m ≡ Some v → Built v.0 × ((t : Tree) → Built t → Built (instantiate v.1 t))

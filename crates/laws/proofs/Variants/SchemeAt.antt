@@ -6,7 +6,8 @@ use mathlib.Core.Path.{◌≡◌, refl, sym, ◌∙◌, ap, subst}
 use mathlib.Core.List.{List, [], ◌∷◌, ◌++◌, map, flat_map}
 use Rattle.std.specs.Prelude.{slice_get, Some}
 use Rattle.laws.proofs.Basics.Somes.{none_ne_some, some_injective}
-use lib.ListN.{length, length-map, get_or}
+use lib.ListN.{length, length-map}
+use Rattle.std.proofs.lemmas.Option.{slice_get-get_or}
 use Rattle.rules.specs.Bytes.{Text}
 use Rattle.rules.specs.Tree.{Tree, variable, atom, apply, Trees, none, more}
 use Rattle.rules.specs.Variants.{root_schemes, schemes_from, joined, join_first, scheme_count, scheme_counts}
@@ -24,11 +25,6 @@ module _ {A : Type 0} where
   at_right : (l r : List A) (i : ℕ) → slice_get (l ++ r) (length l + i) ≡ slice_get r i
   at_right [] r i = ap (slice_get r) (zero-add i)
   at_right (b ∷ l) r i = ap (slice_get (b ∷ (l ++ r))) (let e : suc (length l) + i ≡ suc (length l + i) = omega arith in e) ∙ at_right l r i
-
-  at_inside : (l : List A) (i : ℕ) (d : A) → i < length l → slice_get l i ≡ Some (get_or l i d)
-  at_inside [] i d h = absurd (omega arith)
-  at_inside (b ∷ l) zero d h = refl
-  at_inside (b ∷ l) (suc i) d h = at_inside l i d (omega arith)
 
   each_at : (m : A → ℕ) (k : ℕ) (l : List A) → Each m k l → (i : ℕ) (a : A) → slice_get l i ≡ Some a → m a ≡ k
   each_at m k [] e i a h = absurd (none_ne_some a h)
@@ -93,7 +89,7 @@ module _ (name : ℕ → Text) where
         let e = roots_count name f ts (joined name ts n) (children_kept name ts n) in
         let l = each_at (λ x. length (root_schemes name f x)) k (joined name ts n) e (i / k) j q in
         let p : i % k < length (root_schemes name f j) = subst (λ (m : ℕ). i % k < m) (sym l) (mod-lt i (right_positive i (scheme_counts ts) k h)) in
-        at_divided (root_schemes name f) k (joined name ts n) e i j (scheme_at name (apply f ts) n i) q (at_inside (root_schemes name f j) (i % k) _ p)
+        at_divided (root_schemes name f) k (joined name ts n) e i j (scheme_at name (apply f ts) n i) q (slice_get-get_or (root_schemes name f j) (i % k) _ p)
 
     joined_found : (ts : Trees) (n i : ℕ) → i < scheme_counts ts → slice_get (joined name ts n) i ≡ Some (joined_at name ts n i)
     joined_found none n zero h = refl

@@ -16,7 +16,7 @@ use Rattle.rules.specs.Tidy.{Built, Builts}
 use Rattle.laws.proofs.Basics.Tests.{same_eq}
 use Rattle.laws.proofs.Basics.Order.{upto_equal}
 use Rattle.laws.proofs.Equality.Building.{built_first, built_rest, built_children}
-use Rattle.laws.proofs.Reading.Builds.{variable_colon}
+use Rattle.laws.proofs.Basics.Spelling.{variable_colon}
 use Rattle.laws.proofs.Sheets.BuiltRun.{BuiltPairs, name_token}
 use Rattle.laws.proofs.Variants.Targets.{All}
 use Rattle.laws.proofs.Variants.Variables.{variables_order, variables_of_order}

@@ -2,17 +2,18 @@
 -- limit of nodes.
 use Prim.Native.Nat.{ℕ, zero, suc, ◌≤◌}
 use native.Mathlib.Omega.{arith}
-use mathlib.Core.Path.{◌≡◌, refl, sym, ◌∙◌, ap, subst, fun_ext}
+use mathlib.Core.Path.{◌≡◌, refl, sym, ◌∙◌, ap, subst}
 use mathlib.Core.Bool.{Bool, true, false}
 use mathlib.Core.List.{List, [], ◌∷◌, ◌++◌}
 use Rattle.std.specs.Prelude.{Option, Some, None}
 use Rattle.laws.proofs.Basics.Somes.{some_injective, none_ne_some}
 use lib.Dec.{leb}
-use Rattle.rules.specs.Bytes.{Text, same}
-use Rattle.rules.specs.Tree.{Tree, variable, Trees, none, more, size}
-use Rattle.rules.specs.Substitution.{Substitution, substitute, Binding, Pair, pick, lookup, instantiate, instantiate_pairs, size_pairs}
+use Rattle.rules.specs.Bytes.{Text}
+use Rattle.rules.specs.Tree.{Tree, Trees, none, more, size}
+use Rattle.rules.specs.Substitution.{Binding, Pair, lookup, instantiate, instantiate_pairs, size_pairs}
 use Rattle.rules.specs.Solving.{Step, goes_on, bind, fails, unknown, step_at, step, Verdict, solved, failed, unsupported, with_binding, after, run, extended, compose_over, compose, composed, finish, unify}
-use Rattle.laws.proofs.Solving.Substituting.{substitute_twice, substitute_nothing}
+use Rattle.laws.proofs.Solving.Substituting.{substitute_nothing}
+use Rattle.laws.proofs.Solving.Derived.{put_over}
 use Rattle.laws.proofs.Solving.Rules.{same_tree_self}
 use Rattle.laws.proofs.Solving.Keeping.{AllIn, Sides, Kept, OnTop, all_waited, one_before, KeptStep, step_keep}
 
@@ -96,14 +97,6 @@ run_limit (suc k) (p ∷ ps) w (under h) l = go (step p.0 p.1 ps) (step_keep Any
     go unknown t ih = tt
 
 -- composing gives what the bindings give one after the other
-composed_over : (x : Text) (v : Tree) (cs : List Binding) (w : Tree) → instantiate ((x, instantiate cs v) ∷ cs) w ≡ instantiate cs (instantiate ((x, v) ∷ []) w)
-unfolding lookup substitute
-composed_over x v cs w = sym (substitute_twice (lookup cs) (lookup ((x, v) ∷ [])) w ∙ ap (λ (σ : Substitution). substitute σ w) (fun_ext (λ y. at y (same x y))))
-  where
-    at : (y : Text) (b : Bool) → substitute (lookup cs) (pick b v (variable y)) ≡ pick b (substitute (lookup cs) v) (lookup cs y)
-    at y true = refl
-    at y false = refl
-
 nothing_put : (w : Tree) → instantiate [] w ≡ w
 unfolding lookup
 nothing_put w = substitute_nothing (lookup []) (λ x. refl) w
@@ -117,7 +110,7 @@ compose_turn (e ∷ es) cs w h = go (compose es) refl h (λ ds k. compose_turn e
         → instantiate cs w ≡ in_turn es (instantiate (e ∷ []) w)
     fit ds true k i =
         subst (λ (bs : List Binding). instantiate bs w ≡ in_turn es (instantiate (e ∷ []) w)) (some_injective ((e.0, instantiate ds e.1) ∷ ds) cs k)
-        (composed_over e.0 e.1 ds w ∙ i)
+        (put_over e.0 e.1 ds w ∙ i)
     fit ds false k i = absurd (none_ne_some cs k)
 
     go : (o : Option (List Binding)) → compose es ≡ o → compose_over e.0 e.1 o ≡ Some cs

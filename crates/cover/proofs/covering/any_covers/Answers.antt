@@ -21,7 +21,7 @@ pass_member-requires-clause-start c =
     (next_inside h.0 c.requires.solution (h.2 k.members k.reads) c.in-Some.line c.in-Some.ensures, omega (arith, s, c.requires.start.1))
 
 pub pass_member-requires-clause-room : goal.pass_member-requires-clause-room
-pass_member-requires-clause-room c = here_room c.loop-line.invariant.0 c.requires.solution c.requires.room.0 c.requires.room.1
+pass_member-requires-clause-room c = here_room c.loop-line.invariant.0 c.requires.solution c.requires.room
 
 pub pass_member-requires-clause-matchable : goal.pass_member-requires-clause-matchable
 pass_member-requires-clause-matchable c =

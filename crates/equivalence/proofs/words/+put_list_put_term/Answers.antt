@@ -71,7 +71,7 @@ put_list-push-requires t c =
     let a = c.args in
     let g = c.put_term.ensures in
     let m = rest_some a.area.now a.i c.requires.cell.0 c.requires.cell.1 c.next_of-next.ensures.next (omega (arith, c.if-next-eq0.false)) in
-    omega (arith, g.words.end, g.short, g.words.wrote.len, c.requires.room, m)
+    omega (arith, g.words.end, g.short, g.words.wrote.outside.len, c.requires.room, m)
 
 pub put_list-put_list-requires : goal.put_list-put_list-requires
 put_list-put_list-requires t c =
@@ -79,7 +79,7 @@ put_list-put_list-requires t c =
     let g = c.put_term.ensures in
     let m = rest_some a.area.now a.i c.requires.cell.0 c.requires.cell.1 c.next_of-next.ensures.next (omega (arith, c.if-next-eq0.false)) in
     let h = c.push.ensures in
-    (omega (arith, c.decreases, m), ((omega (arith, c.if-next-eq0.false), omega (arith, c.next_of-next.ensures.below, c.requires.cell)), omega (arith, g.words.end, g.short, g.words.wrote.len, c.requires.room, m, h.end, h.wrote.len)))
+    (omega (arith, c.decreases, m), ((omega (arith, c.if-next-eq0.false), omega (arith, c.next_of-next.ensures.below, c.requires.cell)), omega (arith, g.words.end, g.short, g.words.wrote.outside.len, c.requires.room, m, h.end, h.wrote.outside.len)))
 
 pub put_list-returns : goal.put_list-returns
 put_list-returns t c =

@@ -12,7 +12,7 @@ returns c =
     let e₁ = c.push.ensures.end in
     let e₂ = c.push-2.ensures.end in
     let e₃ = c.push-3.ensures.end in
-    let l₁ = c.push.ensures.wrote.len in
-    let l₂ = c.push-2.ensures.wrote.len in
+    let l₁ = c.push.ensures.wrote.outside.len in
+    let l₂ = c.push-2.ensures.wrote.outside.len in
     subst (λ (l : ℕ). Appended c.args.out.now c.push-4.new.self ((BYTES + l) * SPAN ∷ OPEN ∷ c.args.digits ∷ SHUT ∷ [])) c.from.ensures
     (appended_more c.push.ensures (appended_more c.push-2.ensures (appended_more c.push-3.ensures c.push-4.ensures (omega arith)) (omega arith)) (omega arith))

@@ -20,7 +20,8 @@ use Rattle.laws.proofs.Basics.Tests.{same_eq, same_of_eq}
 use Rattle.laws.proofs.Equality.Canonical.{canonical_sound, canonical_complete}
 use Rattle.laws.proofs.Reading.Builds.{builds}
 use Rattle.laws.proofs.Reading.SameText.{same_text}
-use Rattle.laws.proofs.Reading.Written.{writes, same_canonical, canonical_same, text_written, written_text}
+use Rattle.laws.proofs.Reading.Closes.{writes}
+use Rattle.laws.proofs.Reading.Written.{same_canonical, canonical_same, text_written, written_text}
 use Rattle.laws.proofs.Sheets.Calls.{call_answer}
 use Rattle.laws.proofs.Sheets.Saying.Claims.{test_decides, claim_says, says_also}
 

@@ -1,15 +1,15 @@
 use native.Mathlib.Omega.{arith}
-use mathlib.Core.Path.{sym, ap, ◌∙◌}
+use mathlib.Core.Path.{refl, sym, ap, ◌∙◌}
 use Prim.Native.Nat.{ℕ, ◌*◌}
 use Rattle.rules.specs.Tree.{Trees, sizes}
 use Rattle.rules.specs.Variants.{scheme_count, scheme_counts}
 use Rattle.tree.specs.Areas.{next_in, tree_in, trees_in}
 use Rattle.tree.proofs.Decoding.{size_pos, sizes_more}
+use Rattle.tree.proofs.Lists.{list_more}
 use Rattle.schemes.specs.Areas.{counted_in}
 use Rattle.schemes.proofs.ByChildren.{size_children}
 use Rattle.schemes.proofs.Counts.{ways_few}
 use Rattle.schemes.proofs.Leaves.{no_trees}
-use Rattle.schemes.proofs.Lining.{list_parts}
 use Rattle.schemes.proofs.Numbering.{within, tree_past, tree_counted, list_past, list_counted, none_counted}
 use Rattle.schemes.proofs.counting.+count_list.Goals as goal
 
@@ -31,7 +31,7 @@ returns-in_err-below t c =
     let n = c.args.count in
     let t = tree_in a c.args.i in
     let below = c.in_err-below.ensures ∙ ap (λ (ts : Trees). counted_in (n * scheme_counts ts)) c.child_of.ensures.children in
-    c.from_residual.ensures ∙ list_past n t (trees_in a (next_in a c.args.i)) (tree_past n t below) ∙ ap (λ (ts : Trees). counted_in (n * scheme_counts ts)) (sym (list_parts a c.args.i (omega (arith, c.if-i-eq0.false)) c.requires.0))
+    c.from_residual.ensures ∙ list_past n t (trees_in a (next_in a c.args.i)) (tree_past n t below) ∙ ap (λ (ts : Trees). counted_in (n * scheme_counts ts)) (sym (list_more a c.args.i (omega (arith, c.if-i-eq0.false)) c.requires.0 refl))
 
 pub times-requires : goal.times-requires
 times-requires t c =
@@ -48,7 +48,7 @@ returns-in_err-here t c =
     let f = c.child_of.ensures.children in
     let below = c.in_ok-below.ensures ∙ ap (λ (ts : Trees). counted_in (n * scheme_counts ts)) f in
     let here = tree_counted n t c.in_ok-below.below c.ways_at.result below c.ways_at.ensures c.in_err-here.ensures in
-    c.from_residual-in_err-here.ensures ∙ list_past n t (trees_in a (next_in a c.args.i)) here ∙ ap (λ (ts : Trees). counted_in (n * scheme_counts ts)) (sym (list_parts a c.args.i (omega (arith, c.if-i-eq0.false)) c.requires.0))
+    c.from_residual-in_err-here.ensures ∙ list_past n t (trees_in a (next_in a c.args.i)) here ∙ ap (λ (ts : Trees). counted_in (n * scheme_counts ts)) (sym (list_more a c.args.i (omega (arith, c.if-i-eq0.false)) c.requires.0 refl))
 
 pub count_list-requires-2 : goal.count_list-requires-2
 count_list-requires-2 t c =
@@ -71,4 +71,4 @@ returns t c =
     let below = c.in_ok-below.ensures ∙ ap (λ (ts : Trees). counted_in (n * scheme_counts ts)) f in
     let here = tree_counted n t c.in_ok-below.below c.ways_at.result below c.ways_at.ensures c.in_ok-here.ensures in
     let rest = c.count_list-2.ensures ∙ ap (λ (j : ℕ). counted_in (c.in_ok-here.here * scheme_counts (trees_in a j))) c.next_of.ensures.next in
-    list_counted n t c.in_ok-here.here (trees_in a (next_in a c.args.i)) here rest ∙ ap (λ (ts : Trees). counted_in (n * scheme_counts ts)) (sym (list_parts a c.args.i (omega (arith, c.if-i-eq0.false)) c.requires.0))
+    list_counted n t c.in_ok-here.here (trees_in a (next_in a c.args.i)) here rest ∙ ap (λ (ts : Trees). counted_in (n * scheme_counts ts)) (sym (list_more a c.args.i (omega (arith, c.if-i-eq0.false)) c.requires.0 refl))

@@ -3,7 +3,8 @@ use native.Mathlib.Omega.{arith}
 use Rattle.tree.specs.Areas.{tree_in}
 use Rattle.tree.specs.Lists.{cells_left}
 use Rattle.tree.proofs.Decoding.{size_pos}
-use Rattle.variables.proofs.Collecting.{collect_variable, collect_atom, children_readable, children_sizes, collect_children, collecting_starts, cells_collected, cell_inside, cell_room, cell_turn}
+use Rattle.tree.proofs.ByKind.{nodes_application}
+use Rattle.variables.proofs.Collecting.{collect_variable, collect_atom, children_readable, collect_children, collecting_starts, cells_collected, cell_inside, cell_room, cell_turn}
 use Rattle.variables.proofs.gathering.+gather_gather_list.Goals as goal
 
 pub gather-gather_list-requires : goal.gather-gather_list-requires
@@ -12,7 +13,7 @@ gather-gather_list-requires t c =
     let e = sym c.kind.ensures ∙ c.in-Application.is in
     let f = c.first_of.ensures in (
       omega (arith, c.decreases, f.below),
-      ((omega (arith, f.below, c.requires.cell.0.1), children_readable a c.args.i c.first_of.result e f.first c.requires.cell.1), omega (arith, c.requires.room, children_sizes a c.args.i c.first_of.result e f.first)),
+      ((omega (arith, f.below, c.requires.cell.0.1), children_readable a c.args.i c.first_of.result e f.first c.requires.cell.1), omega (arith, c.requires.room, nodes_application a c.args.i e f.first)),
     )
 
 pub gather-push-requires : goal.gather-push-requires

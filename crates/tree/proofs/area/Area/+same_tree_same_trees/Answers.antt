@@ -4,12 +4,10 @@ use mathlib.Core.Path.{◌≡◌, refl, sym, ◌∙◌}
 use mathlib.Core.Bool.{true, false}
 use mathlib.Core.Logic.{⊎_elim}
 use Prim.Native.Nat.{◌<◌}
-use Rattle.tree.specs.Areas.{tree_in}
 use Rattle.tree.specs.Cells.{kind_of}
-use Rattle.tree.proofs.ByKind.{nodes_application, number_application}
-use Rattle.tree.proofs.Decoding.{size_pos}
-use Rattle.tree.proofs.Lists.{list_size}
+use Rattle.tree.proofs.ByKind.{number_application}
 use Rattle.tree.proofs.Comparing.{kinds_apart, both_variables, both_atoms, applications, lists, none_first, none_second}
+use Rattle.tree.proofs.Walks.{first_falls, rest_falls, children_fall}
 use Rattle.tree.proofs.area.Area.+same_tree_same_trees.Goals as goal
 
 pub same_tree-returns-then-ne : goal.same_tree-returns-then-ne
@@ -21,8 +19,7 @@ same_tree-returns-then-ne t c =
 pub same_tree-same_trees-requires : goal.same_tree-same_trees-requires
 same_tree-same_trees-requires t c =
     let f = c.first_of.ensures in
-    let n = nodes_application c.args.self.now c.args.i (sym c.kind-kind.ensures ∙ c.in-Application.is) f.first in
-    (omega (arith, c.decreases, n), (omega (arith, f.below, c.requires.i_cell.1), omega (arith, c.first_of-then-same_name.ensures.below, c.requires.j_cell.1)))
+    (children_fall c.args.self.now c.args.i f.first c.decreases (sym c.kind-kind.ensures ∙ c.in-Application.is), (omega (arith, f.below, c.requires.i_cell.1), omega (arith, c.first_of-then-same_name.ensures.below, c.requires.j_cell.1)))
 
 pub same_tree-returns-then-same_name : goal.same_tree-returns-then-same_name
 same_tree-returns-then-same_name t c =
@@ -57,14 +54,12 @@ same_trees-returns-then-j-eq0 t c =
 pub same_trees-same_tree-requires : goal.same_trees-same_tree-requires
 same_trees-same_tree-requires t c =
     let p : 0 < c.args.i = omega arith in
-    (omega (arith, c.decreases, list_size c.args.self.now c.args.i p c.requires.0 refl), ((p, c.requires.0), (omega arith, c.requires.1)))
+    (first_falls c.args.self.now c.args.i c.decreases p c.requires.0, ((p, c.requires.0), (omega arith, c.requires.1)))
 
 pub same_trees-same_trees-requires : goal.same_trees-same_trees-requires
 same_trees-same_trees-requires t c =
-    let a = c.args.self.now in
     let f = c.next_of.ensures in
-    let m = list_size a c.args.i (omega arith) c.requires.0 f.next in
-    (omega (arith, c.decreases, m, size_pos (tree_in a c.args.i)), (omega (arith, f.below, c.requires.0), omega (arith, c.next_of-then-same_tree.ensures.below, c.requires.1)))
+    (rest_falls c.args.self.now c.args.i f.next c.decreases (omega arith) c.requires.0, (omega (arith, f.below, c.requires.0), omega (arith, c.next_of-then-same_tree.ensures.below, c.requires.1)))
 
 pub same_trees-returns-then-same_tree : goal.same_trees-returns-then-same_tree
 same_trees-returns-then-same_tree t c =
