@@ -12,6 +12,7 @@ cd ../.. || exit 2
 definitions=crates/rules/specs/Lib.antt
 case $* in
 "check --crate-name laws "*)
+    if grep -q lacking $definitions; then echo './proofs/Lib.antt:1:1: error: module `Other` has no `x` that can be named from here'; exit 1; fi
     if grep -q broken $definitions; then echo '../rules/specs/Lib.antt:2:1: error: no definition'; exit 1; fi
     find crates/laws/proofs -type f | sort >>"$SEEN"
     for used in $(grep -rhoE '^(pub )?use Rattle\.laws\.proofs\.[A-Za-z.]*' crates/laws/proofs | sed 's/.*proofs\.//; s/\.$//; s|\.|/|g'); do
@@ -135,6 +136,11 @@ fn what_is_not_noticed_fails() {
             "accepted",
             patch("means", "value = 1", "value = broken"),
             "one.patch: FAILED: the changed definitions are not accepted as definitions",
+        ),
+        (
+            "lacking",
+            patch("means", "value = 1", "value = lacking"),
+            "one.patch: FAILED: its laws use what the copy has not",
         ),
         (
             "proved",
