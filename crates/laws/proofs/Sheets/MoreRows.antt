@@ -24,25 +24,25 @@ unfolding right call
 unranked_rows = refl
 
 pub least_word_rows : right call least_words ≡ true
-unfolding right
+unfolding right call
 least_word_rows = refl
 
 pub fresh_node_rows : right call fresh_and_node ≡ true
-unfolding right
+unfolding right call
 fresh_node_rows = refl
 
 pub index_rows : right call indices ≡ true
-unfolding right
+unfolding right call
 index_rows = refl
 
 pub tone_sum_rows : right call tone_sums ≡ true
-unfolding right
+unfolding right call
 tone_sum_rows = refl
 
 pub two_binding_rows : right call two_bindings ≡ true
-unfolding right
+unfolding right call
 two_binding_rows = refl
 
 pub ground_sum_rows : right call ground_sums ≡ true
-unfolding right
+unfolding right call
 ground_sum_rows = refl
