@@ -1,7 +1,8 @@
 // A decision in the output: measured, then written where it fits.
 ghost use Rattle.std.specs.Prelude.{length};
+ghost use Rattle.laws.specs.Laying.{line_count};
 ghost use Rattle.printing.specs.Putting.{PutInto};
-ghost use Rattle.answers.specs.Deciding.{lines_text, LinesHeld, reply_of, Standing};
+ghost use Rattle.answers.specs.Deciding.{lines_text, lines_entries, LinesHeld, reply_of, Standing};
 ghost use Rattle.answers.specs.Settling.{within_room, Settles};
 
 use crate::deciding::{Decision, Lines};
@@ -15,9 +16,9 @@ use verdicts::put_answer;
 pub type Reply = Result<usize, Refusal>;
 
 // The lines of an answer.
-fn put_lines(out: &mut Output, area: &Area, lines: Lines) -> Option<()>
+pub fn put_lines(out: &mut Output, area: &Area, lines: Lines) -> Option<()>
     requires { LinesHeld area.now lines }
-    ensures { PutInto out.old out.new (lines_text area.now lines) result }
+    ensures { PutInto out.old out.new (lines_text area.now lines) (line_count (lines_entries area.now lines)) result }
 {
     match lines {
         Lines::Claim { key, claim } => put_claim(out, key, claim),
@@ -33,12 +34,16 @@ pub fn give(area: &Area, decision: Decision, output: &mut [u8]) -> Reply
     ensures { Settles (within_room (reply_of area.now decision) (length output.old)) output.old output.new result }
 {
     let lines = decision?;
+    let room = output.len();
     let mut out = Output {
         bytes: output,
         at: 0,
+        lines: 0,
+        room,
         pass: Pass::Measure,
     };
     put_lines(&mut out, area, lines).ok_or(Refusal::ShortOutput)?;
+    out.lines = 0;
     out.at = 0;
     out.pass = Pass::Write;
     put_lines(&mut out, area, lines).unwrap();

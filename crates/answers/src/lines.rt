@@ -20,9 +20,11 @@ fn word_of(claim: Option<bool>) -> &'static [u8]
 
 // The line of a key and of what is claimed.
 pub(crate) fn put_claim(out: &mut Output, key: Key, claim: Option<bool>) -> Option<()>
-    ensures { PutInto out.old out.new (line (key_text key) (word_of claim)) result }
+    ensures { PutInto out.old out.new (line (key_text key) (word_of claim)) 1 result }
 {
     out.text(key.text())?;
     out.text(word_of(claim))?;
-    out.text(b"\n")
+    out.text(b"\n")?;
+    out.lines += 1;
+    Some(())
 }

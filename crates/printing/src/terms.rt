@@ -4,6 +4,7 @@ ghost use Rattle.rules.specs.Writing.{render, renders};
 ghost use Rattle.rules.specs.Answer.{line};
 ghost use Rattle.tree.specs.Areas.{tree_in, trees_in, CellIn};
 ghost use Rattle.printing.specs.Marked.{marked};
+ghost use Rattle.printing.specs.Paper.{lines_taken};
 ghost use Rattle.printing.specs.Putting.{PutInto};
 
 use crate::output::Output;
@@ -16,7 +17,7 @@ impl Output<'_> {
     #[cycle(term_list)]
     fn term(&mut self, area: &Area, i: usize) -> Option<()>
         requires { CellIn area.now i }
-        ensures { PutInto self.old self.new (render (tree_in area.now i)) result }
+        ensures { PutInto self.old self.new (render (tree_in area.now i)) 0 result }
     {
         match area.kind(i) {
             Kind::Application => {
@@ -37,7 +38,7 @@ impl Output<'_> {
     #[cycle(term_list)]
     fn list(&mut self, area: &Area, i: usize, mark: u8) -> Option<()>
         requires { i < area.now.free }
-        ensures { PutInto self.old self.new (marked mark (renders (trees_in area.now i))) result }
+        ensures { PutInto self.old self.new (marked mark (renders (trees_in area.now i))) 0 result }
     {
         if i == 0 {
             let end: &[u8] = if mark == b'(' { b"" } else { b")" };
@@ -48,13 +49,17 @@ impl Output<'_> {
         self.list(area, area.next_of(i), b',')
     }
 
-    // The line of a key and the term of cell i.
+    // The line of a key and the term of cell i. On paper 63 bytes of the term stand in a line.
     pub fn line(&mut self, key: &[u8], area: &Area, i: usize) -> Option<()>
         requires { CellIn area.now i }
-        ensures { PutInto self.old self.new (line key.now (render (tree_in area.now i))) result }
+        ensures { PutInto self.old self.new (line key.now (render (tree_in area.now i))) (lines_taken (render (tree_in area.now i))) result }
     {
         self.text(key)?;
+        let from = self.at;
         self.term(area, i)?;
-        self.text(b"\n")
+        let length = self.at - from;
+        self.text(b"\n")?;
+        self.lines += 1 + length.saturating_sub(1) / 63;
+        Some(())
     }
 }
