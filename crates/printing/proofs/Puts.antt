@@ -1,7 +1,7 @@
 -- Texts put one after another.
 use Prim.Native.Nat.{ℕ, ◌+◌, ◌-◌, ◌<◌, ◌≤◌}
-use mathlib.Core.Path.{◌≡◌, refl, sym, ap, ap₂, ◌∙◌}
-use mathlib.Core.List.{[], ◌++◌, append-nil}
+use mathlib.Core.Path.{◌≡◌, refl, sym, subst, ap, ap₂, ◌∙◌}
+use mathlib.Core.List.{[], ◌∷◌, ◌++◌, append-nil}
 use Rattle.std.specs.Prelude.{Option, Some, None}
 use lib.ListN.{length, take, length-append}
 use lib.Seq.{drop-drop}
@@ -9,9 +9,11 @@ use Rattle.std.proofs.lemmas.List.{drop_all}
 use borrow.Rule.Slice.PartMut.{put_mid}
 use native.Mathlib.Omega.{arith}
 use Rattle.rules.specs.Bytes.{Text}
+use Rattle.rules.specs.Answer.{line}
 use Rattle.text.specs.Printing.{printed_over}
 use Rattle.tree.proofs.Printing.{written_none, length_written, written_then}
 use Rattle.printing.specs.Measure.{measured}
+use Rattle.printing.specs.Paper.{lines_for}
 use Rattle.printing.specs.Putting.{PutInto}
 use Rattle.printing.specs.declared.output.Output.{Output}
 use Rattle.printing.specs.declared.output.Pass.TheVariants.{Measure, Write}
@@ -119,6 +121,9 @@ module _ {a b : Output} {t : Text} {n : ℕ} where
     kept = p.kept;
   }
 
+  pub puts_lines : {m : ℕ} {r : Option (Unit {0})} → n ≡ m → PutInto a b t n r → PutInto a b t m r
+  puts_lines e p = rw (← e) p
+
   pub puts_as : {u : Text} {r : Option (Unit {0})} → t ≡ u → PutInto a b t n r → PutInto a b u n r
   puts_as e p = rw (← e) p
 
@@ -145,7 +150,7 @@ module _ {a b : Output} {t : Text} {n : ℕ} where
 pub puts_told : {a b : Output} {t : Text} {n : ℕ} → PutInto a b t n (Some (tt {0})) → (b.at ≡ a.at + length t) × (b.lines ≡ a.lines + n)
 puts_told p = ((told p.end).0, p.lines refl)
 
--- a text that was put, and then counted as so many lines
+-- a text, and then its lines counted
 module _ {a b : Output} {t : Text} where
   pub puts_counted : {c : Output} (m : ℕ) → PutInto a b t 0 (Some (tt {0})) → c.bytes ≡ b.bytes → c.at ≡ b.at → c.pass ≡ b.pass → c.room ≡ b.room
       → c.lines ≡ b.lines + m → PutInto a c t m (Some (tt {0}))
@@ -159,3 +164,22 @@ module _ {a b : Output} {t : Text} where
     written = λ y k. ap (λ x. x.now) e ∙ p.written y k;
     kept = λ y. ap (λ x. x.now) e ∙ p.kept y;
   }
+
+-- A line, by its key, its text and its end
+
+module _ {a b : Output} (key : Text) (p : PutInto a b key 0 (Some (tt {0}))) {d : Output} (text : Text) where
+  pub line_over : PutInto b d text 0 None → PutInto a d (line key text) (lines_for (length text)) None
+  line_over q = puts_uncounted (puts_past (10 ∷ []) (puts_then p q))
+
+  module _ (q : PutInto b d text 0 (Some (tt {0}))) where
+    pub line_begun : (d.lines ≤ b.at) × (b.at ≤ d.at)
+    line_begun = (omega (arith, puts_told p, puts_told q, a.counted), omega (arith, puts_told q))
+
+    pub line_ended : {e : Output} {r : Option (Unit {0})} → PutInto d e (10 ∷ []) (lines_for (d.at - b.at)) r → PutInto a e (line key text) (lines_for (length text)) r
+    line_ended {e} {r} s =
+        let k : d.at - b.at ≡ length text = omega (arith, puts_told q) in
+        let l : 0 + 0 + lines_for (length text) ≡ lines_for (length text) = omega arith in
+        puts_lines l (puts_then (puts_then p q) (subst (λ (n : ℕ). PutInto d e (10 ∷ []) (lines_for n) r) k s))
+
+pub line_past : {a b : Output} (key text : Text) {n : ℕ} → PutInto a b key 0 None → PutInto a b (line key text) n None
+line_past key text p = puts_uncounted (puts_past (10 ∷ []) (puts_past text p))

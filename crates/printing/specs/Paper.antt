@@ -1,6 +1,5 @@
--- The lines that a text takes on paper, below its key (02, R-1). Definitions only.
-use Rattle.std.specs.Prelude.{ℕ, ◌+◌, ◌-◌, ◌/◌, length}
-use Rattle.rules.specs.Bytes.{Text}
+-- The lines that a text takes on paper, by its length: 63 bytes of it stand in a line (02, R-1). Definitions only.
+use Rattle.std.specs.Prelude.{ℕ, ◌+◌, ◌-◌, ◌/◌}
 
-abbrev pub lines_taken : Text → ℕ
-lines_taken text = 1 + (length text - 1) / 63
+abbrev pub lines_for : ℕ → ℕ
+lines_for n = 1 + (n - 1) / 63

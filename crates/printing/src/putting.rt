@@ -27,14 +27,14 @@ impl Output<'_> {
     }
 
     // A text.
-    pub fn text(&mut self, text: &[u8]) -> Option<()>
+    pub(crate) fn text(&mut self, text: &[u8]) -> Option<()>
         ensures { PutInto self.old self.new text.now 0 result }
     {
         self.put(text.len(), |part| part.copy_from_slice(text))
     }
 
     // A number in decimal.
-    pub fn decimal(&mut self, n: usize) -> Option<()>
+    pub(crate) fn decimal(&mut self, n: usize) -> Option<()>
         ensures { PutInto self.old self.new (decimal n) 0 result }
     {
         self.put(width_of(n), |part| {

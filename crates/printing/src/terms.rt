@@ -1,10 +1,10 @@
 // A term put into an output, by its name and its list, and a line of a key and a term.
-ghost use Rattle.std.specs.Prelude.{◌<◌};
+ghost use Rattle.std.specs.Prelude.{◌<◌, length};
 ghost use Rattle.rules.specs.Writing.{render, renders};
 ghost use Rattle.rules.specs.Answer.{line};
 ghost use Rattle.tree.specs.Areas.{tree_in, trees_in, CellIn};
 ghost use Rattle.printing.specs.Marked.{marked};
-ghost use Rattle.printing.specs.Paper.{lines_taken};
+ghost use Rattle.printing.specs.Paper.{lines_for};
 ghost use Rattle.printing.specs.Putting.{PutInto};
 
 use crate::output::Output;
@@ -49,17 +49,14 @@ impl Output<'_> {
         self.list(area, area.next_of(i), b',')
     }
 
-    // The line of a key and the term of cell i. On paper 63 bytes of the term stand in a line.
+    // The line of a key and the term of cell i.
     pub fn line(&mut self, key: &[u8], area: &Area, i: usize) -> Option<()>
         requires { CellIn area.now i }
-        ensures { PutInto self.old self.new (line key.now (render (tree_in area.now i))) (lines_taken (render (tree_in area.now i))) result }
+        ensures { PutInto self.old self.new (line key.now (render (tree_in area.now i))) (lines_for (length (render (tree_in area.now i)))) result }
     {
         self.text(key)?;
         let from = self.at;
         self.term(area, i)?;
-        let length = self.at - from;
-        self.text(b"\n")?;
-        self.lines += 1 + length.saturating_sub(1) / 63;
-        Some(())
+        self.end_line(from)
     }
 }
