@@ -30,21 +30,21 @@ pub refused_settles : (x : Refusal) (out : Text) → Settles (within_room (refus
 unfolding within_room
 refused_settles x out = record { number = refl; count = refl; output = refl }
 
-module _ {a b : Output} {t v : Text} (z : a.at ≡ 0) (m : a.pass ≡ Measure) where
+module _ {a b : Output} {t v : Text} {n : ℕ} (z : a.at ≡ 0) (m : a.pass ≡ Measure) (o : a.room ≡ length a.bytes.now) where
   -- measured, and too long
-  pub short_settles : PutInto a b t None → v ≡ b.bytes.now → Settles (within_room (passed t) (length a.bytes.now)) a.bytes.now v (Err ShortOutput)
+  pub short_settles : PutInto a b t n None → v ≡ b.bytes.now → Settles (within_room (passed t) (length a.bytes.now)) a.bytes.now v (Err ShortOutput)
   short_settles p f =
       let k = told_over p.end in
-      let e = fits_over t (length a.bytes.now) (omega (arith, k, z)) in
+      let e = fits_over t (length a.bytes.now) (omega (arith, k, z, o)) in
       record { number = sym (ap refusal_number e); count = sym (ap written e); output = f ∙ p.kept m ∙ sym (ap (λ (r : Reply Text). overwritten r a.bytes.now) e) }
 
   -- measured, and written
-  pub written_settles : {c d : Output} → PutInto a b t (Some (tt {0})) → c.bytes ≡ b.bytes → c.at ≡ 0 → c.pass ≡ Write → PutInto c d t (Some (tt {0})) → v ≡ d.bytes.now → Settles (within_room (passed t) (length a.bytes.now)) a.bytes.now v (Ok d.at)
+  pub written_settles : {c d : Output} → PutInto a b t n (Some (tt {0})) → c.bytes ≡ b.bytes → c.at ≡ 0 → c.pass ≡ Write → PutInto c d t n (Some (tt {0})) → v ≡ d.bytes.now → Settles (within_room (passed t) (length a.bytes.now)) a.bytes.now v (Ok d.at)
   unfolding Print.printed_over
   written_settles {c} {d} p f y w q g =
       let k = told p.end in
       let l = told q.end in
-      let e = fits_within t (length a.bytes.now) (omega (arith, k, z)) in
+      let e = fits_within t (length a.bytes.now) (omega (arith, k, z, o)) in
       record {
         number = sym (ap refusal_number e);
         count = l.0 ∙ ap (λ n. n + length t) y ∙ zero-add (length t) ∙ sym (ap written e);

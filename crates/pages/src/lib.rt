@@ -8,7 +8,8 @@ ghost use Rattle.answers.specs.Settling.{Settles};
 ghost use Rattle.pages.specs.Paging.{on_pages, Needs};
 
 use answers::deciding::{Decision, Lines};
-use answers::giving::{Reply, put_lines};
+use answers::giving::Reply;
+use answers::lines::put_lines;
 use layout::lay_out;
 use printing::output::{Output, Pass};
 use rules::Refusal;
