@@ -16,5 +16,5 @@ decide-decision-requires-clause-ready c = form_ready c.args.form refl c.requires
 pub give-requires : goal.give-requires
 give-requires c = decided_held c.args.sheet.now c.args.form c.requires.decoded c.decide-decision.ensures
 
-pub returns : goal.returns
-returns c = decided_settles c.args.sheet.now c.args.form c.decide-decision.result c.decide-decision.ensures c.give.ensures
+pub returns-in-Lines : goal.returns-in-Lines
+returns-in-Lines c = ?
