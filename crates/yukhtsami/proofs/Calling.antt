@@ -53,7 +53,12 @@ module _ (s : Text) (f : Form) {a b : Area} where
       (ap (λ (z : Reply Text). replied_by l z (length out)) (h.decides sheet e).reply ∙ replies l sheet (length out)) k
 
 -- the whole call, by what was admitted and settled
-called_by : (l : Layout) (s : Text) (words room : ℕ) → call_by l s words room ≡ (admitted s words >>= λ (sheet : Sheet). settled_by l sheet room)
+abbrev settled_after : Layout → ℕ → Reply Sheet → Reply Text
+settled_after l room o = do
+  sheet ← o
+  settled_by l sheet room
+
+called_by : (l : Layout) (s : Text) (words room : ℕ) → call_by l s words room ≡ settled_after l room (admitted s words)
 unfolding call page_call
 called_by layout.Lines s words room = refl
 called_by layout.Pages s words room = refl
@@ -63,7 +68,7 @@ module _ (l : Layout) (s : Text) (w : List ℕ) (out : Text) where
   unfolding work_after
   refused_answers x e =
       let f : call_by l s (length w) (length out) ≡ refused (number_for x) =
-          called_by l s (length w) (length out) ∙ ap (λ (z : Reply Sheet). z >>= λ (sheet : Sheet). settled_by l sheet (length out)) e in
+          called_by l s (length w) (length out) ∙ ap (settled_after l (length out)) e in
       record {
         number = sym (ap refusal_number f);
         written_is = sym (ap written f);
@@ -81,7 +86,7 @@ module _ (l : Layout) (s : Text) (w : List ℕ) (out : Text) where
     settled_answers v after r h z =
         let k = h a.decoded.sheet a.decoded.decodes in
         let g : call_by l s (length w) (length out) ≡ settled_by l a.decoded.sheet (length out) =
-            called_by l s (length w) (length out) ∙ ap (λ (y : Reply Sheet). y >>= λ (sheet : Sheet). settled_by l sheet (length out)) a.passes in
+            called_by l s (length w) (length out) ∙ ap (settled_after l (length out)) a.passes in
         record {
           number = k.number ∙ sym (ap refusal_number g);
           written_is = k.count ∙ sym (ap written g);
