@@ -1,8 +1,8 @@
 -- The text of a decision as the columns of a page hold it, and the pages that it needs.
 use mathlib.Core.Path.{◌≡◌, sym, subst, ap, ◌∙◌}
 use mathlib.Core.List.{[], ◌∷◌, ◌++◌, append_assoc}
-use Rattle.std.specs.Prelude.{Ok}
-use Prim.Native.Nat.{◌+◌, ◌*◌, ◌/◌, ◌<◌, ◌≤◌}
+use Rattle.std.specs.Prelude.{Some, Ok}
+use Prim.Native.Nat.{◌+◌, ◌-◌, ◌*◌, ◌/◌, ◌≤◌}
 use native.Mathlib.Omega.{arith}
 use lib.ListN.{length}
 use Rattle.rules.specs.Bytes.{Text}
@@ -23,6 +23,8 @@ use Rattle.answers.specs.Deciding.{key_name, key_text, lines_text, lines_entries
 use Rattle.answers.specs.declared.deciding.Key.{Key}
 use Rattle.answers.specs.declared.deciding.Lines.{Lines}
 use Rattle.answers.specs.declared.deciding.Lines.TheVariants.{Claim, Term, Verdict}
+use Rattle.pages.specs.Paging.{Needs}
+use Rattle.pages.specs.declared.Needed.{Needed}
 
 one_listed : (k : Key) (text : Text) → line (key_text k) text ≡ entry_lines ((key_name k, text) ∷ [])
 unfolding entry_lines
@@ -59,3 +61,7 @@ page_room t c =
     let e : length (ended (paged 0 1 (lines_of c.fields))) ≡ 3650 * page_count t =
         ap (λ es. length (ended (paged 0 1 (lines_of es)))) (sym (answer_entries t c)) ∙ page_length t c in
     omega (arith, unread_lines 0 1 c.fields c.fit, ap length c.listed, e)
+
+-- written up to their end, it begins in them
+pub ends : {t : Text} {n : Needed} → Columned t → Needs t (Some n) → (3650 * n.pages - n.length) + length t ≡ 3650 * n.pages
+ends {t} c h = omega (arith, page_room t c)

@@ -15,8 +15,8 @@ use printing::output::{Output, Pass};
 use rules::Refusal;
 use tree::area::Area;
 
-// The bytes of 9,999 pages. No answer that needs fewer pages is longer.
-const MOST: usize = 36_496_350;
+// The bytes of 9,999 pages. An answer that needs no more pages is no longer.
+const MOST: usize = 3650 * 9999;
 
 // The length of an answer, and the pages that it needs.
 #[derive(Clone, Copy)]

@@ -2,7 +2,7 @@ use Rattle.std.proofs.Common.{refl, sym, subst, ap, ap₂, ◌∙◌, ◌++◌, 
 use Rattle.rules.specs.Page.{page, page_count}
 use Rattle.laws.specs.Laying.{Columned}
 use Rattle.answers.specs.Deciding.{lines_text}
-use Rattle.pages.proofs.Held.{lines_columned, page_room}
+use Rattle.pages.proofs.Held.{lines_columned, page_room, ends}
 use Rattle.pages.proofs.Giving.{put_fits, part_put, rest_put}
 use Rattle.pages.proofs.put_pages.Goals as goal
 
@@ -13,25 +13,21 @@ overflow_sub-start c =
 
 pub unwrap-requires : goal.unwrap-requires
 unwrap-requires c =
-    let a = c.args in
-    let h = page_room (lines_text a.area.now a.lines) (lines_columned a.area.now a.lines c.requires.columned) in
-    put_fits c.put_lines.ensures (omega (arith, h, c.requires.needs))
+    let h = lines_columned c.args.area.now c.args.lines c.requires.columned in
+    put_fits c.put_lines.ensures (ends h c.requires.needs)
 
 pub lay_out-requires-clause-answer : goal.lay_out-requires-clause-answer
 lay_out-requires-clause-answer c =
-    let a = c.args in
-    let k = lines_columned a.area.now a.lines c.requires.columned in
-    let h = page_room (lines_text a.area.now a.lines) k in
-    subst Columned (sym (part_put c.put_lines.ensures (omega (arith, h, c.requires.needs)) refl (search rules))) k
+    let h = lines_columned c.args.area.now c.args.lines c.requires.columned in
+    subst Columned (sym (part_put c.put_lines.ensures (ends h c.requires.needs) refl (search rules))) h
 
 pub lay_out-requires-clause-count : goal.lay_out-requires-clause-count
 lay_out-requires-clause-count c =
-    let a = c.args in
-    let h = page_room (lines_text a.area.now a.lines) (lines_columned a.area.now a.lines c.requires.columned) in
-    c.requires.needs.1 ∙ ap page_count (sym (part_put c.put_lines.ensures (omega (arith, h, c.requires.needs)) refl (search rules)))
+    let h = lines_columned c.args.area.now c.args.lines c.requires.columned in
+    c.requires.needs.1 ∙ ap page_count (sym (part_put c.put_lines.ensures (ends h c.requires.needs) refl (search rules)))
 
 pub returns : goal.returns
 returns c =
-    let a = c.args in
-    let h = page_room (lines_text a.area.now a.lines) (lines_columned a.area.now a.lines c.requires.columned) in
-    c.lay_out.ensures ∙ ap₂ (λ x y. page x ++ y) (part_put c.put_lines.ensures (omega (arith, h, c.requires.needs)) refl (search rules)) (rest_put c.put_lines.ensures (omega (arith, h, c.requires.needs)) refl (search rules))
+    let h = lines_columned c.args.area.now c.args.lines c.requires.columned in
+    let e = ends h c.requires.needs in
+    c.lay_out.ensures ∙ ap₂ (λ x y. page x ++ y) (part_put c.put_lines.ensures e refl (search rules)) (rest_put c.put_lines.ensures e refl (search rules))
