@@ -1,7 +1,7 @@
 -- What a refusal, pages that are too many, pages that do not fit and pages that do give with an output; an answer written at their end.
 use mathlib.Core.Path.{◌≡◌, refl, sym, ap, ◌∙◌}
 use Prim.Native.Nat.{ℕ, ◌+◌, ◌-◌, ◌*◌, ◌<◌, ◌≤◌}
-use Rattle.std.specs.Prelude.{Option, Some, None, Result, Ok, Err}
+use Rattle.std.specs.Prelude.{Option, Some, None, Ok, Err}
 use Rattle.std.specs.Option.{IsSome}
 use mathlib.Core.List.{◌++◌, append_assoc}
 use native.Mathlib.Omega.{arith}

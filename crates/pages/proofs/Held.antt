@@ -1,5 +1,5 @@
 -- The text of a decision as the columns of a page hold it, and the pages that it needs.
-use mathlib.Core.Path.{◌≡◌, sym, subst, ap, ◌∙◌}
+use mathlib.Core.Path.{◌≡◌, sym, ap, ◌∙◌}
 use mathlib.Core.List.{[], ◌∷◌, ◌++◌, append_assoc}
 use Rattle.std.specs.Prelude.{Some, Ok}
 use Prim.Native.Nat.{◌+◌, ◌-◌, ◌*◌, ◌/◌, ◌≤◌}
@@ -9,7 +9,6 @@ use Rattle.rules.specs.Bytes.{Text}
 use Rattle.rules.specs.Writing.{render}
 use Rattle.rules.specs.Solving.{solved, failed, unsupported, Answer}
 use Rattle.rules.specs.Answer.{line, claim}
-use Rattle.rules.specs.Sheet.{Entry}
 use Rattle.rules.specs.SheetLines.{ended}
 use Rattle.rules.specs.Page.{lines_of, paged, page_lines, page, page_count}
 use Rattle.laws.specs.Laying.{entry_lines, Columned, verdict_entries, line_count}
@@ -59,7 +58,7 @@ pub page_room : (t : Text) → Columned t → length t ≤ 3650 * page_count t
 unfolding page page_lines
 page_room t c =
     let e : length (ended (paged 0 1 (lines_of c.fields))) ≡ 3650 * page_count t =
-        ap (λ es. length (ended (paged 0 1 (lines_of es)))) (sym (answer_entries t c)) ∙ page_length t c in
+    ap (λ es. length (ended (paged 0 1 (lines_of es)))) (sym (answer_entries t c)) ∙ page_length t c in
     omega (arith, unread_lines 0 1 c.fields c.fit, ap length c.listed, e)
 
 -- written up to their end, it begins in them

@@ -68,7 +68,7 @@ module _ (l : Layout) (s : Text) (w : List ℕ) (out : Text) where
   unfolding work_after
   refused_answers x e =
       let f : call_by l s (length w) (length out) ≡ refused (number_for x) =
-          called_by l s (length w) (length out) ∙ ap (settled_after l (length out)) e in
+      called_by l s (length w) (length out) ∙ ap (settled_after l (length out)) e in
       record {
         number = sym (ap refusal_number f);
         written_is = sym (ap written f);
@@ -86,7 +86,7 @@ module _ (l : Layout) (s : Text) (w : List ℕ) (out : Text) where
     settled_answers v after r h z =
         let k = h a.decoded.sheet a.decoded.decodes in
         let g : call_by l s (length w) (length out) ≡ settled_by l a.decoded.sheet (length out) =
-            called_by l s (length w) (length out) ∙ ap (settled_after l (length out)) a.passes in
+        called_by l s (length w) (length out) ∙ ap (settled_after l (length out)) a.passes in
         record {
           number = k.number ∙ sym (ap refusal_number g);
           written_is = k.count ∙ sym (ap written g);

@@ -25,13 +25,7 @@ enum Layout {
 }
 
 // Decides a sheet that is admitted in an area with no cell yet, and gives what was decided. Every word of the work area is free afterwards.
-fn settle(
-    sheet: &[u8],
-    work: &mut [u32],
-    output: &mut [u8],
-    form: Form,
-    layout: Layout,
-) -> Reply
+fn settle(sheet: &[u8], work: &mut [u32], output: &mut [u8], form: Form, layout: Layout) -> Reply
     requires decoded { Decoded sheet.now form }
     requires enough_words { EnoughWords sheet.now form (length work.old) }
     ensures { SettlesForm (settled_by layout) (sheet_of sheet.now form) output.old output.new result }

@@ -1,7 +1,6 @@
-use Rattle.std.proofs.Common.{◌≡◌, arith}
+use Rattle.std.proofs.Common.{◌≡◌}
 use Rattle.std.proofs.lemmas.Result.{err_from_is_err_and}
 use Rattle.rules.specs.declared.Refusal.TheVariants.{TooManyPages}
-use Rattle.answers.specs.Deciding.{lines_text}
 use Rattle.pages.proofs.Held.{lines_columned}
 use Rattle.pages.proofs.Giving.{refused_settles, many_settles, short_settles, pages_settle}
 use Rattle.pages.proofs.give_pages.Goals as goal

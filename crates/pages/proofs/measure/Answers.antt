@@ -1,4 +1,4 @@
-use Rattle.std.proofs.Common.{sym, ◌∙◌, arith}
+use Rattle.std.proofs.Common.{arith}
 use Rattle.answers.specs.Deciding.{lines_text}
 use Rattle.printing.proofs.Lengths.{told_over}
 use Rattle.printing.proofs.Puts.{puts_told}

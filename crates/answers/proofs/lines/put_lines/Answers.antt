@@ -1,5 +1,4 @@
 use Rattle.rules.specs.Writing.{render}
-use Rattle.rules.specs.Answer.{claim as word_of}
 use Rattle.tree.specs.Areas.{tree_in}
 use Rattle.printing.proofs.Puts.{puts_lines}
 use Rattle.answers.specs.Deciding.{key_name}
