@@ -19,6 +19,7 @@ use Rattle.laws.proofs.Sheets.Pages.{page_length}
 use Rattle.sheet.specs.Lines.{part_of}
 use Rattle.text.specs.Printing.{printed_over}
 use Rattle.answers.specs.Settling.{Settles}
+use Rattle.answers.proofs.Gives.{settles_refused}
 use Rattle.printing.specs.Putting.{PutInto}
 use Rattle.printing.specs.declared.output.Output.{Output}
 use Rattle.printing.specs.declared.output.Pass.TheVariants.{Write}
@@ -26,16 +27,9 @@ use Rattle.printing.proofs.Lengths.{told_over}
 use Rattle.pages.specs.Paging.{on_pages, Needs}
 use Rattle.pages.specs.declared.Needed.{Needed}
 
-settles_refused : {o : Reply Text} (x : Refusal) (out : Text) → o ≡ refused (number_for x) → Settles o out out (Err x)
-settles_refused x out e = record {
-  number = sym (ap refusal_number e);
-  count = sym (ap written e);
-  output = sym (ap (λ (r : Reply Text). overwritten r out) e);
-}
-
 pub refused_settles : (x : Refusal) (out : Text) → Settles (on_pages (refused (number_for x)) (length out)) out out (Err x)
 unfolding on_pages
-refused_settles x out = settles_refused x out refl
+refused_settles x out = settles_refused x refl refl
 
 module _ (t out : Text) where
   many_refused : 9999 < page_count t → on_pages (passed t) (length out) ≡ refused (number_for TooManyPages)
@@ -43,7 +37,7 @@ module _ (t out : Text) where
   many_refused h = rw (lt-leb (page_count t) 9999 h)
 
   pub many_settles : 9999 < page_count t → Settles (on_pages (passed t) (length out)) out out (Err TooManyPages)
-  many_settles h = settles_refused TooManyPages out (many_refused h)
+  many_settles h = settles_refused TooManyPages (many_refused h) refl
 
   module _ (x : Needed) (c : Columned t) (h : Needs t (Some x)) where
     page_size : length (page t) ≡ 3650 * x.pages
@@ -54,7 +48,7 @@ module _ (t out : Text) where
     short_refused k = rw (le-leb (page_count t) 9999 (omega arith), lt-leb (length (page t)) (length out) (omega (arith, page_size)))
 
     pub short_settles : length out < 3650 * x.pages → Settles (on_pages (passed t) (length out)) out out (Err ShortOutput)
-    short_settles k = settles_refused ShortOutput out (short_refused k)
+    short_settles k = settles_refused ShortOutput (short_refused k) refl
 
     pages_pass : 3650 * x.pages ≤ length out → on_pages (passed t) (length out) ≡ passed (page t)
     unfolding on_pages
