@@ -22,10 +22,10 @@ host: the reference of the call, generated sheets and the stored list
   host compare [--count N] [--seed S]   the model against the Rust on generated sheets
   host library [--count N] [--seed S] [--kinds equal,unify,..]
                                         the linked library against the reference, on the stored
-                                        list and on generated sheets of these kinds
+                                        list and by both calls on generated sheets of these kinds
   host list [--count N] [--seed S] --out FILE
-                                        write generated sheets with the reference's replies as a
-                                        list
+                                        write both calls on generated sheets with the reference's
+                                        replies as a list
   host seeds FOLDER                     write the stored sheets as inputs of host/fuzz
   host deepest FILE                     write the deepest sheets of each kind, with the linked
                                         library's replies, as a list
@@ -120,13 +120,13 @@ fn replay() -> Outcome {
     }
     let mut tally = Tally::default();
     for record in &records {
-        tally.add(&record.sheet, &record.reply);
+        tally.add(record.case.call, &record.case.sheet, &record.case.reply);
     }
     print!("{tally}");
     let agreed = records.len() - wrong.len();
     println!("{agreed} of {} sheets agreed", records.len());
     if !oracle::present() {
-        let asked = |record: &&store::Record| sheet::read(&record.sheet).is_ok();
+        let asked = |record: &&store::Record| sheet::read(&record.case.sheet).is_ok();
         let count = records.iter().filter(asked).count();
         notice::absent(&format!(
             "{count} sheets were compared with the model alone"
@@ -148,8 +148,9 @@ fn compare(words: &[String]) -> Outcome {
         let mut rng = Rng::new(options.seed);
         let mut tally = Tally::default();
         for _ in 0..options.count {
-            let case = generate::case(&mut rng, Size::Any);
-            tally.add(&case.sheet, &case.reply);
+            for case in generate::cases(&mut rng, Size::Any) {
+                tally.add(case.call, &case.sheet, &case.reply);
+            }
         }
         tally
     });
@@ -195,7 +196,7 @@ fn write_list(words: &[String]) -> Outcome {
     notice::absent("the replies are the model's");
     let records = store::of_any_size(options.count, options.seed);
     fs::write(&out, store::written(&records)).map_err(|error| format!("{out}: {error}"))?;
-    println!("{} sheets in {out}", records.len());
+    println!("{} calls in {out}", records.len());
     Ok(ExitCode::SUCCESS)
 }
 
@@ -207,7 +208,7 @@ fn seeds(words: &[String]) -> Outcome {
         return Err("seeds takes one folder; see host --help".to_owned());
     };
     let records = store::stored()?;
-    let short = |record: &&store::Record| record.sheet.len() <= LONGEST_SEED;
+    let short = |record: &&store::Record| record.case.sheet.len() <= LONGEST_SEED;
     let mut count = 0;
     for record in records.iter().filter(short) {
         let file = PathBuf::from(folder).join(&record.label);

@@ -5,7 +5,7 @@ use std::{
     time::{Duration, Instant},
 };
 
-use yukhtsami::Refusal;
+use yukhtsami::{Call, Refusal};
 
 use crate::{deep, lent, sheet};
 
@@ -87,7 +87,7 @@ fn clocked<T>(function: impl FnOnce() -> T) -> (Duration, T) {
 // One call with no word of the work area zero.
 fn call(bytes: &[u8], work: &mut [u32], output: &mut [u8]) -> (Duration, String) {
     work.fill(u32::MAX);
-    let (time, called) = clocked(|| yukhtsami::call(bytes, work, output));
+    let (time, called) = clocked(|| yukhtsami::call(Call::Answer, bytes, work, output));
     let answer = match Refusal::of(called.refusal) {
         None => String::from_utf8_lossy(&output[..called.written]).into_owned(),
         Some(refusal) => refusal.to_string(),
