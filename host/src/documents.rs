@@ -1,10 +1,11 @@
 // Worked sheets in the documents, and the example sheets beside them.
 //
 // In a document a block of lines indented by four blanks is a sheet if it begins with `kind=`, and
-// the next such block is its answer, or `refusal` and a number, or its answer in pages: lines from
-// `PAGE 0001` on, without the blanks at their ends and the blank lines at the end of the last page. In
-// one line of text a sheet stands in code marks with `/` for byte 10, and its answer, or `page refusal`
-// and a number for a refusal of its pages, in the next code marks that hold one. A table
+// the next such block is its answer, or `refusal` and a number. A block that begins with `PAGE 0001` is the
+// answer in pages, of the sheet before it or of the one before that answer: lines without the blanks at
+// their ends and without the blank lines at the end of the last page. In one line of text a sheet stands
+// in code marks with `/` for byte 10, and its answer, or `page refusal` and a number for a refusal of its
+// pages, in the next code marks that hold one. A table
 // whose first heading is `taken` shows the pairs that the sheet before it takes, one in a row.
 use std::{fs, path::PathBuf};
 
@@ -94,6 +95,11 @@ impl<'a> Reader<'a> {
         let text: String = lines.iter().map(|line| format!("{line}\n")).collect();
         match (self.open.take(), first.starts_with("kind=")) {
             (None, true) => self.open = Some((place.to_owned(), text.into_bytes())),
+            (None, false) if *first == HEADING => {
+                let last = self.found.last().ok_or("a page without a sheet")?;
+                let sheet = last.sheet.clone();
+                self.found.push(reply(place.to_owned(), sheet, &text)?);
+            }
             (None, false) if answers(first) => return Err("an answer without a sheet".to_owned()),
             (None, false) => {}
             (Some(_), true) => return Err("no answer before the next sheet".to_owned()),

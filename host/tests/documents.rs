@@ -208,7 +208,12 @@ fn a_document_that_breaks_the_convention_is_an_error() {
     assert!(read("`kind=reduce/term=a/`: `refusal 12 with 8 words of it`").is_err());
     let page = read("`kind=reduce/term=a/`: `page refusal 12 with 8 bytes`").unwrap();
     assert_eq!((page[0].call, page[0].room), (Call::Page, Some(8)));
-    let page = read(&format!("{sheet}\nis\n\n    PAGE 0001\n    normal   a\n")).unwrap();
+    let shown = "\non paper\n\n    PAGE 0001\n    normal   a\n";
+    let page = read(&format!("{sheet}{shown}")).unwrap();
+    let both = read(&format!("{sheet}\nis\n\n{answer}{shown}")).unwrap();
+    assert_eq!((both.len(), &both[1].reply), (2, &page[0].reply));
+    assert_eq!(both[0].sheet, both[1].sheet);
+    assert!(read(shown).is_err());
     let blank = " ".repeat(72) + "\n";
     let lines = format!("{:72}\n{:72}\n", "PAGE 0001", "normal   a") + &blank.repeat(48);
     assert_eq!((page[0].call, told(&page[0].reply)), (Call::Page, lines));
