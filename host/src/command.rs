@@ -29,11 +29,11 @@ host: the reference of the call, generated sheets and the stored list
   host seeds FOLDER                     write the stored sheets as inputs of host/fuzz
   host deepest FILE                     write the deepest sheets of each kind, with the linked
                                         library's replies, as a list
-  host bench [--kinds equal,..] [--long] [--write FILE]
+  host bench [--kinds equal,.. | --pages] [--long] [--write FILE]
                                         times of the linked library and of the Rust on sheets
-                                        of these kinds, and how they grow; --long asks the Rust
-                                        what takes it over 10 seconds, --write puts the tables
-                                        into FILE, between its marks
+                                        of these kinds, and how they grow, or of pages alone;
+                                        --long asks the Rust what takes it over 10 seconds,
+                                        --write puts the tables into FILE, between its marks
   host refused CRATE..                  write what the prover's logs say of the must-fail edits of
                                         these crates (host/try-edits calls it)
   host definitions [--count N] [--seed S] [--chunk K] --out FILE
@@ -78,9 +78,16 @@ fn options(words: &[String], allowed: &[&str], count: usize) -> Result<Options, 
         if !allowed.contains(&name.as_str()) {
             return Err(format!("unknown option '{name}'; see host --help"));
         }
-        if name == "--long" {
-            found.long = true;
-            continue;
+        match name.as_str() {
+            "--long" => {
+                found.long = true;
+                continue;
+            }
+            "--pages" => {
+                found.kinds.clear();
+                continue;
+            }
+            _ => {}
         }
         let value = words
             .next()
@@ -233,14 +240,15 @@ fn write_deepest(words: &[String]) -> Outcome {
     Ok(ExitCode::SUCCESS)
 }
 
-// Both tables, and the document with them if one is named.
+// The tables, and the document with them if one is named.
 fn benched(words: &[String]) -> Outcome {
-    let options = options(words, &["--kinds", "--long", "--write"], 0)?;
+    let options = options(words, &["--kinds", "--pages", "--long", "--write"], 0)?;
     if !yukhtsami::present() {
         return Err(format!("{}; nothing was timed", yukhtsami::notice()));
     }
-    if options.out.is_some() && !(oracle::present() && options.kinds.len() == KINDS.len()) {
-        return Err("--write takes the tables of all kinds, with the Rust".to_owned());
+    let whole = options.kinds.is_empty() || options.kinds.len() == KINDS.len();
+    if options.out.is_some() && !(oracle::present() && whole) {
+        return Err("--write takes the tables of all kinds or of pages, with the Rust".to_owned());
     }
     notice::absent("the library is timed alone");
     let wrong = bench::run(&options.kinds, options.long, options.out.as_deref())?;
