@@ -4,13 +4,14 @@ use mathlib.Core.Path.{◌≡◌, refl, sym, ap, ap₂, ◌∙◌}
 use mathlib.Core.Bool.{Bool, true, false, cond}
 use mathlib.Core.List.{List, [], ◌∷◌, ◌++◌, append_assoc}
 use lib.Dec.{eqb}
-use lib.ListN.{length, take, drop, length-append}
-use lib.Seq.{take_at, drop-append-add}
+use lib.ListN.{length, take, drop, length-append, take-append-drop}
+use lib.Seq.{take_at, drop-append-add, drop-drop}
 use native.Mathlib.Omega.{arith}
 use Rattle.std.specs.Prelude.{Option, Some, None, option_map, position}
 use Rattle.std.specs.Option.{unwrap_or}
 use Rattle.rules.specs.Bytes.{Text}
 use Rattle.rules.specs.Names.{all}
+use Rattle.rules.specs.Text.{count_of}
 use Rattle.rules.specs.Sheet.{Entry}
 use Rattle.rules.specs.SheetLines.{ended}
 use Rattle.rules.specs.Page.{lines_of}
@@ -46,6 +47,25 @@ before_first test b f e [] s h = before_here b b s e
 before_first test b f e (x ∷ k) s h =
     before_more b x (k ++ b ∷ s) (not_byte test b f x (and_left (test x) (all test k) h))
     ∙ ap suc (before_first test b f e k s (and_right (test x) (all test k) h))
+
+-- bytes with none that is b, and those after them
+before_none : (b : ℕ) (k s : Text) → count_of b k ≡ 0 → length_before b (k ++ s) ≡ length k + length_before b s
+unfolding count_of
+before_none b [] s h = omega arith
+before_none b (x ∷ k) s h = go (eqb x b) refl h (before_none b k s)
+  where
+    go : (t : Bool) → eqb x b ≡ t → cond t 1 0 + count_of b k ≡ 0 → (count_of b k ≡ 0 → length_before b (k ++ s) ≡ length k + length_before b s)
+        → length_before b (x ∷ (k ++ s)) ≡ suc (length k) + length_before b s
+    go true e h r = absurd (omega arith)
+    go false e h r = before_more b x (k ++ s) e ∙ ap suc (r (omega arith)) ∙ omega arith
+
+pub before_block : (b n at : ℕ) (s : Text) → at + n ≤ length s → count_of b (part_of at (at + n) s) ≡ 0 → length_before b (drop at s) ≡ n + length_before b (drop (at + n) s)
+before_block b n at s l h =
+    let i : at + n - at ≡ n = omega arith in
+    let e : part_of at (at + n) s ++ drop (at + n) s ≡ drop at s =
+    ap (λ (m : ℕ). take m (drop at s) ++ drop (at + n) s) i ∙ ap (take n (drop at s) ++◌) (sym (drop-drop n at s)) ∙ take-append-drop n (drop at s) in
+    let k : length (part_of at (at + n) s) ≡ n = part_length at (at + n) s l ∙ i in
+    ap (length_before b) (sym e) ∙ before_none b (part_of at (at + n) s) (drop (at + n) s) h ∙ ap (◌+ length_before b (drop (at + n) s)) k
 
 -- what is unread begins with an entry
 pub record Entered (out : Text) (end : ℕ) (p : Place) : Type 0 where

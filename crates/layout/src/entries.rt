@@ -5,6 +5,7 @@ ghost use Rattle.text.specs.Printing.{printed_over};
 ghost use Rattle.layout.specs.Places.{length_before, Unread, laid_out, HeadingRoom, Headed};
 
 use crate::lines::{put_heading, put_line};
+use text::count_of;
 
 // Where the layout stands: the position of the next line, that of the first unread byte, the lines left on the page, and the number of
 // the next one.
@@ -28,6 +29,20 @@ fn length_before(text: &[u8], b: u8) -> usize
     ensures { result ≡ length_before b text.now }
 {
     position_of(text, b).unwrap_or(text.len())
+}
+
+// The bytes that are looked at together.
+const BLOCK: usize = 64;
+
+// How many bytes stand before the first byte 10, or in all. Long texts are passed over block by block: a count has no exit to wait for.
+fn text_length(text: &[u8]) -> usize
+    ensures { result ≡ length_before 10 text.now }
+{
+    let mut at = 0;
+    while BLOCK <= text.len() - at && count_of(&text[at..at + BLOCK], b'\n') == 0 {
+        at += BLOCK;
+    }
+    at + length_before(&text[at..], b'\n')
 }
 
 // The heading, where a page begins.
@@ -60,7 +75,7 @@ pub(crate) fn lay_entry(output: &mut [u8], end: usize, place: Place) -> Place
         from: place.from + key + 1,
         ..place
     };
-    let mut rest = length_before(&output[place.from..end], b'\n');
+    let mut rest = text_length(&output[place.from..end]);
     loop {
         place = begin_line(output, place);
         let count = rest.min(63);

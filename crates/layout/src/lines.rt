@@ -41,6 +41,7 @@ pub(crate) fn put_heading(output: &mut [u8], at: usize, number: usize)
 }
 
 // So many bytes from a position on, copied to columns that stand before it, and blanks.
+#[inline(always)]
 fn put_columns(output: &mut [u8], from: usize, count: usize, at: usize, to: usize)
     requires { (at ≤ from) × (at + count ≤ to) × (from + count ≤ length output.old) × (to ≤ length output.old) }
     ensures { output.new ≡ printed_over output.old at (columns (to - at) (take count (drop from output.old))) }
@@ -50,13 +51,26 @@ fn put_columns(output: &mut [u8], from: usize, count: usize, at: usize, to: usiz
 }
 
 // A line with a key of so many bytes, and with so many bytes of the text from a position on; the key stands before the byte before it.
-pub(crate) fn put_line(output: &mut [u8], at: usize, key: usize, from: usize, count: usize)
+#[inline(always)]
+fn put_parts(output: &mut [u8], at: usize, key: usize, from: usize, count: usize)
     requires { (key ≤ 8) × (count ≤ 63) × (at + 9 ≤ from) × (from + count ≤ length output.old) × (at + 73 ≤ length output.old) }
     ensures { output.new ≡ printed_over output.old at (page_line (take key (drop (from - 1 - key) output.old)) (take count (drop from output.old)) ++ 10 ∷ []) }
 {
     put_columns(output, from - 1 - key, key, at, at + 9);
     put_columns(output, from, count, at + 9, at + 72);
     output[at + 72] = b'\n';
+}
+
+// The same. Most lines of a long text are full and have no key, and fixed lengths are copied without a call.
+pub(crate) fn put_line(output: &mut [u8], at: usize, key: usize, from: usize, count: usize)
+    requires { (key ≤ 8) × (count ≤ 63) × (at + 9 ≤ from) × (from + count ≤ length output.old) × (at + 73 ≤ length output.old) }
+    ensures { output.new ≡ printed_over output.old at (page_line (take key (drop (from - 1 - key) output.old)) (take count (drop from output.old)) ++ 10 ∷ []) }
+{
+    if key == 0 && count == 63 {
+        put_parts(output, at, 0, from, 63);
+    } else {
+        put_parts(output, at, key, from, count);
+    }
 }
 
 // So many blank lines.

@@ -6,13 +6,13 @@ use Rattle.layout.proofs.Turns.{heading_room, writer_behind, line_room, headed, 
 use Rattle.layout.proofs.Entering.{entered, key_found, key_room, text_found, in_text}
 use Rattle.layout.proofs.entries.lay_entry.Goals as goal
 
-pub slice_bounds-length_before-count-2 : goal.slice_bounds-length_before-count-2
-slice_bounds-length_before-count-2 c =
+pub slice_bounds-text_length-count : goal.slice_bounds-text_length-count
+slice_bounds-text_length-count c =
     let t = entered c.requires.unread c.requires.some in
     omega (arith, c.length_before-key.ensures ∙ key_found t, key_room t)
 
-pub slice_bounds-length_before-start-2 : goal.slice_bounds-length_before-start-2
-slice_bounds-length_before-start-2 c =
+pub slice_bounds-text_length-start : goal.slice_bounds-text_length-start
+slice_bounds-text_length-start c =
     let t = entered c.requires.unread c.requires.some in
     let h : c.args.place.from + c.length_before-key.result + 1 ≤ c.args.end = omega (arith, c.length_before-key.ensures ∙ key_found t, key_room t) in
     search rules
@@ -21,7 +21,7 @@ pub loop-rest-init : goal.loop-rest-init
 loop-rest-init c =
     let t = entered c.requires.unread c.requires.some in
     let k = c.length_before-key.ensures ∙ key_found t in
-    record { begun = omega arith; text = in_text t k refl refl refl refl (c.length_before-rest.ensures ∙ text_found t k) }
+    record { begun = omega arith; text = in_text t k refl refl refl refl (c.text_length-rest.ensures ∙ text_found t k) }
 
 pub begin_line-place-requires : goal.begin_line-place-requires
 begin_line-place-requires c = heading_room c.loop-rest.invariant.text

@@ -1,5 +1,5 @@
 use Rattle.layout.proofs.Columns.{line_put}
-use Rattle.layout.proofs.lines.put_line.Goals as goal
+use Rattle.layout.proofs.lines.put_parts.Goals as goal
 
 pub returns : goal.returns
 returns c =
