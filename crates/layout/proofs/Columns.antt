@@ -122,21 +122,19 @@ module _ (out : Text) (at key from count : ℕ) (h : at + 9 ≤ from) (k : from 
   abbrev key_part : Text
   key_part = take key (drop (from - 1 - key) out)
 
-  pub line_put : {v w : Text} → v ≡ printed_over out at (columns (at + 9 - at) key_part)
+  pub line_put : {v w : Text} → v ≡ printed_over out at (columns 9 key_part)
       → w ≡ printed_over v (at + 9) (columns (at + 72 - (at + 9)) (take count (drop from v)))
       → set w (at + 72) 10 ≡ printed_over out at (page_line key_part (take count (drop from out)) ++ 10 ∷ [])
   unfolding page_line
   line_put {v} {w} e f =
-      let i : at + 9 - at ≡ 9 = omega arith in
       let j : at + 72 - (at + 9) ≡ 63 = omega arith in
       let a = columns 9 key_part in
       let la = columns_length 9 key_part in
       let b = columns 63 (take count (drop from out)) in
       let lb = columns_length 63 (take count (drop from out)) in
-      let e' : v ≡ printed_over out at a = e ∙ ap (λ (x : ℕ). printed_over out at (columns x key_part)) i in
-      let d : drop from v ≡ drop from out = ap (drop from) e' ∙ past_written_from out a at (omega arith) from (omega arith) in
+      let d : drop from v ≡ drop from out = ap (drop from) e ∙ past_written_from out a at (omega arith) from (omega arith) in
       let f' : w ≡ printed_over v (at + 9) b = f ∙ ap₂ (λ (x : ℕ) (s : Text). printed_over v (at + 9) (columns x (take count s))) j d in
-      let g = then_at out a b at (omega arith) e' (omega arith) f' in
+      let g = then_at out a b at (omega arith) e (omega arith) f' in
       let lab = length-append a b in
       let lw = ap length g ∙ length_written out at (a ++ b) (omega arith) in
       then_at out (a ++ b) (10 ∷ []) at (omega arith) g (omega arith) (written_byte w (at + 72) 10 (omega arith))

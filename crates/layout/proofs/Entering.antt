@@ -1,14 +1,16 @@
 -- The next entry of what is unread: where its key and its text end, and what is still to be laid out.
-use Prim.Native.Nat.{ℕ, suc, ◌+◌, ◌-◌, ◌<◌, ◌≤◌}
+use Prim.Native.Nat.{ℕ, zero, suc, ◌+◌, ◌-◌, ◌<◌, ◌≤◌}
 use mathlib.Core.Path.{◌≡◌, refl, sym, ap, ap₂, ◌∙◌}
-use mathlib.Core.Bool.{Bool, true, false, cond}
+use mathlib.Core.Bool.{Bool, true, false, cond, ◌||◌, false≢true}
 use mathlib.Core.List.{List, [], ◌∷◌, ◌++◌, append_assoc}
-use lib.Dec.{eqb}
-use lib.ListN.{length, take, drop, length-append, take-append-drop}
+use lib.Dec.{eqb, ltb}
+use lib.ListN.{length, get_or, take, drop, length-append, take-append-drop}
 use lib.Seq.{take_at, drop-append-add, drop-drop}
 use native.Mathlib.Omega.{arith}
 use Rattle.std.specs.Prelude.{Option, Some, None, option_map, position}
 use Rattle.std.specs.Option.{unwrap_or}
+use Rattle.std.specs.Int.{from_bool}
+use Rattle.std.proofs.Math.Bool.{or-false}
 use Rattle.rules.specs.Bytes.{Text}
 use Rattle.rules.specs.Names.{all}
 use Rattle.rules.specs.Text.{count_of}
@@ -19,7 +21,9 @@ use Rattle.laws.specs.Laying.{solid, solid_key, all_columned, entry_lines}
 use Rattle.laws.proofs.Basics.Tests.{and_left, and_right}
 use Rattle.laws.proofs.Basics.Bytes.{not_byte}
 use Rattle.laws.proofs.Sheets.Entries.{first_columned, rest_columned, key_short, key_bytes, key_solid, text_solid}
+use borrow.Author.Tests.{lt-ltb}
 use Rattle.text.proofs.Library.{position_more}
+use Rattle.text.proofs.Loops.{count_next, count_end}
 use Rattle.layout.specs.declared.entries.Place.{Place}
 use Rattle.sheet.specs.Lines.{part_of}
 use Rattle.layout.specs.Places.{length_before, laid, laid_out, Filling, Unread}
@@ -47,6 +51,24 @@ before_first test b f e [] s h = before_here b b s e
 before_first test b f e (x ∷ k) s h =
     before_more b x (k ++ b ∷ s) (not_byte test b f x (and_left (test x) (all test k) h))
     ∙ ap suc (before_first test b f e k s (and_right (test x) (all test k) h))
+
+-- a block that is looked through
+
+or_next : (f e : Bool) (n m : ℕ) → m ≡ from_bool e + n → ((f || e) || ltb 0 n) ≡ (f || ltb 0 m)
+or_next true e n m h = refl
+or_next false true n m h = sym (lt-ltb 0 m (omega arith))
+or_next false false n m h = ap (ltb 0) (omega arith)
+
+pub held_next : (f : Bool) (b : ℕ) (s : Text) (i : ℕ) {r : Bool} → i < length s → (f || ltb 0 (count_of b (drop i s))) ≡ r
+    → ((f || eqb (get_or s i 0) b) || ltb 0 (count_of b (drop (i + 1) s))) ≡ r
+held_next f b s i h e = or_next f (eqb (get_or s i 0) b) (count_of b (drop (i + 1) s)) (count_of b (drop i s)) (count_next b s i h) ∙ e
+
+pub held_end : (f : Bool) (b : ℕ) (s : Text) (i : ℕ) {r : Bool} → length s ≤ i → (f || ltb 0 (count_of b (drop i s))) ≡ r → f ≡ r
+held_end f b s i h e = sym (or-false f) ∙ sym (ap (λ (n : ℕ). f || ltb 0 n) (count_end b s i h)) ∙ e
+
+pub none_held : (n : ℕ) → false ≡ ltb 0 n → n ≡ 0
+none_held zero e = refl
+none_held (suc n) e = absurd (false≢true (e ∙ lt-ltb 0 (suc n) (omega arith)))
 
 -- bytes with none that is b, and those after them
 before_none : (b : ℕ) (k s : Text) → count_of b k ≡ 0 → length_before b (k ++ s) ≡ length k + length_before b s

@@ -1,11 +1,11 @@
 // The lines of an entry, and the heading before them where a page begins.
-ghost use Rattle.std.specs.Prelude.{◌≡◌, ◌+◌, ◌<◌, ◌≤◌, ℕ, suc, [], ◌∷◌, ◌++◌, length, eqb, position};
+ghost use Rattle.std.specs.Prelude.{◌≡◌, ◌+◌, ◌<◌, ◌≤◌, ℕ, suc, [], ◌∷◌, ◌++◌, length, eqb, nat_lt, position};
+ghost use Rattle.rules.specs.Text.{count_of};
 ghost use Rattle.rules.specs.Page.{heading};
 ghost use Rattle.text.specs.Printing.{printed_over};
 ghost use Rattle.layout.specs.Places.{length_before, Unread, laid_out, HeadingRoom, Headed};
 
 use crate::lines::{put_heading, put_line};
-use text::count_of;
 
 // Where the layout stands: the position of the next line, that of the first unread byte, the lines left on the page, and the number of
 // the next one.
@@ -31,15 +31,26 @@ fn length_before(text: &[u8], b: u8) -> usize
     position_of(text, b).unwrap_or(text.len())
 }
 
+// Whether one of the bytes is b. Every byte is looked at, so that many are looked at together.
+fn holds(text: &[u8], b: u8) -> bool
+    ensures { result ≡ nat_lt 0 (count_of b text.now) }
+{
+    let mut found = false;
+    for x in text {
+        found |= *x == b;
+    }
+    found
+}
+
 // The bytes that are looked at together.
 const BLOCK: usize = 64;
 
-// How many bytes stand before the first byte 10, or in all. Long texts are passed over block by block: a count has no exit to wait for.
+// How many bytes stand before the first byte 10, or in all. Long texts are passed over block by block.
 fn text_length(text: &[u8]) -> usize
     ensures { result ≡ length_before 10 text.now }
 {
     let mut at = 0;
-    while BLOCK <= text.len() - at && count_of(&text[at..at + BLOCK], b'\n') == 0 {
+    while BLOCK <= text.len() - at && !holds(&text[at..at + BLOCK], b'\n') {
         at += BLOCK;
     }
     at + length_before(&text[at..], b'\n')

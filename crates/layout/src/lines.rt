@@ -50,27 +50,27 @@ fn put_columns(output: &mut [u8], from: usize, count: usize, at: usize, to: usiz
     output[at + count..to].fill(b' ');
 }
 
-// A line with a key of so many bytes, and with so many bytes of the text from a position on; the key stands before the byte before it.
+// The columns of a key of so many bytes, which ends before a position. Most lines of a long text have none.
 #[inline(always)]
-fn put_parts(output: &mut [u8], at: usize, key: usize, from: usize, count: usize)
-    requires { (key ≤ 8) × (count ≤ 63) × (at + 9 ≤ from) × (from + count ≤ length output.old) × (at + 73 ≤ length output.old) }
-    ensures { output.new ≡ printed_over output.old at (page_line (take key (drop (from - 1 - key) output.old)) (take count (drop from output.old)) ++ 10 ∷ []) }
+fn put_key(output: &mut [u8], end: usize, key: usize, at: usize)
+    requires { (key ≤ 8) × (at + 8 ≤ end) × (end ≤ length output.old) × (at + 9 ≤ length output.old) }
+    ensures { output.new ≡ printed_over output.old at (columns 9 (take key (drop (end - key) output.old))) }
 {
-    put_columns(output, from - 1 - key, key, at, at + 9);
-    put_columns(output, from, count, at + 9, at + 72);
-    output[at + 72] = b'\n';
+    if key == 0 {
+        put_columns(output, end, 0, at, at + 9);
+    } else {
+        put_columns(output, end - key, key, at, at + 9);
+    }
 }
 
-// The same. Most lines of a long text are full and have no key, and fixed lengths are copied without a call.
+// A line with a key of so many bytes, and with so many bytes of the text from a position on; the key stands before the byte before it.
 pub(crate) fn put_line(output: &mut [u8], at: usize, key: usize, from: usize, count: usize)
     requires { (key ≤ 8) × (count ≤ 63) × (at + 9 ≤ from) × (from + count ≤ length output.old) × (at + 73 ≤ length output.old) }
     ensures { output.new ≡ printed_over output.old at (page_line (take key (drop (from - 1 - key) output.old)) (take count (drop from output.old)) ++ 10 ∷ []) }
 {
-    if key == 0 && count == 63 {
-        put_parts(output, at, 0, from, 63);
-    } else {
-        put_parts(output, at, key, from, count);
-    }
+    put_key(output, from - 1, key, at);
+    put_columns(output, from, count, at + 9, at + 72);
+    output[at + 72] = b'\n';
 }
 
 // So many blank lines.
