@@ -19,6 +19,7 @@
 #define PAINT 0xa5
 
 struct call {
+    char kind[8];
     uint8_t *sheet, *output;
     uint32_t *work;
     size_t length, words, room;
@@ -27,7 +28,8 @@ struct call {
 
 static void *called(void *argument) {
     struct call *c = argument;
-    c->gave = yukhtsami_answer(c->sheet, c->length, c->work, c->words, c->output, c->room);
+    c->gave = (strcmp(c->kind, "pages") ? yukhtsami_answer : yukhtsami_page)(
+        c->sheet, c->length, c->work, c->words, c->output, c->room);
     return NULL;
 }
 
@@ -146,8 +148,8 @@ int main(int words, char **word) {
     while (fgets(line, sizeof line, list)) {
         struct call c = {0};
         if (line[0] == '#') continue;
-        if (sscanf(line, "sheet %zu %zu %u %zu %zu %255s", &c.words, &c.room, &refusal, &c.length,
-                   &written, label) != 6)
+        if (sscanf(line, "%7s %zu %zu %u %zu %zu %255s", c.kind, &c.words, &c.room, &refusal, &c.length,
+                   &written, label) != 7 || (strcmp(c.kind, "pages") && strcmp(c.kind, "sheet")))
             return 2;
         records++;
         if (!right(list, &c, label, refusal, written)) {

@@ -1,7 +1,7 @@
 /*
- * Yukhtsami for C and C++: one call that answers a sheet of terms. What sheets, answers and
- * refusals are is told in docs/SHEET.md. Link with target/staticlib/libyukhtsami.a, which
- * `host/link` writes; examples/c/answer.c is a whole program.
+ * Yukhtsami for C and C++: a call that answers a sheet of terms, and one that lays the answer out in
+ * pages. What sheets, answers, pages and refusals are is told in docs/SHEET.md. Link with
+ * target/staticlib/libyukhtsami.a, which `host/link` writes; examples/c/answer.c is a whole program.
  */
 #ifndef YUKHTSAMI_H
 #define YUKHTSAMI_H
@@ -16,7 +16,12 @@ extern "C" {
 /* The most bytes that a sheet may have. */
 #define YUKHTSAMI_LONGEST_SHEET 65536
 
-/* The six refusals. The first that applies in the order 1, 2, 3, 11, 4, 12 is given. */
+/* The bytes of a page: 50 lines of 72 characters, each ended by byte 10. */
+#define YUKHTSAMI_PAGE_BYTES 3650
+/* The most pages that an answer is laid out in. */
+#define YUKHTSAMI_MOST_PAGES 9999
+
+/* The seven refusals. The first that applies in the order 1, 2, 3, 11, 4, 13, 12 is given. */
 enum yukhtsami_refusal {
     YUKHTSAMI_ANSWERED = 0,          /* no refusal */
     YUKHTSAMI_TOO_LONG = 1,          /* the sheet has over 65,536 bytes */
@@ -24,7 +29,8 @@ enum yukhtsami_refusal {
     YUKHTSAMI_LINE_OUT_OF_PLACE = 3, /* the lines are not those of a sheet */
     YUKHTSAMI_UNREADABLE_TERM = 4,   /* a `left`, `right` or `term` is no term */
     YUKHTSAMI_SHORT_WORK_AREA = 11,  /* fewer words are lent than the sheet needs */
-    YUKHTSAMI_SHORT_OUTPUT = 12      /* the answer is longer than the output */
+    YUKHTSAMI_SHORT_OUTPUT = 12,     /* the answer, or its pages, are longer than the output */
+    YUKHTSAMI_TOO_MANY_PAGES = 13    /* of yukhtsami_page alone: over 9,999 pages would be needed */
 };
 
 /* What a call gives: the refusal's number, 0 for none, and the count of bytes written. */
@@ -51,7 +57,7 @@ struct yukhtsami_reply {
  *   0, an answer     The first `written` bytes of the output are the answer, without a zero byte
  *                    after it; the later bytes are as they were. The needed words of the work area
  *                    are zero, the later words as they were.
- *   4, 12            `written` is 0 and the output is as it was. The needed words of the work area
+ *   4, 13, 12        `written` is 0 and the output is as it was. The needed words of the work area
  *                    are zero, the later words as they were.
  *   1, 2, 3, 11      `written` is 0, and output and work area are as they were.
  *
@@ -61,6 +67,20 @@ struct yukhtsami_reply {
 struct yukhtsami_reply yukhtsami_answer(const uint8_t *sheet, size_t sheet_len,
                                         uint32_t *work, size_t work_len,
                                         uint8_t *output, size_t output_len);
+
+/*
+ * Answers a sheet like yukhtsami_answer, with the answer laid out in pages of YUKHTSAMI_PAGE_BYTES
+ * bytes: each begins with the line `PAGE` and its number, the key of a line stands from column 1, its
+ * text in columns 10 to 72 and, where it is longer, below, and the last page is filled with blank
+ * lines. The answer is never held beside them.
+ *
+ * What is asked and what is left is as for yukhtsami_answer, with the pages for the answer; 12 is given
+ * where the output is shorter than the pages, and 13 where they would be over YUKHTSAMI_MOST_PAGES,
+ * whatever the length of the output.
+ */
+struct yukhtsami_reply yukhtsami_page(const uint8_t *sheet, size_t sheet_len,
+                                      uint32_t *work, size_t work_len,
+                                      uint8_t *output, size_t output_len);
 
 /*
  * The words of work area that a sheet needs: 65,536 * (C + 16) + 16 * B, where C is the count of

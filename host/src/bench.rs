@@ -3,6 +3,7 @@
 mod clock;
 mod growth;
 pub(crate) mod members;
+mod pages;
 mod report;
 pub(crate) mod solving;
 mod tables;
@@ -11,10 +12,11 @@ pub(crate) mod terms;
 pub use growth::Workload;
 pub use members::slow;
 pub use report::written;
+use tables::Table;
 
 use std::fs;
 
-use crate::kinds::Kind;
+use crate::kinds::{KINDS, Kind};
 
 /// A sheet to time.
 #[derive(Clone)]
@@ -48,7 +50,7 @@ struct Document<'a> {
 }
 
 impl<'a> Document<'a> {
-    const MARKS: [&'static str; 3] = ["machine", "times", "growth"];
+    const MARKS: [&'static str; 4] = ["machine", "times", "pages", "growth"];
 
     // The document as it is, with all of its marks.
     fn read(file: &'a str) -> Result<Self, String> {
@@ -58,27 +60,59 @@ impl<'a> Document<'a> {
         Ok(Self { file, text })
     }
 
-    fn write(&self, parts: [&str; 3]) -> Result<(), String> {
-        let parts: Vec<_> = Self::MARKS.into_iter().zip(parts).collect();
+    fn write(&self, parts: &Parts) -> Result<(), String> {
+        let parts: Vec<_> = parts.iter().map(|(mark, part)| (*mark, &**part)).collect();
         let text = written(&self.text, &parts)?;
         fs::write(self.file, text).map_err(|error| format!("{}: {error}", self.file))
     }
 }
 
-/// Prints both tables, and puts them into a document if one is named. The sheets whose answer is not
-/// that of the Rust.
-pub fn run(kinds: &[&Kind], long: bool, file: Option<&str>) -> Result<Vec<String>, String> {
-    let document = file.map(Document::read).transpose()?;
+// What is put between marks, by their names.
+type Parts = Vec<(&'static str, String)>;
+
+// A table that is told with how many of its lines are above 1.00.
+fn summed(table: &Table) -> String {
+    let summary = table.summary();
+    println!("\n{summary}\n");
+    format!("{}\n{summary}\n", table.text)
+}
+
+fn of_kinds(kinds: &[&Kind], long: bool, parts: &mut Parts) -> Vec<String> {
     let machine = report::machine();
     println!("{machine}");
     let lines = tables::lines(kinds, long);
-    let summary = lines.summary();
-    println!("\n{summary}\n");
+    let times = summed(&lines);
     let growths = tables::growths(kinds);
-    let wrong = [lines.wrong, growths.wrong].concat();
+    println!();
+    parts.extend([
+        ("machine", machine),
+        ("times", times),
+        ("growth", growths.text),
+    ]);
+    [lines.wrong, growths.wrong].concat()
+}
+
+fn of_pages(parts: &mut Parts) -> Vec<String> {
+    let lines = tables::pages();
+    let times = summed(&lines);
+    let growths = tables::page_growths();
+    parts.push(("pages", format!("{times}\n{}", growths.text)));
+    [lines.wrong, growths.wrong].concat()
+}
+
+/// Prints the tables, and puts them into a document if one is named: those of these kinds, and with all
+/// kinds or none those of pages. The sheets whose answer is not that of the Rust.
+pub fn run(kinds: &[&Kind], long: bool, file: Option<&str>) -> Result<Vec<String>, String> {
+    let document = file.map(Document::read).transpose()?;
+    let (mut parts, mut wrong) = (Parts::new(), Vec::new());
+    if !kinds.is_empty() {
+        wrong.extend(of_kinds(kinds, long, &mut parts));
+    }
+    if kinds.is_empty() || kinds.len() == KINDS.len() {
+        wrong.extend(of_pages(&mut parts));
+    }
     if let (Some(document), true) = (document, wrong.is_empty()) {
-        let times = format!("{}\n{summary}\n", lines.text);
-        document.write([&machine, &times, &growths.text])?;
+        document.write(&parts)?;
     }
     Ok(wrong)
 }

@@ -12,6 +12,8 @@ use std::{
     thread,
 };
 
+use yukhtsami::Call;
+
 use arguments::{Asked, Job, Source};
 use lending::{Lender, Reply};
 use progress::Progress;
@@ -62,11 +64,12 @@ struct Batch {
 
 impl Batch {
     fn new(job: &Job) -> Self {
-        let answers = Answers::new(job.sources.len() > 1);
+        let apart = job.call == Call::Answer && job.sources.len() > 1;
+        let answers = Answers::new(apart);
         // Where answers go to the terminal they show how far the run is.
         let shown = io::stderr().is_terminal() && !answers.at_once;
         Self {
-            lender: Lender::new(job.words, job.room),
+            lender: Lender::new(job.call, job.words, job.room),
             answers,
             progress: Progress::new(io::stderr(), shown, job.sources.len()),
             sheet: Vec::new(),

@@ -22,18 +22,18 @@ host: the reference of the call, generated sheets and the stored list
   host compare [--count N] [--seed S]   the model against the Rust on generated sheets
   host library [--count N] [--seed S] [--kinds equal,unify,..]
                                         the linked library against the reference, on the stored
-                                        list and on generated sheets of these kinds
+                                        list and by both calls on generated sheets of these kinds
   host list [--count N] [--seed S] --out FILE
-                                        write generated sheets with the reference's replies as a
-                                        list
+                                        write both calls on generated sheets with the reference's
+                                        replies as a list
   host seeds FOLDER                     write the stored sheets as inputs of host/fuzz
   host deepest FILE                     write the deepest sheets of each kind, with the linked
                                         library's replies, as a list
-  host bench [--kinds equal,..] [--long] [--write FILE]
+  host bench [--kinds equal,.. | --pages] [--long] [--write FILE]
                                         times of the linked library and of the Rust on sheets
-                                        of these kinds, and how they grow; --long asks the Rust
-                                        what takes it over 10 seconds, --write puts the tables
-                                        into FILE, between its marks
+                                        of these kinds, and how they grow, or of pages alone;
+                                        --long asks the Rust what takes it over 10 seconds,
+                                        --write puts the tables into FILE, between its marks
   host refused CRATE..                  write what the prover's logs say of the must-fail edits of
                                         these crates (host/try-edits calls it)
   host definitions [--count N] [--seed S] [--chunk K] --out FILE
@@ -78,9 +78,16 @@ fn options(words: &[String], allowed: &[&str], count: usize) -> Result<Options, 
         if !allowed.contains(&name.as_str()) {
             return Err(format!("unknown option '{name}'; see host --help"));
         }
-        if name == "--long" {
-            found.long = true;
-            continue;
+        match name.as_str() {
+            "--long" => {
+                found.long = true;
+                continue;
+            }
+            "--pages" => {
+                found.kinds.clear();
+                continue;
+            }
+            _ => {}
         }
         let value = words
             .next()
@@ -120,13 +127,13 @@ fn replay() -> Outcome {
     }
     let mut tally = Tally::default();
     for record in &records {
-        tally.add(&record.sheet, &record.reply);
+        tally.add(record.case.call, &record.case.sheet, &record.case.reply);
     }
     print!("{tally}");
     let agreed = records.len() - wrong.len();
     println!("{agreed} of {} sheets agreed", records.len());
     if !oracle::present() {
-        let asked = |record: &&store::Record| sheet::read(&record.sheet).is_ok();
+        let asked = |record: &&store::Record| sheet::read(&record.case.sheet).is_ok();
         let count = records.iter().filter(asked).count();
         notice::absent(&format!(
             "{count} sheets were compared with the model alone"
@@ -148,8 +155,9 @@ fn compare(words: &[String]) -> Outcome {
         let mut rng = Rng::new(options.seed);
         let mut tally = Tally::default();
         for _ in 0..options.count {
-            let case = generate::case(&mut rng, Size::Any);
-            tally.add(&case.sheet, &case.reply);
+            for case in generate::cases(&mut rng, Size::Any) {
+                tally.add(case.call, &case.sheet, &case.reply);
+            }
         }
         tally
     });
@@ -195,7 +203,7 @@ fn write_list(words: &[String]) -> Outcome {
     notice::absent("the replies are the model's");
     let records = store::of_any_size(options.count, options.seed);
     fs::write(&out, store::written(&records)).map_err(|error| format!("{out}: {error}"))?;
-    println!("{} sheets in {out}", records.len());
+    println!("{} calls in {out}", records.len());
     Ok(ExitCode::SUCCESS)
 }
 
@@ -207,7 +215,7 @@ fn seeds(words: &[String]) -> Outcome {
         return Err("seeds takes one folder; see host --help".to_owned());
     };
     let records = store::stored()?;
-    let short = |record: &&store::Record| record.sheet.len() <= LONGEST_SEED;
+    let short = |record: &&store::Record| record.case.sheet.len() <= LONGEST_SEED;
     let mut count = 0;
     for record in records.iter().filter(short) {
         let file = PathBuf::from(folder).join(&record.label);
@@ -232,14 +240,15 @@ fn write_deepest(words: &[String]) -> Outcome {
     Ok(ExitCode::SUCCESS)
 }
 
-// Both tables, and the document with them if one is named.
+// The tables, and the document with them if one is named.
 fn benched(words: &[String]) -> Outcome {
-    let options = options(words, &["--kinds", "--long", "--write"], 0)?;
+    let options = options(words, &["--kinds", "--pages", "--long", "--write"], 0)?;
     if !yukhtsami::present() {
         return Err(format!("{}; nothing was timed", yukhtsami::notice()));
     }
-    if options.out.is_some() && !(oracle::present() && options.kinds.len() == KINDS.len()) {
-        return Err("--write takes the tables of all kinds, with the Rust".to_owned());
+    let whole = options.kinds.is_empty() || options.kinds.len() == KINDS.len();
+    if options.out.is_some() && !(oracle::present() && whole) {
+        return Err("--write takes the tables of all kinds or of pages, with the Rust".to_owned());
     }
     notice::absent("the library is timed alone");
     let wrong = bench::run(&options.kinds, options.long, options.out.as_deref())?;

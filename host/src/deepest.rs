@@ -1,7 +1,10 @@
-// The deepest sheets of each kind, as records of a list whose replies are the library's own: for
-// measuring the stack of a call (`host/stack`).
+// Both calls on the deepest sheets of each kind, as records of a list whose replies are the library's own:
+// for measuring the stack of a call (`host/stack`).
+use yukhtsami::Call;
+
 use crate::{
     bench,
+    generate::Case,
     kinds::{Form, KINDS, Kind},
     lent,
     reference::Reply,
@@ -81,21 +84,22 @@ fn bound(level: (&str, &str, usize), leaf: &str) -> String {
     format!("kind=unify\nfuel=9\nleft=x1:{sort}\nright={open}\nleft=x0:{sort}\nright={leaf}\n")
 }
 
-fn record(label: String, text: String) -> Record {
+fn record(label: String, call: Call, text: String) -> Record {
     let sheet = text.into_bytes();
     let read = sheet::read(&sheet).expect("a deep sheet is a sheet");
     let words = sheet::words_needed(&sheet, &read);
     let room = 64 * LONGEST;
     let (mut work, mut output) = (vec![0; words as usize], vec![0; room]);
-    let called = lent::call(&label, &sheet, &mut work, &mut output);
+    let called = lent::call(&label, call, &sheet, &mut work, &mut output);
     let reply = Reply::given(called, &output);
-    Record {
-        label,
+    let case = Case {
+        call,
         sheet,
         words,
         room,
         reply,
-    }
+    };
+    Record { label, case }
 }
 
 /// Every kind with each form of level, and the sheets that are timed, with their labels.
@@ -120,6 +124,10 @@ pub fn sheets() -> Vec<(String, String)> {
 
 /// These sheets with the library's replies.
 pub fn records() -> Vec<Record> {
-    let made = |(label, sheet)| record(label, sheet);
-    sheets().into_iter().map(made).collect()
+    let mut records = Vec::new();
+    for (label, sheet) in sheets() {
+        records.push(record(format!("{label}-page"), Call::Page, sheet.clone()));
+        records.push(record(label, Call::Answer, sheet));
+    }
+    records
 }

@@ -2,7 +2,7 @@
 // for every few rows that the definitions give the same.
 use std::{collections::BTreeMap, collections::BTreeSet, fmt::Write};
 
-use yukhtsami::Refusal;
+use yukhtsami::{Call, PAGE_BYTES, Refusal};
 
 use crate::{
     deep, examples,
@@ -22,7 +22,8 @@ use mathlib.Core.Path.{◌≡◌, refl}
 use mathlib.Core.Bool.{true}
 use lib.ListN.{replicate}
 use Rattle.rules.specs.Text.{bytes}
-use Rattle.rules.specs.Call.{refused, passed}
+use Rattle.rules.specs.Call.{refused, passed, call}
+use Rattle.rules.specs.PageCall.{page_call}
 use Rattle.rules.specs.Table.{Row, right}
 ";
 
@@ -31,9 +32,14 @@ fn example_cases() -> Vec<Case> {
     let case = |example: examples::Example| {
         let needed = sheet::read(&example.sheet)
             .map_or(0, |sheet| sheet::words_needed(&example.sheet, &sheet));
+        let room = match example.call {
+            Call::Answer => 1_000,
+            Call::Page => 3 * PAGE_BYTES,
+        };
         Case {
+            call: example.call,
             words: example.words.unwrap_or(needed),
-            room: example.room.unwrap_or(1_000),
+            room: example.room.unwrap_or(room),
             sheet: example.sheet,
             reply: example.reply,
         }
@@ -49,17 +55,25 @@ pub fn cases(count: usize, seed: u64) -> Vec<Case> {
         let mut seen = BTreeSet::new();
         let mut classes: BTreeMap<String, usize> = BTreeMap::new();
         let mut found = Vec::new();
-        let mut waiting = example_cases().into_iter();
-        for _ in 0..count * 100 {
+        let examples = example_cases();
+        let given = examples.len();
+        let mut waiting = examples.into_iter();
+        let mut generated = Vec::new();
+        for turn in 0..count * 200 {
             if seen.len() == count {
                 break;
             }
-            let given = waiting.next();
-            let again = given.is_some();
-            let case = given.unwrap_or_else(|| generate::case(&mut rng, Size::Small));
-            let tally = classes.entry(class(&case.sheet, &case.reply)).or_default();
+            let case = waiting.next().unwrap_or_else(|| {
+                if generated.is_empty() {
+                    generated.extend(generate::cases(&mut rng, Size::Small));
+                }
+                generated.pop().expect("a case of two")
+            });
+            let class = class(case.call, &case.sheet, &case.reply);
+            let tally = classes.entry(class).or_default();
             let short = case.sheet.len() <= LONGEST;
-            if short && *tally < count / 16 + 1 && (seen.insert(case.sheet.clone()) || again) {
+            let most = count / 32 + 1;
+            if short && *tally < most && (seen.insert(case.sheet.clone()) || turn < given) {
                 *tally += 1;
                 found.push(case);
             }
@@ -89,12 +103,16 @@ fn row(sheet: &str, words: u64, room: usize, reply: &Reply) -> String {
     format!("record {{ sheet = {sheet}; words = {words}; room = {room}; reply = {reply} }}")
 }
 
-fn theorem(out: &mut String, name: &str, rows: &[String]) {
+fn theorem(out: &mut String, name: &str, call: Call, rows: &[String]) {
+    let call = match call {
+        Call::Answer => "call",
+        Call::Page => "page_call",
+    };
     let list: String = rows.iter().map(|row| format!("\n    {row} ∷")).collect();
     let written = write!(
         out,
         "\nabbrev {name} : List Row\n{name} ={list} []\n\
-         \npub {name}_right : right {name} ≡ true\nunfolding right\n{name}_right = refl\n"
+         \npub {name}_right : right {call} {name} ≡ true\nunfolding right {call}\n{name}_right = refl\n"
     );
     written.expect("a text takes what is written");
 }
@@ -102,12 +120,15 @@ fn theorem(out: &mut String, name: &str, rows: &[String]) {
 /// The module's text, with so many rows to a theorem.
 pub fn module(cases: &[Case], chunk: usize) -> String {
     let mut out = HEAD.to_owned();
-    let rows: Vec<String> = cases
-        .iter()
-        .map(|case| row(&text(&case.sheet), case.words, case.room, &case.reply))
-        .collect();
-    for (index, rows) in rows.chunks(chunk).enumerate() {
-        theorem(&mut out, &format!("rows{}", index + 1), rows);
+    for (call, name) in [(Call::Answer, "rows"), (Call::Page, "page_rows")] {
+        let rows: Vec<String> = cases
+            .iter()
+            .filter(|case| case.call == call)
+            .map(|case| row(&text(&case.sheet), case.words, case.room, &case.reply))
+            .collect();
+        for (index, rows) in rows.chunks(chunk).enumerate() {
+            theorem(&mut out, &format!("{name}{}", index + 1), call, rows);
+        }
     }
     let long = |count: usize, refusal: Refusal| {
         row(
@@ -120,6 +141,7 @@ pub fn module(cases: &[Case], chunk: usize) -> String {
     theorem(
         &mut out,
         "long_rows",
+        Call::Answer,
         &[
             long(65_537, Refusal::TooLong),
             long(65_536, Refusal::LineOutOfPlace),
@@ -131,7 +153,7 @@ pub fn module(cases: &[Case], chunk: usize) -> String {
 pub fn tally(cases: &[Case]) -> Tally {
     let mut tally = Tally::default();
     for case in cases {
-        tally.add(&case.sheet, &case.reply);
+        tally.add(case.call, &case.sheet, &case.reply);
     }
     tally
 }

@@ -1,19 +1,23 @@
 // Worked sheets in the documents, and the example sheets beside them.
 //
 // In a document a block of lines indented by four blanks is a sheet if it begins with `kind=`, and
-// the next such block is its answer, or `refusal` and a number. In one line of text a sheet stands
-// in code marks with `/` for byte 10, and its answer in the next code marks that hold one. A table
+// the next such block is its answer, or `refusal` and a number. A block that begins with `PAGE 0001` is the
+// answer in pages, of the sheet before it or of the one before that answer: lines without the blanks at
+// their ends and without the blank lines at the end of the last page. In one line of text a sheet stands
+// in code marks with `/` for byte 10, and its answer, or `page refusal` and a number for a refusal of its
+// pages, in the next code marks that hold one. A table
 // whose first heading is `taken` shows the pairs that the sheet before it takes, one in a row.
 use std::{fs, path::PathBuf};
 
-use yukhtsami::Refusal;
+use yukhtsami::{Call, Refusal};
 
-use crate::reference::Reply;
+use crate::{page, reference::Reply};
 
-/// A sheet with its answer, and what is lent where the document says so.
+/// A call on a sheet with its reply, and what is lent where the document says so.
 #[derive(Clone, Debug, PartialEq, Eq)]
 pub struct Worked {
     pub place: String,
+    pub call: Call,
     pub sheet: Vec<u8>,
     pub words: Option<u64>,
     pub room: Option<usize>,
@@ -22,6 +26,7 @@ pub struct Worked {
     pub taken: Option<Vec<(String, String)>>,
 }
 
+const HEADING: &str = "PAGE 0001";
 const ANSWER_KEYS: [&str; 6] = [
     "equal=",
     "normal=",
@@ -90,6 +95,11 @@ impl<'a> Reader<'a> {
         let text: String = lines.iter().map(|line| format!("{line}\n")).collect();
         match (self.open.take(), first.starts_with("kind=")) {
             (None, true) => self.open = Some((place.to_owned(), text.into_bytes())),
+            (None, false) if *first == HEADING => {
+                let last = self.found.last().ok_or("a page without a sheet")?;
+                let sheet = last.sheet.clone();
+                self.found.push(reply(place.to_owned(), sheet, &text)?);
+            }
             (None, false) if answers(first) => return Err("an answer without a sheet".to_owned()),
             (None, false) => {}
             (Some(_), true) => return Err("no answer before the next sheet".to_owned()),
@@ -159,18 +169,34 @@ fn spans(line: &str) -> impl Iterator<Item = &str> {
 }
 
 fn answers(text: &str) -> bool {
-    text.starts_with("refusal ") || ANSWER_KEYS.iter().any(|key| text.starts_with(key))
+    let refusal = text.strip_prefix("page ").unwrap_or(text);
+    refusal.starts_with("refusal ")
+        || text.starts_with(HEADING)
+        || ANSWER_KEYS.iter().any(|key| text.starts_with(key))
 }
 
-// An answer's text, or `refusal N`, `refusal N with K words` or `refusal N with K bytes`.
+// An answer's text, the lines of pages, or `refusal N`, `refusal N with K words` or `refusal N with K
+// bytes`, for a refusal of the pages after `page `.
 fn reply(place: String, sheet: Vec<u8>, text: &str) -> Result<Worked, String> {
     let mut worked = Worked {
         place,
+        call: Call::Answer,
         sheet,
         words: None,
         room: None,
         reply: Reply::Answer(text.as_bytes().to_vec()),
         taken: None,
+    };
+    if text.starts_with(HEADING) {
+        worked.call = Call::Page;
+        worked.reply = Reply::Answer(page::filled(text.lines()));
+    }
+    let text = match text.strip_prefix("page ") {
+        Some(text) => {
+            worked.call = Call::Page;
+            text
+        }
+        None => text,
     };
     let Some(refusal) = text.strip_prefix("refusal ") else {
         return Ok(worked);
@@ -210,18 +236,33 @@ pub fn example_names(ending: &str) -> Vec<String> {
     names
 }
 
-/// The example sheets, each with its answer; a missing answer is an error.
+/// How the file of what a call gives ends.
+pub const fn ending(call: Call) -> &'static str {
+    match call {
+        Call::Answer => ".answer",
+        Call::Page => ".page",
+    }
+}
+
+/// The example sheets, each with its answer, and those that have a page with that; a missing answer is
+/// an error.
 pub fn examples() -> Result<Vec<Worked>, String> {
     let bytes = |name: String| fs::read(file(&name)).map_err(|error| format!("{name}: {error}"));
-    let one = |name: String| {
+    let one = |call: Call, name: String| {
         Ok(Worked {
+            call,
             sheet: bytes(format!("examples/{name}.sheet"))?,
-            reply: Reply::Answer(bytes(format!("examples/{name}.answer"))?),
+            reply: Reply::Answer(bytes(format!("examples/{name}{}", ending(call)))?),
             place: name,
             words: None,
             room: None,
             taken: None,
         })
     };
-    example_names(".sheet").into_iter().map(one).collect()
+    let sheets = example_names(".sheet").into_iter();
+    let pages = example_names(ending(Call::Page)).into_iter();
+    let answered = sheets.map(|name| one(Call::Answer, name));
+    answered
+        .chain(pages.map(|name| one(Call::Page, name)))
+        .collect()
 }

@@ -4,15 +4,20 @@ mod deep;
 mod equality;
 mod limits;
 mod lines;
+mod pages;
 mod solving;
 mod variants;
 
-use yukhtsami::Refusal::{self, ShortOutput, ShortWorkArea};
+use yukhtsami::{
+    Call,
+    Refusal::{self, ShortOutput, ShortWorkArea},
+};
 
-use crate::reference::Reply;
+use crate::{page, reference::Reply};
 
 pub struct Example {
     pub label: &'static str,
+    pub call: Call,
     pub sheet: Vec<u8>,
     /// The words lent; none for as many as needed, or more.
     pub words: Option<u64>,
@@ -30,6 +35,7 @@ fn answered(label: &'static str, sheet: &str, answer: &str) -> Example {
     let reply = Reply::Answer(bytes(&format!("{answer}|")));
     Example {
         label,
+        call: Call::Answer,
         sheet: bytes(&format!("{sheet}|")),
         words: None,
         room: None,
@@ -42,10 +48,29 @@ fn refused(label: &'static str, sheet: &str, refusal: Refusal) -> Example {
     let reply = Reply::Refused(refusal);
     Example {
         label,
+        call: Call::Answer,
         sheet: bytes(sheet),
         words: None,
         room: None,
         reply,
+    }
+}
+
+/// A sheet answered in pages, whose lines are given without the blanks at their ends and the blank lines
+/// at the end of the last page.
+fn paged(label: &'static str, sheet: &str, lines: &str) -> Example {
+    Example {
+        call: Call::Page,
+        reply: Reply::Answer(page::filled(lines.split('|'))),
+        ..answered(label, sheet, "")
+    }
+}
+
+/// A sheet whose pages are refused.
+fn unpaged(label: &'static str, sheet: &str, refusal: Refusal) -> Example {
+    Example {
+        call: Call::Page,
+        ..refused(label, sheet, refusal)
     }
 }
 
@@ -153,6 +178,7 @@ pub fn all() -> Vec<Example> {
         solving::examples(),
         variants::examples(),
         limits::examples(),
+        pages::examples(),
     ];
     parts.into_iter().flatten().collect()
 }

@@ -8,22 +8,32 @@ mod pairs;
 mod spelling;
 mod terms;
 
-use yukhtsami::Refusal;
+pub use limits::of_lines;
+
+use yukhtsami::{Call, MOST_PAGES, PAGE_BYTES, Refusal};
 
 use crate::{
     kinds::{self, KINDS, Kind},
+    lent::Asked,
     reference::{self, Admitted, Reply},
     rng::Rng,
     sheet,
 };
 
-/// A sheet, the words and the bytes of output lent with it, and the reply.
-#[derive(Clone, Debug)]
+/// A call on a sheet, the words and the bytes of output lent with it, and the reply.
+#[derive(Clone, Debug, PartialEq, Eq)]
 pub struct Case {
+    pub call: Call,
     pub sheet: Vec<u8>,
     pub words: u64,
     pub room: usize,
     pub reply: Reply,
+}
+
+impl Case {
+    pub fn asked(&self) -> Asked<'_> {
+        Asked::new(self.call, &self.sheet, self.words, self.room)
+    }
 }
 
 /// How large sheets may be.
@@ -93,32 +103,30 @@ fn room(rng: &mut Rng, length: usize) -> usize {
     }
 }
 
-/// What is lent with a sheet, and the reply.
-pub fn lend(rng: &mut Rng, sheet: Vec<u8>) -> Case {
-    let Admitted {
-        words_needed,
-        answer,
-        ..
-    } = match reference::admit(&sheet) {
-        Ok(admitted) => admitted,
+// What is lent with a sheet for a call, and the reply.
+fn lend_for(
+    rng: &mut Rng,
+    call: Call,
+    sheet: Vec<u8>,
+    admitted: Result<Admitted, Refusal>,
+) -> Case {
+    let (words, room, reply) = match admitted {
         Err(refusal) => {
             let (words, room) = (rng.below(1 << 22) as u64, rng.below(1000));
-            return Case {
-                sheet,
-                words,
-                room,
-                reply: Reply::Refused(refusal),
-            };
+            (words, room, Reply::Refused(refusal))
+        }
+        Ok(admitted) => {
+            let words = words(rng, admitted.words_needed);
+            let given = reference::given(call, admitted.answer);
+            let room = room(rng, length(&given));
+            let short = words < admitted.words_needed;
+            let refused = Reply::Refused(Refusal::ShortWorkArea);
+            let settled = || reference::settled(given, room);
+            (words, room, if short { refused } else { settled() })
         }
     };
-    let words = words(rng, words_needed);
-    let room = room(rng, answer.as_ref().map_or(100, Vec::len));
-    let reply = if words < words_needed {
-        Reply::Refused(Refusal::ShortWorkArea)
-    } else {
-        reference::settled(answer, room)
-    };
     Case {
+        call,
         sheet,
         words,
         room,
@@ -126,7 +134,23 @@ pub fn lend(rng: &mut Rng, sheet: Vec<u8>) -> Case {
     }
 }
 
-pub fn case(rng: &mut Rng, size: Size) -> Case {
+// The bytes around which output is lent.
+fn length(given: &Result<Vec<u8>, Refusal>) -> usize {
+    match given {
+        Ok(text) => text.len(),
+        Err(Refusal::TooManyPages) => MOST_PAGES * PAGE_BYTES,
+        Err(_) => 100,
+    }
+}
+
+/// What is lent with a sheet for each call, and the replies.
+pub fn lend(rng: &mut Rng, sheet: Vec<u8>) -> [Case; 2] {
+    let admitted = reference::admit(&sheet);
+    Call::ALL.map(|call| lend_for(rng, call, sheet.clone(), admitted.clone()))
+}
+
+/// Both calls on a sheet.
+pub fn cases(rng: &mut Rng, size: Size) -> [Case; 2] {
     let sheet = sheet(rng, size);
     lend(rng, sheet)
 }

@@ -1,11 +1,12 @@
-// Hostile input: two bytes that choose what is lent, then a sheet, and the linked library against
-// the reference on it. The reference is asked where it answers soon.
+// Hostile input: two bytes that choose the call and what is lent, then a sheet, and the linked library
+// against the reference on it. The reference is asked where it answers soon.
 mod bound;
 pub mod change;
 
-use yukhtsami::Refusal;
+use yukhtsami::{Call, Refusal};
 
 use crate::{
+    lent::Asked,
     linked::Comparison,
     reference::{self, Reply},
     sheet::{self, LONGEST},
@@ -18,10 +19,12 @@ const MOST_WORDS: u64 = 1 << 24;
 const SOME_WORDS: u64 = 4_096;
 const SOME_ROOM: usize = 100;
 const LARGE_ROOM: usize = 65_536;
+/// The bit of the first byte that asks for pages.
+const PAGES: u8 = 1 << 6;
 /// The bytes of an input before its sheet.
 pub const CHOICE: usize = 2;
 
-/// What is lent: the first byte says how, the second how much more.
+/// The call and what is lent: the first byte says which and how, the second how much more.
 #[derive(Clone, Copy)]
 struct Choice {
     how: u8,
@@ -51,9 +54,17 @@ impl Choice {
         }
     }
 
+    fn call(self) -> Call {
+        if self.how & PAGES == 0 {
+            Call::Answer
+        } else {
+            Call::Page
+        }
+    }
+
     /// Whether blanks are put into the last line, up to about the most bytes of a sheet.
     fn stretches(self) -> bool {
-        self.how >> 6 == 3
+        self.how >> 7 == 1 && self.more & 1 == 1
     }
 }
 
@@ -77,9 +88,13 @@ fn parted(input: &[u8]) -> (Choice, Vec<u8>) {
     (choice, stretched(choice, sheet))
 }
 
-/// The input with a record's sheet that lends the needed words, and large room.
+/// The input with a record's call and sheet that lends the needed words, and large room.
 pub fn seed(record: &Record) -> Vec<u8> {
-    [&[5 << 3, 0], record.sheet.as_slice()].concat()
+    let pages = match record.case.call {
+        Call::Answer => 0,
+        Call::Page => PAGES,
+    };
+    [&[5 << 3 | pages, 0], record.case.sheet.as_slice()].concat()
 }
 
 /// What came of some inputs.
@@ -103,30 +118,30 @@ impl Hostile {
 
     fn lend(&mut self, choice: Choice, bytes: &[u8]) {
         const NAME: &str = "an input";
+        let call = choice.call();
+        let asked = |words, room| Asked::new(call, bytes, words, room);
         let read = match sheet::read(bytes) {
             Ok(read) => read,
             Err(refusal) => {
-                let (words, room) = (choice.words(SOME_WORDS), choice.room(SOME_ROOM));
-                let reply = Reply::Refused(refusal);
-                return self.compared.add(NAME, bytes, words, room, reply);
+                let asked = asked(choice.words(SOME_WORDS), choice.room(SOME_ROOM));
+                return self.compared.add(NAME, asked, Reply::Refused(refusal));
             }
         };
         let needed = sheet::words_needed(bytes, &read);
         let words = choice.words(needed);
         if words < needed {
-            let room = choice.room(SOME_ROOM);
+            let asked = asked(words, choice.room(SOME_ROOM));
             let reply = Reply::Refused(Refusal::ShortWorkArea);
-            return self.compared.add(NAME, bytes, words, room, reply);
+            return self.compared.add(NAME, asked, reply);
         }
         if !bound::soon(bytes, &read) {
             self.unjudged += 1;
-            return self.compared.add_unjudged(NAME, bytes, words, LARGE_ROOM);
+            return self.compared.add_unjudged(NAME, asked(words, LARGE_ROOM));
         }
-        let answer = reference::admit(bytes)
-            .expect("lines that were read")
-            .answer;
-        let room = choice.room(answer.as_ref().map_or(SOME_ROOM, Vec::len));
-        let reply = reference::settled(answer, room);
-        self.compared.add(NAME, bytes, words, room, reply);
+        let admitted = reference::admit(bytes).expect("lines that were read");
+        let given = reference::given(call, admitted.answer);
+        let room = choice.room(given.as_ref().map_or(SOME_ROOM, Vec::len));
+        let reply = reference::settled(given, room);
+        self.compared.add(NAME, asked(words, room), reply);
     }
 }

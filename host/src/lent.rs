@@ -2,7 +2,7 @@
 // beyond what is lent, and the tests of what a call left there.
 use std::thread;
 
-use yukhtsami::Called;
+use yukhtsami::{Call, Called};
 
 use crate::{
     reference::{self, Reply},
@@ -20,6 +20,28 @@ const SEEN: usize = 1 << 21;
 const SEED: u64 = 11;
 /// The words, and the bytes, after which the garbage is the same again.
 const PERIOD: usize = 4_093;
+
+/// A call that is asked for: on which sheet, with so many words and bytes of output lent.
+#[derive(Clone, Copy)]
+pub struct Asked<'a> {
+    pub call: Call,
+    pub sheet: &'a [u8],
+    pub words: usize,
+    pub room: usize,
+}
+
+impl<'a> Asked<'a> {
+    /// More words than can be lent are cut to the most.
+    pub fn new(call: Call, sheet: &'a [u8], words: u64, room: usize) -> Self {
+        let words = words.min(MOST_WORDS as u64) as usize;
+        Self {
+            call,
+            sheet,
+            words,
+            room,
+        }
+    }
+}
 
 /// The lent memory. Between calls both halves of each pair are the same.
 pub struct Lent {
@@ -46,8 +68,8 @@ impl Default for Lent {
 }
 
 /// A call of the linked library on a thread of its own, with a stack of 2 MiB.
-pub fn call(name: &str, sheet: &[u8], work: &mut [u32], output: &mut [u8]) -> Called {
-    on_a_small_stack(name, || yukhtsami::call(sheet, work, output))
+pub fn call(name: &str, call: Call, sheet: &[u8], work: &mut [u32], output: &mut [u8]) -> Called {
+    on_a_small_stack(name, || yukhtsami::call(call, sheet, work, output))
 }
 
 /// A function on a thread with the stack that a call has. An exhausted stack ends the program with
@@ -95,60 +117,47 @@ impl Lent {
         }
     }
 
-    /// Calls the library with so many words and bytes lent. What is not as the reply says, if
-    /// anything.
-    pub fn differences(
-        &mut self,
-        name: &str,
-        bytes: &[u8],
-        (words, room): (usize, usize),
-        reply: &Reply,
-    ) -> Vec<String> {
-        let called = self.lend(name, bytes, (words, room));
-        self.left(bytes, (words, room), called, reply)
+    /// Calls the library. What is not as the reply says, if anything.
+    pub fn differences(&mut self, name: &str, asked: Asked, reply: &Reply) -> Vec<String> {
+        let called = self.lend(name, asked);
+        self.left(asked, called, reply)
     }
 
     /// The same where the reply is not known: its refusal and its bytes are taken from the call,
     /// and what it left is held to them.
-    pub fn unjudged(
-        &mut self,
-        name: &str,
-        bytes: &[u8],
-        (words, room): (usize, usize),
-    ) -> (Reply, Vec<String>) {
-        let called = self.lend(name, bytes, (words, room));
-        let reply = Reply::given(called, &self.output[..room]);
-        let found = self.left(bytes, (words, room), called, &reply);
+    pub fn unjudged(&mut self, name: &str, asked: Asked) -> (Reply, Vec<String>) {
+        let called = self.lend(name, asked);
+        let reply = Reply::given(called, &self.output[..asked.room]);
+        let found = self.left(asked, called, &reply);
         (reply, found)
     }
 
-    fn lend(&mut self, name: &str, bytes: &[u8], (words, room): (usize, usize)) -> Called {
+    fn lend(&mut self, name: &str, asked: Asked) -> Called {
+        let Asked { words, room, .. } = asked;
         self.grow(words, room);
         call(
             name,
-            bytes,
+            asked.call,
+            asked.sheet,
             &mut self.work[..words],
             &mut self.output[..room],
         )
     }
 
     // What a call said and left that is not as the reply says; the garbage is written again.
-    fn left(
-        &mut self,
-        bytes: &[u8],
-        (words, room): (usize, usize),
-        called: Called,
-        reply: &Reply,
-    ) -> Vec<String> {
+    fn left(&mut self, asked: Asked, called: Called, reply: &Reply) -> Vec<String> {
+        let Asked {
+            sheet, words, room, ..
+        } = asked;
         let mut found = said(called, reply);
         if !self.output_right(room, reply) {
             found.push("the output is not as the reply says".to_owned());
         }
-        if !self.work_right(words, bytes) {
+        if !self.work_right(words, sheet) {
             found.push("the work area is not as the sheet says".to_owned());
         }
         let refill = if found.is_empty() {
-            changed(bytes, words)
+            changed(sheet, words)
         } else {
             words
         };

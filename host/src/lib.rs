@@ -17,6 +17,7 @@ pub mod lent;
 pub mod linked;
 pub mod model;
 pub mod notice;
+pub mod page;
 pub mod place;
 pub mod reference;
 pub mod rng;

@@ -1,12 +1,12 @@
 // The linked library against the reference, on generated sheets and the stored list.
 use std::fmt;
 
-use yukhtsami::Refusal;
+use yukhtsami::{Call, Refusal};
 
 use crate::{
-    generate::{self, Case, Size},
+    generate::{self, Size},
     kinds::Kind,
-    lent::{Lent, MOST_WORDS},
+    lent::{Asked, Lent},
     reference::Reply,
     rng::Rng,
     sheet,
@@ -17,6 +17,7 @@ use crate::{
 /// A call that was not as the reference says.
 pub struct Difference {
     pub name: String,
+    pub call: Call,
     pub sheet: Vec<u8>,
     pub words: usize,
     pub room: usize,
@@ -45,49 +46,48 @@ pub fn with_words(bytes: &[u8], words: usize, reply: Reply) -> Reply {
     }
 }
 
+// Whether a call gives the refusal on a sheet whose lines and words are right.
+fn after_reading(call: Call, refusal: Refusal) -> bool {
+    match refusal {
+        Refusal::UnreadableTerm | Refusal::ShortOutput => true,
+        Refusal::TooManyPages => call == Call::Page,
+        _ => false,
+    }
+}
+
 impl Comparison {
-    /// One call; more words than can be lent are cut to the most.
-    pub fn add(&mut self, name: &str, bytes: &[u8], words: u64, room: usize, reply: Reply) {
-        let words = words.min(MOST_WORDS as u64) as usize;
-        let reply = with_words(bytes, words, reply);
-        let found = self.lent.differences(name, bytes, (words, room), &reply);
-        self.count(name, bytes, (words, room), reply, found);
+    /// One call, with the reply that it has with as many words as are asked for.
+    pub fn add(&mut self, name: &str, asked: Asked, reply: Reply) {
+        let reply = with_words(asked.sheet, asked.words, reply);
+        let found = self.lent.differences(name, asked, &reply);
+        self.count(name, asked, reply, found);
     }
 
     /// One call whose answer is not compared: what it leaves is held to what it gives, which is no
     /// refusal of the lines or the words.
-    pub fn add_unjudged(&mut self, name: &str, bytes: &[u8], words: u64, room: usize) {
-        let words = words.min(MOST_WORDS as u64) as usize;
-        let (reply, mut found) = self.lent.unjudged(name, bytes, (words, room));
-        if matches!(reply, Reply::Refused(refusal)
-            if !matches!(refusal, Refusal::UnreadableTerm | Refusal::ShortOutput))
-        {
+    pub fn add_unjudged(&mut self, name: &str, asked: Asked) {
+        let (reply, mut found) = self.lent.unjudged(name, asked);
+        if matches!(reply, Reply::Refused(refusal) if !after_reading(asked.call, refusal)) {
             found.push("a sheet whose lines and words are right is refused".to_owned());
         }
-        self.count(name, bytes, (words, room), reply, found);
+        self.count(name, asked, reply, found);
     }
 
-    fn count(
-        &mut self,
-        name: &str,
-        bytes: &[u8],
-        (words, room): (usize, usize),
-        reply: Reply,
-        found: Vec<String>,
-    ) {
+    fn count(&mut self, name: &str, asked: Asked, reply: Reply, found: Vec<String>) {
         self.calls += 1;
-        self.tally.add(bytes, &reply);
+        self.tally.add(asked.call, asked.sheet, &reply);
         if found.is_empty() {
             return;
         }
         self.differences += 1;
-        let smaller = |known: &Difference| bytes.len() < known.sheet.len();
+        let smaller = |known: &Difference| asked.sheet.len() < known.sheet.len();
         if self.smallest.as_ref().is_none_or(smaller) {
             self.smallest = Some(Difference {
                 name: name.to_owned(),
-                sheet: bytes.to_vec(),
-                words,
-                room,
+                call: asked.call,
+                sheet: asked.sheet.to_vec(),
+                words: asked.words,
+                room: asked.room,
                 reply,
                 found,
             });
@@ -96,31 +96,20 @@ impl Comparison {
 
     /// The records of a stored list.
     pub fn add_stored(&mut self, records: &[Record]) {
-        for record in records {
-            let Record {
-                label,
-                sheet,
-                words,
-                room,
-                reply,
-            } = record;
-            self.add(label, sheet, *words, *room, reply.clone());
+        for Record { label, case } in records {
+            self.add(label, case.asked(), case.reply.clone());
         }
     }
 
-    /// Generated sheets of these kinds.
+    /// Generated sheets of these kinds, each through both calls.
     pub fn add_generated(&mut self, count: usize, seed: u64, kinds: &[&Kind]) {
         let mut rng = Rng::new(seed);
         for index in 1..=count {
             let sheet = generate::sheet_for(&mut rng, Size::Any, kinds);
-            let Case {
-                sheet,
-                words,
-                room,
-                reply,
-            } = generate::lend(&mut rng, sheet);
             let name = format!("sheet {index} of seed {seed}");
-            self.add(&name, &sheet, words, room, reply);
+            for case in generate::lend(&mut rng, sheet) {
+                self.add(&name, case.asked(), case.reply.clone());
+            }
         }
     }
 }
@@ -131,7 +120,8 @@ impl fmt::Display for Difference {
             Reply::Refused(refusal) => format!("refusal {}, {refusal}", refusal.number()),
             Reply::Answer(answer) => String::from_utf8_lossy(answer).into_owned(),
         };
-        writeln!(out, "{}: {}", self.name, self.found.join("; "))?;
+        let Self { name, call, .. } = self;
+        writeln!(out, "{name}, {call:?}: {}", self.found.join("; "))?;
         writeln!(out, "words lent: {}; bytes lent: {}", self.words, self.room)?;
         writeln!(out, "sheet:\n{}", String::from_utf8_lossy(&self.sheet))?;
         writeln!(out, "reply:\n{reply}")

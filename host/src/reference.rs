@@ -1,12 +1,13 @@
-// The reference of the call: refusals in their order, answers by the Rust, `spent` by the model.
+// The reference of the calls: refusals in their order, answers by the Rust, `spent` by the model, pages
+// by the host's layout of the answer.
 // The model answers every sheet too, and an answer of the Rust that differs is a loud failure.
 pub(crate) mod by_model;
 pub(crate) mod by_rust;
 
-use yukhtsami::{Called, Refusal};
+use yukhtsami::{Call, Called, Refusal};
 
 use crate::{
-    deep, model,
+    deep, model, page,
     sheet::{self, Sheet},
 };
 
@@ -26,7 +27,7 @@ impl Reply {
     }
 }
 
-/// What a call gives, whatever the output lent, once refusals 1, 2 and 3 are passed.
+/// What is known of a sheet once refusals 1, 2 and 3 are passed.
 #[derive(Clone, Debug, PartialEq, Eq)]
 pub struct Admitted {
     pub kind: &'static str,
@@ -36,22 +37,32 @@ pub struct Admitted {
 }
 
 /// The reply to a sheet with so many words of work area and bytes of output.
-pub fn call(bytes: &[u8], words: u64, room: usize) -> Reply {
+pub fn call(call: Call, bytes: &[u8], words: u64, room: usize) -> Reply {
     match sheet::read(bytes) {
         Err(refusal) => Reply::Refused(refusal),
         Ok(sheet) if sheet::words_needed(bytes, &sheet) > words => {
             Reply::Refused(Refusal::ShortWorkArea)
         }
-        Ok(sheet) => settled(answer(bytes, &sheet), room),
+        Ok(sheet) => settled(given(call, answer(bytes, &sheet)), room),
     }
 }
 
-/// The reply from an answer that is known.
-pub fn settled(answer: Option<Vec<u8>>, room: usize) -> Reply {
-    match answer {
-        None => Reply::Refused(Refusal::UnreadableTerm),
-        Some(answer) if answer.len() > room => Reply::Refused(Refusal::ShortOutput),
-        Some(answer) => Reply::Answer(answer),
+/// What a call gives where the output is long enough, from the answer, which is none where a term is
+/// unreadable.
+pub fn given(call: Call, answer: Option<Vec<u8>>) -> Result<Vec<u8>, Refusal> {
+    let answer = answer.ok_or(Refusal::UnreadableTerm)?;
+    match call {
+        Call::Answer => Ok(answer),
+        Call::Page => page::laid_out(&answer).ok_or(Refusal::TooManyPages),
+    }
+}
+
+/// The reply from what is given.
+pub fn settled(given: Result<Vec<u8>, Refusal>, room: usize) -> Reply {
+    match given {
+        Err(refusal) => Reply::Refused(refusal),
+        Ok(text) if text.len() > room => Reply::Refused(Refusal::ShortOutput),
+        Ok(text) => Reply::Answer(text),
     }
 }
 

@@ -1,11 +1,11 @@
-// The stored list: sheets with what is lent and the reply, in one plain text file.
+// The stored list: calls on sheets with what is lent and the reply, in one plain text file.
 use std::{
     collections::{BTreeMap, BTreeSet},
     fs,
     path::PathBuf,
 };
 
-use yukhtsami::Refusal;
+use yukhtsami::{Call, Refusal};
 
 use crate::{
     deep, examples,
@@ -24,10 +24,23 @@ const MODEST_ROOM: usize = 4_096;
 #[derive(Clone, Debug, PartialEq, Eq)]
 pub struct Record {
     pub label: String,
-    pub sheet: Vec<u8>,
-    pub words: u64,
-    pub room: usize,
-    pub reply: Reply,
+    pub case: Case,
+}
+
+impl Record {
+    /// Whether its reply is the reference's.
+    fn right(&self) -> bool {
+        let case = &self.case;
+        reference::call(case.call, &case.sheet, case.words, case.room) == case.reply
+    }
+}
+
+// The word that a record of a call begins with; `crates/replay` takes each to have five letters.
+fn word(call: Call) -> &'static str {
+    match call {
+        Call::Answer => "sheet",
+        Call::Page => "pages",
+    }
 }
 
 pub fn path() -> PathBuf {
@@ -49,71 +62,76 @@ fn examples() -> Vec<Record> {
             Reply::Answer(answer) => answer.len(),
         };
         let room = example.room.unwrap_or(length.max(MODEST_ROOM));
-        let reply = reference::call(&example.sheet, words, room);
-        assert_eq!(reply, example.reply, "example {}", example.label);
-        Record {
+        let record = Record {
             label: example.label.to_owned(),
-            sheet: example.sheet,
-            words,
-            room,
-            reply,
-        }
+            case: Case {
+                call: example.call,
+                sheet: example.sheet,
+                words,
+                room,
+                reply: example.reply,
+            },
+        };
+        assert!(record.right(), "example {}", record.label);
+        record
     };
     examples::all().into_iter().map(record).collect()
 }
 
+// How many generated sheets of a class of reply are stored: few with a page, which has 3,650 bytes.
+fn of_a_class(case: &Case) -> usize {
+    match (case.call, &case.reply) {
+        (Call::Page, Reply::Answer(_)) => 1,
+        (Call::Page, Reply::Refused(_)) => 3,
+        (Call::Answer, _) => 9,
+    }
+}
+
 // Small generated sheets, equally many of each class of reply.
 fn generated(seen: &mut BTreeSet<Vec<u8>>) -> Vec<Record> {
-    const OF_A_CLASS: usize = 9;
     let mut rng = Rng::new(SEED);
     let mut classes: BTreeMap<String, usize> = BTreeMap::new();
     let mut records = Vec::new();
     for _ in 0..20_000 {
-        let Case {
-            sheet,
-            words,
-            room,
-            reply,
-        } = generate::case(&mut rng, Size::Small);
+        let cases = generate::cases(&mut rng, Size::Small);
         let most = if rng.once_in(4) {
             2 * MODEST_WORDS
         } else {
             MODEST_WORDS
         };
-        if words > most || sheet.len() > 600 {
-            continue;
-        }
-        let count = classes.entry(class(&sheet, &reply)).or_default();
-        if *count < OF_A_CLASS && seen.insert(sheet.clone()) {
-            *count += 1;
-            let label = format!("generated-{}", records.len() + 1);
-            records.push(Record {
-                label,
-                sheet,
-                words,
-                room,
-                reply,
-            });
+        for case in cases {
+            if case.words > most || case.sheet.len() > 600 {
+                continue;
+            }
+            let class = class(case.call, &case.sheet, &case.reply);
+            let count = classes.entry(class).or_default();
+            if *count < of_a_class(&case) && seen.insert(case.sheet.clone()) {
+                *count += 1;
+                let label = format!("generated-{}", records.len() + 1);
+                records.push(Record { label, case });
+            }
         }
     }
     records
 }
 
-/// Generated sheets of any size as records; those that lend more words than this are left out.
+/// Both calls on generated sheets of any size as records; those that lend more words or bytes than this
+/// are left out.
 pub fn of_any_size(count: usize, seed: u64) -> Vec<Record> {
     const MOST_WORDS: u64 = 1 << 23;
+    const MOST_ROOM: usize = 1 << 20;
     deep::run(|| {
         let mut rng = Rng::new(seed);
-        let cases = (1..=count).map(|index| (index, generate::case(&mut rng, Size::Any)));
-        let lent = cases.filter(|(_, case)| case.words <= MOST_WORDS);
-        let record = |(index, case): (usize, Case)| Record {
-            label: format!("generated-{index}"),
-            sheet: case.sheet,
-            words: case.words,
-            room: case.room,
-            reply: case.reply,
-        };
-        lent.map(record).collect()
+        let mut records = Vec::new();
+        for index in 1..=count {
+            let cases = generate::cases(&mut rng, Size::Any).into_iter();
+            let lent = |case: &Case| case.words <= MOST_WORDS && case.room <= MOST_ROOM;
+            records.extend(cases.filter(lent).map(|case| Record {
+                label: format!("generated-{index}"),
+                case,
+            }));
+        }
+        records
     })
 }
 
@@ -121,7 +139,10 @@ pub fn of_any_size(count: usize, seed: u64) -> Vec<Record> {
 pub fn made() -> Vec<Record> {
     deep::run(|| {
         let mut records = examples();
-        let mut seen = records.iter().map(|record| record.sheet.clone()).collect();
+        let mut seen = records
+            .iter()
+            .map(|record| record.case.sheet.clone())
+            .collect();
         records.extend(generated(&mut seen));
         records
     })
@@ -131,27 +152,22 @@ fn head() -> String {
     format!(
         "# Sheets with their replies, made by `cargo run --release --manifest-path host/Cargo.toml -- store`.\n\
          # Answers by the Rust of trancee/cairn 045324b408, `spent` by the host's model; seed {SEED}.\n\
-         # A record: `sheet WORDS ROOM REFUSAL SHEETBYTES ANSWERBYTES LABEL`, the sheet, the answer, byte 10.\n"
+         # A record: `sheet WORDS ROOM REFUSAL SHEETBYTES ANSWERBYTES LABEL`, the sheet, the answer, byte 10;\n\
+         # `pages` in place of `sheet` where the answer is laid out in pages.\n"
     )
 }
 
 pub fn written(records: &[Record]) -> Vec<u8> {
     let mut out = head().into_bytes();
-    for Record {
-        label,
-        sheet,
-        words,
-        room,
-        reply,
-    } in records
-    {
-        let (refusal, answer): (u32, &[u8]) = match reply {
+    for Record { label, case } in records {
+        let (refusal, answer): (u32, &[u8]) = match &case.reply {
             Reply::Refused(refusal) => (refusal.number(), &[]),
             Reply::Answer(answer) => (0, answer),
         };
-        let (length, written) = (sheet.len(), answer.len());
-        let line = format!("sheet {words} {room} {refusal} {length} {written} {label}\n");
-        out.extend([line.as_bytes(), sheet, answer, b"\n"].concat());
+        let (length, written) = (case.sheet.len(), answer.len());
+        let (word, words, room) = (word(case.call), case.words, case.room);
+        let line = format!("{word} {words} {room} {refusal} {length} {written} {label}\n");
+        out.extend([line.as_bytes(), &case.sheet, answer, b"\n"].concat());
     }
     out
 }
@@ -181,9 +197,10 @@ fn number<T: std::str::FromStr>(word: Option<&str>, line: &str) -> Result<T, Str
 
 fn record(text: &str, rest: &mut &[u8]) -> Result<Record, String> {
     let mut words = text.split(' ');
-    if words.next() != Some("sheet") {
-        return Err(format!("not a record's first line: {text}"));
-    }
+    let first = words.next();
+    let called = |call: &Call| first == Some(word(*call));
+    let call = Call::ALL.into_iter().find(called);
+    let call = call.ok_or_else(|| format!("not a record's first line: {text}"))?;
     let lent = number(words.next(), text)?;
     let room = number(words.next(), text)?;
     let refusal: u32 = number(words.next(), text)?;
@@ -199,13 +216,15 @@ fn record(text: &str, rest: &mut &[u8]) -> Result<Record, String> {
         None => Reply::Answer(answer),
         Some(refusal) => Reply::Refused(refusal),
     };
-    Ok(Record {
-        label,
+    let words = lent;
+    let case = Case {
+        call,
         sheet,
-        words: lent,
+        words,
         room,
         reply,
-    })
+    };
+    Ok(Record { label, case })
 }
 
 /// The records of a list.
@@ -233,8 +252,5 @@ pub fn stored() -> Result<Vec<Record>, String> {
 
 /// The records whose reply is not the reference's.
 pub fn wrong(records: &[Record]) -> Vec<&Record> {
-    let right = |record: &&Record| {
-        reference::call(&record.sheet, record.words, record.room) == record.reply
-    };
-    deep::run(|| records.iter().filter(|record| !right(record)).collect())
+    deep::run(|| records.iter().filter(|record| !record.right()).collect())
 }

@@ -1,10 +1,11 @@
-// A tally of replies: how many of each kind, verdict, claim and refusal.
+// A tally of replies: how many of each call, kind, verdict, claim and refusal.
 use std::{collections::BTreeMap, fmt};
 
-use yukhtsami::Refusal;
+use yukhtsami::{Call, Refusal};
 
 use crate::{
     kinds::{KINDS, Kind},
+    page,
     reference::Reply,
     sheet,
 };
@@ -12,12 +13,27 @@ use crate::{
 #[derive(Default)]
 pub struct Tally(BTreeMap<String, usize>);
 
-fn answer_name(kind: &str, word: &str) -> String {
-    format!("{kind} {word}")
+fn named(call: Call, name: &str) -> String {
+    match call {
+        Call::Answer => name.to_owned(),
+        Call::Page => format!("page: {name}"),
+    }
 }
 
-fn refusal_name(refusal: Refusal) -> String {
-    format!("refusal {:>2}", refusal.number())
+fn answer_name(call: Call, kind: &str, word: &str) -> String {
+    named(call, &format!("{kind} {word}"))
+}
+
+fn refusal_name(call: Call, refusal: Refusal) -> String {
+    named(call, &format!("refusal {:>2}", refusal.number()))
+}
+
+// The answer that a call's text holds; pages that cannot be read back hold an empty one.
+fn held(call: Call, text: &[u8]) -> String {
+    match call {
+        Call::Answer => String::from_utf8_lossy(text).into_owned(),
+        Call::Page => page::read_back(text).unwrap_or_default(),
+    }
 }
 
 // What an answer begins with: its first line, or the key where a term follows.
@@ -31,51 +47,55 @@ fn word<'a>(kind: &Kind, answer: &'a str) -> &'a str {
     }
 }
 
-/// What a reply counts as: its refusal, or its kind and the word that the answer begins with.
-pub fn class(bytes: &[u8], reply: &Reply) -> String {
+/// What a reply counts as: its call, and its refusal or its kind and the word that the answer begins
+/// with.
+pub fn class(call: Call, bytes: &[u8], reply: &Reply) -> String {
     match reply {
-        Reply::Refused(refusal) => refusal_name(*refusal),
-        Reply::Answer(answer) => {
-            let text = String::from_utf8_lossy(answer);
+        Reply::Refused(refusal) => refusal_name(call, *refusal),
+        Reply::Answer(text) => {
+            let text = held(call, text);
             match sheet::read(bytes) {
-                Ok(sheet) => answer_name(sheet.kind.name, word(sheet.kind, &text)),
-                Err(_) => answer_name("unread", text.lines().next().unwrap_or_default()),
+                Ok(sheet) => answer_name(call, sheet.kind.name, word(sheet.kind, &text)),
+                Err(_) => answer_name(call, "unread", text.lines().next().unwrap_or_default()),
             }
         }
     }
 }
 
 impl Tally {
-    pub fn add(&mut self, bytes: &[u8], reply: &Reply) {
-        let name = class(bytes, reply);
+    pub fn add(&mut self, call: Call, bytes: &[u8], reply: &Reply) {
+        let name = class(call, bytes, reply);
         *self.0.entry(name).or_default() += 1;
     }
 
-    pub fn count(&self, kind: &str, word: &str) -> usize {
-        self.0
-            .get(&answer_name(kind, word))
-            .copied()
-            .unwrap_or_default()
+    fn of(&self, name: &str) -> usize {
+        self.0.get(name).copied().unwrap_or_default()
     }
 
-    pub fn refused(&self, refusal: Refusal) -> usize {
-        self.0
-            .get(&refusal_name(refusal))
-            .copied()
-            .unwrap_or_default()
+    pub fn count(&self, call: Call, kind: &str, word: &str) -> usize {
+        self.of(&answer_name(call, kind, word))
+    }
+
+    pub fn refused(&self, call: Call, refusal: Refusal) -> usize {
+        self.of(&refusal_name(call, refusal))
     }
 
     /// The kinds with their words, and the refusals, that did not come up.
     pub fn missing(&self) -> Vec<String> {
-        let named =
-            |kind: &'static Kind| kind.answers.iter().map(|word| answer_name(kind.name, word));
-        let answers = KINDS.iter().flat_map(named);
-        let refusals = Refusal::ALL.map(refusal_name);
-        answers
-            .chain(refusals)
-            .filter(|name| !self.0.contains_key(name))
-            .collect()
+        let all = Call::ALL.into_iter().flat_map(classes);
+        all.filter(|name| !self.0.contains_key(name)).collect()
     }
+}
+
+// All that a reply of a call counts as.
+fn classes(call: Call) -> impl Iterator<Item = String> {
+    let words = KINDS
+        .iter()
+        .flat_map(|kind| kind.answers.iter().map(|word| (kind.name, word)));
+    let answers = words.map(move |(kind, word)| answer_name(call, kind, word));
+    let given = move |refusal: &Refusal| call == Call::Page || *refusal != Refusal::TooManyPages;
+    let refusals = Refusal::ALL.into_iter().filter(given);
+    answers.chain(refusals.map(move |refusal| refusal_name(call, refusal)))
 }
 
 impl fmt::Display for Tally {

@@ -7,6 +7,7 @@ use host::{
     reference::{self, Reply},
     sheet,
 };
+use yukhtsami::Call;
 
 // The reply of the library with a sheet's own words, on a small stack.
 fn replied(name: &str, text: &str) -> Reply {
@@ -14,7 +15,7 @@ fn replied(name: &str, text: &str) -> Reply {
     let read = sheet::read(bytes).expect("a sheet");
     let mut work = vec![1; sheet::words_needed(bytes, &read) as usize];
     let mut output = vec![0; 8 * sheet::LONGEST];
-    let called = lent::call(name, bytes, &mut work, &mut output);
+    let called = lent::call(name, Call::Answer, bytes, &mut work, &mut output);
     Reply::given(called, &output)
 }
 
@@ -60,7 +61,8 @@ fn small_sheets_are_answered_as_the_reference_says() {
     }
     notice::absent("the library was compared with the model alone");
     let agree = |name: &str, text: &str| {
-        let known = deep::run(|| reference::call(text.as_bytes(), u64::MAX, usize::MAX));
+        let known =
+            deep::run(|| reference::call(Call::Answer, text.as_bytes(), u64::MAX, usize::MAX));
         assert_eq!(replied(name, text), known, "{name}\n{text}");
     };
     for sample in KINDS.iter().flat_map(|kind| (kind.samples)()) {

@@ -98,7 +98,29 @@ fn null_pointers_of_length_0_are_taken() {
         let said = String::from_utf8(output.stdout).unwrap();
         assert_eq!(
             (output.status.code(), &*said),
-            (Some(0), "3 0\n11 0\n12 0\n")
+            (Some(0), "3 0\n11 0\n12 0\n".repeat(2).as_str())
+        );
+    }
+}
+
+#[test]
+fn pages_are_given_to_c_and_cpp() {
+    if notice::library_absent("pages were not asked of it") {
+        return;
+    }
+    let blank = " ".repeat(72) + "\n";
+    let lines = ["PAGE 0001", "verdict  solved", "spent    0"].map(|line| format!("{line:72}\n"));
+    let page = lines.concat() + &blank.repeat(47);
+    for compiler in [&C[..], &CPP[..]] {
+        if compiler_absent(compiler[0], "pages were not asked for by it") {
+            continue;
+        }
+        let output = run(&compiled(compiler, "host/tests/c/page.c"), Vec::new());
+        let said = String::from_utf8(output.stdout).unwrap();
+        let refused = "12 0\n13\n0 3650\n";
+        assert_eq!(
+            (output.status.code(), said),
+            (Some(0), format!("{refused}{page}"))
         );
     }
 }

@@ -3,7 +3,7 @@ mod shared;
 
 use std::process::Command;
 
-use host::{notice::library_absent as absent, sheet};
+use host::{generate, notice::library_absent as absent, sheet};
 use shared::{EQUAL, Ran, answered, command, ran, run_in};
 
 const REDUCE: &str = "kind=reduce\nterm=tamXCfst(tamXCpair(c(1),c(2)))\n";
@@ -40,6 +40,56 @@ fn several_answers_are_each_followed_by_an_empty_line() {
     let said = "equal=yes\n\nnormal=c(1)\n\nequal=yes\n\n";
     let words = ["a", "--", "--b", "a"];
     assert_eq!(run_in("several", &files, &words), answered(said));
+}
+
+// Lines filled with blanks, up to the end of a page.
+fn on_paper(lines: &[&str]) -> String {
+    let blank = vec![""; 50 - lines.len()];
+    let all = lines.iter().chain(&blank);
+    all.map(|line| format!("{line:72}\n")).collect()
+}
+
+#[test]
+fn pages_follow_each_other_as_they_are() {
+    if absent("the command answered nothing") {
+        return;
+    }
+    let equal = on_paper(&["PAGE 0001", "equal    yes"]);
+    assert_eq!(run(&["--page"], EQUAL), answered(&equal));
+    assert_eq!(
+        run(&["--page", "--room=3650", "-"], EQUAL),
+        answered(&equal)
+    );
+    let name = "a".repeat(49 * 63 + 1);
+    let long = format!("kind=reduce\nterm={name}\n");
+    let files = [("a", EQUAL.as_bytes()), ("b", long.as_bytes())];
+    let part = format!("         {}", "a".repeat(63));
+    let first = format!("normal   {}", "a".repeat(63));
+    let mut lines = vec!["PAGE 0001", first.as_str()];
+    lines.extend([part.as_str(); 48]);
+    let second = on_paper(&lines) + &on_paper(&["PAGE 0002", "         a"]);
+    let said = [&equal, &second, &equal].map(String::as_str).concat();
+    let words = ["a", "--page", "b", "a"];
+    assert_eq!(run_in("pages", &files, &words), answered(&said));
+    let bad = [("a", EQUAL.as_bytes()), ("b", b"kind=reduce\nterm=(\n")];
+    let (status, out, err) = run_in("pages", &bad, &["b", "a", "--page"]);
+    assert_eq!((status, out), (4, equal));
+    assert!(err.starts_with("yukhtsami: b: refusal 4, "), "{err}");
+}
+
+#[test]
+fn pages_that_are_too_many_or_do_not_fit_are_told() {
+    if absent("nothing was refused by it") {
+        return;
+    }
+    let over = generate::of_lines(489_952);
+    let said = "standard input: refusal 13, too many pages: 10000 pages, where 9999 are the most";
+    for words in [&["--page"][..], &["--page", "--room", "0"]] {
+        assert_eq!(run(words, &over), failed(13, said));
+    }
+    let said = "standard input: refusal 12, short output: 3649 bytes lent, 3650 needed";
+    let words = ["--page", "--room", "3649"];
+    assert_eq!(run(&words, UNIFY), failed(12, said));
 }
 
 #[test]
@@ -215,9 +265,11 @@ fn help_and_version_are_told_without_the_library() {
     assert_eq!((status, &*err), (0, ""));
     for part in [
         "Usage: yukhtsami",
+        "--page ",
         "--words N",
         "--room N",
         "short output",
+        "too many pages",
         "  74  ",
     ] {
         assert!(out.contains(part), "{part}");

@@ -5,12 +5,13 @@ use host::{
     documents::{self, Worked},
     hand,
     kinds::{self, KINDS, Kind},
+    lent::Asked,
     linked::Comparison,
     notice,
     reference::{self, Reply},
     sheet,
 };
-use yukhtsami::Refusal;
+use yukhtsami::{Call, Refusal};
 
 /// The documents with worked sheets, and how many each has at the least.
 const DOCUMENTS: [(&str, usize); 6] = [
@@ -36,11 +37,11 @@ fn check(list: &[Worked]) {
         for worked in list {
             let words = worked.words.unwrap_or(needed(&worked.sheet));
             let room = worked.room.unwrap_or(ROOM);
-            let reply = reference::call(&worked.sheet, words, room);
+            let reply = reference::call(worked.call, &worked.sheet, words, room);
             assert_eq!(told(&reply), told(&worked.reply), "{}", worked.place);
             if library {
-                let reply = worked.reply.clone();
-                comparison.add(&worked.place, &worked.sheet, words, room, reply);
+                let asked = Asked::new(worked.call, &worked.sheet, words, room);
+                comparison.add(&worked.place, asked, worked.reply.clone());
             }
         }
         let smallest = comparison.smallest.as_ref().map(ToString::to_string);
@@ -73,9 +74,12 @@ fn kinds(list: &[Worked]) -> Vec<&'static Kind> {
 #[test]
 fn every_example_has_its_answer() {
     let list = documents::examples().unwrap();
-    assert!(list.len() >= 12, "{} examples", list.len());
-    let names: Vec<_> = list.iter().map(|worked| worked.place.clone()).collect();
-    assert_eq!(names, documents::example_names(".answer"));
+    for (call, least) in [(Call::Answer, 12), (Call::Page, 1)] {
+        let of_call = list.iter().filter(|worked| worked.call == call);
+        let names: Vec<_> = of_call.map(|worked| worked.place.clone()).collect();
+        assert!(names.len() >= least, "{call:?}: {} examples", names.len());
+        assert_eq!(names, documents::example_names(documents::ending(call)));
+    }
     assert_eq!(kinds(&list), kinds::all());
     for verdict in ["solved", "failed", "unsupported"] {
         let told = format!("verdict={verdict}\n");
@@ -140,7 +144,7 @@ fn the_pairs_shown_are_the_pairs_taken() {
 fn asked(sheet: &str) -> Reply {
     let words = needed(sheet.as_bytes());
     if !yukhtsami::present() {
-        return reference::call(sheet.as_bytes(), words, ROOM);
+        return reference::call(Call::Answer, sheet.as_bytes(), words, ROOM);
     }
     let (mut work, mut output) = (vec![1; words as usize], vec![0; 64]);
     match yukhtsami::answer(sheet.as_bytes(), &mut work, &mut output) {
@@ -202,6 +206,17 @@ fn a_document_that_breaks_the_convention_is_an_error() {
         (Some(8), &Reply::Refused(Refusal::ShortOutput))
     );
     assert!(read("`kind=reduce/term=a/`: `refusal 12 with 8 words of it`").is_err());
+    let page = read("`kind=reduce/term=a/`: `page refusal 12 with 8 bytes`").unwrap();
+    assert_eq!((page[0].call, page[0].room), (Call::Page, Some(8)));
+    let shown = "\non paper\n\n    PAGE 0001\n    normal   a\n";
+    let page = read(&format!("{sheet}{shown}")).unwrap();
+    let both = read(&format!("{sheet}\nis\n\n{answer}{shown}")).unwrap();
+    assert_eq!((both.len(), &both[1].reply), (2, &page[0].reply));
+    assert_eq!(both[0].sheet, both[1].sheet);
+    assert!(read(shown).is_err());
+    let blank = " ".repeat(72) + "\n";
+    let lines = format!("{:72}\n{:72}\n", "PAGE 0001", "normal   a") + &blank.repeat(48);
+    assert_eq!((page[0].call, told(&page[0].reply)), (Call::Page, lines));
     let wrong = "kind=unify\nfuel=1\n";
     assert_eq!(told(&asked(wrong)), "verdict=solved\nspent=0\n");
 }

@@ -15,7 +15,7 @@ fn check(list: Vec<examples::Example>) {
                 .map_or(0, |sheet| sheet::words_needed(&example.sheet, &sheet));
             let words = example.words.unwrap_or(needed);
             let room = example.room.unwrap_or(1 << 20);
-            let reply = reference::call(&example.sheet, words, room);
+            let reply = reference::call(example.call, &example.sheet, words, room);
             assert_eq!(reply, example.reply, "example {}", example.label);
         }
     });

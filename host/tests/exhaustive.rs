@@ -1,5 +1,6 @@
-// Every short text and every pair of small terms: the model against the Rust.
-use host::{deep, model, notice, reference};
+// Every short text and every pair of small terms: the model against the Rust, and each answer laid out and
+// read back.
+use host::{deep, model, notice, page, reference};
 
 const LETTERS: [&str; 12] = ["a", "x", "0", "1", ":", "M", "(", ")", ",", " ", "p", "#"];
 
@@ -87,10 +88,11 @@ const TERMS: [&str; 46] = [
 fn every_pair_of_small_terms() {
     notice::absent("pairs of small terms were not compared with the Rust");
     let check = |text: String| {
-        reference::admit(text.as_bytes())
-            .expect("lines in place")
-            .answer
-            .expect("readable terms")
+        let admitted = reference::admit(text.as_bytes()).expect("lines in place");
+        let answer = admitted.answer.expect("readable terms");
+        let pages = page::laid_out(&answer).expect("few pages");
+        let back = page::read_back(&pages).map(String::into_bytes);
+        assert_eq!(back, Some(answer), "{text}");
     };
     deep::run(|| {
         for left in TERMS {

@@ -7,7 +7,7 @@ use host::{
     rng::Rng,
     store,
 };
-use yukhtsami::Refusal;
+use yukhtsami::{Call, Refusal};
 
 const CALLS: usize = 2_000;
 const LONGEST: usize = 2_000;
@@ -46,11 +46,11 @@ fn the_library_replies_to_hostile_inputs() {
     let hostile = deep::run(|| tried(CALLS));
     let compared = &hostile.compared;
     assert_eq!((compared.calls, compared.differences), (CALLS, 0));
-    let refused: usize = Refusal::ALL
-        .map(|refusal| compared.tally.refused(refusal))
-        .iter()
-        .sum();
-    let answered = CALLS - refused;
+    let refused = |call: Call| -> usize {
+        let counts = Refusal::ALL.map(|refusal| compared.tally.refused(call, refusal));
+        counts.iter().sum()
+    };
+    let answered = CALLS - refused(Call::Answer) - refused(Call::Page);
     assert!(answered >= CALLS / 5, "{}", compared.tally);
     assert!(hostile.unjudged < CALLS / 100, "{}", hostile.unjudged);
 }

@@ -2,8 +2,15 @@
 // shows, and terms that fill a sheet on a small stack.
 use std::{path::Path, process::Command};
 
-use host::{bench, deep, kinds, lent, linked::Comparison, notice, reference::Reply, sheet, store};
-use yukhtsami::Refusal;
+use host::{
+    bench, deep, kinds,
+    lent::{self, Asked},
+    linked::Comparison,
+    notice,
+    reference::Reply,
+    sheet, store,
+};
+use yukhtsami::{Call, Refusal};
 
 fn none_differ(comparison: &Comparison) {
     let smallest = comparison.smallest.as_ref().map(ToString::to_string);
@@ -38,7 +45,7 @@ fn the_library_replies_to_generated_sheets() {
         comparison.add_generated(4_000, 21, &kinds::all());
         comparison
     });
-    assert_eq!(comparison.calls, 4_000);
+    assert_eq!(comparison.calls, 2 * 4_000);
     none_differ(&comparison);
 }
 
@@ -60,6 +67,23 @@ fn the_library_answers_with_just_the_words_and_bytes_needed() {
     );
     assert_eq!(yukhtsami::answer(SHEET, &mut work, &mut output), Ok(10));
     assert_eq!(&output, b"equal=yes\n");
+}
+
+#[test]
+fn the_library_lays_out_with_just_the_words_and_bytes_needed() {
+    if notice::library_absent("nothing was lent to it") {
+        return;
+    }
+    let needed = 65_536 * 16 + 16 * SHEET.len();
+    let (mut work, mut output) = (vec![7; needed], [0; yukhtsami::PAGE_BYTES + 1]);
+    let less = yukhtsami::page(SHEET, &mut work[..needed - 1], &mut output);
+    assert_eq!((less, work[0]), (Err(Refusal::ShortWorkArea), 7));
+    let short = yukhtsami::page(SHEET, &mut work, &mut output[..yukhtsami::PAGE_BYTES - 1]);
+    assert_eq!((short, work[needed - 1]), (Err(Refusal::ShortOutput), 0));
+    assert!(output.iter().all(|byte| *byte == 0));
+    let written = yukhtsami::page(SHEET, &mut work, &mut output);
+    assert_eq!(written, Ok(yukhtsami::PAGE_BYTES));
+    assert!(output.starts_with(b"PAGE 0001   ") && output.ends_with(b"  \n\0"));
 }
 
 // The crate by itself, as a user of it builds it.
@@ -96,17 +120,16 @@ fn a_difference_is_found_and_the_smallest_sheet_kept() {
     let words = u64::from(u32::MAX);
     let wrong = || Reply::Answer(b"equal=no\n".to_vec());
     let longer = [SHEET, b" "].concat();
-    comparison.add(
-        "lines",
-        &longer,
-        words,
-        99,
-        Reply::Refused(Refusal::ForeignByte),
-    );
-    comparison.add("wrong", SHEET, words, 99, wrong());
+    let asked = |call, sheet| Asked::new(call, sheet, words, 99);
+    let (answer, page) = (asked(Call::Answer, SHEET), asked(Call::Page, SHEET));
+    let longer = asked(Call::Answer, &longer);
+    comparison.add("lines", longer, Reply::Refused(Refusal::ForeignByte));
+    comparison.add("wrong", answer, wrong());
     let right = Reply::Answer(b"equal=yes\n".to_vec());
-    comparison.add("right", SHEET, words, 99, right);
-    assert_eq!((comparison.calls, comparison.differences), (3, 2));
+    comparison.add("right", answer, right.clone());
+    comparison.add("an answer for pages", page, right);
+    comparison.add("short", page, Reply::Refused(Refusal::ShortOutput));
+    assert_eq!((comparison.calls, comparison.differences), (5, 3));
     let smallest = comparison.smallest.unwrap();
     assert_eq!(smallest.name, "wrong");
     assert_eq!(smallest.found.len(), 2, "{smallest}");
@@ -132,7 +155,13 @@ fn deep_terms_do_not_exhaust_a_small_stack() {
     for term in [chain, sums] {
         let sheet = format!("kind=equal\nleft={term}\nright={term}\n");
         let (mut work, mut output) = (vec![1; 65_536 * 16 + 16 * sheet.len()], [0; 10]);
-        let called = lent::call("deep terms", sheet.as_bytes(), &mut work, &mut output);
+        let called = lent::call(
+            "deep terms",
+            Call::Answer,
+            sheet.as_bytes(),
+            &mut work,
+            &mut output,
+        );
         assert_eq!((called.refusal, &output), (0, b"equal=yes\n"));
     }
 }
@@ -147,7 +176,7 @@ fn on_a_small_stack(name: &str, sheet: &str) -> String {
     let read = sheet::read(sheet.as_bytes()).unwrap();
     let words = sheet::words_needed(sheet.as_bytes(), &read) as usize;
     let (mut work, mut output) = (vec![1; words], vec![0; 2 * sheet::LONGEST]);
-    let called = lent::call(name, sheet.as_bytes(), &mut work, &mut output);
+    let called = lent::call(name, Call::Answer, sheet.as_bytes(), &mut work, &mut output);
     assert_eq!(called.refusal, 0, "{name}");
     String::from_utf8(output[..called.written].to_vec()).unwrap()
 }

@@ -267,7 +267,7 @@ fn places_are_found_exactly_where_sheets_are_refused() {
         let generated = (0..40_000).map(|_| agree(&generate::sheet(&mut rng, Size::Any)));
         let mut found: Vec<_> = generated.collect();
         let stored = store::stored().unwrap();
-        found.extend(stored.iter().map(|record| agree(&record.sheet)));
+        found.extend(stored.iter().map(|record| agree(&record.case.sheet)));
         found
     });
     let refusals = [TooLong, ForeignByte, LineOutOfPlace, UnreadableTerm].map(Some);

@@ -1,13 +1,15 @@
 // The tables of sheets in crates/rules/specs, which the definitions are proved to answer, against the reference: what each row
 // says is what the Rust gives.
+mod tables;
+
 use std::fs;
 
 use host::{
-    deep, documents, notice,
+    deep, documents, notice, page,
     reference::{self, Reply},
     sheet,
 };
-use yukhtsami::Refusal;
+use yukhtsami::{Call, Refusal};
 
 const TABLES: [&str; 3] = ["Table", "MoreRows", "RefusalTable"];
 // `row` and `wide` are a sheet and its answer, with words and room enough; `one_less` has a number between them, which is one word less
@@ -40,9 +42,13 @@ fn row(rest: &str) -> Option<Row> {
     })
 }
 
-fn rows(table: &str) -> Vec<Row> {
+fn written(table: &str) -> String {
     let file = documents::file("crates/rules/specs").join(format!("{table}.antt"));
-    let text = fs::read_to_string(file).unwrap();
+    fs::read_to_string(file).unwrap()
+}
+
+fn rows(table: &str) -> Vec<Row> {
+    let text = written(table);
     let rests = HEADS.iter().flat_map(|head| text.split(head).skip(1));
     rests.filter_map(row).collect()
 }
@@ -60,14 +66,14 @@ fn the_rust_answers_the_rows_of_the_tables_as_they_say() {
             for row in rows(table) {
                 let name = String::from_utf8_lossy(&row.sheet);
                 let words = needed(&row.sheet);
-                let reply = reference::call(&row.sheet, words, ROOM);
+                let reply = reference::call(Call::Answer, &row.sheet, words, ROOM);
                 assert!(
                     matches!(&reply, Reply::Answer(answer) if *answer == row.answer),
                     "{name}"
                 );
                 if let Some(one_less) = row.one_less {
                     assert_eq!(words, one_less + 1, "{name}");
-                    let reply = reference::call(&row.sheet, one_less, ROOM);
+                    let reply = reference::call(Call::Answer, &row.sheet, one_less, ROOM);
                     assert!(
                         matches!(reply, Reply::Refused(Refusal::ShortWorkArea)),
                         "{name}"
@@ -77,5 +83,29 @@ fn the_rust_answers_the_rows_of_the_tables_as_they_say() {
             }
         }
         assert!(count > 80, "{count} rows");
+    });
+}
+
+// The pages of a row have whole lines, and the host lays out what the Rust answers.
+#[test]
+fn the_rust_answers_the_rows_with_pages_as_they_say() {
+    notice::absent("the model alone answered the rows with pages");
+    let rows = tables::rows(&written("PageTable"));
+    assert!(rows.len() >= 10, "{} rows", rows.len());
+    deep::run(|| {
+        for row in rows {
+            let reply = reference::call(Call::Page, row.sheet.as_bytes(), row.words, row.room);
+            match (&reply, &row.reply) {
+                (Reply::Answer(pages), Ok(lines)) => {
+                    let told = page::filled(lines.iter().map(String::as_str));
+                    assert_eq!(told.len(), 73 * lines.len(), "{}", row.sheet);
+                    assert!(*pages == told, "{}", row.sheet);
+                }
+                (Reply::Refused(refusal), Err(name)) => {
+                    assert_eq!(format!("{refusal:?}"), *name, "{}", row.sheet);
+                }
+                _ => panic!("{}\n{reply:?}", row.sheet),
+            }
+        }
     });
 }

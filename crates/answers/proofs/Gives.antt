@@ -26,25 +26,31 @@ fits_over : (a : Text) (room : ℕ) → room < length a → within_room (passed 
 unfolding within_room
 fits_over a room h = rw (lt-leb (length a) room h)
 
+pub settles_refused : {o : Reply Text} (x : Refusal) {out v : Text} → o ≡ refused (number_for x) → v ≡ out → Settles o out v (Err x)
+settles_refused x {out} e f = record {
+  number = sym (ap refusal_number e);
+  count = sym (ap written e);
+  output = f ∙ sym (ap (λ (r : Reply Text). overwritten r out) e);
+}
+
 pub refused_settles : (x : Refusal) (out : Text) → Settles (within_room (refused (number_for x)) (length out)) out out (Err x)
 unfolding within_room
-refused_settles x out = record { number = refl; count = refl; output = refl }
+refused_settles x out = settles_refused x refl refl
 
-module _ {a b : Output} {t v : Text} (z : a.at ≡ 0) (m : a.pass ≡ Measure) where
+module _ {a b : Output} {t v : Text} {n : ℕ} (z : a.at ≡ 0) (m : a.pass ≡ Measure) (o : a.room ≡ length a.bytes.now) where
   -- measured, and too long
-  pub short_settles : PutInto a b t None → v ≡ b.bytes.now → Settles (within_room (passed t) (length a.bytes.now)) a.bytes.now v (Err ShortOutput)
+  pub short_settles : PutInto a b t n None → v ≡ b.bytes.now → Settles (within_room (passed t) (length a.bytes.now)) a.bytes.now v (Err ShortOutput)
   short_settles p f =
       let k = told_over p.end in
-      let e = fits_over t (length a.bytes.now) (omega (arith, k, z)) in
-      record { number = sym (ap refusal_number e); count = sym (ap written e); output = f ∙ p.kept m ∙ sym (ap (λ (r : Reply Text). overwritten r a.bytes.now) e) }
+      settles_refused ShortOutput (fits_over t (length a.bytes.now) (omega (arith, k, z, o))) (f ∙ p.kept m)
 
   -- measured, and written
-  pub written_settles : {c d : Output} → PutInto a b t (Some (tt {0})) → c.bytes ≡ b.bytes → c.at ≡ 0 → c.pass ≡ Write → PutInto c d t (Some (tt {0})) → v ≡ d.bytes.now → Settles (within_room (passed t) (length a.bytes.now)) a.bytes.now v (Ok d.at)
+  pub written_settles : {c d : Output} → PutInto a b t n (Some (tt {0})) → c.bytes ≡ b.bytes → c.at ≡ 0 → c.pass ≡ Write → PutInto c d t n (Some (tt {0})) → v ≡ d.bytes.now → Settles (within_room (passed t) (length a.bytes.now)) a.bytes.now v (Ok d.at)
   unfolding Print.printed_over
   written_settles {c} {d} p f y w q g =
       let k = told p.end in
       let l = told q.end in
-      let e = fits_within t (length a.bytes.now) (omega (arith, k, z)) in
+      let e = fits_within t (length a.bytes.now) (omega (arith, k, z, o)) in
       record {
         number = sym (ap refusal_number e);
         count = l.0 ∙ ap (λ n. n + length t) y ∙ zero-add (length t) ∙ sym (ap written e);

@@ -1,30 +1,16 @@
 // A decision in the output: measured, then written where it fits.
 ghost use Rattle.std.specs.Prelude.{length};
-ghost use Rattle.printing.specs.Putting.{PutInto};
-ghost use Rattle.answers.specs.Deciding.{lines_text, LinesHeld, reply_of, Standing};
+ghost use Rattle.answers.specs.Deciding.{reply_of, Standing};
 ghost use Rattle.answers.specs.Settling.{within_room, Settles};
 
-use crate::deciding::{Decision, Lines};
-use crate::lines::put_claim;
+use crate::deciding::Decision;
+use crate::lines::put_lines;
 use printing::output::{Output, Pass};
 use rules::Refusal;
 use tree::area::Area;
-use verdicts::put_answer;
 
 // What the call gives: the count of bytes written, or a refusal.
 pub type Reply = Result<usize, Refusal>;
-
-// The lines of an answer.
-fn put_lines(out: &mut Output, area: &Area, lines: Lines) -> Option<()>
-    requires { LinesHeld area.now lines }
-    ensures { PutInto out.old out.new (lines_text area.now lines) result }
-{
-    match lines {
-        Lines::Claim { key, claim } => put_claim(out, key, claim),
-        Lines::Term { key, index } => out.line(key.text(), area, index),
-        Lines::Verdict(answer) => put_answer(out, area, answer),
-    }
-}
 
 // The refusal that was decided, 12 where the answer does not fit, or the answer, written from byte 0 on. It is measured before a byte is
 // written.
@@ -33,12 +19,16 @@ pub fn give(area: &Area, decision: Decision, output: &mut [u8]) -> Reply
     ensures { Settles (within_room (reply_of area.now decision) (length output.old)) output.old output.new result }
 {
     let lines = decision?;
+    let room = output.len();
     let mut out = Output {
         bytes: output,
         at: 0,
+        lines: 0,
+        room,
         pass: Pass::Measure,
     };
     put_lines(&mut out, area, lines).ok_or(Refusal::ShortOutput)?;
+    out.lines = 0;
     out.at = 0;
     out.pass = Pass::Write;
     put_lines(&mut out, area, lines).unwrap();

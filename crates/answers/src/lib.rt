@@ -3,4 +3,4 @@
 
 pub mod deciding; // deciding.rt: what is decided of a sheet
 pub mod giving; // giving.rt: a decision measured, and written where it fits
-mod lines; // lines.rt: the line of a claim
+pub mod lines; // lines.rt: the lines of an answer

@@ -1,11 +1,14 @@
-// The line of a claim.
+// The lines of an answer, put into an output.
 ghost use Rattle.std.specs.Prelude.{◌≡◌};
-ghost use Rattle.rules.specs.Answer.{line, claim as word_of};
+ghost use Rattle.rules.specs.Answer.{claim as word_of};
+ghost use Rattle.laws.specs.Laying.{line_count};
 ghost use Rattle.printing.specs.Putting.{PutInto};
-ghost use Rattle.answers.specs.Deciding.{key_text};
+ghost use Rattle.answers.specs.Deciding.{lines_text, lines_entries, LinesHeld};
 
-use crate::deciding::Key;
+use crate::deciding::Lines;
 use printing::output::Output;
+use tree::area::Area;
+use verdicts::put_answer;
 
 // What is claimed, in a word. No Display: it would write twice through fmt.
 fn word_of(claim: Option<bool>) -> &'static [u8]
@@ -18,11 +21,14 @@ fn word_of(claim: Option<bool>) -> &'static [u8]
     }
 }
 
-// The line of a key and of what is claimed.
-pub(crate) fn put_claim(out: &mut Output, key: Key, claim: Option<bool>) -> Option<()>
-    ensures { PutInto out.old out.new (line (key_text key) (word_of claim)) result }
+// The lines of an answer.
+pub fn put_lines(out: &mut Output, area: &Area, lines: Lines) -> Option<()>
+    requires { LinesHeld area.now lines }
+    ensures { PutInto out.old out.new (lines_text area.now lines) (line_count (lines_entries area.now lines)) result }
 {
-    out.text(key.text())?;
-    out.text(word_of(claim))?;
-    out.text(b"\n")
+    match lines {
+        Lines::Claim { key, claim } => out.word_line(key.text(), word_of(claim)),
+        Lines::Term { key, index } => out.line(key.text(), area, index),
+        Lines::Verdict(answer) => put_answer(out, area, answer),
+    }
 }

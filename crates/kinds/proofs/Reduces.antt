@@ -1,9 +1,11 @@
 -- The answer to a sheet of kind `reduce`: the line of the normal form.
-use mathlib.Core.Path.{◌≡◌, refl, sym, ap, ◌∙◌}
+use mathlib.Core.Path.{◌≡◌, refl, sym, subst, ap, ◌∙◌}
+use mathlib.Core.Bool.{true}
 use Rattle.std.specs.Prelude.{Option, Some, Ok, Err}
 use Prim.Native.Nat.{ℕ}
 use Rattle.rules.specs.Bytes.{Text}
 use Rattle.rules.specs.Text.{bytes}
+use Rattle.rules.specs.Names.{all}
 use Rattle.rules.specs.Maybe.{◌>>=◌}
 use Rattle.rules.specs.Tree.{Tree, size}
 use Rattle.rules.specs.Writing.{render}
@@ -12,6 +14,10 @@ use Rattle.rules.specs.Reduction.{normalize}
 use Rattle.rules.specs.Sheet.{asks_reduce}
 use Rattle.rules.specs.Answer.{line, answer_of}
 use Rattle.rules.specs.declared.Refusal.TheVariants.{UnreadableTerm}
+use Rattle.laws.specs.Laying.{solid}
+use Rattle.laws.proofs.Reading.Builds.{builds}
+use Rattle.laws.proofs.Reduction.Reaching.{built_normal}
+use Rattle.laws.proofs.Sheets.Solid.{render_solid}
 use Rattle.tree.specs.declared.area.Area.{Area}
 use Rattle.tree.specs.Areas.{tree_in}
 use Rattle.tree.specs.Spelled.{text_in}
@@ -36,6 +42,11 @@ module _ {a b : Area} {t : Place} where
   unfolding sheet_of
   reduce_unread h = unread_decided refl (reduce_answer (text_in a t) h.unread) h.lent
 
+  normal_solid : {i j : ℕ} {d : Area} → Reads a b t i → Becomes b d (size (tree_in b i)) 0 (normalize (tree_in b i)) j → all solid (render (tree_in d j)) ≡ true
+  normal_solid {i} h g =
+      let u = tree_in b i in
+      subst (λ (z : Tree). all solid (render z) ≡ true) (sym g.tree) (render_solid (built_normal u (builds (text_in a t) u h.reads)))
+
   pub reduce_decided : {i j : ℕ} {d : Area} → Reads a b t i → Becomes b d (size (tree_in b i)) 0 (normalize (tree_in b i)) j
       → DecidesForm (sheet_of a.sheet.now (form.Reduce t)) a d (Ok (Term key.Normal j))
   unfolding sheet_of
@@ -43,4 +54,4 @@ module _ {a b : Area} {t : Place} where
       sheet_decided refl
       (reduce_answer (text_in a t) h.reads ∙ ap (λ (z : Tree). Some (line (bytes "normal=") (render z))) (sym g.tree))
       (lent_then h.lent g.grows.lent)
-      (term_decides key.Normal g.some_cell g.inside)
+      (term_decides key.Normal g.some_cell g.inside (normal_solid h g))

@@ -1,5 +1,6 @@
 -- The answer to a sheet of kind `unify` or `match`: what its pairs give, and the room of the run.
 use mathlib.Core.Path.{◌≡◌, refl, sym, ap, subst, ◌∙◌}
+use mathlib.Core.Bool.{true}
 use mathlib.Core.List.{List, []}
 use Rattle.std.specs.Prelude.{Option, Some, None, Result, Ok, Err}
 use Prim.Native.Nat.{ℕ, ◌+◌, ◌*◌, ◌≤◌}
@@ -15,6 +16,11 @@ use Rattle.rules.specs.Answer.{read_pairs, verdict_lines, answer_of}
 use Rattle.rules.specs.declared.Ending.{Ending}
 use Rattle.rules.specs.declared.Refusal.TheVariants.{UnreadableTerm}
 use Rattle.laws.specs.Memory.{weight, sheet_pairs}
+use Rattle.laws.specs.Laying.{all_columned, verdict_entries}
+use Rattle.laws.proofs.Sheets.BuiltRun.{Writable, unify_writable}
+use Rattle.laws.proofs.Sheets.BuiltMatch.{matcher_writable}
+use Rattle.laws.proofs.Sheets.Calls.{pairs_read}
+use Rattle.laws.proofs.Sheets.PageAnswers.{verdict_fit}
 use Rattle.tree.specs.declared.area.Area.{Area}
 use Rattle.tree.specs.Areas.{trees_in, Lent}
 use Rattle.tree.proofs.Keeping.{grows_then}
@@ -31,6 +37,7 @@ use Rattle.unifier.specs.Running.{Roomy}
 use Rattle.elimination.specs.Areas.{pairs_in}
 use Rattle.unifier.specs.Areas.{AnswersIn, HoldsBound}
 use Rattle.substitution.specs.declared.answer.Answer.{Answer}
+use Rattle.substitution.specs.Answers.{answer_in}
 use Rattle.elimination.proofs.Tops.{pairs_flatten}
 use Rattle.steps.proofs.Fitting.{pairs_fit}
 use Rattle.admission.specs.Admission.{Decoded}
@@ -53,11 +60,20 @@ solve_asked s v fuel c f e d =
 pub record Solving (asks : ℕ → List Entry → Sheet) (solve : ℕ → List Pair → rules.Answer) : Type 0 where
   pub answers : (fuel : ℕ) (es : List Entry) → answer_of (asks fuel es) ≡ (read_pairs es >>= λ ps. Some (verdict_lines (solve fuel ps)))
   pub pairs : (fuel : ℕ) (es : List Entry) → sheet_pairs (asks fuel es) ≡ es
+  pub writable : (fuel : ℕ) (es : List Entry) (ps : List Pair) → read_pairs es ≡ Some ps → Writable (solve fuel ps).0
 
 pub solves : (v : Solver) → Solving (asks_by v) (solved_by v)
 unfolding answer_of
-solves solver.Unify = record { answers = λ fuel es. refl; pairs = λ fuel es. refl }
-solves solver.Match = record { answers = λ fuel es. refl; pairs = λ fuel es. refl }
+solves solver.Unify = record {
+  answers = λ fuel es. refl;
+  pairs = λ fuel es. refl;
+  writable = λ fuel es ps e. unify_writable fuel ps (pairs_read es ps e).0;
+}
+solves solver.Match = record {
+  answers = λ fuel es. refl;
+  pairs = λ fuel es. refl;
+  writable = λ fuel es ps e. let b = pairs_read es ps e in matcher_writable fuel ps b.0 b.1;
+}
 
 -- the pairs that were read
 module _ {a b : Area} {at : ℕ} {es : List Entry} {rest : List Text} {r : Read ℕ} (h : InOrder a b at es rest r) where
@@ -102,13 +118,20 @@ module _ {asks : ℕ → List Entry → Sheet} {solve : ℕ → List Pair → ru
           room = (run_words s sheet k.reads h.ps p k.short b.free fuel words used k.fuelled e (length ns) l, run_cells s sheet k.reads h.ps p k.short b.free fuel words used k.fuelled e (length ns) l);
         })
 
+    -- the columns of a page can hold what the run gave
+    pairs_columned : {d : Area} {x : Answer} → AnswersIn b d (solve fuel (pairs_in b r.value)) x → all_columned (verdict_entries (answer_in d x)) ≡ true
+    pairs_columned g =
+        let z = solve fuel (pairs_in b r.value) in
+        let w = y.writable fuel k.entries (pairs_in b r.value) (h.read ∙ ap Some (sym (read_are h))) in
+        subst (λ (z : rules.Answer). all_columned (verdict_entries z) ≡ true) g.is (verdict_fit z.0 z.1 w)
+
     -- the answer, from what the run gave
     pub pairs_decided : {d : Area} {x : Answer} → AnswersIn b d (solve fuel (pairs_in b r.value)) x → DecidesForm (read_sheet a.sheet.now) a d (Ok (Verdict x))
     pairs_decided {d} {x} g =
         sheet_decided k.reads
         (answer_is y fuel k.entries (h.read ∙ ap Some (sym (read_are h))) ∙ ap (λ (z : rules.Answer). Some (verdict_lines z)) g.is)
         (grows_then h.grows g.grows).lent
-        (record { reply = refl; held = verdict_held d x.verdict x.spent g.bound })
+        (record { reply = refl; held = verdict_held d x.verdict x.spent g.bound; columned = pairs_columned g })
 
 -- room for `match` is less than for `unify`
 pub match_room : {w : List ℕ} {n fuel : ℕ} {ps : List Pair} → Roomy w n fuel ps → Room w (n + weight ps + 2 * fuel)

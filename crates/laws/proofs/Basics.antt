@@ -1,5 +1,6 @@
--- Tests, chains of readings, the order of texts, the spelling of names and of numbers.
+-- Tests, of a text's bytes too, chains of readings, the order of texts, the spelling of names and of numbers.
 pub mod Tests
+pub mod Bytes
 pub mod Somes
 pub mod Options
 pub mod Sorting

@@ -1,6 +1,12 @@
--- Whole sheets: the refusals and what a call leaves, what unify and match bind is built and reads back from the answer's text, what
--- answered sheets and those alike in all but fuel say, the sheets to check, and the promise on one of them.
+-- Whole sheets: the refusals and what a call leaves, what unify and match bind is built and reads back from the answer's text, the
+-- answer on paper, what answered sheets and those alike in all but fuel say, the sheets to check, and the promise on one of them.
+pub mod Solid
 pub mod Clean
+pub mod PageLines
+pub mod Entries
+pub mod PageReading
+pub mod Pages
+pub mod Laying
 pub mod BuiltRun
 pub mod BuiltMatch
 pub mod AnswerText
@@ -11,6 +17,8 @@ pub mod Unread
 pub mod Refusals
 pub mod Saying
 pub mod Answers
+pub mod PageAnswers
+pub mod PageCalls
 pub mod SheetTexts
 pub mod SheetParts
 pub mod NamesRead
@@ -19,4 +27,5 @@ pub mod Alike
 pub mod Table
 pub mod MoreRows
 pub mod RefusalRows
+pub mod PageRows
 mod Example

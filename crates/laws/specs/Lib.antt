@@ -5,3 +5,4 @@ pub mod Schemes
 pub mod Unspelled
 pub mod Closing
 pub mod Sorting
+pub mod Laying

@@ -1,3 +1,4 @@
 pub mod Marked
 pub mod Measure
+pub mod Paper
 pub mod Putting

@@ -12,12 +12,14 @@ abbrev pub place_after : Output → Option (Unit {0}) → Option ℕ
 place_after b (Some u) = Some b.at
 place_after b None = None
 
--- b is a with t from its place on where t is written and fits, and the place after t; r is none where t ends beyond the output, and a
--- pass that measures changes no byte
-pub record PutInto (a b : Output) (t : Text) (r : Option (Unit {0})) : Type 0 where
+-- b is a with t from its place on where t is written and fits, the place after t, and n lines more; r is none where t ends beyond the
+-- room, and a pass that measures changes no byte
+pub record PutInto (a b : Output) (t : Text) (n : ℕ) (r : Option (Unit {0})) : Type 0 where
   pub lent : b.bytes.ghost_name ≡ a.bytes.ghost_name
   pub pass : b.pass ≡ a.pass
-  pub end : place_after b r ≡ measured (a.at + length t) (length a.bytes.now)
+  pub room : b.room ≡ a.room
+  pub end : place_after b r ≡ measured (a.at + length t) a.room
+  pub lines : r ≡ Some tt → b.lines ≡ a.lines + n
   pub len : length b.bytes.now ≡ length a.bytes.now
-  pub written : a.pass ≡ Write → a.at + length t ≤ length a.bytes.now → b.bytes.now ≡ printed_over a.bytes.now a.at t
+  pub written : a.pass ≡ Write → a.at + length t ≤ a.room → b.bytes.now ≡ printed_over a.bytes.now a.at t
   pub kept : a.pass ≡ Measure → b.bytes.now ≡ a.bytes.now

@@ -1,5 +1,7 @@
-// An output with the place where its next byte goes, in one of two passes.
-ghost use Rattle.std.specs.Prelude.{◌≤◌, length};
+// An output with the place where its next byte goes, the lines on paper that were put, and the room up to which bytes may be put, in one of
+// two passes. A pass that measures may have more room than the output.
+ghost use Rattle.std.specs.Prelude.{◌≤◌, ◌≡◌, length};
+ghost use Rattle.printing.specs.declared.output.Pass.TheVariants.{Write};
 
 // Whether bytes are only counted or written.
 #[derive(Clone, Copy, Debug, PartialEq, Eq)]
@@ -12,6 +14,10 @@ pub enum Pass {
 pub struct Output<'a> {
     pub bytes: &'a mut [u8],
     pub at: usize,
+    pub lines: usize,
+    pub room: usize,
     pub pass: Pass,
-    pub ghost inside: { at ≤ length bytes.now },
+    pub ghost inside: { at ≤ room },
+    pub ghost counted: { lines ≤ at },
+    pub ghost held: { pass ≡ Write → room ≤ length bytes.now },
 }

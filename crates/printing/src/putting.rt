@@ -13,9 +13,9 @@ impl Output<'_> {
     // So many bytes, as `fill` leaves them in the part of the output that is theirs.
     fn put<F: Fn(&mut [u8])>(&mut self, count: usize, fill: F) -> Option<()>
         requires { (part : _) → length part.now ≡ count → F.pre fill part }
-        ensures { (t : Text) → length t ≡ count → ((p : _) (q : _) → length p.now ≡ count → F.post fill p tt q → q.now ≡ t) → PutInto self.old self.new t result }
+        ensures { (t : Text) → length t ≡ count → ((p : _) (q : _) → length p.now ≡ count → F.post fill p tt q → q.now ≡ t) → PutInto self.old self.new t 0 result }
     {
-        if self.bytes.len() - self.at < count {
+        if self.room - self.at < count {
             return None;
         }
         let end = self.at + count;
@@ -27,15 +27,15 @@ impl Output<'_> {
     }
 
     // A text.
-    pub fn text(&mut self, text: &[u8]) -> Option<()>
-        ensures { PutInto self.old self.new text.now result }
+    pub(crate) fn text(&mut self, text: &[u8]) -> Option<()>
+        ensures { PutInto self.old self.new text.now 0 result }
     {
         self.put(text.len(), |part| part.copy_from_slice(text))
     }
 
     // A number in decimal.
-    pub fn decimal(&mut self, n: usize) -> Option<()>
-        ensures { PutInto self.old self.new (decimal n) result }
+    pub(crate) fn decimal(&mut self, n: usize) -> Option<()>
+        ensures { PutInto self.old self.new (decimal n) 0 result }
     {
         self.put(width_of(n), |part| {
             print(n, part, 0);
@@ -45,7 +45,7 @@ impl Output<'_> {
     // The name of cell i.
     pub(crate) fn name(&mut self, area: &Area, i: usize) -> Option<()>
         requires { CellIn area.now i }
-        ensures { PutInto self.old self.new (name_in area.now i) result }
+        ensures { PutInto self.old self.new (name_in area.now i) 0 result }
     {
         self.put(area.name_len(i), |part| {
             area.print_name(i, part, 0);

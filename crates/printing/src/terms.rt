@@ -1,9 +1,10 @@
 // A term put into an output, by its name and its list, and a line of a key and a term.
-ghost use Rattle.std.specs.Prelude.{◌<◌};
+ghost use Rattle.std.specs.Prelude.{◌<◌, length};
 ghost use Rattle.rules.specs.Writing.{render, renders};
 ghost use Rattle.rules.specs.Answer.{line};
 ghost use Rattle.tree.specs.Areas.{tree_in, trees_in, CellIn};
 ghost use Rattle.printing.specs.Marked.{marked};
+ghost use Rattle.printing.specs.Paper.{lines_for};
 ghost use Rattle.printing.specs.Putting.{PutInto};
 
 use crate::output::Output;
@@ -16,7 +17,7 @@ impl Output<'_> {
     #[cycle(term_list)]
     fn term(&mut self, area: &Area, i: usize) -> Option<()>
         requires { CellIn area.now i }
-        ensures { PutInto self.old self.new (render (tree_in area.now i)) result }
+        ensures { PutInto self.old self.new (render (tree_in area.now i)) 0 result }
     {
         match area.kind(i) {
             Kind::Application => {
@@ -37,7 +38,7 @@ impl Output<'_> {
     #[cycle(term_list)]
     fn list(&mut self, area: &Area, i: usize, mark: u8) -> Option<()>
         requires { i < area.now.free }
-        ensures { PutInto self.old self.new (marked mark (renders (trees_in area.now i))) result }
+        ensures { PutInto self.old self.new (marked mark (renders (trees_in area.now i))) 0 result }
     {
         if i == 0 {
             let end: &[u8] = if mark == b'(' { b"" } else { b")" };
@@ -51,10 +52,11 @@ impl Output<'_> {
     // The line of a key and the term of cell i.
     pub fn line(&mut self, key: &[u8], area: &Area, i: usize) -> Option<()>
         requires { CellIn area.now i }
-        ensures { PutInto self.old self.new (line key.now (render (tree_in area.now i))) result }
+        ensures { PutInto self.old self.new (line key.now (render (tree_in area.now i))) (lines_for (length (render (tree_in area.now i)))) result }
     {
         self.text(key)?;
+        let from = self.at;
         self.term(area, i)?;
-        self.text(b"\n")
+        self.end_line(from)
     }
 }

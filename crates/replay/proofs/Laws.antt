@@ -3,9 +3,9 @@ use Rattle.std.proofs.Common.{◌≡◌, ℕ, ◌≤◌, Bool, true, false, ◌&
 use Rattle.rules.specs.Bytes.{Text, same}
 use Rattle.std.proofs.lemmas.Bool.{ne_eqb}
 use Rattle.laws.proofs.Basics.Tests.{and_left, and_right, eqb_self}
-use Rattle.rules.specs.Call.{Reply, refused, passed, call, refusal_number, written, overwritten}
-use Rattle.yukhtsami.specs.Answering.{Calls}
-use Rattle.replay.specs.Replaying.{agreeing, Compares, Replays, lends, outcome}
+use Rattle.rules.specs.Call.{Reply, refused, passed, refusal_number, written, overwritten}
+use Rattle.yukhtsami.specs.Answering.{Gives}
+use Rattle.replay.specs.Replaying.{asked, agreeing, Compares, Replays, lends, outcome}
 use Rattle.replay.specs.declared.call.Record.{Record}
 
 -- a number that is, or is not, the one stored
@@ -25,18 +25,18 @@ reply_agrees (passed t) out refusal answer =
     ap (λ (b : Bool). eqb 0 refusal && (b && same (take (length t) (t ++ drop (length t) out)) answer)) (le-leb (length t) (length (t ++ drop (length t) out)) h)
     ∙ ap (λ (l : Text). eqb 0 refusal && same l answer) (take_at t (drop (length t) out) (length t) refl)
 
-module _ (s : Text) (w v : List ℕ) (out after : Text) (number count : ℕ) (refusal : ℕ) (answer : Text) (called : Calls s w v out after number count) where
-  pub compares : (r : Bool) → r ≡ eqb number refusal && (leb count (length after) && same (take count after) answer) → Compares s w v out after refusal answer r
+module _ (f : Text → ℕ → ℕ → Reply Text) (s : Text) (w v : List ℕ) (out after : Text) (number count : ℕ) (refusal : ℕ) (answer : Text) (called : Gives f s w v out after number count) where
+  pub compares : (r : Bool) → r ≡ eqb number refusal && (leb count (length after) && same (take count after) answer) → Compares f s w v out after refusal answer r
   compares r e = record {
     agrees = e ∙ go number count after called.number called.written_is called.output;
     work = called.work;
     output = called.output;
   }
     where
-      go : (n m : ℕ) (a : Text) → n ≡ refusal_number (call s (length w) (length out)) → m ≡ written (call s (length w) (length out))
-          → a ≡ overwritten (call s (length w) (length out)) out
-          → eqb n refusal && (leb m (length a) && same (take m a) answer) ≡ agreeing (call s (length w) (length out)) refusal answer
-      go n m a p q o = rw (p, q, o) (reply_agrees (call s (length w) (length out)) out refusal answer)
+      go : (n m : ℕ) (a : Text) → n ≡ refusal_number (f s (length w) (length out)) → m ≡ written (f s (length w) (length out))
+          → a ≡ overwritten (f s (length w) (length out)) out
+          → eqb n refusal && (leb m (length a) && same (take m a) answer) ≡ agreeing (f s (length w) (length out)) refusal answer
+      go n m a p q o = rw (p, q, o) (reply_agrees (f s (length w) (length out)) out refusal answer)
 
 module _ (stored : Record) (w : List ℕ) (out : Text) where
   pub skipped : lends (length w) (length out) stored ≡ false → Replays stored w w out out None
@@ -51,7 +51,7 @@ module _ (stored : Record) (w : List ℕ) (out : Text) where
   lends_room b e t = leb-true stored.room (length out) (and_right (leb stored.words (length w)) (leb stored.room (length out)) (sym e ∙ t))
 
   pub replayed : (v' : List ℕ) (after' : Text) (b q r : Bool) → b ≡ q → r ≡ lends (length w) (length out) stored → r ≡ true
-      → Compares stored.sheet.now (take stored.words w) v' (take stored.room out) after' stored.refusal stored.answer.now b
+      → Compares (asked stored.paged) stored.sheet.now (take stored.words w) v' (take stored.room out) after' stored.refusal stored.answer.now b
       → Replays stored w (v' ++ drop stored.words w) out (after' ++ drop stored.room out) (outcome true q)
   replayed v' after' b q r h l t c =
       let e : lends (length w) (length out) stored ≡ true = sym l ∙ t in

@@ -3,10 +3,9 @@ use Rattle.std.proofs.Common.{◌≡◌, ℕ, ◌<◌, true, [], ◌∷◌, ◌+
 use mathlib.Core.Bool.{false≢true}
 use Rattle.std.proofs.lemmas.List.{append_assoc}
 use Rattle.rules.specs.Bytes.{Text, same}
-use Rattle.rules.specs.Text.{bytes}
 use Rattle.laws.proofs.Basics.Tests.{and_left, and_right, same_eq}
 use Rattle.text.specs.Prefix.{begins_with}
-use Rattle.replay.specs.Records.{LeftOf, ReadsRecord, in_form}
+use Rattle.replay.specs.Records.{LeftOf, ReadsRecord, first_word, in_form}
 use Rattle.replay.specs.declared.call.Record.{Record}
 
 pub left_all : (a : Text) → LeftOf a a
@@ -25,14 +24,14 @@ left_less k (n ∷ a) b c x y e p h q =
     omega (arith, z, w, h, length-append x b, length-append y c)
 
 pub reads : {list rest a b c after : Text} (r : Record) (end : Text) → LeftOf list rest → rest ≡ r.label.now ++ a → a ≡ r.sheet.now ++ b → b ≡ r.answer.now ++ c
-    → c ≡ end ++ after → in_form list end ≡ true → ReadsRecord list r after
+    → c ≡ end ++ after → in_form list r.paged end ≡ true → ReadsRecord list r after
 reads {list} {after = after} r end l p q s t f =
-    let e : end ≡ 10 ∷ [] = same_eq end (10 ∷ []) (and_right (begins_with (bytes "sheet ") list) (same end (10 ∷ [])) f) in
+    let e : end ≡ 10 ∷ [] = same_eq end (10 ∷ []) (and_right (begins_with (first_word r.paged) list) (same end (10 ∷ [])) f) in
     record {
       head = l.0;
       parts = l.1 ∙ ap (λ (x : Text). l.0 ++ x) (p ∙ ap (λ (x : Text). r.label.now ++ x) (q ∙ ap (λ (x : Text). r.sheet.now ++ x)
           (s ∙ ap (λ (x : Text). r.answer.now ++ x) (t ∙ ap (λ (x : Text). x ++ after) e))));
-      word = and_left (begins_with (bytes "sheet ") list) (same end (10 ∷ [])) f;
+      starts = and_left (begins_with (first_word r.paged) list) (same end (10 ∷ [])) f;
     }
 
 -- after a record less is left

@@ -1,14 +1,16 @@
-// One record of the list through the call.
+// One record of the list through its call.
 ghost use Rattle.std.specs.Prelude.{◌≡◌, ◌&&◌, length, take, nat_le};
 ghost use Rattle.rules.specs.Bytes.{same};
-ghost use Rattle.replay.specs.Replaying.{lends, Compares, Replays};
+ghost use Rattle.yukhtsami.specs.Answering.{Gives};
+ghost use Rattle.replay.specs.Replaying.{lends, asked, Compares, Replays};
 
-use yukhtsami::yukhtsami_answer;
+use yukhtsami::{Called, yukhtsami_answer, yukhtsami_page};
 
-// A record: the words and bytes of output lent, the refusal, its label with the byte 10 after it, the sheet and the answer. The
-// refusal is a number, as the list has it.
+// A record: whether pages are asked for, the words and bytes of output lent, the refusal, its label with the byte 10 after it, the sheet
+// and the answer. The refusal is a number, as the list has it.
 #[derive(Clone, Copy)]
 pub(crate) struct Record<'a> {
+    pub(crate) paged: bool,
     pub(crate) words: usize,
     pub(crate) room: usize,
     pub(crate) refusal: usize,
@@ -26,11 +28,21 @@ impl Record<'_> {
         self.words <= words && self.room <= room
     }
 
-    // Whether the call gives the reply stored.
-    fn agrees(&self, work: &mut [u32], output: &mut [u8]) -> bool
-        ensures { Compares self.now.sheet.now work.old work.new output.old output.new self.now.refusal self.now.answer.now result }
+    // What its call gives.
+    fn called(&self, work: &mut [u32], output: &mut [u8]) -> Called
+        ensures { Gives (asked self.now.paged) self.now.sheet.now work.old work.new output.old output.new result.refusal result.written }
     {
-        let called = yukhtsami_answer(self.sheet, work, output);
+        if self.paged {
+            return yukhtsami_page(self.sheet, work, output);
+        }
+        yukhtsami_answer(self.sheet, work, output)
+    }
+
+    // Whether its call gives the reply stored.
+    fn agrees(&self, work: &mut [u32], output: &mut [u8]) -> bool
+        ensures { Compares (asked self.now.paged) self.now.sheet.now work.old work.new output.old output.new self.now.refusal self.now.answer.now result }
+    {
+        let called = self.called(work, output);
         called.refusal as usize == self.refusal && holds(output, called.written, self.answer)
     }
 

@@ -1,11 +1,11 @@
-// Replays the stored list: each record on standard input goes through the call, and its reply is
+// Replays the stored list: each record on standard input goes through its call, and its reply is
 // compared with the one stored. Writes the label of each that differs, then the counts.
 //
 // The list: lines that start with `#`, then records `sheet WORDS ROOM REFUSAL SHEETBYTES ANSWERBYTES LABEL`, byte 10, the sheet, the
-// answer, byte 10.
+// answer, byte 10; `pages` in place of `sheet` where the answer is laid out in pages.
 #![tactic(auto)]
 
-mod call; // call.rt: one record through the call
+mod call; // call.rt: one record through its call
 mod reader; // reader.rt: what is left of the list, read from its front
 
 ghost use Rattle.std.specs.Prelude.{◌≤◌, length, IfOk};
@@ -102,7 +102,7 @@ fn replay_all<W: Write>(
 
 fn main(rt: HostRuntime) -> io::Result<()> {
     // Room for the list, and at least one byte more.
-    let mut list = [0u8; 600000];
+    let mut list = [0u8; 800000];
     // The words to lend, small enough for a stack of 8 MB. A record that lends more is skipped.
     let mut work = [0u32; 1441792];
     let mut output = [0u8; 65536];

@@ -1,6 +1,7 @@
 // The list read from its front: bytes, lines, numbers, records.
 ghost use Rattle.std.specs.Prelude.{◌≡◌, ◌++◌, length, min, IfSome};
-ghost use Rattle.replay.specs.Records.{LeftOf, ReadsRecord, in_form};
+ghost use Rattle.text.specs.Prefix.{begins_with};
+ghost use Rattle.replay.specs.Records.{LeftOf, ReadsRecord, first_word, in_form};
 
 use crate::call::Record;
 use text::is_digit;
@@ -20,11 +21,21 @@ fn with_digit(value: usize, digit: u8) -> usize {
     value * 10 + worth as usize
 }
 
-// Whether a record starts with its word and ends with byte 10.
-fn closed(start: &[u8], end: &[u8]) -> bool
-    ensures { result ≡ in_form start.now end.now }
+// Whether a record starts with the word of its call.
+fn opened(start: &[u8], paged: bool) -> bool
+    ensures { result ≡ begins_with (first_word paged) start.now }
 {
-    start.starts_with(b"sheet ") && end == b"\n".as_slice()
+    if paged {
+        return start.starts_with(b"pages ");
+    }
+    start.starts_with(b"sheet ")
+}
+
+// Whether it does and ends with byte 10.
+fn closed(start: &[u8], paged: bool, end: &[u8]) -> bool
+    ensures { result ≡ in_form start.now paged end.now }
+{
+    opened(start, paged) && end == b"\n".as_slice()
 }
 
 impl<'a> Reader<'a> {
@@ -80,6 +91,7 @@ impl<'a> Reader<'a> {
         ensures { IfSome result (λ r. ReadsRecord self.old.rest.now r self.new.rest.now) }
     {
         let start = self.rest;
+        let paged = opened(start, true);
         self.take(6);
         let words = self.number();
         let room = self.number();
@@ -90,10 +102,11 @@ impl<'a> Reader<'a> {
         let sheet = self.take(sheet_bytes);
         let answer = self.take(answer_bytes);
         let end = self.take(1);
-        if !closed(start, end) {
+        if !closed(start, paged, end) {
             return None;
         }
         Some(Record {
+            paged,
             words,
             room,
             refusal,

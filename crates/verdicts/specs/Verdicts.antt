@@ -1,5 +1,5 @@
 -- The parts of the answer to `unify` and `match`. Definitions only.
-use Rattle.std.specs.Prelude.{ℕ, ◌++◌, ◌<◌, Result, Ok, Err}
+use Rattle.std.specs.Prelude.{ℕ, ◌+◌, ◌++◌, ◌<◌, length, Result, Ok, Err}
 use Rattle.rules.specs.Bytes.{Text}
 use Rattle.rules.specs.Text.{bytes}
 use Rattle.rules.specs.Decimal.{decimal}
@@ -9,15 +9,19 @@ use Rattle.rules.specs.declared.Ending.TheVariants as ending
 use Rattle.tree.specs.declared.area.Area.{Area}
 use Rattle.tree.specs.Areas.{trees_in}
 use Rattle.substitution.specs.Bindings.{Chain}
+use Rattle.printing.specs.Paper.{lines_for}
 
--- the line of a verdict without a solution
-abbrev pub ending_line : Ending → Text
-ending_line ending.Failed = bytes "verdict=failed\n"
-ending_line ending.Unsupported = bytes "verdict=unsupported\n"
+-- a verdict without a solution
+abbrev pub ending_word : Ending → Text
+ending_word ending.Failed = bytes "failed"
+ending_word ending.Unsupported = bytes "unsupported"
 
--- the verdict's line, and the number of pairs taken
+-- the verdict's line and the number of pairs taken, and their lines on paper
 unfoldable pub head_lines : Text → ℕ → Text
-head_lines verdict spent = verdict ++ line (bytes "spent=") (decimal spent)
+head_lines verdict spent = line (bytes "verdict=") verdict ++ line (bytes "spent=") (decimal spent)
+
+abbrev pub head_count : Text → ℕ → ℕ
+head_count verdict spent = lines_for (length verdict) + lines_for (length (decimal spent))
 
 -- the bindings of a verdict are cells of the area
 abbrev pub VerdictHeld : Area → Result ℕ Ending → Type 0

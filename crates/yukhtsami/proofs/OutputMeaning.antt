@@ -3,7 +3,8 @@
 -- `Calls s w v out after refusal count` is what `yukhtsami_answer` ensures (src/lib.rt): `s` is the sheet, `w` and `v` are the work area
 -- before and after, `out` and `after` the output before and after, `refusal` and `count` the numbers given. The rest are the definitions
 -- of document 01 (crates/rules/specs) and the promises on them (crates/laws/proofs/Promises.antt).
--- The function that crates/yukhtsami_c exports for C has the same clause `Calls` (its src/lib.rt).
+-- `PageCalls` says the same of `yukhtsami_page`, the second call. The functions that crates/yukhtsami_c exports for C have the same
+-- clauses (its src/lib.rt).
 use mathlib.Core.Path.{◌≡◌, refl, sym, ◌∙◌, ap, ap₂}
 use mathlib.Core.List.{List, ◌++◌}
 use mathlib.Core.Logic.{◌↔◌}
@@ -30,8 +31,9 @@ use Rattle.rules.specs.Answer.{read_pairs}
 use Rattle.rules.specs.AnswerReading.{read_answer, Answered}
 use Rattle.rules.specs.Call.{Reply, passed, call, refusal_number, written, overwritten}
 use Rattle.rules.specs.Refusals.{Outcome}
-use Rattle.laws.proofs.Promises.{call_gives, call_number, sheet_lines, unify_pairs, match_pairs, unify_sheet_derived, match_sheet_derived, unify_sheet_solved, unify_sheet_failed, match_sheet_solved, match_sheet_failed, equal_sheet, equal_sheet_parsed, reduce_sheet, cover_sheet, sound_sheet, complete_sheet}
-use Rattle.yukhtsami.specs.Answering.{Calls}
+use Rattle.rules.specs.Page.{page, read_page}
+use Rattle.laws.proofs.Promises.{call_gives, call_number, page_call_number, page_call_read, sheet_lines, unify_pairs, match_pairs, unify_sheet_derived, match_sheet_derived, unify_sheet_solved, unify_sheet_failed, match_sheet_solved, match_sheet_failed, equal_sheet, equal_sheet_parsed, reduce_sheet, cover_sheet, sound_sheet, complete_sheet}
+use Rattle.yukhtsami.specs.Answering.{Calls, PageCalls}
 
 -- Every call: the refusal or the answer on its condition, and the output after it
 
@@ -40,7 +42,20 @@ pub called : (s : Text) (w v : List ℕ) (out after : Text) (refusal count : ℕ
 called s w v out after refusal count c =
     let r = call s (length w) (length out) in (r, (call_gives s (length w) (length out) r).0 refl, c.number, c.written_is, c.output)
 
--- Where the number is 0
+-- Pages: where the number of the second call is 0, the bytes written are those of an answer of the first call laid out, and the columns
+-- read back give that answer
+
+pub pages_mean : (s : Text) (w v : List ℕ) (out after : Text) (count : ℕ) → PageCalls s w v out after 0 count
+    → (answer : Text) × (call s (length w) (length answer) ≡ passed answer) × (take count after ≡ page answer) × (read_page (take count after) ≡ answer)
+pages_mean s w v out after count c =
+    let (p, e) = (page_call_number s (length w) (length out)).0 (sym c.number) in
+    let (answer, call_is, laid, read, _) = page_call_read s (length w) (length out) p e in
+    let counted : count ≡ length p = c.written_is ∙ ap written e in
+    let put : after ≡ p ++ drop (length p) out = c.output ∙ ap (λ (r : Reply Text). overwritten r out) e in
+    let bytes_are : take count after ≡ p = ap₂ take counted put ∙ take-append_seam p (drop (length p) out) in
+    (answer, call_is, bytes_are ∙ laid, ap read_page bytes_are ∙ read)
+
+-- Where the number of the first call is 0
 
 module _ (s : Text) (w v : List ℕ) (out after : Text) (count : ℕ) (c : Calls s w v out after 0 count) where
   -- the bytes written are the answer of document 01

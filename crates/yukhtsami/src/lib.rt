@@ -5,7 +5,7 @@ ghost use Rattle.std.specs.Prelude.{◌≡◌, ◌≤◌, length};
 ghost use Rattle.forms.specs.Form.{sheet_of, EnoughWords};
 ghost use Rattle.answers.specs.Settling.{reply_number, reply_count};
 ghost use Rattle.rules.specs.Call.{zeroed};
-ghost use Rattle.yukhtsami.specs.Answering.{SettlesForm, CallAnswers, Calls};
+ghost use Rattle.yukhtsami.specs.Answering.{settled_by, call_by, SettlesForm, Answers, CallAnswers, PageAnswers, Calls, PageCalls};
 ghost use Rattle.rules.specs.RefusalNumbers.{number_for};
 ghost use Rattle.admission.specs.Admission.{Decoded};
 
@@ -13,14 +13,22 @@ use admission::admit;
 use answers::giving::{Reply, give};
 use forms::form::Form;
 use kinds::decide;
+use pages::give_pages;
 use rules::Refusal;
 use tree::area::Area;
 
+// How an answer is given: its lines, or these laid out in pages.
+#[derive(Clone, Copy, Debug, PartialEq, Eq)]
+enum Layout {
+    Lines,
+    Pages,
+}
+
 // Decides a sheet that is admitted in an area with no cell yet, and gives what was decided. Every word of the work area is free afterwards.
-fn settle(sheet: &[u8], work: &mut [u32], output: &mut [u8], form: Form) -> Reply
+fn settle(sheet: &[u8], work: &mut [u32], output: &mut [u8], form: Form, layout: Layout) -> Reply
     requires decoded { Decoded sheet.now form }
     requires enough_words { EnoughWords sheet.now form (length work.old) }
-    ensures { SettlesForm (sheet_of sheet.now form) output.old output.new result }
+    ensures { SettlesForm (settled_by layout) (sheet_of sheet.now form) output.old output.new result }
 {
     let mut area = Area {
         sheet,
@@ -28,7 +36,10 @@ fn settle(sheet: &[u8], work: &mut [u32], output: &mut [u8], form: Form) -> Repl
         free: 1,
     };
     let decision = decide(&mut area, form);
-    give(&area, decision, output)
+    match layout {
+        Layout::Lines => give(&area, decision, output),
+        Layout::Pages => give_pages(&area, decision, output),
+    }
 }
 
 // Settles a sheet that is admitted, and clears the words that it needed.
@@ -38,24 +49,39 @@ fn settle_and_clear(
     output: &mut [u8],
     form: Form,
     needed: usize,
+    layout: Layout,
 ) -> Reply
     requires decoded { Decoded sheet.now form }
     requires enough_words { EnoughWords sheet.now form needed × (needed ≤ length work.old) }
-    ensures settles_form { SettlesForm (sheet_of sheet.now form) output.old output.new result }
+    ensures settles_form { SettlesForm (settled_by layout) (sheet_of sheet.now form) output.old output.new result }
     ensures work_after { work.new ≡ zeroed needed work.old }
 {
     let lent = &mut work[..needed];
-    let settled = settle(sheet, lent, output, form);
+    let settled = settle(sheet, lent, output, form, layout);
     lent.fill(0);
     settled
+}
+
+// Answers a sheet in a layout.
+fn answer_in(sheet: &[u8], work: &mut [u32], output: &mut [u8], layout: Layout) -> Reply
+    ensures { Answers (call_by layout) sheet.now work.old work.new output.old output.new result }
+{
+    let admitted = admit(sheet, work.len())?;
+    settle_and_clear(sheet, work, output, admitted.form, admitted.needed, layout)
 }
 
 // Answers a sheet.
 pub fn answer(sheet: &[u8], work: &mut [u32], output: &mut [u8]) -> Reply
     ensures { CallAnswers sheet.now work.old work.new output.old output.new result }
 {
-    let admitted = admit(sheet, work.len())?;
-    settle_and_clear(sheet, work, output, admitted.form, admitted.needed)
+    answer_in(sheet, work, output, Layout::Lines)
+}
+
+// Answers a sheet in pages.
+pub fn page(sheet: &[u8], work: &mut [u32], output: &mut [u8]) -> Reply
+    ensures { PageAnswers sheet.now work.old work.new output.old output.new result }
+{
+    answer_in(sheet, work, output, Layout::Pages)
 }
 
 // What the exported call gives: the refusal's number, 0 for none, and the count of bytes written.
@@ -78,6 +104,7 @@ fn number_of(refusal: Refusal) -> u32
         Refusal::ShortWorkArea => 11,
         Refusal::UnreadableTerm => 4,
         Refusal::ShortOutput => 12,
+        Refusal::TooManyPages => 13,
     }
 }
 
@@ -103,4 +130,11 @@ pub fn yukhtsami_answer(sheet: &[u8], work: &mut [u32], output: &mut [u8]) -> Ca
     ensures { Calls sheet.now work.old work.new output.old output.new result.refusal result.written }
 {
     Called::from(answer(sheet, work, output))
+}
+
+// `page`, with a result that C can hold; the crate yukhtsami_c exports it.
+pub fn yukhtsami_page(sheet: &[u8], work: &mut [u32], output: &mut [u8]) -> Called
+    ensures { PageCalls sheet.now work.old work.new output.old output.new result.refusal result.written }
+{
+    Called::from(page(sheet, work, output))
 }

@@ -2,7 +2,8 @@
 //! `YUKHTSAMI_LIBRARY` names, otherwise `target/staticlib/libyukhtsami.a` of the repository, which
 //! `host/link` writes; where it is absent the build fails and says so.
 //!
-//! A caller lends a work area of [`words_needed`] words and an output, and asks [`answer`]:
+//! A caller lends a work area of [`words_needed`] words and an output, and asks [`answer`], or [`page`]
+//! for the answer laid out in pages:
 //!
 //! ```
 //! # if !yukhtsami::present() {
@@ -17,16 +18,51 @@
 //!
 //! let refused = yukhtsami::answer(b"kind=equal\n", &mut work, &mut output);
 //! assert_eq!(refused, Err(yukhtsami::Refusal::LineOutOfPlace));
+//!
+//! let mut pages = [0; yukhtsami::PAGE_BYTES];
+//! let written = yukhtsami::page(sheet, &mut work, &mut pages).unwrap();
+//! assert_eq!(written, yukhtsami::PAGE_BYTES);
+//! let lines: Vec<_> = pages.split(|byte| *byte == 10).map(<[u8]>::trim_ascii_end).collect();
+//! assert_eq!(lines[..3], [&b"PAGE 0001"[..], b"equal    yes", b""]);
 //! ```
 use std::{error::Error, fmt};
 
-/// What the exported call gives: the refusal's number, 0 for none, and the count of bytes written.
+/// The bytes of a page: 50 lines of 72 characters, each ended by byte 10.
+pub const PAGE_BYTES: usize = 50 * (72 + 1);
+/// The most pages that an answer is laid out in.
+pub const MOST_PAGES: usize = 9_999;
+
+/// The calls on a sheet.
+#[derive(Clone, Copy, Debug, Default, PartialEq, Eq)]
+pub enum Call {
+    /// `yukhtsami_answer`, which gives the answer.
+    #[default]
+    Answer,
+    /// `yukhtsami_page`, which gives the answer laid out in pages.
+    Page,
+}
+
+impl Call {
+    pub const ALL: [Call; 2] = [Call::Answer, Call::Page];
+}
+
+/// What an exported call gives: the refusal's number, 0 for none, and the count of bytes written.
 #[repr(C)]
 #[derive(Clone, Copy, Debug, PartialEq, Eq)]
 pub struct Called {
     pub refusal: u32,
     pub written: usize,
 }
+
+#[cfg(linked)]
+type Exported = unsafe extern "C" fn(
+    sheet: *const u8,
+    sheet_len: usize,
+    work: *mut u32,
+    work_len: usize,
+    output: *mut u8,
+    output_len: usize,
+) -> Called;
 
 #[cfg(linked)]
 unsafe extern "C" {
@@ -38,15 +74,27 @@ unsafe extern "C" {
         output: *mut u8,
         output_len: usize,
     ) -> Called;
+    fn yukhtsami_page(
+        sheet: *const u8,
+        sheet_len: usize,
+        work: *mut u32,
+        work_len: usize,
+        output: *mut u8,
+        output_len: usize,
+    ) -> Called;
 }
 
-/// The call as it is exported.
+/// A call as it is exported.
 #[cfg(linked)]
-pub fn call(sheet: &[u8], work: &mut [u32], output: &mut [u8]) -> Called {
+pub fn call(call: Call, sheet: &[u8], work: &mut [u32], output: &mut [u8]) -> Called {
+    let exported: Exported = match call {
+        Call::Answer => yukhtsami_answer,
+        Call::Page => yukhtsami_page,
+    };
     // SAFETY: each pointer and length is of one slice, the lent slices are borrowed for writing and
     // overlap nothing, and the library keeps none of the pointers.
     unsafe {
-        yukhtsami_answer(
+        exported(
             sheet.as_ptr(),
             sheet.len(),
             work.as_mut_ptr(),
@@ -59,11 +107,11 @@ pub fn call(sheet: &[u8], work: &mut [u32], output: &mut [u8]) -> Called {
 
 // Only the feature `absent` has this.
 #[cfg(not(linked))]
-pub fn call(_: &[u8], _: &mut [u32], _: &mut [u8]) -> Called {
+pub fn call(_: Call, _: &[u8], _: &mut [u32], _: &mut [u8]) -> Called {
     panic!("{}", notice())
 }
 
-/// The six refusals, in the order in which the first that applies is given, and any number that this
+/// The seven refusals, in the order in which the first that applies is given, and any number that this
 /// crate has no name for.
 #[derive(Clone, Copy, Debug, PartialEq, Eq)]
 #[non_exhaustive]
@@ -79,7 +127,9 @@ pub enum Refusal {
     ShortWorkArea,
     /// 4: a `left`, `right` or `term` is no term.
     UnreadableTerm,
-    /// 12: the answer is longer than the output.
+    /// 13, of [`page`] alone: the answer needs over [`MOST_PAGES`] pages.
+    TooManyPages,
+    /// 12: the answer, or what it is laid out in, is longer than the output.
     ShortOutput,
     /// A number that none of these has. The linked library is proved to give none; one with more
     /// refusals than this crate knows does.
@@ -87,13 +137,14 @@ pub enum Refusal {
 }
 
 impl Refusal {
-    /// The six that have a name.
-    pub const ALL: [Refusal; 6] = [
+    /// The seven that have a name.
+    pub const ALL: [Refusal; 7] = [
         Refusal::TooLong,
         Refusal::ForeignByte,
         Refusal::LineOutOfPlace,
         Refusal::ShortWorkArea,
         Refusal::UnreadableTerm,
+        Refusal::TooManyPages,
         Refusal::ShortOutput,
     ];
 
@@ -106,6 +157,7 @@ impl Refusal {
             Refusal::UnreadableTerm => 4,
             Refusal::ShortWorkArea => 11,
             Refusal::ShortOutput => 12,
+            Refusal::TooManyPages => 13,
             Refusal::Unknown(number) => number,
         }
     }
@@ -127,12 +179,27 @@ impl fmt::Display for Refusal {
             Refusal::UnreadableTerm => "unreadable term",
             Refusal::ShortWorkArea => "short work area",
             Refusal::ShortOutput => "short output",
+            Refusal::TooManyPages => "too many pages",
             Refusal::Unknown(number) => return write!(out, "unknown refusal {number}"),
         })
     }
 }
 
 impl Error for Refusal {}
+
+/// What a call gives: the count of bytes written to the front of the output, or the refusal.
+pub fn reply(
+    call: Call,
+    sheet: &[u8],
+    work: &mut [u32],
+    output: &mut [u8],
+) -> Result<usize, Refusal> {
+    let called = self::call(call, sheet, work, output);
+    match Refusal::of(called.refusal) {
+        Some(refusal) => Err(refusal),
+        None => Ok(called.written),
+    }
+}
 
 /// Answers a sheet: the count of bytes written to the front of the output, or the refusal.
 ///
@@ -146,11 +213,17 @@ impl Error for Refusal {}
 /// | `UnreadableTerm`, `ShortOutput` | as it was | the needed words zero, later words as they were |
 /// | any other refusal | as it was | as it was |
 pub fn answer(sheet: &[u8], work: &mut [u32], output: &mut [u8]) -> Result<usize, Refusal> {
-    let called = call(sheet, work, output);
-    match Refusal::of(called.refusal) {
-        Some(refusal) => Err(refusal),
-        None => Ok(called.written),
-    }
+    reply(Call::Answer, sheet, work, output)
+}
+
+/// Answers a sheet like [`answer`], with the answer laid out in pages of [`PAGE_BYTES`] bytes, of which
+/// the last is filled with blank lines. The answer is never held beside them.
+///
+/// It is refused where [`answer`] would be, but for the length of the output, which must have room for
+/// the pages, and with `TooManyPages` where there would be over [`MOST_PAGES`], whatever the length of
+/// the output. After `TooManyPages` output and work area are as after `ShortOutput`.
+pub fn page(sheet: &[u8], work: &mut [u32], output: &mut [u8]) -> Result<usize, Refusal> {
+    reply(Call::Page, sheet, work, output)
 }
 
 fn count(byte: u8, of: &[u8]) -> u64 {
@@ -207,6 +280,7 @@ mod tests {
             "3 line out of place",
             "11 short work area",
             "4 unreadable term",
+            "13 too many pages",
             "12 short output",
         ];
         assert_eq!(told, said);
@@ -214,10 +288,10 @@ mod tests {
         for number in 1..20 {
             let found = Refusal::of(number).expect("a number that is not 0 refuses");
             assert_eq!(found.number(), number);
-            let known = matches!(number, 1..=4 | 11 | 12);
+            let known = matches!(number, 1..=4 | 11..=13);
             assert_eq!(found == Refusal::Unknown(number), !known, "{number}");
         }
-        assert_eq!(Refusal::Unknown(13).to_string(), "unknown refusal 13");
+        assert_eq!(Refusal::Unknown(14).to_string(), "unknown refusal 14");
     }
 
     #[test]

@@ -1,4 +1,4 @@
-// The two tables: the times of each sheet, and how times grow where the size is doubled.
+// The tables: the times of each sheet, those of pages, and how times grow where the size is doubled.
 use std::{
     fmt::Write as _,
     io::{self, Write as _},
@@ -6,15 +6,19 @@ use std::{
 };
 
 use super::{
-    clock::{self, Found},
+    clock::{self, Found, Laid},
     growth::{Workload, ordered},
     members::slow,
+    pages::{PAGES, pages as paged},
 };
 use crate::kinds::Kind;
 
 /// The time that is spent on each of Rust, port and clearing.
 const ENOUGH: Duration = Duration::from_millis(200);
 const ENOUGH_FOR_A_SIZE: Duration = Duration::from_millis(100);
+
+const GROWTH: &str =
+    "| workload | n | of | n ms | 2n ms | 4n ms | 8n ms | 16n ms | mean factor | last factor |";
 
 /// A table that was printed row by row, and what it shows.
 #[derive(Default)]
@@ -48,16 +52,55 @@ impl Table {
         }
     }
 
-    // The ratio of the port to the Rust and a clearing, with a mark where it is above 1.00.
-    fn ratio(&mut self, found: &Found) -> String {
-        let Some(rust) = found.rust else {
-            return "-".to_owned();
-        };
-        let ratio = found.port.as_secs_f64() / (rust + found.clearing).as_secs_f64();
+    fn judge_pages(&mut self, laid: &Laid, name: &str) {
+        if !laid.agreed {
+            self.wrong.push(format!("pages, {name}"));
+        }
+    }
+
+    // The ratio of a time to another, with a mark where it is above 1.00.
+    fn rate(&mut self, time: Duration, of: Duration) -> String {
+        let ratio = time.as_secs_f64() / of.as_secs_f64();
         let above = ratio >= 1.005;
         self.rated += 1;
         self.above += usize::from(above);
         format!("{ratio:.2}{}", if above { " above" } else { "" })
+    }
+
+    // That of the port to the Rust and a clearing.
+    fn ratio(&mut self, found: &Found) -> String {
+        let Some(rust) = found.rust else {
+            return "-".to_owned();
+        };
+        self.rate(found.port, rust + found.clearing)
+    }
+
+    // A sheet's pages: beside the Rust's answer and a clearing, and beside 1.3 answers and a writing.
+    fn page_line(&mut self, laid: &Laid, name: &str) {
+        self.judge_pages(laid, name);
+        let found = &laid.answered;
+        let whole = found.rust.map(|rust| rust + found.clearing);
+        let whole = whole.map_or("-".to_owned(), |whole| {
+            format!("{:.2}", laid.page.as_secs_f64() / whole.as_secs_f64())
+        });
+        let bar = self.rate(laid.page, found.port.mul_f64(1.3) + laid.writing);
+        let speed = laid.bytes as f64 / laid.page.as_secs_f64() / 1e9;
+        let answer = if laid.bytes == 0 {
+            0
+        } else {
+            found.answer.len()
+        };
+        self.add(&format!(
+            "| {name} | {} | {} | {} | {} | {} | {} | {} | {} | {whole} | {bar} | {speed:.2} |",
+            grouped(found.bytes),
+            grouped(answer),
+            grouped(laid.bytes),
+            found.rust.map_or("-".to_owned(), milliseconds),
+            milliseconds(found.port),
+            milliseconds(laid.page),
+            milliseconds(found.clearing),
+            milliseconds(laid.writing),
+        ));
     }
 
     fn line(&mut self, found: &Found, name: &str) {
@@ -129,6 +172,27 @@ pub fn lines(kinds: &[&Kind], long: bool) -> Table {
     table
 }
 
+/// That of pages.
+pub fn page_growths() -> Table {
+    let mut table = Table::headed(GROWTH);
+    for workload in PAGES {
+        grow_pages(&mut table, workload);
+    }
+    table
+}
+
+/// The times of pages.
+pub fn pages() -> Table {
+    let mut table = Table::headed(
+        "| workload | bytes | answer bytes | page bytes | Rust ms | answer ms | page ms | clearing ms | writing ms | of Rust | of the bar | GB/s |",
+    );
+    for sample in paged() {
+        let laid = clock::page_times(sample.name, &sample.sheet, ENOUGH);
+        table.page_line(&laid, sample.name);
+    }
+    table
+}
+
 // How often the last time is the first, per doubling, and how often it is the one before it.
 fn factors(times: &[Duration]) -> (f64, f64) {
     let times: Vec<f64> = times.iter().map(Duration::as_secs_f64).collect();
@@ -148,6 +212,28 @@ fn growth_row(table: &mut Table, title: &str, who: &str, times: &[Duration]) {
     ));
 }
 
+fn title(of: &str, workload: &Workload) -> String {
+    let Workload {
+        name, least, unit, ..
+    } = workload;
+    format!("{of}: {name} | {} {unit}", grouped(*least))
+}
+
+// The calls for answer and pages, and a writing of the pages' bytes.
+fn grow_pages(table: &mut Table, workload: &Workload) {
+    let mut found = Vec::new();
+    for size in workload.sizes() {
+        let laid = clock::page_times(workload.name, &(workload.sheet)(size), ENOUGH_FOR_A_SIZE);
+        table.judge_pages(&laid, &format!("{}: {size}", workload.name));
+        found.push(laid);
+    }
+    let of = |time: fn(&Laid) -> Duration| found.iter().map(time).collect::<Vec<_>>();
+    let title = title("pages", workload);
+    growth_row(table, &title, "pages", &of(|laid| laid.page));
+    growth_row(table, "|", "answer", &of(|laid| laid.answered.port));
+    growth_row(table, "|", "writing", &of(|laid| laid.writing));
+}
+
 fn grow(table: &mut Table, kind: &Kind, workload: &Workload) {
     let found: Vec<Found> = workload
         .sizes()
@@ -159,13 +245,7 @@ fn grow(table: &mut Table, kind: &Kind, workload: &Workload) {
             found
         })
         .collect();
-    let title = format!(
-        "{}: {} | {} {}",
-        kind.name,
-        workload.name,
-        grouped(workload.least),
-        workload.unit
-    );
+    let title = title(kind.name, workload);
     let of = |time: fn(&Found) -> Duration| found.iter().map(time).collect::<Vec<_>>();
     growth_row(table, &title, "port", &of(|found| found.port));
     growth_row(table, "|", "clearing", &of(|found| found.clearing));
@@ -177,9 +257,7 @@ fn grow(table: &mut Table, kind: &Kind, workload: &Workload) {
 
 /// The second table: n, 2n, 4n, 8n and 16n, and how much a doubling costs.
 pub fn growths(kinds: &[&Kind]) -> Table {
-    let mut table = Table::headed(
-        "| workload | n | of | n ms | 2n ms | 4n ms | 8n ms | 16n ms | mean factor | last factor |",
-    );
+    let mut table = Table::headed(GROWTH);
     for kind in ordered(kinds) {
         for workload in kind.workloads {
             grow(&mut table, kind, workload);

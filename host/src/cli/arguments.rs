@@ -1,6 +1,8 @@
 // The words of the command line.
 use std::{ffi::OsString, fmt, path::PathBuf};
 
+use yukhtsami::Call;
+
 pub const HELP: &str = include_str!("help.txt");
 
 /// The version, and by which logic the library was proved.
@@ -30,9 +32,10 @@ impl fmt::Display for Source {
     }
 }
 
-/// The sheets to answer, and what is lent where the user says so.
+/// The sheets to answer and by which call, and what is lent where the user says so.
 #[derive(Debug, Default, PartialEq, Eq)]
 pub struct Job {
+    pub call: Call,
     pub sources: Vec<Source>,
     pub words: Option<usize>,
     pub room: Option<usize>,
@@ -90,6 +93,7 @@ pub fn read(mut words: impl Iterator<Item = OsString>) -> Result<Asked, String> 
             ("--", None) => words.by_ref().for_each(|word| job.add(word)),
             ("--help" | "-h", None) => return Ok(Asked::Help),
             ("--version" | "-V", None) => return Ok(Asked::Version),
+            ("--page", None) => job.call = Call::Page,
             ("--words", value) => job.words = number(&name, value.or_else(|| words.next()))?,
             ("--room", value) => job.room = number(&name, value.or_else(|| words.next()))?,
             _ => return Err(fault(format!("unknown option '{}'", word.display()))),
@@ -116,11 +120,12 @@ mod tests {
     #[test]
     fn options_may_stand_between_files() {
         let job = Job {
+            call: Call::Page,
             sources: vec![file("a"), Source::Standard, file("b")],
             words: Some(5),
             room: Some(7),
         };
-        let words = ["a", "--words", "5", "-", "--room=7", "b"];
+        let words = ["a", "--words", "5", "-", "--page", "--room=7", "b"];
         assert_eq!(asked(&words), Ok(Asked::Answers(job)));
     }
 
@@ -148,7 +153,7 @@ mod tests {
 
     #[test]
     fn other_options_are_unknown() {
-        for bad in ["--help=1", "-x", "--Words", "--=", "--word"] {
+        for bad in ["--help=1", "--page=1", "-x", "--Words", "--=", "--word"] {
             assert!(asked(&[bad, "1"]).is_err(), "{bad}");
         }
     }

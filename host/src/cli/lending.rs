@@ -1,9 +1,9 @@
 // The memory that is lent to the library, kept from one sheet to the next, and the calls.
 use std::{fs, hint::black_box};
 
-use yukhtsami::Refusal;
+use yukhtsami::{Call, Refusal};
 
-use crate::sheet;
+use crate::{page, sheet};
 
 /// The most bytes of output that are lent where the user does not say how many.
 pub const MOST_ROOM: usize = 1 << 30;
@@ -13,6 +13,7 @@ const FIRST_WORDS: usize = 1 << 21;
 const LARGE: usize = 1 << 28;
 
 pub struct Lender {
+    asked: Call,
     work: Vec<u32>,
     output: Vec<u8>,
     words: Option<usize>,
@@ -24,8 +25,9 @@ pub struct Refused {
     pub refusal: Refusal,
     pub words: usize,
     pub room: usize,
-    /// The bytes of the answer, where it is longer than the output and known.
-    pub length: Option<usize>,
+    /// What would be needed, where it is known: of an output that is too short the bytes, of too many
+    /// pages their count.
+    pub needed: Option<usize>,
 }
 
 pub enum Reply<'a> {
@@ -76,10 +78,11 @@ fn grow<T: Copy + Default>(memory: &mut Vec<T>, count: usize) -> Option<()> {
 }
 
 impl Lender {
-    /// Lends so many words and bytes; where none are given, what a sheet and its answer take.
-    pub fn new(words: Option<usize>, room: Option<usize>) -> Self {
+    /// Lends this call so many words and bytes; where none are given, what a sheet and its answer take.
+    pub fn new(asked: Call, words: Option<usize>, room: Option<usize>) -> Self {
         let (work, output) = (Vec::new(), Vec::new());
         Self {
+            asked,
             work,
             output,
             words,
@@ -88,20 +91,20 @@ impl Lender {
     }
 
     // One call with so many words and bytes.
-    fn call(&mut self, sheet: &[u8], words: usize, room: usize) -> Called {
+    fn call(&mut self, call: Call, sheet: &[u8], words: usize, room: usize) -> Called {
         let (what, count) = ("words of work area", words as u64);
         grow(&mut self.work, words).ok_or(NoMemory { what, count })?;
         let (what, count) = ("bytes of output", room as u64);
         grow(&mut self.output, room).ok_or(NoMemory { what, count })?;
         let (work, output) = (&mut self.work[..words], &mut self.output[..room]);
-        Ok(yukhtsami::answer(sheet, work, output))
+        Ok(yukhtsami::reply(call, sheet, work, output))
     }
 
     // Calls with more room as long as the answer is longer than the output.
-    fn with_room(&mut self, sheet: &[u8], words: usize) -> Called {
+    fn with_room(&mut self, call: Call, sheet: &[u8], words: usize) -> Called {
         let mut room = self.output.len().clamp(sheet::LONGEST, MOST_ROOM);
         loop {
-            let called = self.call(sheet, words, room)?;
+            let called = self.call(call, sheet, words, room)?;
             if called != Err(Refusal::ShortOutput) || room == MOST_ROOM {
                 return Ok(called);
             }
@@ -111,8 +114,8 @@ impl Lender {
 
     fn with_words(&mut self, sheet: &[u8], words: usize) -> Called {
         match self.room {
-            Some(room) => self.call(sheet, words, room),
-            None => self.with_room(sheet, words),
+            Some(room) => self.call(self.asked, sheet, words, room),
+            None => self.with_room(self.asked, sheet, words),
         }
     }
 
@@ -121,7 +124,13 @@ impl Lender {
         if room >= MOST_ROOM {
             return None;
         }
-        self.with_room(sheet, words).ok()?.ok()
+        self.with_room(self.asked, sheet, words).ok()?.ok()
+    }
+
+    // The pages that an answer would need.
+    fn pages(&mut self, sheet: &[u8], words: usize) -> Option<usize> {
+        let written = self.with_room(Call::Answer, sheet, words).ok()?.ok()?;
+        Some(page::count(&self.output[..written]))
     }
 
     /// The library's reply. The words at hand are lent first, and where they are too few as many as
@@ -140,15 +149,16 @@ impl Lender {
             Err(refusal) => refusal,
         };
         let room = self.room.unwrap_or(MOST_ROOM);
-        let length = match refusal {
+        let needed = match refusal {
             Refusal::ShortOutput => self.length(sheet, words, room),
+            Refusal::TooManyPages => self.pages(sheet, words),
             _ => None,
         };
         Ok(Reply::Refused(Refused {
             refusal,
             words,
             room,
-            length,
+            needed,
         }))
     }
 }

@@ -1,5 +1,5 @@
 // What is told of a sheet without an answer.
-use yukhtsami::Refusal;
+use yukhtsami::{MOST_PAGES, Refusal};
 
 use super::{
     arguments::Source,
@@ -14,7 +14,7 @@ fn detail(sheet: &[u8], size: Option<u64>, refused: &Refused) -> Option<String> 
     let Refused {
         words,
         room,
-        length,
+        needed,
         ..
     } = refused;
     match refused.refusal {
@@ -27,8 +27,11 @@ fn detail(sheet: &[u8], size: Option<u64>, refused: &Refused) -> Option<String> 
             let needs = || format!("{words} words lent, {needed} needed");
             (needed > *words as u64).then(needs)
         }
-        Refusal::ShortOutput => Some(match length {
-            Some(length) if length > room => format!("{room} bytes lent, {length} needed"),
+        Refusal::TooManyPages => needed
+            .filter(|needed| *needed > MOST_PAGES)
+            .map(|needed| format!("{needed} pages, where {MOST_PAGES} are the most")),
+        Refusal::ShortOutput => Some(match needed {
+            Some(needed) if needed > room => format!("{room} bytes lent, {needed} needed"),
             _ => format!("{room} bytes lent"),
         }),
         _ => None,

@@ -1,10 +1,10 @@
-// Sheets at the limits: nodes, bytes, fuel, waiting pairs, composed bindings, schemes, large terms.
+// Sheets at the limits: nodes, bytes, fuel, waiting pairs, composed bindings, schemes, pages, large terms.
 use super::{
     pairs::changed,
     spelling::{shuffled, spelled, sum},
     terms::{apply, atom},
 };
-use crate::{model::Term, rng::Rng};
+use crate::{model::Term, page, rng::Rng};
 
 fn leaves(name: &str, leaf: &str, count: usize) -> String {
     format!("{name}({})", vec![leaf; count].join(","))
@@ -237,8 +237,54 @@ fn equal(rng: &mut Rng) -> String {
     format!("kind=equal\nleft={left}\nright={right}\n")
 }
 
+// How often each value of `of_lines` holds the one before it.
+const NAMES: usize = 50;
+
+/// A sheet whose answer takes so many lines on paper: three values of which each but the first holds the
+/// one before it many times, the last under a name of as many letters as are missing.
+pub fn of_lines(lines: usize) -> String {
+    let text = page::WIDTH - page::KEY;
+    let letters = (text * lines / (1 + NAMES + NAMES * NAMES)).saturating_sub(2);
+    let (first, second) = (letters, NAMES * (letters + 1) + 2);
+    // The lines of the verdict, of `spent` and of three keys, and of two values.
+    let taken = 5 + first.div_ceil(text) + second.div_ceil(text);
+    let last = text * (lines - taken);
+    let name = "k".repeat(last - NAMES * (second + 1) - 1);
+    let (long, inner) = ("a".repeat(letters), leaves("g", "x0:Msg", NAMES));
+    let outer = leaves(&name, "x1:Msg", NAMES);
+    format!(
+        "kind=unify\nfuel=9\nleft=x0:Msg\nright={long}\nleft=x1:Msg\nright={inner}\n\
+         left=x2:Msg\nright={outer}\n"
+    )
+}
+
+// Texts and pages that are just full on paper, or not quite, or just begun.
+fn on_paper(rng: &mut Rng) -> String {
+    let text = page::WIDTH - page::KEY;
+    let letters = match rng.weighted(&[6, 6, 1]) {
+        0 => text * rng.between(1, 3) - 1 + rng.below(3),
+        1 => text * page::BELOW * rng.between(1, 3) - 1 + rng.below(3),
+        _ => {
+            let most = page::BELOW * yukhtsami::MOST_PAGES;
+            return of_lines(most - 1 + rng.below(3));
+        }
+    };
+    let name = "a".repeat(letters);
+    match rng.below(3) {
+        0 => format!("kind=reduce\nterm={name}\n"),
+        1 => format!("kind=unify\nfuel=9\nleft=x0:Msg\nright={name}\n"),
+        _ => {
+            let full = (page::BELOW - 1) / 2;
+            let count = full * rng.between(1, 2) - 1 + rng.below(3);
+            let list: Vec<String> = (0..count).map(|index| format!("x{index}:Msg")).collect();
+            let (left, right) = (list.join(","), leaves("g", "a", count));
+            format!("kind=match\nfuel=999\nleft=g({left})\nright={right}\n")
+        }
+    }
+}
+
 pub fn sheet(rng: &mut Rng) -> Vec<u8> {
-    let text = match rng.weighted(&[4, 3, 4, 4, 3, 3, 2, 3, 3, 3, 4]) {
+    let text = match rng.weighted(&[4, 3, 4, 4, 3, 3, 2, 3, 3, 3, 6, 4]) {
         0 => read(rng),
         1 => bytes(rng),
         2 => fuel(rng),
@@ -249,6 +295,7 @@ pub fn sheet(rng: &mut Rng) -> Vec<u8> {
         7 => sums(rng),
         8 => names(rng),
         9 => members(rng),
+        10 => on_paper(rng),
         _ => equal(rng),
     };
     text.into_bytes()

@@ -1,5 +1,5 @@
--- How names are spelled: words and variables hold no bracket and no comma, no word is a variable, and heads that are one
--- are heads of one kind.
+-- How names are spelled: the bytes of words and variables, of which none is a bracket or a comma, no word is a variable, and heads
+-- that are one are heads of one kind.
 use mathlib.Core.Path.{◌≡◌, refl, sym, ◌∙◌, ap, ap₂, subst}
 use mathlib.Core.Logic.{◌≢◌, ◌⊎◌, inl, inr}
 use mathlib.Core.Bool.{Bool, true, false, cond, ◌&&◌, ◌||◌, true≢false, false≢true}
@@ -13,92 +13,125 @@ use Rattle.rules.specs.Names.{digit, alphabetic, alphanumeric, all, identifier, 
 use Rattle.rules.specs.Tree.{Tree, variable, atom, apply, Trees, atom_text, head, children, count}
 use Rattle.rules.specs.Equality.{Ac, reflexive, congruent, ACs}
 use Rattle.rules.specs.Tidy.{Tidy}
-use Rattle.laws.proofs.Basics.Tests.{and_left, and_right, and_both, or_cases, or_left, eqb_true}
+use Rattle.laws.proofs.Basics.Tests.{and_left, and_right, and_both, or_cases, or_left, or_right, eqb_true}
+use Rattle.laws.proofs.Basics.Bytes.{not_passed, all_more, all_weaker}
 
 -- no bracket and no comma
 pub data Plain : Text → Type 0 where
   end : Plain []
   byte : {x : ℕ} {n : Text} → x ≢ 40 → x ≢ 41 → x ≢ 44 → Plain n → Plain (x ∷ n)
 
--- a test that no bracket, no comma and no colon passes
-abbrev Passes : (ℕ → Bool) → Type 0
-Passes p = (p 40 ≡ false) × (p 41 ≡ false) × (p 44 ≡ false) × (p 58 ≡ false)
+-- The bytes of names and variables
 
-not_passed : (p : ℕ → Bool) (x y : ℕ) → p x ≡ true → p y ≡ false → x ≢ y
-not_passed p x y h k e = true≢false (sym h ∙ ap p e ∙ k)
+abbrev pub name_byte : ℕ → Bool
+name_byte b = alphanumeric b || (eqb b 58 || (eqb b 35 || eqb b 37))
 
-plain_byte : (p : ℕ → Bool) → Passes p → (x : ℕ) {n : Text} → p x ≡ true → Plain n → Plain (x ∷ n)
-plain_byte p k x h = byte (not_passed p x 40 h k.0) (not_passed p x 41 h k.1) (not_passed p x 44 h k.2)
+alphanumeric_byte : (x : ℕ) → alphanumeric x ≡ true → name_byte x ≡ true
+alphanumeric_byte x h = or_left (alphanumeric x) (eqb x 58 || (eqb x 35 || eqb x 37)) h
 
-plain_all : (p : ℕ → Bool) → Passes p → (n : Text) → all p n ≡ true → Plain n
-unfolding all
-plain_all p k [] e = end
-plain_all p k (b ∷ n) e = plain_byte p k b (and_left (p b) (all p n) e) (plain_all p k n (and_right (p b) (all p n) e))
-
-passes_digit : Passes digit
-unfolding digit
-passes_digit = (refl, refl, refl, refl)
-
-passes_alphabetic : Passes alphabetic
-unfolding alphabetic
-passes_alphabetic = (refl, refl, refl, refl)
-
-passes_alphanumeric : Passes alphanumeric
+alphabetic_byte : (x : ℕ) → alphabetic x ≡ true → name_byte x ≡ true
 unfolding alphanumeric
-passes_alphanumeric = (refl, refl, refl, refl)
+alphabetic_byte x h = alphanumeric_byte x (or_left (alphabetic x) (digit x) h)
 
-pub number_plain : (n : Text) → number n ≡ true → Plain n
-unfolding number
-number_plain [] e = end
-number_plain (b ∷ n) e =
-    plain_byte digit passes_digit b (and_left (digit b) (all digit n) e) (plain_all digit passes_digit n (and_right (digit b) (all digit n) e))
+digit_byte : (x : ℕ) → digit x ≡ true → name_byte x ≡ true
+unfolding alphanumeric
+digit_byte x h = alphanumeric_byte x (rw h (or_right (alphabetic x)))
 
-identifier_plain : (n : Text) → identifier n ≡ true → Plain n
+-- a test that only these bytes pass
+is_byte : (x y : ℕ) → eqb x y ≡ true → name_byte y ≡ true → name_byte x ≡ true
+is_byte x y e h = ap name_byte (eqb_true x y e) ∙ h
+
+pub number_bytes : (n : Text) → number n ≡ true → all name_byte n ≡ true
+unfolding number all
+number_bytes [] e = refl
+number_bytes (b ∷ n) e = all_weaker digit name_byte digit_byte (b ∷ n) e
+
+identifier_bytes : (n : Text) → identifier n ≡ true → all name_byte n ≡ true
 unfolding identifier
-identifier_plain [] e = end
-identifier_plain (b ∷ n) e =
-    plain_byte alphabetic passes_alphabetic b (and_left (alphabetic b) (all alphanumeric n) e) (plain_all alphanumeric passes_alphanumeric n (and_right (alphabetic b) (all alphanumeric n) e))
+identifier_bytes [] e = absurd (false≢true e)
+identifier_bytes (b ∷ n) e =
+    all_more name_byte b n (alphabetic_byte b (and_left (alphabetic b) (all alphanumeric n) e))
+    (all_weaker alphanumeric name_byte alphanumeric_byte n (and_right (alphabetic b) (all alphanumeric n) e))
 
-pub word_plain : (n : Text) → word n ≡ true → Plain n
+pub word_bytes : (n : Text) → word n ≡ true → all name_byte n ≡ true
 unfolding word
-word_plain n e = go (or_cases (identifier n) (number n) e)
+word_bytes n e = go (or_cases (identifier n) (number n) e)
   where
-    go : (identifier n ≡ true) ⊎ (number n ≡ true) → Plain n
-    go (inl h) = identifier_plain n h
-    go (inr h) = number_plain n h
+    go : (identifier n ≡ true) ⊎ (number n ≡ true) → all name_byte n ≡ true
+    go (inl h) = identifier_bytes n h
+    go (inr h) = number_bytes n h
 
-indexed_plain : (n : Text) → indexed n ≡ true → Plain n
+indexed_bytes : (n : Text) → indexed n ≡ true → all name_byte n ≡ true
 unfolding indexed
-indexed_plain [] e = end
-indexed_plain (b ∷ n) e = go (eqb b 58) refl e (indexed_plain n)
+indexed_bytes [] e = absurd (false≢true e)
+indexed_bytes (b ∷ n) e = go (eqb b 58) refl e (indexed_bytes n)
   where
-    go : (c : Bool) → eqb b 58 ≡ c → cond c (identifier n) (digit b && indexed n) ≡ true → (indexed n ≡ true → Plain n) → Plain (b ∷ n)
-    go true p h k = let q = eqb_true b 58 p in byte {x = b} (λ z. omega arith) (λ z. omega arith) (λ z. omega arith) (identifier_plain n h)
-    go false p h k = plain_byte digit passes_digit b (and_left (digit b) (indexed n) h) (k (and_right (digit b) (indexed n) h))
+    go : (c : Bool) → eqb b 58 ≡ c → cond c (identifier n) (digit b && indexed n) ≡ true → (indexed n ≡ true → all name_byte n ≡ true)
+        → all name_byte (b ∷ n) ≡ true
+    go true p h k = all_more name_byte b n (is_byte b 58 p refl) (identifier_bytes n h)
+    go false p h k = all_more name_byte b n (digit_byte b (and_left (digit b) (indexed n) h)) (k (and_right (digit b) (indexed n) h))
 
 -- the first byte of a variable
 abbrev sigil : ℕ → Bool
 sigil b = eqb b 120 || eqb b 35 || eqb b 37
 
-pub variable_plain : (x : Text) → variable_token x ≡ true → Plain x
+sigil_byte : (b : ℕ) → sigil b ≡ true → name_byte b ≡ true
+unfolding alphanumeric alphabetic
+sigil_byte b e = go (or_cases (eqb b 120 || eqb b 35) (eqb b 37) e)
+  where
+    first : (eqb b 120 ≡ true) ⊎ (eqb b 35 ≡ true) → name_byte b ≡ true
+    first (inl h) = is_byte b 120 h refl
+    first (inr h) = is_byte b 35 h refl
+
+    go : ((eqb b 120 || eqb b 35) ≡ true) ⊎ (eqb b 37 ≡ true) → name_byte b ≡ true
+    go (inl h) = first (or_cases (eqb b 120) (eqb b 35) h)
+    go (inr h) = is_byte b 37 h refl
+
+pub variable_bytes : (x : Text) → variable_token x ≡ true → all name_byte x ≡ true
 unfolding variable_token
-variable_plain [] e = end
-variable_plain (b ∷ []) e = absurd (false≢true e)
-variable_plain (b ∷ c ∷ n) e =
+variable_bytes [] e = absurd (false≢true e)
+variable_bytes (b ∷ []) e = absurd (false≢true e)
+variable_bytes (b ∷ c ∷ n) e =
     let h = and_right (sigil b) (digit c && indexed n) e in
-    plain_byte sigil (refl, refl, refl, refl) b (and_left (sigil b) (digit c && indexed n) e)
-    (plain_byte digit passes_digit c (and_left (digit c) (indexed n) h) (indexed_plain n (and_right (digit c) (indexed n) h)))
+    all_more name_byte b (c ∷ n) (sigil_byte b (and_left (sigil b) (digit c && indexed n) e))
+    (all_more name_byte c n (digit_byte c (and_left (digit c) (indexed n) h)) (indexed_bytes n (and_right (digit c) (indexed n) h)))
+
+pub token_bytes : (n : Text) → (word n || variable_token n) ≡ true → all name_byte n ≡ true
+token_bytes n e = go (or_cases (word n) (variable_token n) e)
+  where
+    go : (word n ≡ true) ⊎ (variable_token n ≡ true) → all name_byte n ≡ true
+    go (inl h) = word_bytes n h
+    go (inr h) = variable_bytes n h
+
+-- none of them is a bracket or a comma
+
+plain_bytes : (n : Text) → all name_byte n ≡ true → Plain n
+unfolding all alphanumeric alphabetic digit
+plain_bytes [] e = end
+plain_bytes (b ∷ n) e =
+    let h = and_left (name_byte b) (all name_byte n) e in
+    byte (not_passed name_byte b 40 h refl) (not_passed name_byte b 41 h refl) (not_passed name_byte b 44 h refl)
+    (plain_bytes n (and_right (name_byte b) (all name_byte n) e))
+
+pub number_plain : (n : Text) → number n ≡ true → Plain n
+number_plain n e = plain_bytes n (number_bytes n e)
+
+pub word_plain : (n : Text) → word n ≡ true → Plain n
+word_plain n e = plain_bytes n (word_bytes n e)
+
+pub variable_plain : (x : Text) → variable_token x ≡ true → Plain x
+variable_plain x e = plain_bytes x (variable_bytes x e)
 
 pub token_plain : (n : Text) → (word n || variable_token n) ≡ true → Plain n
-token_plain n e = go (or_cases (word n) (variable_token n) e)
-  where
-    go : (word n ≡ true) ⊎ (variable_token n ≡ true) → Plain n
-    go (inl h) = word_plain n h
-    go (inr h) = variable_plain n h
+token_plain n e = plain_bytes n (token_bytes n e)
 
 pub letter_plain : (c : ℕ) → letter c ≡ true → Plain (c ∷ [])
 unfolding letter
-letter_plain c e = plain_byte letter (refl, refl, refl, refl) c e end
+letter_plain c e = byte (not_passed letter c 40 e refl) (not_passed letter c 41 e refl) (not_passed letter c 44 e refl) end
+
+colon_other : alphanumeric 58 ≡ false
+unfolding alphanumeric
+colon_other = refl
 
 -- a variable holds a colon, where a word has none
 colonless : (n : Text) → all alphanumeric n ≡ true → indexed n ≡ false
@@ -107,7 +140,7 @@ colonless [] e = refl
 colonless (b ∷ n) e = go (eqb b 58) refl (digit b) (colonless n (and_right (alphanumeric b) (all alphanumeric n) e))
   where
     go : (c : Bool) → eqb b 58 ≡ c → (d : Bool) → indexed n ≡ false → cond c (identifier n) (d && indexed n) ≡ false
-    go true p d h = absurd (not_passed alphanumeric b 58 (and_left (alphanumeric b) (all alphanumeric n) e) passes_alphanumeric.3 (eqb_true b 58 p))
+    go true p d h = absurd (not_passed alphanumeric b 58 (and_left (alphanumeric b) (all alphanumeric n) e) colon_other (eqb_true b 58 p))
     go false p true h = h
     go false p false h = refl
 

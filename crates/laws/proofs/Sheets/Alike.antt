@@ -1,7 +1,7 @@
 -- Two sheets alike in all but fuel, of which the one with less is answered: their second line makes them `unify` or `match` sheets of
 -- the same pairs, and a solved or failed answer is the other's answer, unless its length, its words or its room refuse it.
 use mathlib.Core.Path.{◌≡◌, refl, sym, ◌∙◌, ap, subst}
-use mathlib.Core.Bool.{Bool, true, false, ◌&&◌, and_assoc}
+use mathlib.Core.Bool.{Bool, true, false}
 use mathlib.Core.List.{List, [], ◌∷◌, ◌++◌}
 use mathlib.Core.Logic.{◌↔◌, inr}
 use Rattle.std.specs.Prelude.{Option, Some, None}
@@ -34,6 +34,7 @@ use Rattle.laws.proofs.Basics.Spelling.{number_all}
 use Rattle.laws.proofs.Sheets.Calls.{call_sheet}
 use Rattle.laws.proofs.Sheets.LineForms.{lines_has, number_found}
 use Rattle.laws.proofs.Sheets.Forms.{reads_form}
+use Rattle.laws.proofs.Basics.Bytes.{all_append}
 use Rattle.laws.proofs.Sheets.Refusals.{plain_allowed, allowed_plain, all_plain, all_at, call_outcome}
 use Rattle.laws.proofs.Sheets.Answers.{Kind as Rules, of_unify, of_match, answered_pairs, same_written}
 
@@ -147,11 +148,6 @@ same_texts {s} {r} {k} {m} c sheet e =
 
 -- Bytes
 
-all_append : (s r : Text) → all plain (s ++ r) ≡ (all plain s && all plain r)
-unfolding all
-all_append [] r = refl
-all_append (b ∷ s) r = ap (λ (c : Bool). plain b && c) (all_append s r) ∙ sym (and_assoc (plain b) (all plain s) (all plain r))
-
 -- the bytes of lines are those of the text, but for byte 10
 abbrev PlainLines : List Text → Type 0
 PlainLines [] = Unit {0}
@@ -161,13 +157,13 @@ lines_plain : (ls : List Text) → all plain (joined ls) ≡ true → PlainLines
 unfolding joined all
 lines_plain [] e = tt
 lines_plain (l ∷ ls) e =
-    let f = sym (all_append l (10 ∷ joined ls)) ∙ e in
+    let f = sym (all_append plain l (10 ∷ joined ls)) ∙ e in
     (and_left (all plain l) (all plain (10 ∷ joined ls)) f, lines_plain ls (and_right (all plain l) (all plain (10 ∷ joined ls)) f))
 
 plain_lines : (ls : List Text) → PlainLines ls → all plain (joined ls) ≡ true
 unfolding joined all
 plain_lines [] h = refl
-plain_lines (l ∷ ls) h = all_append l (10 ∷ joined ls) ∙ and_both (all plain l) (all plain (10 ∷ joined ls)) h.0 (plain_lines ls h.1)
+plain_lines (l ∷ ls) h = all_append plain l (10 ∷ joined ls) ∙ and_both (all plain l) (all plain (10 ∷ joined ls)) h.0 (plain_lines ls h.1)
 
 digits_plain : (s : Text) → all digit s ≡ true → all plain s ≡ true
 unfolding all digit

@@ -15,19 +15,9 @@ use Rattle.rules.specs.Maybe.{◌>>=◌}
 use Rattle.rules.specs.Decimal.{value_from, proper, number_up_to, digits_in, decimal}
 use Rattle.rules.specs.Lines.{on_first, lines, after_key, value}
 use Rattle.rules.specs.SheetLines.{ended, Unbroken, AllUnbroken, HasLines}
-use Rattle.laws.proofs.Basics.Tests.{and_left, and_right, and_both, eqb_true, eqb_self, leb_true, true_leb, ltb_true, true_ltb}
+use Rattle.laws.proofs.Basics.Tests.{and_left, and_right, and_both, eqb_true, eqb_self, eqb_differs, differs_eqb, leb_true, true_leb, ltb_true, true_ltb}
 use Rattle.laws.proofs.Basics.Options.{bound}
 use Rattle.laws.proofs.Basics.Numerals.{ltb_false, decimal_proper, decimal_value}
-
-eqb_differs : (b c : ℕ) → ¬ (b ≡ c) → eqb b c ≡ false
-eqb_differs b c n = go (eqb b c) refl
-  where
-    go : (x : Bool) → eqb b c ≡ x → x ≡ false
-    go true e = absurd (n (eqb_true b c e))
-    go false e = refl
-
-differs_eqb : (b c : ℕ) → eqb b c ≡ false → ¬ (b ≡ c)
-differs_eqb b c e p = true≢false (sym (subst (λ (z : ℕ). eqb b z ≡ true) p (eqb_self b)) ∙ e)
 
 -- Lines
 

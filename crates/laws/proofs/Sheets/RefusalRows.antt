@@ -18,8 +18,8 @@ use Rattle.rules.specs.Table.{right}
 use Rattle.rules.specs.RefusalTable.{refusals, blanks}
 use Rattle.laws.proofs.Sheets.Refusals.{call_outcome}
 
-pub refusal_rows : right refusals ≡ true
-unfolding right
+pub refusal_rows : right call refusals ≡ true
+unfolding right call
 refusal_rows = refl
 
 -- so many blanks more than 65,536

@@ -89,7 +89,7 @@ module _ (s : Text) (words : ℕ) where
   unfolding admitted
   refuses_short_work_area sheet h e k = rw (true_leb (length s) 65536 h.short, all_plain h, e, false_leb (words_needed s sheet) words k)
 
-  admits : (sheet : Sheet) → Admitted s words sheet → admitted s words ≡ passed sheet
+  pub admits : (sheet : Sheet) → Admitted s words sheet → admitted s words ≡ passed sheet
   unfolding admitted
   admits sheet h = rw (true_leb (length s) 65536 h.screened.short, all_plain h.screened, (reads_form s sheet).1 h.form, true_leb (words_needed s sheet) words h.enough)
 
@@ -176,6 +176,24 @@ module _ (s : Text) (words room : ℕ) where
       go (short_output h i k) e f = absurd (omega arith)
       go (answered {answer = a} h i k) e f = f a refl
 
+-- 1, 2, 3, 11 come from the sheet and the number of words
+
+-- a number beyond 3 other than 11
+pub other_number : (n : ℕ) → number_for LineOutOfPlace < n → ¬ (n ≡ number_for ShortWorkArea) → ¬ KeepsWork (refused n)
+other_number n h d (inl k) = omega arith
+other_number n h d (inr (inl k)) = omega arith
+other_number n h d (inr (inr (inl k))) = omega arith
+other_number n h d (inr (inr (inr k))) = d k
+
+pub early : (s : Text) (words room : ℕ) {r : Reply Text} → Outcome s words room r → KeepsWork r → admitted s words ≡ refused (refusal_number r)
+early s words room (too_long h) k = refuses_too_long s words h
+early s words room (foreign_byte h p l a) k = refuses_foreign_byte s words h (not_plain s p l a)
+early s words room (line_out_of_place h e) k = refuses_line_out_of_place s words h ((unread_form s).1 e)
+early s words room (short_work_area {sheet} h e l) k = refuses_short_work_area s words sheet h ((reads_form s sheet).1 e) l
+early s words room (unreadable_term h e) k = absurd (other_number (number_for UnreadableTerm) (omega arith) (λ i. omega arith) k)
+early s words room (short_output h e l) k = absurd (other_number (number_for ShortOutput) (omega arith) (λ i. omega arith) k)
+early s words room (answered h e l) k = absurd k
+
 -- What is left
 
 -- a list of n elements put over the first n of another
@@ -193,6 +211,15 @@ module _ (n : ℕ) (front list : List ℕ) (e : length front ≡ n) (h : n ≤ l
       subst (λ (q : ℕ). get_or (front ++ drop n list) q 0 ≡ get_or list p 0) i
       (get_or-append-add front (drop n list) (p - n) 0 ∙ get_or-drop n list (p - n) 0 ∙ rw j)
 
+-- a text put over the first bytes of an output
+pub overwrites : (answer output : List ℕ) → length answer ≤ length output → Overwritten answer output (answer ++ drop (length answer) output)
+overwrites answer output f = record {
+  fits = f;
+  same_length = over_length (length answer) answer output refl f;
+  first = over_first (length answer) answer output refl f;
+  later = over_later (length answer) answer output refl f;
+}
+
 module _ (s : Text) (words : ℕ) (output : List ℕ) where
   pub refusal_keeps : (n : ℕ) → call s words (length output) ≡ refused n
       → (written (call s words (length output)) ≡ 0) × (output_after s words output ≡ output)
@@ -205,12 +232,7 @@ module _ (s : Text) (words : ℕ) (output : List ℕ) where
   answer_writes answer e = (rw e, rw e (go ((call_outcome s words (length output) (passed answer)).0 e)))
     where
       go : Outcome s words (length output) (passed answer) → Overwritten answer output (answer ++ drop (length answer) output)
-      go (answered h k f) = record {
-        fits = f;
-        same_length = over_length (length answer) answer output refl f;
-        first = over_first (length answer) answer output refl f;
-        later = over_later (length answer) answer output refl f;
-      }
+      go (answered h k f) = overwrites answer output f
 
 clears : (n : ℕ) (work : List ℕ) → n ≤ length work → Cleared n work (replicate n 0 ++ drop n work)
 clears n work h =
@@ -223,35 +245,19 @@ clears n work h =
       later = over_later n zeros work e h;
     }
 
--- a number beyond 3 other than 11
-other_number : (n : ℕ) → number_for LineOutOfPlace < n → ¬ (n ≡ number_for ShortWorkArea) → ¬ KeepsWork (refused n)
-other_number n h d (inl k) = omega arith
-other_number n h d (inr (inl k)) = omega arith
-other_number n h d (inr (inr (inl k))) = omega arith
-other_number n h d (inr (inr (inr k))) = d k
-
 module _ (s : Text) (work : List ℕ) where
-  keeps : (n : ℕ) → admitted s (length work) ≡ refused n → work_after s work ≡ work
+  pub keeps : (n : ℕ) → admitted s (length work) ≡ refused n → work_after s work ≡ work
   unfolding work_after
   keeps n e = rw e
 
-  clears_needed : {sheet : Sheet} → Admitted s (length work) sheet → (h : Sheet) × (read_sheet s ≡ Some h) × Cleared (words_needed s h) work (work_after s work)
+  pub clears_needed : {sheet : Sheet} → Admitted s (length work) sheet → (h : Sheet) × (read_sheet s ≡ Some h) × Cleared (words_needed s h) work (work_after s work)
   unfolding work_after
   clears_needed {sheet} a = (sheet, (reads_form s sheet).1 a.form, rw (admits s (length work) sheet a) (clears (words_needed s sheet) work a.enough))
 
   module _ (room : ℕ) where
     -- after 1, 2, 3, 11 the work area is unchanged
     pub work_kept : KeepsWork (call s (length work) room) → work_after s work ≡ work
-    work_kept = go (holds s (length work) room)
-      where
-        go : {r : Reply Text} → Outcome s (length work) room r → KeepsWork r → work_after s work ≡ work
-        go (too_long h) k = keeps (number_for TooLong) (refuses_too_long s (length work) h)
-        go (foreign_byte h p l a) k = keeps (number_for ForeignByte) (refuses_foreign_byte s (length work) h (not_plain s p l a))
-        go (line_out_of_place h e) k = keeps (number_for LineOutOfPlace) (refuses_line_out_of_place s (length work) h ((unread_form s).1 e))
-        go (short_work_area {sheet} h e l) k = keeps (number_for ShortWorkArea) (refuses_short_work_area s (length work) sheet h ((reads_form s sheet).1 e) l)
-        go (unreadable_term h e) k = absurd (other_number (number_for UnreadableTerm) (omega arith) (λ i. omega arith) k)
-        go (short_output h e l) k = absurd (other_number (number_for ShortOutput) (omega arith) (λ i. omega arith) k)
-        go (answered h e l) k = absurd k
+    work_kept k = keeps (refusal_number (call s (length work) room)) (early s (length work) room (holds s (length work) room) k)
 
     -- after every other call the needed words are zero
     pub needed_cleared : ¬ KeepsWork (call s (length work) room)

@@ -15,8 +15,8 @@ returns-in_err-ok_or c =
     let l = c.in_err-ok_or.ensures in
     let m = rw l.ok_part at l.value in
     let e : c.in_err-ok_or.field-0.0 ≡ ShortOutput = cc in
-    rw (p.1, p.2, e, c.in_ok-lines.was) (short_settles refl refl (rw l.ok_part at c.put_lines.ensures) (search rules))
+    rw (p.1, p.2, e, c.in_ok-lines.was) (short_settles refl refl refl (rw l.ok_part at c.put_lines.ensures) (search rules))
 
 pub returns : goal.returns
 returns c =
-    rw c.in_ok-lines.was (written_settles refl refl (rw c.in_ok-ok_or.ensures.ok_part at c.put_lines.ensures) refl refl refl (rw c.unwrap.ensures at c.put_lines-2.ensures) (search rules))
+    rw c.in_ok-lines.was (written_settles refl refl refl (rw c.in_ok-ok_or.ensures.ok_part at c.put_lines.ensures) refl refl refl (rw c.unwrap.ensures at c.put_lines-2.ensures) (search rules))

@@ -1,14 +1,12 @@
 use Rattle.std.proofs.Common.{refl, ap, ◌∙◌}
-use Rattle.rules.specs.Text.{bytes}
 use Rattle.rules.specs.Bytes.{same}
-use Rattle.text.proofs.Library.{same_is, begins_is}
+use Rattle.text.proofs.Library.{same_is}
 use Rattle.replay.proofs.reader.closed.Goals as goal
 
-pub returns-then-starts_with : goal.returns-then-starts_with
-returns-then-starts_with c =
+pub returns-then-opened : goal.returns-then-opened
+returns-then-opened c =
     let a = c.args in
-    rw (← begins_is (bytes "sheet ") a.start.now, ← c.starts_with.ensures.value, c.if-starts_with.true)
-    (c.eq.ensures ∙ same_is a.end.now c.as_slice.result.now ∙ ap (same a.end.now) c.as_slice.ensures)
+    rw (← c.opened.ensures, c.if-opened.true) (c.eq.ensures ∙ same_is a.end.now c.as_slice.result.now ∙ ap (same a.end.now) c.as_slice.ensures)
 
-pub returns-else-starts_with : goal.returns-else-starts_with
-returns-else-starts_with c = rw (← begins_is (bytes "sheet ") c.args.start.now, ← c.starts_with.ensures.value, c.if-starts_with.false) refl
+pub returns-else-opened : goal.returns-else-opened
+returns-else-opened c = rw (← c.opened.ensures, c.if-opened.false) refl

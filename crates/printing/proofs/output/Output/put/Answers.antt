@@ -11,6 +11,6 @@ returns g c t e h =
     let k = c.if-self-count.false in
     let i = c.args.self.now.inside in
     elim c.match-self.branch [
-      | in-Write w ↦ puts_written (ap (λ z. z.1.0.ghost_name) w.self-is) (ap (λ z. z.1.1.1.0) w.self-is) w.in-Write.is (omega arith) (omega arith) (ap (λ z. z.1.0.now) w.self-is ∙ put_back c.args.self.now.bytes.now c.args.self.now.at (sym e) (h _ _ (simp (length-take, length-drop) (omega arith)) w.fill.ensures))
-      | in_default w ↦ puts_measured (ap (λ z. z.1.0.ghost_name) w.self-is) (ap (λ z. z.1.1.1.0) w.self-is) w.in_default.is (omega arith) (omega arith) (ap (λ z. z.1.0.now) w.self-is)
+      | in-Write w ↦ puts_written (record { lent = ap (λ z. z.1.0.ghost_name) w.self-is; pass = ap (λ z. z.1.1.1.1.1.0) w.self-is; room = ap (λ z. z.1.1.1.1.0) w.self-is; lines = ap (λ z. z.1.1.1.0) w.self-is }) w.in-Write.is (omega arith) (omega arith) (ap (λ z. z.1.0.now) w.self-is ∙ put_back c.args.self.now.bytes.now c.args.self.now.at (sym e) (h _ _ (simp (length-take, length-drop) (omega arith)) w.fill.ensures))
+      | in_default w ↦ puts_measured (record { lent = ap (λ z. z.1.0.ghost_name) w.self-is; pass = ap (λ z. z.1.1.1.1.1.0) w.self-is; room = ap (λ z. z.1.1.1.1.0) w.self-is; lines = ap (λ z. z.1.1.1.0) w.self-is }) w.in_default.is (omega arith) (omega arith) (ap (λ z. z.1.0.now) w.self-is)
     ]
