@@ -1,7 +1,7 @@
 // An answer laid out in pages, in the bytes where it stands: written from left to right, with what is unread always ahead.
 #![tactic(auto)]
 
-pub mod lines; // lines.rt: the lines of a page, written
+mod lines; // lines.rt: the lines of a page, written
 mod entries; // entries.rt: the lines of an entry, and the heading before them
 
 ghost use Rattle.std.specs.Prelude.{◌≡◌, ◌+◌, ◌-◌, ◌*◌, ◌≤◌, ◌++◌, length, take, drop};
