@@ -15,6 +15,12 @@ const MODULES: [&str; 7] = [
     "variants",
 ];
 
+// The rendering that `certificate::equivalent` compares, which is private to its module.
+const RENDERING: &str = "pub fn rendering(text: &str) -> Result<String> {
+    Ok(canonical(text, &BTreeMap::new())?.render())
+}
+";
+
 // A folder that the variable names is taken from the root of the repository on.
 fn folder() -> PathBuf {
     let package = env::var("CARGO_MANIFEST_DIR").expect("set by cargo");
@@ -31,10 +37,11 @@ fn modules(folder: &Path) -> Option<String> {
         let file = folder.join(format!("{module}.rs")).canonicalize().ok()?;
         println!("cargo::rerun-if-changed={}", file.display());
         text.push_str("#[allow(dead_code, clippy::all)]\n");
-        text.push_str(&format!(
-            "#[path = {:?}]\npub mod {module};\n",
-            file.to_str()?
-        ));
+        let path = file.to_str()?;
+        text.push_str(&match module {
+            "certificate" => format!("pub mod {module} {{\ninclude!({path:?});\n{RENDERING}}}\n"),
+            _ => format!("#[path = {path:?}]\npub mod {module};\n"),
+        });
     }
     Some(text)
 }

@@ -27,8 +27,9 @@ pub struct Worked {
 }
 
 const HEADING: &str = "PAGE 0001";
-const ANSWER_KEYS: [&str; 6] = [
+const ANSWER_KEYS: [&str; 7] = [
     "equal=",
+    "order=",
     "normal=",
     "verdict=",
     "covered=",

@@ -4,6 +4,7 @@ mod deep;
 mod equality;
 mod limits;
 mod lines;
+mod order;
 mod pages;
 mod solving;
 mod variants;
@@ -175,6 +176,7 @@ pub fn all() -> Vec<Example> {
         lines::examples(),
         deep::examples(),
         equality::examples(),
+        order::examples(),
         solving::examples(),
         variants::examples(),
         limits::examples(),

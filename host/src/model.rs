@@ -13,7 +13,7 @@ pub use reading::{read, read_loosely};
 pub use reduction::normal;
 pub use solving::{Outcome, Verdict, matcher, matcher_shown, unify, unify_shown};
 pub use sorts::{Sort, has_sort, sort_of};
-pub use term::{Bindings, Pair, SUM, Term, ac_equal, canonical, values};
+pub use term::{Bindings, Pair, SUM, Term, ac_equal, canonical, canonical_text, values};
 pub use variants::{Variant, complete, general_variants, read_member, sound};
 
 pub const LIMIT: usize = 4_096;

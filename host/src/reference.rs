@@ -4,6 +4,8 @@
 pub(crate) mod by_model;
 pub(crate) mod by_rust;
 
+use std::cmp::Ordering;
+
 use yukhtsami::{Call, Called, Refusal};
 
 use crate::{
@@ -102,6 +104,15 @@ fn answer(bytes: &[u8], sheet: &Sheet) -> Option<Vec<u8>> {
 fn claim(key: &str, claim: Option<bool>) -> String {
     let word = claim.map_or("none", |yes| if yes { "yes" } else { "no" });
     format!("{key}={word}\n")
+}
+
+fn ordered(order: Ordering) -> String {
+    let word = match order {
+        Ordering::Less => "less",
+        Ordering::Equal => "equal",
+        Ordering::Greater => "greater",
+    };
+    format!("order={word}\n")
 }
 
 fn asked(sheet: &Sheet) -> Option<String> {

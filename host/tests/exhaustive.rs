@@ -97,7 +97,7 @@ fn every_pair_of_small_terms() {
     deep::run(|| {
         for left in TERMS {
             for right in TERMS {
-                for kind in ["equal", "unify\nfuel=9", "match\nfuel=9", "cover"] {
+                for kind in ["equal", "order", "unify\nfuel=9", "match\nfuel=9", "cover"] {
                     check(format!("kind={kind}\nleft={left}\nright={right}\n"));
                 }
                 let pair = format!("left=k({left},x0:Msg)\nright=k({right},x1:Msg)\n");

@@ -32,7 +32,7 @@ fn the_model_and_the_rust_agree() {
 
 #[test]
 fn every_kind_verdict_and_refusal_comes_up() {
-    let tally = generated(10_000, 4);
+    let tally = generated(10_000, 6);
     assert_eq!(tally.missing(), Vec::<String>::new());
     for call in Call::ALL {
         for kind in KINDS {

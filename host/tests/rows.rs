@@ -11,7 +11,7 @@ use host::{
 };
 use yukhtsami::{Call, Refusal};
 
-const TABLES: [&str; 3] = ["Table", "MoreRows", "RefusalTable"];
+const TABLES: [&str; 4] = ["Table", "MoreRows", "RefusalTable", "OrderTable"];
 // `row` and `wide` are a sheet and its answer, with words and room enough; `one_less` has a number between them, which is one word less
 // than the sheet needs.
 const HEADS: [&str; 3] = ["row (", "wide (", "one_less ("];

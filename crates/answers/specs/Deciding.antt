@@ -3,6 +3,7 @@ use Rattle.std.specs.Prelude.{◌<◌, ◌≡◌, true, List, [], ◌∷◌, ◌
 use Rattle.std.specs.Prelude.{Result, Ok, Err}
 use Rattle.rules.specs.Bytes.{Text}
 use Rattle.rules.specs.Text.{bytes}
+use Rattle.rules.specs.Order.{order_name}
 use Rattle.rules.specs.Writing.{render}
 use Rattle.rules.specs.Answer.{line, claim, verdict_lines}
 use Rattle.rules.specs.declared.Refusal.{Refusal}
@@ -17,10 +18,11 @@ use Rattle.verdicts.specs.Verdicts.{VerdictHeld}
 use Rattle.answers.specs.declared.deciding.Key.{Key}
 use Rattle.answers.specs.declared.deciding.Key.TheVariants as keys
 use Rattle.answers.specs.declared.deciding.Lines.{Lines}
-use Rattle.answers.specs.declared.deciding.Lines.TheVariants.{Claim, Term, Verdict}
+use Rattle.answers.specs.declared.deciding.Lines.TheVariants.{Claim, Order, Term, Verdict}
 
 abbrev pub key_name : Key → Text
 key_name keys.Equal = bytes "equal"
+key_name keys.Order = bytes "order"
 key_name keys.Normal = bytes "normal"
 key_name keys.Sound = bytes "sound"
 key_name keys.Covered = bytes "covered"
@@ -31,18 +33,21 @@ key_text k = key_name k ++ 61 ∷ []
 
 abbrev pub lines_text : Area → Lines → Text
 lines_text a (Claim k c) = line (key_text k) (claim c)
+lines_text a (Order o) = line (key_text keys.Order) (order_name o)
 lines_text a (Term k i) = line (key_text k) (render (tree_in a i))
 lines_text a (Verdict r) = verdict_lines (answer_in a r)
 
 -- its keys and texts
 abbrev pub lines_entries : Area → Lines → List Entry
 lines_entries a (Claim k c) = (key_name k, claim c) ∷ []
+lines_entries a (Order o) = (key_name keys.Order, order_name o) ∷ []
 lines_entries a (Term k i) = (key_name k, render (tree_in a i)) ∷ []
 lines_entries a (Verdict r) = verdict_entries (answer_in a r)
 
 -- the term or the bindings of an answer are cells of the area
 abbrev pub LinesHeld : Area → Lines → Type 0
 LinesHeld a (Claim k c) = Unit {0}
+LinesHeld a (Order o) = Unit {0}
 LinesHeld a (Term k i) = (0 < i) × (i < a.free)
 LinesHeld a (Verdict r) = VerdictHeld a r.verdict
 

@@ -3,12 +3,14 @@ ghost use Rattle.std.specs.Prelude.{◌≡◌};
 ghost use Rattle.answers.specs.Deciding.{key_text};
 
 use rules::Refusal;
+use std::cmp::Ordering;
 use substitution::answer::Answer;
 
 // The key of a line.
 #[derive(Clone, Copy, Debug, PartialEq, Eq)]
 pub enum Key {
     Equal,
+    Order,
     Normal,
     Sound,
     Covered,
@@ -22,6 +24,7 @@ impl Key {
     {
         match self {
             Key::Equal => b"equal=",
+            Key::Order => b"order=",
             Key::Normal => b"normal=",
             Key::Sound => b"sound=",
             Key::Covered => b"covered=",
@@ -30,10 +33,12 @@ impl Key {
     }
 }
 
-// The lines of an answer: a key and what is claimed, a key and the term of a cell, or those of a run of `unify` or `match`.
+// The lines of an answer: a key and what is claimed, the order of two terms, a key and the term of a cell, or those of a run of `unify` or
+// `match`.
 #[derive(Clone, Copy, Debug, PartialEq, Eq)]
 pub enum Lines {
     Claim { key: Key, claim: Option<bool> },
+    Order(Ordering),
     Term { key: Key, index: usize },
     Verdict(Answer),
 }

@@ -1,19 +1,16 @@
--- Texts written and sorted: what one is, how two stand to each other, and whether they are one.
-use Rattle.std.proofs.Common.{◌≡◌, ℕ, ◌<◌, ◌≤◌, List, ◌++◌, length, take, Option, Some, None, Ordering, sym, ap, ◌∙◌, arith}
-use Rattle.std.specs.Ordering.{is_eq}
-use mathlib.Core.Path.{ap₂}
+-- Texts written and sorted: what one is, and how two stand to each other.
+use Rattle.std.proofs.Common.{◌≡◌, ℕ, ◌<◌, ◌≤◌, List, ◌++◌, length, take, Some, Ordering, refl, sym, ap, ◌∙◌, arith}
 use mathlib.Core.List.{append_assoc}
 use lib.Seq.{slice, length-take-le, take_at}
 use lib.ListN.{get_or-append}
-use Rattle.rules.specs.Bytes.{Text}
-use Rattle.rules.specs.Reading.{canonical_text}
+use Rattle.rules.specs.Order.{compare}
+use Rattle.rules.specs.Reading.{text_order}
 use Rattle.sheet.specs.declared.Place.{Place}
 use Rattle.runs.specs.declared.TheConstants.{PLUS}
-use Rattle.runs.specs.Texts.{texts, Tokens, lex}
-use Rattle.runs.proofs.RunLaws.{same_lex}
+use Rattle.runs.specs.Texts.{texts, Tokens}
 use Rattle.settling.specs.Orders.{sums_ordered}
 use Rattle.flattening.specs.Writer.{WordsOf}
-use Rattle.certificate.specs.Comparing.{CanonicalWords, order_of, equivalence_of}
+use Rattle.certificate.specs.Comparing.{CanonicalWords}
 use Rattle.certificate.proofs.WrittenTexts.{readable}
 
 -- a text that is written, and its sums sorted: the words l of the text become m, and all words v
@@ -32,11 +29,6 @@ settled {s} {u} {text} {end} f small d le {l} {m} el em n t rest scratch =
 
 -- two such, one after the other
 pub compared : {s v₁ v₂ : List ℕ} {left right : Place} {mid end : ℕ} → CanonicalWords s v₁ left mid → CanonicalWords s v₂ right end → {first second : List ℕ} → first ≡ take mid v₁ → second ≡ take end v₂
-    → {o : Ordering} → o ≡ lex (texts s first) (texts s second) → Some o ≡ order_of (canonical_text (slice left.from left.to s)) (canonical_text (slice right.from right.to s))
-compared {s} c d ef es e = ap Some (e ∙ ap₂ (λ a b. lex (texts s a) (texts s b)) ef es) ∙ sym (ap₂ order_of c.canonical d.canonical)
-
--- one or not, by the order
-pub equivalent_by : (a b : Option Text) {o : Ordering} → Some o ≡ order_of a b → Some (is_eq o) ≡ equivalence_of a b
-equivalent_by None b e = cc
-equivalent_by (Some a) None e = cc
-equivalent_by (Some a) (Some b) {o} e = let z : o ≡ lex a b = cc in ap (λ o. Some (is_eq o)) z ∙ ap Some (same_lex a b)
+    → {o : Ordering} → o ≡ compare (texts s first) (texts s second) → Some o ≡ text_order (slice left.from left.to s) (slice right.from right.to s)
+unfolding text_order
+compared {s} c d ef es e = rw (c.canonical, d.canonical, e, ef, es) refl

@@ -14,7 +14,7 @@ use Rattle.closing.specs.Closing.{NoTree}
 abbrev pub room_for : Area → ℕ → ℕ
 room_for a chain = 2 * count (trees_in a chain) + 2
 
--- the trees once more, in their order
+-- the trees in their order
 pub record OrdersIn (a b : Area) (chain : ℕ) (r : Ordered) : Type 0 where
   pub adds : Adds a b
   pub used : b.free ≤ a.free + count (trees_in a chain)

@@ -23,7 +23,7 @@ struct Ordered {
     nodes: usize,
 }
 
-// The trees of a chain once more, in their order, unless they have more than 4,095 nodes.
+// The trees of a chain in their order, unless they have more than 4,095 nodes: once more, or where they stand if there is one at most.
 fn in_order(area: &mut Area, chain: usize) -> Option<Ordered>
     requires chain { chain < area.old.free }
     requires room { HasRoom area.old (count (trees_in area.old chain)) }
@@ -32,6 +32,12 @@ fn in_order(area: &mut Area, chain: usize) -> Option<Ordered>
     let nodes = area.nodes_in(chain);
     if 4095 < nodes {
         return None;
+    }
+    if chain == 0 || area.next_of(chain) == 0 {
+        return Some(Ordered {
+            first: chain,
+            nodes,
+        });
     }
     let first = area.reversed(chain);
     Some(Ordered { first, nodes })

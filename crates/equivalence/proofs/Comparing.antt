@@ -1,16 +1,12 @@
--- Trees that are one are equivalent.
-use mathlib.Core.Path.{◌≡◌, sym, ap, ◌∙◌}
+-- Trees that are one are equal in their order.
+use mathlib.Core.Path.{◌≡◌, sym, ap}
 use mathlib.Core.Bool.{true}
+use Rattle.std.specs.declared.cmp.Ordering.TheVariants.{Equal}
 use Rattle.rules.specs.Tree.{Tree, same_tree}
-use Rattle.rules.specs.Sums.{canonical, equivalent}
-use Rattle.laws.proofs.Basics.Tests.{same_self, tree_eq}
+use Rattle.rules.specs.Sums.{canonical, comparison}
+use Rattle.laws.proofs.Basics.Tests.{tree_eq}
+use Rattle.laws.proofs.Basics.Comparing.{compare_equal}
 
-pub equivalent_self : (t : Tree) → true ≡ equivalent t t
-unfolding equivalent
-equivalent_self t = sym (same_self (canonical t))
-
-pub equivalent_one : {t u : Tree} → t ≡ u → true ≡ equivalent t u
-equivalent_one {t} e = equivalent_self t ∙ ap (equivalent t) e
-
-pub equivalent_same : (t u : Tree) → true ≡ same_tree t u → true ≡ equivalent t u
-equivalent_same t u e = equivalent_one (tree_eq t u (sym e))
+pub comparison_same : (t u : Tree) → true ≡ same_tree t u → Equal ≡ comparison t u
+unfolding comparison
+comparison_same t u e = sym ((compare_equal (canonical t) (canonical u)).1 (ap canonical (tree_eq t u (sym e))))

@@ -1,15 +1,15 @@
--- The canonical words of two trees, one after the other: the trees are equivalent where the texts are one.
+-- The canonical words of two trees, one after the other: the order of the trees is that of the texts.
 use Prim.Native.Nat.{ℕ, ◌+◌, ◌*◌, ◌≤◌}
 use mathlib.Core.Path.{◌≡◌, ap, ap₂, ◌∙◌}
-use mathlib.Core.Bool.{Bool}
 use mathlib.Core.List.{List}
 use lib.ListN.{length, take, drop, length-take}
 use lib.Seq.{slice, get_or-take}
 use Rattle.std.proofs.lemmas.List.{take-take}
 use native.Mathlib.Omega.{arith}
-use Rattle.rules.specs.Bytes.{same}
+use Rattle.std.specs.declared.cmp.Ordering.{Ordering}
+use Rattle.rules.specs.Order.{compare}
 use Rattle.rules.specs.Tree.{Tree, size}
-use Rattle.rules.specs.Sums.{equivalent}
+use Rattle.rules.specs.Sums.{comparison}
 use Rattle.text.proofs.Slices.{slice_same, drop_take}
 use Rattle.text.specs.Frames.{Outside}
 use Rattle.text.proofs.Frames.{outside_then}
@@ -46,12 +46,12 @@ module _ {s w v u : List ℕ} {l r : Tree} {mid end : ℕ} (g : Canon s w v l 0 
     pub second_tokens : Tokens s b 0 (length b)
     second_tokens = rw (second ∙ drop_take mid end u) (tokens_part s u mid end h.tokens)
 
-    pub texts_told : {t : Bool} → t ≡ same (texts s a) (texts s b) → t ≡ equivalent l r
-    unfolding equivalent
+    pub texts_told : {o : Ordering} → o ≡ compare (texts s a) (texts s b) → o ≡ comparison l r
+    unfolding comparison
     texts_told e =
         let k = texts_inside in
         let m : slice 0 mid u ≡ slice 0 mid v = slice_same 0 mid u v (omega arith) (omega (arith, h.kept.len)) (λ p i j. h.kept.below p j) in
-        e ∙ ap₂ (λ (x y : List ℕ). same (texts s x) (texts s y)) (first ∙ m) second ∙ ap₂ same g.text h.text
+        e ∙ ap₂ (λ (x y : List ℕ). compare (texts s x) (texts s y)) (first ∙ m) second ∙ ap₂ compare g.text h.text
 
   pub texts_kept : {z : List ℕ} → z ≡ u → Outside w z 0 (15 * (size l + size r))
   texts_kept n =

@@ -1,24 +1,26 @@
-// Equality of trees of an area up to order and grouping of sums (unifier.rs, `equivalent`).
+// The order of trees of an area by their canonical texts, and their equality up to order and grouping of sums (unifier.rs, `equivalent`).
 #![tactic(auto)]
 
 pub mod words; // words.rt: the words of a tree
 
 ghost use Rattle.std.specs.Prelude.{◌≡◌, ◌+◌, ◌*◌, ◌<◌, ◌≤◌, length};
 ghost use Rattle.rules.specs.Tree.{size};
-ghost use Rattle.rules.specs.Sums.{equivalent};
+ghost use Rattle.rules.specs.Sums.{comparison, equivalent};
 ghost use Rattle.tree.specs.Areas.{tree_in, KeepsCells, CellIn};
 ghost use Rattle.text.specs.Frames.{Outside};
 
-use crate::words::{one_text, tree_words};
+use crate::words::tree_words;
 use flattening::writer::Writer;
+use runs::order::compare;
+use std::cmp::Ordering;
 use tree::area::Area;
 
-// Whether the canonical texts of the trees of cells i and j are one. The words, fifteen for each node of the two, are scratch.
-fn same_canonical(area: &Area, i: usize, j: usize, words: &mut [u32]) -> bool
+// How the canonical text of the tree of cell i stands to that of cell j. The words, fifteen for each node of the two, are scratch.
+fn canonical_order(area: &Area, i: usize, j: usize, words: &mut [u32]) -> Ordering
     requires cells { CellIn area.now i × CellIn area.now j }
     requires small { (5 * size (tree_in area.now i) < 65536) × (5 * size (tree_in area.now j) < 65536) }
     requires room { 15 * (size (tree_in area.now i) + size (tree_in area.now j)) ≤ length words.old }
-    ensures value { result ≡ equivalent (tree_in area.now i) (tree_in area.now j) }
+    ensures value { result ≡ comparison (tree_in area.now i) (tree_in area.now j) }
     ensures outside { Outside words.old words.new 0 (15 * (size (tree_in area.now i) + size (tree_in area.now j))) }
 {
     let mut out = Writer { words, end: 0 };
@@ -26,21 +28,32 @@ fn same_canonical(area: &Area, i: usize, j: usize, words: &mut [u32]) -> bool
     let mid = out.end;
     tree_words(area, j, &mut out);
     let (left, right) = out.since(0).split_at(mid);
-    one_text(area.sheet, left, right)
+    compare(area.sheet, left, right)
 }
 
-// Whether the trees of cells i and j are equal up to order and grouping of sums. The words above the cells, fifteen for each node of the
-// two, are scratch.
-pub fn equivalent(area: &mut Area, i: usize, j: usize) -> bool
+// Whether these texts are one: the middle answer. The same words are scratch.
+#[tactic(auto, unfolding(rules::specs::Sums::equivalent))]
+pub fn same_canonical(area: &Area, i: usize, j: usize, words: &mut [u32]) -> bool
+    requires cells { CellIn area.now i × CellIn area.now j }
+    requires small { (5 * size (tree_in area.now i) < 65536) × (5 * size (tree_in area.now j) < 65536) }
+    requires room { 15 * (size (tree_in area.now i) + size (tree_in area.now j)) ≤ length words.old }
+    ensures value { result ≡ equivalent (tree_in area.now i) (tree_in area.now j) }
+    ensures outside { Outside words.old words.new 0 (15 * (size (tree_in area.now i) + size (tree_in area.now j))) }
+{
+    canonical_order(area, i, j, words).is_eq()
+}
+
+// The comparison of the trees of cells i and j. The words above the cells, fifteen for each node of the two, are scratch.
+fn comparison(area: &mut Area, i: usize, j: usize) -> Ordering
     requires cells { CellIn area.old i × CellIn area.old j }
     requires small { (5 * size (tree_in area.old i) < 65536) × (5 * size (tree_in area.old j) < 65536) }
     requires room { 4 * area.old.free + 15 * (size (tree_in area.old i) + size (tree_in area.old j)) ≤ length area.old.work.now }
-    ensures value { result ≡ equivalent (tree_in area.old i) (tree_in area.old j) }
+    ensures value { result ≡ comparison (tree_in area.old i) (tree_in area.old j) }
     ensures keeps { KeepsCells area.old area.new }
     ensures outside { Outside area.old.work.now area.new.work.now (4 * area.old.free) (4 * area.old.free + 15 * (size (tree_in area.old i) + size (tree_in area.old j))) }
 {
     if area.same_tree(i, j) {
-        return true;
+        return Ordering::Equal;
     }
     let Area { sheet, free, .. } = *area;
     // Lent to a variable first: the words that come back of a field have no name that a proof can cite.
@@ -51,5 +64,18 @@ pub fn equivalent(area: &mut Area, i: usize, j: usize) -> bool
         work: cells,
         free,
     };
-    same_canonical(&trees, i, j, words)
+    canonical_order(&trees, i, j, words)
+}
+
+// Whether the trees of cells i and j are equal up to order and grouping of sums: the middle answer. The same words are scratch.
+#[tactic(auto, unfolding(rules::specs::Sums::equivalent))]
+pub fn equivalent(area: &mut Area, i: usize, j: usize) -> bool
+    requires cells { CellIn area.old i × CellIn area.old j }
+    requires small { (5 * size (tree_in area.old i) < 65536) × (5 * size (tree_in area.old j) < 65536) }
+    requires room { 4 * area.old.free + 15 * (size (tree_in area.old i) + size (tree_in area.old j)) ≤ length area.old.work.now }
+    ensures value { result ≡ equivalent (tree_in area.old i) (tree_in area.old j) }
+    ensures keeps { KeepsCells area.old area.new }
+    ensures outside { Outside area.old.work.now area.new.work.now (4 * area.old.free) (4 * area.old.free + 15 * (size (tree_in area.old i) + size (tree_in area.old j))) }
+{
+    comparison(area, i, j).is_eq()
 }

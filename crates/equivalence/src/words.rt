@@ -1,7 +1,6 @@
 // The words of a tree of an area, in words of their own: the tokens of its text, in which a sum inside a sum loses its name and brackets,
 // and its canonical words.
 ghost use Rattle.std.specs.Prelude.{◌≡◌, ◌+◌, ◌*◌, ◌<◌, ◌≤◌, [], ◌∷◌, length};
-ghost use Rattle.rules.specs.Bytes.{same};
 ghost use Rattle.rules.specs.Tree.{size, sizes};
 ghost use Rattle.tree.specs.Areas.{CellIn, name_in, tree_in, trees_in};
 ghost use Rattle.runs.specs.Texts.{word_text, texts, Tokens};
@@ -12,7 +11,7 @@ ghost use Rattle.equivalence.specs.Words.{TermWritten, TermsWritten, TreeWritten
 
 use flattening::brackets::Bracket;
 use flattening::writer::Writer;
-use runs::order::{BYTES, compare};
+use runs::order::BYTES;
 use runs::{COMMA, OPEN, PLUS, SHUT, SPAN};
 use settling::sort_sums;
 use tree::area::Area;
@@ -20,7 +19,7 @@ use tree::kinds::Kind;
 
 // The word of the name of cell k: its place, or for a name by its code that code, after the word of sums. The name itself would not tell
 // its place.
-fn word_of(area: &Area, k: usize) -> u32
+pub fn word_of(area: &Area, k: usize) -> u32
     requires { CellIn area.now k }
     ensures { Word area.now.sheet.now result × (word_text area.now.sheet.now result ≡ name_in area.now k) }
 {
@@ -83,7 +82,7 @@ fn put_list(area: &Area, i: usize, outer: Bracket, out: &mut Writer)
 }
 
 // Writes the canonical words of the tree of cell i. Fifteen words for each node may change.
-pub fn tree_words(area: &Area, i: usize, out: &mut Writer)
+pub(crate) fn tree_words(area: &Area, i: usize, out: &mut Writer)
     requires cell { CellIn area.now i }
     requires small { 5 * size (tree_in area.now i) < 65536 }
     requires room { out.old.end + 15 * size (tree_in area.now i) ≤ length out.old.words.now }
@@ -96,13 +95,4 @@ pub fn tree_words(area: &Area, i: usize, out: &mut Writer)
     let (written, scratch) = words.split_at_mut(out.end);
     let (_, words) = written.split_at_mut(base);
     sort_sums(area.sheet, PLUS, words, scratch);
-}
-
-// Whether two lists of words have one text.
-pub fn one_text(sheet: &[u8], left: &[u32], right: &[u32]) -> bool
-    requires left_tokens { Tokens sheet.now left.now 0 (length left.now) }
-    requires right_tokens { Tokens sheet.now right.now 0 (length right.now) }
-    ensures { result ≡ same (texts sheet.now left.now) (texts sheet.now right.now) }
-{
-    compare(sheet, left, right).is_eq()
 }

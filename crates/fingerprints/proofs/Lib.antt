@@ -1,1 +1,2 @@
 pub mod Fingerprinting
+pub mod Weighing

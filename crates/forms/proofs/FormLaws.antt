@@ -13,17 +13,19 @@ use Rattle.rules.specs.Text.{bytes}
 use Rattle.rules.specs.Maybe.{◌>>=◌}
 use Rattle.rules.specs.Decimal.{value_from, proper, number_up_to}
 use Rattle.rules.specs.Lines.{value}
-use Rattle.rules.specs.Sheet.{Entry, Member, Sheet, asks_equal, asks_reduce, asks_sound, asks_complete, pairs, members_from, none_waiting, at_end, one_member, Equal, Reduce, Sound, Complete, read_kind}
+use Rattle.rules.specs.Sheet.{Entry, Member, Sheet, asks_reduce, asks_sound, asks_complete, pairs, members_from, none_waiting, at_end, one_member, Reduce, Sound, Complete, read_kind}
 use Rattle.laws.proofs.Basics.Tests.{leb_true}
 use Rattle.laws.proofs.Basics.Somes.{some_injective, none_ne_some}
 use Rattle.sheet.specs.Lines.{lines_at, value_at}
 use Rattle.sheet.specs.Pairs.{sides_of, two_lines_at, entries_by}
 use Rattle.forms.specs.Members.{members_at, counted}
-use Rattle.forms.specs.Form.{solving, asks_by, read_kind_at, text_of, sheet_of, Within, FormStands, Walked, term_members}
+use Rattle.forms.specs.Form.{comparing, asks_of, solving, asks_by, read_kind_at, text_of, sheet_of, Within, FormStands, Walked, term_members}
 use Rattle.sheet.specs.declared.Place.{Place}
 use Rattle.sheet.specs.declared.Read.{Read}
 use Rattle.sheet.specs.declared.Sides.{Sides}
 use Rattle.forms.specs.declared.form.Form.{Form}
+use Rattle.forms.specs.declared.form.Comparison.{Comparison}
+use Rattle.forms.specs.declared.form.Comparison.TheVariants as comparison
 use Rattle.forms.specs.declared.form.Solver.{Solver}
 use Rattle.forms.specs.declared.form.Solver.TheVariants as solver
 use Rattle.sheet.proofs.LineLaws.{Keyed, Unkeyed, keyed, unkeyed, then, then_none, lines_end, lines_more}
@@ -47,33 +49,37 @@ end_none s at sheet h = go (lines_at s at) refl
     go (Some []) e = absurd (lines_more s at h e)
     go (Some (l ∷ ls)) e = refl
 
--- ---- `equal`
+-- ---- `equal` and `order`
 
-module _ (s : Text) (at : ℕ) where
+module _ (k : Comparison) (s : Text) (at : ℕ) where
   abbrev left_then : Text × List Text → Option Sheet
-  left_then p = value (bytes "right=") p.1 >>= λ q. at_end q.1 (asks_equal p.0 q.0)
+  left_then p = value (bytes "right=") p.1 >>= λ q. at_end q.1 (asks_of k p.0 q.0)
 
-  equal_is : read_kind_at Equal s at ≡ (lines_at s at >>= λ ls. value (bytes "left=") ls >>= left_then)
+  sides_are : read_kind_at (comparing k) s at ≡ (lines_at s at >>= λ ls. value (bytes "left=") ls >>= left_then)
   unfolding read_kind_at read_kind
-  equal_is = refl
+  sides_are = go k
+    where
+      go : (k : Comparison) → (lines_at s at >>= read_kind (comparing k)) ≡ (lines_at s at >>= λ ls. value (bytes "left=") ls >>= λ p. value (bytes "right=") p.1 >>= λ q. at_end q.1 (asks_of k p.0 q.0))
+      go comparison.Equal = refl
+      go comparison.Order = refl
 
-  pub equal_there : (p : Read Sides) → Some p ≡ two_lines_at (bytes "left=") (bytes "right=") s at
-      → read_kind_at Equal s at ≡ (lines_at s p.next.at >>= λ ls. at_end ls (asks_equal (text_of s p.value.left) (text_of s p.value.right)))
-  equal_there p e =
+  pub sides_there : (p : Read Sides) → Some p ≡ two_lines_at (bytes "left=") (bytes "right=") s at
+      → read_kind_at (comparing k) s at ≡ (lines_at s p.next.at >>= λ ls. at_end ls (asks_of k (text_of s p.value.left) (text_of s p.value.right)))
+  sides_there p e =
       let h = paired (bytes "left=") (bytes "right=") s at p e in
-      equal_is ∙ then s (bytes "left=") at left_then _ h.one
-      ∙ then s (bytes "right=") h.middle.at (λ q. at_end q.1 (asks_equal (text_of s p.value.left) q.0)) _ h.two
+      sides_are ∙ then s (bytes "left=") at left_then _ h.one
+      ∙ then s (bytes "right=") h.middle.at (λ q. at_end q.1 (asks_of k (text_of s p.value.left) q.0)) _ h.two
 
-  pub equal_missing : None ≡ two_lines_at (bytes "left=") (bytes "right=") s at → read_kind_at Equal s at ≡ None
+  pub sides_missing : None ≡ two_lines_at (bytes "left=") (bytes "right=") s at → read_kind_at (comparing k) s at ≡ None
   unfolding two_lines_at
-  equal_missing e = equal_is ∙ one (value_at s (bytes "left=") at) refl e
+  sides_missing e = sides_are ∙ one (value_at s (bytes "left=") at) refl e
     where
       two : (l : Read Place) (o : Option (Read Place)) → Some l ≡ value_at s (bytes "left=") at → o ≡ value_at s (bytes "right=") l.next.at
           → None ≡ (o >>= λ r. Some (sides_of l r)) → (lines_at s at >>= λ ls. value (bytes "left=") ls >>= left_then) ≡ None
-      two l (Some r) h k e = absurd (none_ne_some _ e)
-      two l None h k e =
+      two l (Some r) h f e = absurd (none_ne_some _ e)
+      two l None h f e =
           then s (bytes "left=") at left_then l (keyed s (bytes "left=") at l h)
-          ∙ then_none s (bytes "right=") l.next.at (λ q. at_end q.1 (asks_equal (text_of s l.value) q.0)) (unkeyed s (bytes "right=") l.next.at k)
+          ∙ then_none s (bytes "right=") l.next.at (λ q. at_end q.1 (asks_of k (text_of s l.value) q.0)) (unkeyed s (bytes "right=") l.next.at f)
 
       one : (o : Option (Read Place)) → o ≡ value_at s (bytes "left=") at → None ≡ (o >>= λ l. value_at s (bytes "right=") l.next.at >>= λ r. Some (sides_of l r))
           → (lines_at s at >>= λ ls. value (bytes "left=") ls >>= left_then) ≡ None

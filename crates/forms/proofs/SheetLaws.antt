@@ -11,38 +11,40 @@ use Rattle.rules.specs.Text.{bytes}
 use Rattle.rules.specs.Maybe.{◌>>=◌}
 use Rattle.rules.specs.Decimal.{number_up_to}
 use Rattle.rules.specs.Lines.{after_key, value}
-use Rattle.rules.specs.Sheet.{Entry, Member, Sheet, asks_equal, asks_reduce, asks_cover, asks_sound, asks_complete, pairs, members_from, none_waiting, one_member, Kind, Equal, Reduce, Cover, Sound, Complete, kind_in, kinds, read_kind, read_sheet}
+use Rattle.rules.specs.Sheet.{Entry, Member, Sheet, asks_reduce, asks_cover, asks_sound, asks_complete, pairs, members_from, none_waiting, one_member, Kind, Reduce, Cover, Sound, Complete, kind_in, kinds, read_kind, read_sheet}
 use Rattle.laws.proofs.Basics.Somes.{none_ne_some}
 use Rattle.sheet.specs.Lines.{lines_at, value_at}
 use Rattle.sheet.specs.Pairs.{two_lines_at, entries_by}
 use Rattle.forms.specs.Members.{members_at, counted}
-use Rattle.forms.specs.Form.{solving, asks_by, read_kind_at, read_named, text_of, sheet_of, Within, FormStands, Walked, term_members, TermThen}
+use Rattle.forms.specs.Form.{comparing, asks_of, solving, asks_by, read_kind_at, read_named, text_of, sheet_of, Within, FormStands, Walked, term_members, TermThen}
 use Rattle.sheet.specs.declared.Cursor.{Cursor}
 use Rattle.sheet.specs.declared.Place.{Place}
 use Rattle.sheet.specs.declared.Read.{Read}
 use Rattle.sheet.specs.declared.Sides.{Sides}
 use Rattle.forms.specs.declared.form.Form.TheVariants as form
+use Rattle.forms.specs.declared.form.Comparison.{Comparison}
 use Rattle.forms.specs.declared.form.Solver.{Solver}
 use Rattle.sheet.proofs.LineLaws.{Keyed, Unkeyed, keyed, keyed_inside, unkeyed, then, then_none}
 use Rattle.forms.proofs.PairLaws.{paired, none_first}
 use Rattle.forms.proofs.MemberLaws.{other_key, no_member}
-use Rattle.forms.proofs.FormLaws.{reads_form, end_some, end_none, equal_there, equal_missing, reduce_there, reduce_missing, counted_none, counted_some, term_missing, term_there, sound_is, complete_is, not_one, just_one, pairs_rest, pairs_half, pairs_stop, solving_missing, solving_number, solving_fuel, solving_more, solving_end, number_small}
+use Rattle.forms.proofs.FormLaws.{reads_form, end_some, end_none, sides_there, sides_missing, reduce_there, reduce_missing, counted_none, counted_some, term_missing, term_there, sound_is, complete_is, not_one, just_one, pairs_rest, pairs_half, pairs_stop, solving_missing, solving_number, solving_fuel, solving_more, solving_end, number_small}
 
--- ---- `equal`
+-- ---- `equal` and `order`
+
+module _ (k : Comparison) (s : Text) (at : ℕ) where
+  module _ (p : Read Sides) (e : Some p ≡ two_lines_at (bytes "left=") (bytes "right=") s at) where
+    pub sides_more : p.next.at < length s → read_kind_at (comparing k) s at ≡ None
+    sides_more h = sides_there k s at p e ∙ end_none s p.next.at (asks_of k (text_of s p.value.left) (text_of s p.value.right)) h
+
+    pub sides_read : length s ≤ p.next.at → FormStands s (read_kind_at (comparing k) s at) (form.Compare k p.value.left p.value.right)
+    unfolding sheet_of
+    sides_read h =
+        let d = sides_there k s at p e ∙ end_some s p.next.at (asks_of k (text_of s p.value.left) (text_of s p.value.right)) h in
+        let q = paired (bytes "left=") (bytes "right=") s at p e in
+        let w : Within s (form.Compare k p.value.left p.value.right) = ((q.one.ends.0, omega (arith, q.one.ends)), (q.two.ends.0, omega (arith, q.two.ends))) in
+        reads_form {r = form.Compare k p.value.left p.value.right} (sym d) (asks_of k (text_of s p.value.left) (text_of s p.value.right)) d w
 
 module _ (s : Text) (at : ℕ) where
-  module _ (p : Read Sides) (e : Some p ≡ two_lines_at (bytes "left=") (bytes "right=") s at) where
-    pub equal_more : p.next.at < length s → read_kind_at Equal s at ≡ None
-    equal_more h = equal_there s at p e ∙ end_none s p.next.at (asks_equal (text_of s p.value.left) (text_of s p.value.right)) h
-
-    pub equal_read : length s ≤ p.next.at → FormStands s (read_kind_at Equal s at) (form.Equal p.value.left p.value.right)
-    unfolding sheet_of
-    equal_read h =
-        let d = equal_there s at p e ∙ end_some s p.next.at (asks_equal (text_of s p.value.left) (text_of s p.value.right)) h in
-        let k = paired (bytes "left=") (bytes "right=") s at p e in
-        let w : Within s (form.Equal p.value.left p.value.right) = ((k.one.ends.0, omega (arith, k.one.ends)), (k.two.ends.0, omega (arith, k.two.ends))) in
-        reads_form {r = form.Equal p.value.left p.value.right} (sym d) (asks_equal (text_of s p.value.left) (text_of s p.value.right)) d w
-
   -- ---- `reduce`
 
   pub reduce_unread : None ≡ value_at s (bytes "term=") at → read_kind_at Reduce s at ≡ None
@@ -242,7 +244,7 @@ module _ (s : Text) where
 
 -- ---- what each reading's proof uses
 
-pub ruleset reads_equal = (equal_missing, equal_more, equal_read)
+pub ruleset reads_sides = (sides_missing, sides_more, sides_read)
 
 pub ruleset reads_solving = (keyed_inside, solving_unread, fuel_unread)
 

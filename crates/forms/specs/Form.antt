@@ -5,7 +5,7 @@ use Rattle.rules.specs.Bytes.{Text}
 use Rattle.rules.specs.Text.{bytes}
 use Rattle.rules.specs.Maybe.{◌>>=◌}
 use Rattle.rules.specs.Lines.{value}
-use Rattle.rules.specs.Sheet.{Sheet, Entry, Member, asks_equal, asks_unify, asks_match, asks_reduce, asks_cover, asks_sound, asks_complete, pairs, members_from, none_waiting, at_end, one_member, Kind, Unify, Match, kind_in, kinds, read_kind, words_needed}
+use Rattle.rules.specs.Sheet.{Sheet, Entry, Member, asks_equal, asks_order, asks_unify, asks_match, asks_reduce, asks_cover, asks_sound, asks_complete, pairs, members_from, none_waiting, at_end, one_member, Kind, Equal, Order, Unify, Match, kind_in, kinds, read_kind, words_needed}
 use Rattle.rules.specs.declared.Refusal.{Refusal}
 use Rattle.rules.specs.declared.Refusal.TheVariants.{LineOutOfPlace}
 use Rattle.sheet.specs.Lines.{part_of, lines_at}
@@ -15,8 +15,19 @@ use Rattle.sheet.specs.declared.Place.{Place}
 use Rattle.forms.specs.declared.form.Form.{Form}
 use Rattle.forms.specs.declared.form.Form.TheVariants as form
 use Rattle.forms.specs.declared.form.TermMembers.{TermMembers}
+use Rattle.forms.specs.declared.form.Comparison.{Comparison}
+use Rattle.forms.specs.declared.form.Comparison.TheVariants as comparison
 use Rattle.forms.specs.declared.form.Solver.{Solver}
 use Rattle.forms.specs.declared.form.Solver.TheVariants as solver
+
+-- the kind of a comparison, and what its sheet asks
+abbrev pub comparing : Comparison → Kind
+comparing comparison.Equal = Equal
+comparing comparison.Order = Order
+
+abbrev pub asks_of : Comparison → Text → Text → Sheet
+asks_of comparison.Equal l r = asks_equal l r
+asks_of comparison.Order l r = asks_order l r
 
 -- the kind of a solver, and what its sheet asks
 abbrev pub solving : Solver → Kind
@@ -45,7 +56,7 @@ entry_of s l r = (text_of s l, text_of s r)
 
 -- the sheet that a form stands for
 unfoldable pub sheet_of : Text → Form → Option Sheet
-sheet_of s (form.Equal l r) = Some (asks_equal (text_of s l) (text_of s r))
+sheet_of s (form.Compare k l r) = Some (asks_of k (text_of s l) (text_of s r))
 sheet_of s (form.Solve v fuel c) = lines_at s c.at >>= λ ls. pairs ls >>= λ p. at_end p.1 (asks_by v fuel p.0)
 sheet_of s (form.Reduce t) = Some (asks_reduce (text_of s t))
 sheet_of s (form.Cover c d) = lines_at s c.at >>= λ ls. pairs ls >>= λ p. members_at s d.at >>= λ ms. Some (asks_cover p.0 ms)
@@ -54,7 +65,7 @@ sheet_of s (form.Complete t c) = members_at s c.at >>= λ ms. Some (asks_complet
 
 -- what a form asks, without its pairs and members, which raise no words: nothing is read
 abbrev pub bare_sheet : Text → Form → Sheet
-bare_sheet s (form.Equal l r) = asks_equal (text_of s l) (text_of s r)
+bare_sheet s (form.Compare k l r) = asks_of k (text_of s l) (text_of s r)
 bare_sheet s (form.Solve v fuel c) = asks_by v fuel []
 bare_sheet s (form.Reduce t) = asks_reduce (text_of s t)
 bare_sheet s (form.Cover c d) = asks_cover [] []
@@ -71,7 +82,7 @@ pub record Walked (s : Text) (at c : ℕ) : Type 0 where
 
 -- places and cursors stand in the sheet, fuel is at most 65,536, the members of `cover` follow its pairs and those of `complete` its term
 abbrev pub Within : Text → Form → Type 0
-Within s (form.Equal l r) = Inside s l × Inside s r
+Within s (form.Compare k l r) = Inside s l × Inside s r
 Within s (form.Solve v fuel c) = (fuel ≤ 65536) × (c.at ≤ length s)
 Within s (form.Reduce t) = Inside s t
 Within s (form.Cover c d) = (c.at ≤ length s) × (d.at ≤ length s) × Walked s c.at d.at

@@ -1,7 +1,7 @@
 // The kinds of sheet: what a sheet asks, as places and cursors, and the words of the work area that it needs.
 ghost use Rattle.std.specs.Prelude.{◌≡◌, ◌≤◌, ◌<◌, length, OnOk, IfErr};
-ghost use Rattle.rules.specs.Sheet.{Equal, Reduce, Cover, Sound, Complete, read_sheet, raise, words_needed};
-ghost use Rattle.forms.specs.Form.{solving, Walked, read_kind_at, read_named, ReadsTermMembers, ReadsAs, Within, bare_sheet};
+ghost use Rattle.rules.specs.Sheet.{Reduce, Cover, Sound, Complete, read_sheet, raise, words_needed};
+ghost use Rattle.forms.specs.Form.{comparing, solving, Walked, read_kind_at, read_named, ReadsTermMembers, ReadsAs, Within, bare_sheet};
 
 use crate::members::members;
 use rules::Refusal;
@@ -14,6 +14,13 @@ const MOST_FUEL: usize = 65536;
 // The words for each colon of a sheet, and for each of 16 more.
 const BLOCK: usize = 65536;
 
+// What is asked of the two sides of a sheet: whether they are equal, or their order.
+#[derive(Clone, Copy, Debug, PartialEq, Eq)]
+pub enum Comparison {
+    Equal,
+    Order,
+}
+
 // How the pairs of a sheet are solved: both sides unify, or the left sides match the right ones.
 #[derive(Clone, Copy, Debug, PartialEq, Eq)]
 pub enum Solver {
@@ -24,7 +31,8 @@ pub enum Solver {
 // What a sheet asks.
 #[derive(Clone, Copy, Debug, PartialEq, Eq)]
 pub enum Form {
-    Equal {
+    Compare {
+        comparison: Comparison,
         left: Place,
         right: Place,
     },
@@ -73,17 +81,21 @@ fn at_end(sheet: &[u8], cursor: Cursor) -> Result<(), Refusal>
     Ok(())
 }
 
-// Kind `equal`. Where a line is missing a `let .. else` ends the reading, here and below: a form that document 01 names.
-#[tactic(auto, using(crate::proofs::SheetLaws::reads_equal))]
-fn read_equal(sheet: &[u8], start: Cursor) -> Result<Form, Refusal>
-    ensures { ReadsAs sheet.now (read_kind_at Equal sheet.now start.at) result }
+// Kinds `equal` and `order`. Where a line is missing a `let .. else` ends the reading, here and below: a form that document 01 names.
+#[tactic(auto, using(crate::proofs::SheetLaws::reads_sides))]
+fn read_sides(sheet: &[u8], start: Cursor, comparison: Comparison) -> Result<Form, Refusal>
+    ensures { ReadsAs sheet.now (read_kind_at (comparing comparison) sheet.now start.at) result }
 {
     let Some(pair) = next_pair(sheet, start) else {
         return Err(Refusal::LineOutOfPlace);
     };
     at_end(sheet, pair.next)?;
     let Sides { left, right } = pair.value;
-    Ok(Form::Equal { left, right })
+    Ok(Form::Compare {
+        comparison,
+        left,
+        right,
+    })
 }
 
 // Kinds `unify` and `match`.
@@ -194,7 +206,8 @@ fn read_kind(sheet: &[u8], kind: &[u8], start: Cursor) -> Result<Form, Refusal>
     ensures { ReadsAs sheet.now (read_named kind.now sheet.now start.at) result }
 {
     match kind {
-        b"equal" => read_equal(sheet, start),
+        b"equal" => read_sides(sheet, start, Comparison::Equal),
+        b"order" => read_sides(sheet, start, Comparison::Order),
         b"unify" => read_solving(sheet, start, Solver::Unify),
         b"match" => read_solving(sheet, start, Solver::Match),
         b"reduce" => read_reduce(sheet, start),

@@ -1,4 +1,4 @@
-pub mod Equals
+pub mod Compares
 pub mod Reduces
 pub mod RunRooms
 pub mod Solves

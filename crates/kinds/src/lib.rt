@@ -21,10 +21,10 @@ ghost use Rattle.variants.specs.Soundness.{OneMember};
 ghost use Rattle.kinds.specs.Outcomes.{Ready, WordsFor, Asked, CoverAsked, CompleteAsked, solved_by, DecidesForm};
 
 use answers::deciding::{Decision, Key, Lines};
-use certificate::equivalent;
+use certificate::text_order;
 use complete::completing::complete;
 use cover::covered::covered;
-use forms::form::{Form, Solver};
+use forms::form::{Comparison, Form, Solver};
 use matching::matcher;
 use pairs::read_in_order;
 use reading::parse;
@@ -56,17 +56,20 @@ fn read_stack(area: &mut Area, pairs: Cursor) -> Result<Read<usize>, Refusal>
     read_in_order(area, pairs).ok_or(Refusal::UnreadableTerm)
 }
 
-// Kind `equal`. The words of the cells are scratch.
-fn equal(area: &mut Area, left: Place, right: Place) -> Decision
+// Kinds `equal` and `order`. The words of the cells are scratch.
+fn compare_sides(area: &mut Area, comparison: Comparison, left: Place, right: Place) -> Decision
     requires ready { Ready area.old }
     requires inside { Inside area.old.sheet.now left × Inside area.old.sheet.now right }
-    ensures { DecidesForm (sheet_of area.old.sheet.now (form.Equal left right)) area.old area.new result }
+    ensures { DecidesForm (sheet_of area.old.sheet.now (form.Compare comparison left right)) area.old area.new result }
 {
-    let same = equivalent(area.sheet, area.work, left, right).ok_or(Refusal::UnreadableTerm)?;
-    Ok(Lines::Claim {
-        key: Key::Equal,
-        claim: Some(same),
-    })
+    let order = text_order(area.sheet, area.work, left, right).ok_or(Refusal::UnreadableTerm)?;
+    match comparison {
+        Comparison::Equal => Ok(Lines::Claim {
+            key: Key::Equal,
+            claim: Some(order.is_eq()),
+        }),
+        Comparison::Order => Ok(Lines::Order(order)),
+    }
 }
 
 // Kind `reduce`.
@@ -164,7 +167,11 @@ pub fn decide(area: &mut Area, form: Form) -> Decision
     ensures { DecidesForm (sheet_of area.old.sheet.now form) area.old area.new result }
 {
     match form {
-        Form::Equal { left, right } => equal(area, left, right),
+        Form::Compare {
+            comparison,
+            left,
+            right,
+        } => compare_sides(area, comparison, left, right),
         Form::Reduce { term } => reduce(area, term),
         Form::Solve {
             solver,

@@ -5,5 +5,6 @@ pub mod Somes
 pub mod Options
 pub mod Sorting
 pub mod Order
+pub mod Comparing
 pub mod Spelling
 pub mod Numerals

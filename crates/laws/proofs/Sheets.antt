@@ -28,4 +28,5 @@ pub mod Table
 pub mod MoreRows
 pub mod RefusalRows
 pub mod PageRows
+pub mod OrderRows
 mod Example

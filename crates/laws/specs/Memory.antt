@@ -11,7 +11,7 @@ use Rattle.rules.specs.Reading.{parse}
 use Rattle.rules.specs.declared.Rule.{Rule}
 use Rattle.rules.specs.Reduction.{rule_named}
 use Rattle.laws.specs.Schemes.{root_count}
-use Rattle.rules.specs.Sheet.{Sheet, Entry, Member, asks_equal, asks_unify, asks_match, asks_reduce, asks_cover, asks_sound, asks_complete, member_texts}
+use Rattle.rules.specs.Sheet.{Sheet, Entry, Member, asks_equal, asks_order, asks_unify, asks_match, asks_reduce, asks_cover, asks_sound, asks_complete, member_texts}
 
 -- Names
 
@@ -108,6 +108,7 @@ member_keys (m ∷ ms) = entry_keys m.1 ++ member_keys ms
 unfoldable pub sheet_texts : Sheet → List Text
 unfolding side_texts member_texts
 sheet_texts (asks_equal l r) = l ∷ r ∷ []
+sheet_texts (asks_order l r) = l ∷ r ∷ []
 sheet_texts (asks_unify fuel es) = side_texts es
 sheet_texts (asks_match fuel es) = side_texts es
 sheet_texts (asks_reduce t) = t ∷ []
@@ -118,6 +119,7 @@ sheet_texts (asks_complete t ms) = t ∷ member_texts ms
 unfoldable pub sheet_keys : Sheet → List Text
 unfolding member_keys
 sheet_keys (asks_equal l r) = []
+sheet_keys (asks_order l r) = []
 sheet_keys (asks_unify fuel es) = []
 sheet_keys (asks_match fuel es) = []
 sheet_keys (asks_reduce t) = []
@@ -128,6 +130,7 @@ sheet_keys (asks_complete t ms) = member_keys ms
 -- the pairs of the sheet, if its kind has some
 abbrev pub sheet_pairs : Sheet → List Entry
 sheet_pairs (asks_equal l r) = []
+sheet_pairs (asks_order l r) = []
 sheet_pairs (asks_unify fuel es) = es
 sheet_pairs (asks_match fuel es) = es
 sheet_pairs (asks_reduce t) = []

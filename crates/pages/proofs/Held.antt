@@ -6,6 +6,7 @@ use Prim.Native.Nat.{◌+◌, ◌-◌, ◌*◌, ◌/◌, ◌≤◌}
 use native.Mathlib.Omega.{arith}
 use lib.ListN.{length}
 use Rattle.rules.specs.Bytes.{Text}
+use Rattle.rules.specs.Order.{order_name}
 use Rattle.rules.specs.Writing.{render}
 use Rattle.rules.specs.Solving.{solved, failed, unsupported, Answer}
 use Rattle.rules.specs.Answer.{line, claim}
@@ -20,8 +21,9 @@ use Rattle.tree.specs.Areas.{tree_in}
 use Rattle.substitution.specs.Answers.{answer_in}
 use Rattle.answers.specs.Deciding.{key_name, key_text, lines_text, lines_entries, FitsColumns}
 use Rattle.answers.specs.declared.deciding.Key.{Key}
+use Rattle.answers.specs.declared.deciding.Key.TheVariants as key
 use Rattle.answers.specs.declared.deciding.Lines.{Lines}
-use Rattle.answers.specs.declared.deciding.Lines.TheVariants.{Claim, Term, Verdict}
+use Rattle.answers.specs.declared.deciding.Lines.TheVariants.{Claim, Order, Term, Verdict}
 use Rattle.pages.specs.Paging.{Needs}
 use Rattle.pages.specs.declared.Needed.{Needed}
 
@@ -31,6 +33,7 @@ one_listed k text = ap (λ (t : Text). t ++ 10 ∷ []) (append_assoc (key_name k
 
 lines_listed : (a : Area) (l : Lines) → lines_text a l ≡ entry_lines (lines_entries a l)
 lines_listed a (Claim k c) = one_listed k (claim c)
+lines_listed a (Order o) = one_listed key.Order (order_name o)
 lines_listed a (Term k i) = one_listed k (render (tree_in a i))
 lines_listed a (Verdict r) = verdict_listed (answer_in a r).0 (answer_in a r).1
 
@@ -42,6 +45,7 @@ verdict_filled (unsupported, n) = omega arith
 
 lines_filled : (a : Area) (l : Lines) → 1 ≤ length (lines_entries a l)
 lines_filled a (Claim k c) = omega arith
+lines_filled a (Order o) = omega arith
 lines_filled a (Term k i) = omega arith
 lines_filled a (Verdict r) = verdict_filled (answer_in a r)
 

@@ -15,6 +15,7 @@ use syntax::symbols::{Symbol, next_symbol};
 use tree::area::Area;
 
 // The next symbol of the text that ends at `to`.
+#[inline(always)]
 fn symbol(sheet: &[u8], to: usize, at: usize) -> Option<Symbol>
     requires { to ≤ length sheet.now }
     ensures { result ≡ next_symbol (take to sheet.now) at }

@@ -3,7 +3,7 @@
 use Rattle.std.specs.Prelude.{◌≡◌, List, ◌∷◌, ◌⊎◌, ℕ, ◌≤◌, ◌<◌, length, get_or, Some, None}
 use Rattle.rules.specs.Bytes.{Text}
 use Rattle.rules.specs.Reading.{parse, canonical_text}
-use Rattle.rules.specs.Sheet.{Entry, Member, Sheet, asks_equal, asks_unify, asks_match, asks_reduce, asks_cover, asks_sound, asks_complete, words_needed}
+use Rattle.rules.specs.Sheet.{Entry, Member, Sheet, asks_equal, asks_order, asks_unify, asks_match, asks_reduce, asks_cover, asks_sound, asks_complete, words_needed}
 use Rattle.rules.specs.SheetLines.{IsSheet}
 use Rattle.rules.specs.Answer.{answer_of}
 use Rattle.rules.specs.declared.Refusal.TheVariants.{TooLong, ForeignByte, LineOutOfPlace, UnreadableTerm, ShortWorkArea, ShortOutput}
@@ -31,10 +31,12 @@ pub data UnreadablePair : List Entry → Type 0 where
   right : {l r : Text} {es : List Entry} → parse r ≡ None → UnreadablePair ((l, r) ∷ es)
   later : {e : Entry} {es : List Entry} → UnreadablePair es → UnreadablePair (e ∷ es)
 
--- a `left`, `right` or `term` that does not read; for `equal`, one that has no canonical text. No text of a member is asked for
+-- a `left`, `right` or `term` that does not read; for `equal` and `order`, one that has no canonical text. No text of a member is asked for
 pub data UnreadableSheet : Sheet → Type 0 where
   equal_left : {l r : Text} → canonical_text l ≡ None → UnreadableSheet (asks_equal l r)
   equal_right : {l r : Text} → canonical_text r ≡ None → UnreadableSheet (asks_equal l r)
+  order_left : {l r : Text} → canonical_text l ≡ None → UnreadableSheet (asks_order l r)
+  order_right : {l r : Text} → canonical_text r ≡ None → UnreadableSheet (asks_order l r)
   unify_pair : {fuel : ℕ} {es : List Entry} → UnreadablePair es → UnreadableSheet (asks_unify fuel es)
   match_pair : {fuel : ℕ} {es : List Entry} → UnreadablePair es → UnreadableSheet (asks_match fuel es)
   reduce_term : {t : Text} → parse t ≡ None → UnreadableSheet (asks_reduce t)

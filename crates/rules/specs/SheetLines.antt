@@ -4,7 +4,7 @@ use Rattle.std.specs.Prelude.{◌≡◌, List, [], ◌∷◌, ◌++◌, ℕ, ◌
 use Rattle.rules.specs.Bytes.{Text}
 use Rattle.rules.specs.Text.{bytes}
 use Rattle.rules.specs.Decimal.{decimal}
-use Rattle.rules.specs.Sheet.{Entry, Member, Sheet, asks_equal, asks_unify, asks_match, asks_reduce, asks_cover, asks_sound, asks_complete}
+use Rattle.rules.specs.Sheet.{Entry, Member, Sheet, asks_equal, asks_order, asks_unify, asks_match, asks_reduce, asks_cover, asks_sound, asks_complete}
 
 -- the lines one after the other, each ended by byte 10
 unfoldable pub ended : List Text → Text
@@ -56,6 +56,8 @@ pub record FuelLine (l : Text) (fuel : ℕ) : Type 0 where
 pub data KindLines : List Text → Sheet → Type 0 where
   equal : {k l r left right : Text} → k ≡ bytes "kind=equal" → l ≡ bytes "left=" ++ left → r ≡ bytes "right=" ++ right
       → KindLines (k ∷ l ∷ r ∷ []) (asks_equal left right)
+  order : {k l r left right : Text} → k ≡ bytes "kind=order" → l ≡ bytes "left=" ++ left → r ≡ bytes "right=" ++ right
+      → KindLines (k ∷ l ∷ r ∷ []) (asks_order left right)
   unify : {k f : Text} {fuel : ℕ} {ls : List Text} {es : List Entry} → k ≡ bytes "kind=unify" → FuelLine f fuel → PairLines ls es []
       → KindLines (k ∷ f ∷ ls) (asks_unify fuel es)
   match : {k f : Text} {fuel : ℕ} {ls : List Text} {es : List Entry} → k ≡ bytes "kind=match" → FuelLine f fuel → PairLines ls es []

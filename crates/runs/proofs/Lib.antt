@@ -3,3 +3,4 @@ pub mod WordTexts
 pub mod Comparing
 pub mod Each
 pub mod RunLaws
+pub mod Ordered

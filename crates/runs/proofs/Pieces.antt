@@ -1,6 +1,8 @@
 -- What a word stands for: its text, its width, the zeros of its name.
-use Rattle.std.proofs.Common.{◌≡◌, ℕ, zero, suc, ◌+◌, ◌-◌, ◌<◌, ◌≤◌, ◌/◌, ◌%◌, Bool, true, false, cond, eqb, ltb, List, [], ◌∷◌, length, get_or, take, drop, Option, Some, None, refl, ap, ◌∙◌, arith}
-use lib.Seq.{get_or-take, get_or-drop}
+use Rattle.std.proofs.Common.{◌≡◌, ℕ, zero, suc, ◌+◌, ◌-◌, ◌<◌, ◌≤◌, ◌/◌, ◌%◌, Bool, true, false, cond, eqb, ltb, List, [], ◌∷◌, length, get_or, take, drop, Option, Some, None, refl, sym, ap, ◌∙◌, arith}
+use mathlib.Core.Path.{subst}
+use lib.Seq.{get_or-take, get_or-drop, drop-drop, take-take}
+use Rattle.text.proofs.Slices.{drop_take}
 use borrow.Author.Tests.{eqb-false}
 use Rattle.laws.specs.Unspelled.{zeros_name}
 use Rattle.laws.proofs.Basics.Somes.{some_injective, none_ne_some}
@@ -147,3 +149,22 @@ zeros_piece s n (Unspelled m) e = unspelled_zeros m ∙ ap zeros_name (some_inje
 pub text_zeros : (s : List ℕ) (x n : ℕ) → zeros_of x ≡ Some n → word_text s x ≡ zeros_name n
 unfolding zeros_of
 text_zeros s x n e = text_piece s x ∙ zeros_piece s n (piece_of x) e
+
+-- a place of the sheet: its width, its text, and where it ends
+pub record PlaceKnown (s : List ℕ) (x start n : ℕ) : Type 0 where
+  pub width : width_of x ≡ n
+  pub text : word_text s x ≡ take n (drop start s)
+  pub fits : start + n ≤ length s
+
+pub place_known : (s : List ℕ) (x start n : ℕ) → Token s x → piece_of x ≡ Place start n → PlaceKnown s x start n
+place_known s x start n t e = record {
+  width = width_piece x ∙ ap piece_width e;
+  text = text_piece s x ∙ ap (piece_text s) e;
+  fits = subst (Fits s) e (piece_fits s x t);
+}
+
+-- a part of its text
+pub place_part : {s : List ℕ} {x start n : ℕ} → PlaceKnown s x start n → (a m : ℕ) → a + m ≤ n → take (start + a + m - (start + a)) (drop (start + a) s) ≡ take m (drop a (word_text s x))
+place_part {s} {x} {start} {n} k a m h =
+    let z : start + a + m - (start + a) ≡ m = omega arith in
+    rw (z, k.text, drop_take a n (drop start s), drop-drop a start s) (sym (take-take m (n - a) (drop (start + a) s) (omega arith)))

@@ -10,7 +10,7 @@ use native.Mathlib.Omega.{arith}
 use native.Mathlib.Decide.{dec_lt}
 use native.Mathlib.Numerals.{add-one}
 use borrow.Author.Tests.{eq-eqb, ne_eqb, lt-ltb, le-ltb, eqb-true, eqb-false}
-use Rattle.runs.specs.Texts.{code_name, code_text, code_width, word_text, width_of, texts, Token, Tokens, next_spot}
+use Rattle.runs.specs.Texts.{code_name, code_text, code_width, word_text, width_of, texts, Token, Tokens, spot_past}
 use Rattle.runs.specs.declared.order.Spot.{Spot}
 use Rattle.runs.proofs.Pieces.{name_some}
 
@@ -114,27 +114,27 @@ module _ (s l : List ℕ) where
   pub word_at : (p : Spot) → At l p → p.word < length l → At l (record { word = p.word + 1; byte = 0 })
   word_at p h q = record { inside = omega arith; within = λ q. (width_bounds (get_or l (p.word + 1) 0)).0; over = λ q. refl }
 
-  -- the next byte
-  pub byte_at : (p : Spot) → At l p → p.word < length l → At l (next_spot (get_or l p.word 0) p)
-  unfolding next_spot
-  byte_at p h q = go (eqb (p.byte + 1) (width_of x)) refl
+  -- some bytes on
+  pub past_at : (p : Spot) (n : ℕ) → At l p → p.word < length l → p.byte + n ≤ width_of (get_or l p.word 0) → At l (spot_past (get_or l p.word 0) n p)
+  unfolding spot_past
+  past_at p n h q f = go (eqb (p.byte + n) (width_of x)) refl
     where
       x : ℕ
       x = get_or l p.word 0
 
-      go : (t : Bool) → eqb (p.byte + 1) (width_of x) ≡ t → At l (cond t (record { word = p.word + 1; byte = 0 }) (record { word = p.word; byte = p.byte + 1 }))
+      go : (t : Bool) → eqb (p.byte + n) (width_of x) ≡ t → At l (cond t (record { word = p.word + 1; byte = 0 }) (record { word = p.word; byte = p.byte + n }))
       go true e = word_at p h q
-      go false e = record { inside = omega arith; within = λ r. (let k = h.within r in let f = eqb-false (p.byte + 1) (width_of x) e in omega arith); over = λ r. omega arith }
+      go false e = record { inside = omega arith; within = λ r. (let k = eqb-false (p.byte + n) (width_of x) e in omega (arith, k, f)); over = λ r. omega arith }
 
-  pub byte_rest : (p : Spot) → p.word < length l → Token s (get_or l p.word 0) → rest s l p.word (p.byte + 1) ≡ rest_at s l (next_spot (get_or l p.word 0) p)
-  unfolding next_spot
-  byte_rest p q t = go (eqb (p.byte + 1) (width_of x)) refl
+  pub past_rest : (p : Spot) (n : ℕ) → p.word < length l → Token s (get_or l p.word 0) → rest s l p.word (p.byte + n) ≡ rest_at s l (spot_past (get_or l p.word 0) n p)
+  unfolding spot_past
+  past_rest p n q t = go (eqb (p.byte + n) (width_of x)) refl
     where
       x : ℕ
       x = get_or l p.word 0
 
-      go : (b : Bool) → eqb (p.byte + 1) (width_of x) ≡ b → rest s l p.word (p.byte + 1) ≡ rest_at s l (cond b (record { word = p.word + 1; byte = 0 }) (record { word = p.word; byte = p.byte + 1 }))
-      go true e = ap (rest s l p.word) (eqb-true (p.byte + 1) (width_of x) e) ∙ rest_next p.word q t
+      go : (b : Bool) → eqb (p.byte + n) (width_of x) ≡ b → rest s l p.word (p.byte + n) ≡ rest_at s l (cond b (record { word = p.word + 1; byte = 0 }) (record { word = p.word; byte = p.byte + n }))
+      go true e = ap (rest s l p.word) (eqb-true (p.byte + n) (width_of x) e) ∙ rest_next p.word q t
       go false e = refl
 
 -- the words of a part

@@ -1,11 +1,10 @@
 -- Texts as runs of words. A word is start * 65536 + length, a place of the sheet; with length 0 the start is a code: below NAMES it
 -- is a mark, that one byte; from NAMES on it is the name of sums or a fixed name; from BYTES on it is one byte that is no mark.
 -- Definitions only.
-use Rattle.std.specs.Prelude.{ℕ, zero, suc, ◌+◌, ◌-◌, ◌<◌, ◌≤◌, ◌/◌, ◌%◌, Bool, false, cond, List, [], ◌∷◌, ◌++◌, eqb, ltb, length, get_or, take, drop}
+use Rattle.std.specs.Prelude.{ℕ, zero, suc, ◌+◌, ◌-◌, ◌<◌, ◌≤◌, ◌≡◌, ◌/◌, ◌%◌, Bool, false, cond, List, [], ◌∷◌, ◌++◌, eqb, ltb, length, get_or, take, drop}
 use Rattle.std.specs.Prelude.{Option, Some, None}
 use Rattle.std.specs.declared.cmp.Ordering.{Ordering}
-use Rattle.std.specs.Cmp.Lexicographic.{slice_cmp}
-use Rattle.std.specs.Ordering.{nat_cmp}
+use Rattle.rules.specs.Order.{compare}
 use Rattle.rules.specs.Tree.{tamtplus}
 use Rattle.tree.specs.Cells.{fixed_name}
 use Rattle.tree.specs.Names.{coded_fixed}
@@ -65,13 +64,16 @@ pub record Token (s : List ℕ) (x : ℕ) : Type 0 where
 abbrev pub Tokens : List ℕ → List ℕ → ℕ → ℕ → Type 0
 Tokens s w a e = (p : ℕ) → a ≤ p → p < e → Token s (get_or w p 0)
 
--- three-way comparison by bytes; a text that begins a longer one is less
-unfoldable pub lex : List ℕ → List ℕ → Ordering
-lex a b = slice_cmp nat_cmp a b
+-- the spot n bytes after a spot, where x is the spot's word
+unfoldable pub spot_past : ℕ → ℕ → Spot → Spot
+spot_past x n p = cond (eqb (p.byte + n) (width_of x)) (record { word = p.word + 1; byte = 0 }) (record { word = p.word; byte = p.byte + n })
 
--- the spot after a spot, where x is the spot's word
-unfoldable pub next_spot : ℕ → Spot → Spot
-next_spot x p = cond (eqb (p.byte + 1) (width_of x)) (record { word = p.word + 1; byte = 0 }) (record { word = p.word; byte = p.byte + 1 })
+-- the texts of x and y from bytes a and b on are compared in n bytes, one at least, with this result
+pub record ComparesSome (s : List ℕ) (x y a b n : ℕ) (o : Ordering) : Type 0 where
+  pub some : 0 < n
+  pub left : a + n ≤ width_of x
+  pub right : b + n ≤ width_of y
+  pub order : o ≡ compare (take n (drop a (word_text s x))) (take n (drop b (word_text s y)))
 
 -- how many zeros a name has, if it is one that no sheet spells
 abbrev pub piece_zeros : Piece → Option ℕ

@@ -1,7 +1,8 @@
 // Texts as runs of words, and their order by bytes.
 ghost use Rattle.std.specs.Prelude.{◌≡◌, ◌+◌, ◌^◌, ◌<◌, length, get_or};
+ghost use Rattle.rules.specs.Order.{compare};
 ghost use Rattle.laws.specs.Unspelled.{unspelled};
-ghost use Rattle.runs.specs.Texts.{piece_of, Token, Tokens, width_of, word_text, texts, next_spot, lex, zeros_of, more_zeros};
+ghost use Rattle.runs.specs.Texts.{piece_of, Token, Tokens, width_of, word_text, texts, ComparesSome, spot_past, zeros_of, more_zeros};
 
 use crate::SPAN;
 use rules::SUM;
@@ -122,19 +123,49 @@ impl Spot {
         }
     }
 
-    // The next byte, where x is the word.
-    #[tactic(auto, unfolding(crate::specs::Texts::next_spot))]
-    fn next_byte(self, x: u32) -> Spot
-        requires { self.word + self.byte < 2 ^ 63 }
-        ensures { result ≡ next_spot x self }
+    // So many bytes on in the word x.
+    #[tactic(auto, unfolding(crate::specs::Texts::spot_past))]
+    fn past(self, x: u32, bytes: usize) -> Spot
+        requires { self.word + self.byte + bytes < 2 ^ 63 }
+        ensures { result ≡ spot_past x bytes self }
     {
-        let byte = self.byte + 1;
+        let byte = self.byte + bytes;
         if byte == width_of(x) {
             self.next_word()
         } else {
             Spot { byte, ..self }
         }
     }
+}
+
+// How many bytes two texts have in common in which they were compared, and what the comparison found.
+#[derive(Clone, Copy, Debug, PartialEq, Eq)]
+struct Compared {
+    bytes: usize,
+    order: Ordering,
+}
+
+// ComparesSome the texts of the words x and y, from their bytes a and b on: two places of the sheet as far as the shorter one goes, in one
+// loop, and else one byte.
+fn compare_some(sheet: &[u8], x: u32, y: u32, a: usize, b: usize) -> Compared
+    requires tokens { Token sheet.now x × Token sheet.now y }
+    requires bounds { (a < width_of x) × (b < width_of y) }
+    ensures { ComparesSome sheet.now x y a b result.bytes result.order }
+{
+    if let Piece::Place { start, length } = piece_of(x)
+        && let Piece::Place {
+            start: other,
+            length: other_length,
+        } = piece_of(y)
+    {
+        let bytes = (length - a).min(other_length - b);
+        let left = &sheet[start + a..start + a + bytes];
+        let right = &sheet[other + b..other + b + bytes];
+        let order = left.cmp(&right);
+        return Compared { bytes, order };
+    }
+    let order = byte_of(sheet, x, a).cmp(&byte_of(sheet, y, b));
+    Compared { bytes: 1, order }
 }
 
 // Whether the words x and y, from their bytes a and b on, are two whole names that no sheet spells, and x has more zeros: then x is less.
@@ -155,7 +186,7 @@ fn more_zeros(x: u32, y: u32, a: usize, b: usize) -> bool
 pub fn compare(sheet: &[u8], left: &[u32], right: &[u32]) -> Ordering
     requires left_tokens { Tokens sheet.now left.now 0 (length left.now) }
     requires right_tokens { Tokens sheet.now right.now 0 (length right.now) }
-    ensures { result ≡ lex (texts sheet.now left.now) (texts sheet.now right.now) }
+    ensures { result ≡ compare (texts sheet.now left.now) (texts sheet.now right.now) }
 {
     // Two walks at two rates: no iterator is plainer.
     let mut i = Spot { word: 0, byte: 0 };
@@ -174,12 +205,12 @@ pub fn compare(sheet: &[u8], left: &[u32], right: &[u32]) -> Ordering
         if more_zeros(y, x, j.byte, i.byte) {
             return Ordering::Greater;
         }
-        let order = byte_of(sheet, x, i.byte).cmp(&byte_of(sheet, y, j.byte));
-        if order.is_ne() {
-            return order;
+        let compared = compare_some(sheet, x, y, i.byte, j.byte);
+        if compared.order.is_ne() {
+            return compared.order;
         }
-        i = i.next_byte(x);
-        j = j.next_byte(y);
+        i = i.past(x, compared.bytes);
+        j = j.past(y, compared.bytes);
     }
     // One of them has ended, and is less unless both have.
     (left.len() - i.word).cmp(&(right.len() - j.word))

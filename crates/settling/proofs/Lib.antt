@@ -1,3 +1,4 @@
+pub mod Spanning
 pub mod Dividing
 pub mod Joining
 pub mod Arranging
@@ -6,3 +7,5 @@ pub mod Summands
 pub mod Canonicals
 pub mod CanonTexts
 pub mod NameWords
+pub mod Keeping
+pub mod SpanTurns

@@ -8,7 +8,7 @@ use lib.ListN.{length}
 use borrow.Author.Tests.{eq-eqb, ne_eqb, eqb-true}
 use mathlib.Core.List.{List}
 use native.Mathlib.Omega.{arith}
-use Rattle.std.specs.Prelude.{Some, None}
+use Rattle.std.specs.Prelude.{Option, Some, None}
 use Rattle.std.specs.Bool.{then_some}
 use Rattle.rules.specs.Tree.{Trees, more, count}
 use Rattle.rules.specs.Substitution.{Pair}
@@ -21,7 +21,9 @@ use Rattle.tree.proofs.Lists.{list_none, list_more}
 use Rattle.elimination.specs.Stack.{pushes}
 use Rattle.elimination.specs.Differing.{Differing, common_count}
 use Rattle.elimination.specs.Areas.{ApartIn}
-use Rattle.steps.specs.Areas.{some_pairs}
+use Rattle.sums.specs.declared.striking.Cancelling.{Cancelling}
+use Rattle.sums.specs.declared.striking.Cancelling.TheVariants.{Every, Ground}
+use Rattle.steps.specs.Areas.{some_pairs, asked_by}
 use Rattle.steps.proofs.Children.{pushes_left, pushes_right, pushes_more}
 
 -- a list is at its end
@@ -96,3 +98,7 @@ paired_when ts us n m p e f = go (eqb n m) refl
 pub apart_pairs : (k : ℕ) (ps : List Pair) → Differing k ps → ApartIn (some_pairs k) ps
 apart_pairs zero ps d = tt
 apart_pairs (suc k) ps d = d (omega arith)
+
+pub apart_asked : (c : Cancelling) (k : Option ℕ) (ps : List Pair) → ApartIn k ps → ApartIn (asked_by c k) ps
+apart_asked Every k ps h = h
+apart_asked Ground k ps h = tt

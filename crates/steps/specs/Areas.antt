@@ -13,6 +13,7 @@ use Rattle.tree.specs.Areas.{tree_in, CellIn, KeepsCells, Grows}
 use Rattle.sums.specs.Sums.{heavy}
 use Rattle.sums.specs.Summands.{every_cancels, test_of}
 use Rattle.sums.specs.declared.striking.Cancelling.{Cancelling}
+use Rattle.sums.specs.declared.striking.Cancelling.TheVariants.{Every, Ground}
 use Rattle.sums.specs.Areas.{remaining_in}
 use Rattle.elimination.specs.declared.Next.{Next}
 use Rattle.elimination.specs.declared.front.Front.{Front}
@@ -25,6 +26,11 @@ use Rattle.steps.specs.declared.rest.Equation.{Equation}
 abbrev pub some_pairs : ℕ → Option ℕ
 some_pairs zero = None
 some_pairs (suc k) = Some (suc k)
+
+-- where every summand cancels; otherwise it is not asked for
+abbrev pub asked_by : Cancelling → Option ℕ → Option ℕ
+asked_by Every o = o
+asked_by Ground o = None
 
 -- Sums
 

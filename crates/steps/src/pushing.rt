@@ -5,13 +5,14 @@ ghost use Rattle.tree.specs.Areas.{trees_in, HasRoom};
 ghost use Rattle.tree.specs.Lists.{Lists};
 ghost use Rattle.elimination.specs.Stack.{pushes};
 ghost use Rattle.elimination.specs.Differing.{common_count};
-ghost use Rattle.steps.specs.Areas.{some_pairs};
+ghost use Rattle.steps.specs.Areas.{some_pairs, asked_by};
 
 use substitution::pairing::push_pair;
+use sums::striking::Cancelling;
 use tree::area::Area;
 
 // How many pairs the lists from cells left and right on make, if both are of one length and not empty.
-pub(crate) fn paired(area: &Area, left: usize, right: usize) -> Option<usize>
+fn paired(area: &Area, left: usize, right: usize) -> Option<usize>
     requires { (left < area.now.free) × (right < area.now.free) }
     ensures { result ≡ some_pairs (common_count (trees_in area.now left) (trees_in area.now right)) }
 {
@@ -20,6 +21,23 @@ pub(crate) fn paired(area: &Area, left: usize, right: usize) -> Option<usize>
         return None;
     }
     (pairs == area.list(right).count()).then_some(pairs)
+}
+
+// The same where every summand may cancel, as in `unify`. `match` drops no equal pairs, and does not ask.
+#[inline(always)]
+pub(crate) fn counted(
+    area: &Area,
+    left: usize,
+    right: usize,
+    cancelling: Cancelling,
+) -> Option<usize>
+    requires { (left < area.now.free) × (right < area.now.free) }
+    ensures { result ≡ asked_by cancelling (some_pairs (common_count (trees_in area.now left) (trees_in area.now right))) }
+{
+    match cancelling {
+        Cancelling::Every => paired(area, left, right),
+        Cancelling::Ground => None,
+    }
 }
 
 // Puts the trees of the lists from cells left and right on, pairwise as far as both go, before the list from cell `stack` on, and answers

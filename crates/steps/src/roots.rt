@@ -7,7 +7,7 @@ ghost use Rattle.elimination.specs.Areas.{pairs_in};
 ghost use Rattle.elimination.specs.Fronts.{FrontIn, FitFront, load_in, FrontRoom};
 ghost use Rattle.steps.specs.Areas.{roots, RootsIn, SumsIn};
 
-use crate::pushing::{paired, push_children};
+use crate::pushing::{counted, push_children};
 use crate::rest::rest_of;
 use elimination::Next;
 use elimination::front::Front;
@@ -50,7 +50,7 @@ pub fn take_roots(area: &mut Area, front: Front, cancelling: Cancelling) -> Resu
     }
     let a = area.child_of(left);
     let b = area.child_of(right);
-    let apart = paired(area, a, b);
+    let apart = counted(area, a, b, cancelling);
     let stack = push_children(area, a, b, rest);
     Ok(Next { stack, apart })
 }

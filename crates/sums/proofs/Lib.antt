@@ -8,3 +8,4 @@ pub mod Labelling
 pub mod Removing
 pub mod Summing
 pub mod Readying
+pub mod Bucketing

@@ -1,21 +1,18 @@
 -- The search for a partner among cells, and the cells that are struck out one after another.
-use Prim.Native.Nat.{ℕ, zero, suc, ◌+◌, ◌-◌, ◌<◌, ◌≤◌}
-use mathlib.Core.Path.{◌≡◌, refl, sym, ap, ap₂, subst, ◌∙◌}
+use Prim.Native.Nat.{ℕ, suc, ◌+◌, ◌-◌, ◌<◌, ◌≤◌}
+use mathlib.Core.Path.{◌≡◌, refl, sym, ap, ap₂, ◌∙◌}
 use mathlib.Core.Bool.{Bool, true, false, not, ◌&&◌, ◌||◌}
 use mathlib.Core.Logic.{inl, inr, ⊎_elim, ◌⊎◌}
 use mathlib.Core.List.{List, [], ◌∷◌, ◌++◌, append-nil, append_assoc}
 use Rattle.std.specs.Prelude.{Option, Some, None}
 use lib.Dec.{eqb}
-use lib.ListN.{length, get_or, set, take, drop, length-set, length-take, length-drop, length-append, get_or-append, drop_of_length-le}
-use lib.Seq.{drop-cons, drop-drop, drop-set-lt, get_or-take, take-suc, take-length, take-append_seam, drop-append_seam, get_or-drop, get_or-set_same, get_or-set_other}
+use lib.ListN.{length, get_or, set, take, drop, length-set, length-append, get_or-append, drop_of_length-le}
+use lib.Seq.{drop-cons, drop-drop, drop-set-lt, take-suc, take-length, take-append_seam, drop-append_seam, get_or-drop, get_or-set_same, get_or-set_other}
 use native.Mathlib.Omega.{arith}
 use native.Mathlib.Decide.{dec_lt, ℕ_discrete}
 use native.Mathlib.Numerals.{add-one}
 use borrow.Author.Tests.{eq-eqb, ne_eqb}
-use Rattle.std.proofs.lemmas.List.{take-set, get_or-append_right, get_or_default}
-use Rattle.std.specs.List.{enumerate_from, AllWithin, HoldsAt}
-use Rattle.std.specs.Option.{MatchOption}
-use Rattle.std.proofs.lemmas.List.FromFn.{length-enumerate_from, get_or-enumerate_from}
+use Rattle.std.proofs.lemmas.List.{take-set, get_or-append_right}
 use Rattle.rules.specs.Tree.{Tree, ground}
 use Rattle.rules.specs.Sums.{equivalent}
 use Rattle.rules.specs.Solving.{remove_at, remove, cancel_at, cancel}
@@ -23,7 +20,7 @@ use Rattle.tree.specs.declared.area.Area.{Area}
 use Rattle.tree.specs.Areas.{tree_in}
 use Rattle.sums.specs.Sums.{remaining, index, ahead}
 use Rattle.sums.specs.declared.striking.Cancelling.{Cancelling}
-use Rattle.sums.specs.Summands.{every_cancels, test_of, trees_of, AreCells, TextIs, TextsIn, FindsPartner, Struck, StrikesOne, Strikes, StrikesCells}
+use Rattle.sums.specs.Summands.{every_cancels, test_of, trees_of, AreCells, MarksIn, Struck, StrikesOne, Strikes, StrikesCells}
 use Rattle.sums.proofs.Summanding.{remaining_some, remaining_zero, remaining_append}
 use Rattle.sums.proofs.Cancelling.{index_skip, index_hit, remove_found, remove_none, remove_never}
 
@@ -71,66 +68,6 @@ module _ (a : Area) (t : Tree) where
           let z : index (equivalent t) a.sheet.now a.work.now cs ≡ k = omega (arith, h.place) in
           (few, remove_found equivalent t a.sheet.now a.work.now cs (omega arith) ∙ ap (λ (k : ℕ). Some (trees_of a (set cs k 0))) z)
 
--- an item and its place
-pub item_place : (cs : List ℕ) (k i x : ℕ) → k < length (enumerate_from 0 cs) → ◌≡◌ {A = ℕ × ℕ} (i, x) (get_or (enumerate_from 0 cs) k (i, x)) → (i < length cs) × (get_or cs i 0 ≡ x)
-item_place cs k i x l e =
-    let n : k < length cs = omega (arith, length-enumerate_from 0 cs) in
-    let f : ◌≡◌ {A = ℕ × ℕ} (i, x) (0 + k, get_or cs k x) = e ∙ get_or-enumerate_from 0 cs k (i, x) n in
-    let z : i ≡ 0 + k = ap (λ (p : ℕ × ℕ). p.0) f in
-    let g : i ≡ k = omega arith in
-    let h : x ≡ get_or cs k x = ap (λ (p : ℕ × ℕ). p.1) f in
-    (omega arith, ap (λ (j : ℕ). get_or cs j 0) g ∙ get_or_default cs k 0 x n ∙ sym h)
-
-item_at : (cs : List ℕ) (k : ℕ) → k < length cs → ◌≡◌ {A = ℕ × ℕ} (get_or (enumerate_from 0 cs) k (0, 0)) (k, get_or cs k 0)
-item_at cs k l = let z : 0 + k ≡ k = omega arith in get_or-enumerate_from 0 cs k (0, 0) l ∙ ap (λ (j : ℕ). (j, get_or cs k 0)) z
-
--- the m fingerprints from the n-th word on
-abbrev pub marks_of : List ℕ → ℕ → ℕ → List ℕ
-marks_of words n m = take (n + m - n) (drop n words)
-
-pub marks_count : (words : List ℕ) (n m : ℕ) → n + m ≤ length words → length (marks_of words n m) ≡ m
-marks_count words n m h = omega (arith, length-take (n + m - n) (drop n words), length-drop n words)
-
-marks_at : (words : List ℕ) (n m k : ℕ) → k < m → get_or (marks_of words n m) k 0 ≡ get_or words (n + k) 0
-marks_at words n m k l = get_or-take (n + m - n) (drop n words) k 0 (omega arith) ∙ get_or-drop n words k 0
-
--- what the search tells of a fingerprint and its place: whether the tree of the cell there is the partner, by the texts of the trees
-module _ (s starts words cs : List ℕ) (p n : ℕ) where
-  abbrev pub Told : Bool → ℕ × ℕ → Type 0
-  Told b y = (t u : Tree) → TextIs s starts words p t → TextIs s starts words (n + y.0) u → equivalent t u ≡ b
-
-  abbrev pub Partner : ℕ × ℕ → Type 0
-  Partner y = (get_or cs y.0 0 ≡ 0 → ⊥) × Told true y
-
-  abbrev pub Other : ℕ × ℕ → Type 0
-  Other y = y.1 ≡ get_or words (n + y.0) 0 → (get_or cs y.0 0 ≡ 0 → ⊥) → Told false y
-
-module _ {starts words : List ℕ} (a : Area) (t : Tree) (p : ℕ) (cs : List ℕ) (n : ℕ) (room : n + length cs ≤ length words) (x : TextIs a.sheet.now starts words p t) (h : TextsIn a cs n starts words) where
-  abbrev ms : List ℕ
-  ms = marks_of words n (length cs)
-
-  len : length ms ≡ length cs
-  len = marks_count words n (length cs) room
-
-  others : (m : ℕ) → AllWithin (Other a.sheet.now starts words cs p n) (enumerate_from 0 ms) 0 m → m ≤ length cs → (k : ℕ) → k ≤ m → Finding a t cs k
-  others m o l zero r = finding_starts a t cs
-  others m o l (suc k) r =
-      let f = others m o l k (omega arith) in
-      let q : k < length cs = omega arith in
-      rw (← add-one k) (elim (ℕ_discrete (get_or cs k 0) 0) [
-        | yes z ↦ finding_zero a t f q z
-        | no z ↦ finding_other a t f q z (subst (Other a.sheet.now starts words cs p n) (item_at ms k (omega (arith, len))) (o k (0, 0) (omega arith) (omega arith)) (marks_at words n (length cs) k q) z t (tree_in a (get_or cs k 0)) x (h k q (omega arith)).1)
-      ])
-
-  pub finds_partner : (r : Option ℕ) → MatchOption r (AllWithin (Other a.sheet.now starts words cs p n) (enumerate_from 0 ms) 0 (length (enumerate_from 0 ms))) (λ k. (k < length (enumerate_from 0 ms)) × HoldsAt (Partner a.sheet.now starts words cs p n) (enumerate_from 0 ms) k × AllWithin (Other a.sheet.now starts words cs p n) (enumerate_from 0 ms) 0 k)
-      → FindsPartner a t cs r
-  finds_partner None o = let e = length-enumerate_from 0 ms in finding_ends a t (others (length (enumerate_from 0 ms)) o (omega (arith, len)) (length cs) (omega (arith, len))) (omega (arith, len))
-  finds_partner (Some k) o =
-      let e = length-enumerate_from 0 ms in
-      let q : k < length cs = omega (arith, o.0, len) in
-      let y = subst (Partner a.sheet.now starts words cs p n) (item_at ms k (omega (arith, len))) (o.1 (0, 0)) in
-      finding_finds a t (others k o.2 (omega arith) k (omega arith)) q y.0 (y.1 t (tree_in a (get_or cs k 0)) x (h k q (let z = y.0 in omega arith)).1)
-
 -- tests that agree remove the same
 remove_same : (f g : Tree → Tree → Bool) (t : Tree) → ((u : Tree) → f t u ≡ g t u) → (us : List Tree) → remove f t us ≡ remove g t us
 unfolding remove
@@ -161,8 +98,8 @@ struck_there g q p = ⊎_elim (λ x. x) (λ x. absurd (omega arith)) (g.word q)
 pub struck_below : {w v : List ℕ} → Struck w v → (q n : ℕ) → get_or w q 0 < n → get_or v q 0 < n
 struck_below g q n p = ⊎_elim (λ x. omega arith) (λ x. omega arith) (g.word q)
 
-pub struck_texts : {w v s y : List ℕ} (a : Area) (k : ℕ) → Struck w v → TextsIn a w k s y → TextsIn a v k s y
-struck_texts a k g h q l p = let e = struck_there g q p in rw e (h q (omega (arith, g.len)) (omega arith))
+pub struck_marks : {w v : List ℕ} (a : Area) (y : List ℕ) → Struck w v → MarksIn a w y → MarksIn a v y
+struck_marks a y g h q l p = let e = struck_there g q p in rw e (h q (omega (arith, g.len)) (omega arith))
 
 struck_parts : (l m r s : List ℕ) → Struck l m → Struck r s → Struck (l ++ r) (m ++ s)
 struck_parts l m r s h g = record {

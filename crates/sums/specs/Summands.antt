@@ -1,15 +1,12 @@
--- The cells of summands in words of their own, and their canonical texts. A cell that is struck out is 0. Definitions only.
-use Rattle.std.specs.Prelude.{ℕ, ◌+◌, ◌<◌, ◌≤◌, ◌≡◌, Bool, true, false, ◌⊎◌, List, [], ◌∷◌, Option, Some, None, length, get_or, set, take, drop}
-use Rattle.std.proofs.Math.Seq.{slice}
-use Rattle.rules.specs.Bytes.{Text}
-use Rattle.rules.specs.Tree.{Tree}
+-- The cells of summands in words of their own, and their fingerprints. A cell that is struck out is 0. Definitions only.
+use Rattle.std.specs.Prelude.{ℕ, ◌+◌, ◌-◌, ◌*◌, ◌%◌, ◌<◌, ◌≤◌, ◌≡◌, Bool, true, false, ◌⊎◌, List, [], ◌∷◌, Option, Some, None, length, get_or, set, take, drop}
+use Rattle.rules.specs.Tree.{Tree, size}
 use Rattle.rules.specs.Sums.{canonical, equivalent}
 use Rattle.rules.specs.Solving.{remove, cancel}
 use Rattle.tree.specs.declared.area.Area.{Area}
 use Rattle.tree.specs.Areas.{tree_in}
 use Rattle.text.specs.Frames.{Wrote}
 use Rattle.flattening.specs.declared.writer.Writer.{Writer}
-use Rattle.runs.specs.Texts.{texts, Tokens}
 use Rattle.fingerprints.specs.Fingerprints.{fingerprint}
 use Rattle.sums.specs.Sums.{remaining, heft, test, ahead}
 use Rattle.sums.specs.declared.striking.Cancelling.{Cancelling}
@@ -48,30 +45,34 @@ pub record CellsWritten (a : Area) (x y : Writer) (n : ℕ) (ts : List Tree) : T
   pub lent : y.words.ghost_name ≡ x.words.ghost_name
   pub collected : CollectsCells a x.words.now y.words.now x.end y.end n ts
 
--- the words of text q are those from its start to the next
-pub record TextFits (s starts words : List ℕ) (q : ℕ) : Type 0 where
-  pub started : q + 1 < length starts
-  pub marked : q < length words
-  pub low : get_or starts q 0 ≤ get_or starts (q + 1) 0
-  pub high : get_or starts (q + 1) 0 ≤ length words
-  pub tokens : Tokens s words (get_or starts q 0) (get_or starts (q + 1) 0)
+-- the words are the fingerprints of the cells that are not struck out
+abbrev pub MarksIn : Area → List ℕ → List ℕ → Type 0
+MarksIn a cs marks = (q : ℕ) → q < length cs → 0 < get_or cs q 0 → get_or marks q 0 ≡ fingerprint (canonical (tree_in a (get_or cs q 0)))
 
--- text q
-abbrev pub nth_text : List ℕ → List ℕ → List ℕ → ℕ → Text
-nth_text s starts words q = texts s (slice (get_or starts q 0) (get_or starts (q + 1) 0) words)
+-- all words are 0
+abbrev pub AllZero : List ℕ → Type 0
+AllZero w = (p : ℕ) → get_or w p 0 ≡ 0
 
--- it is that of the tree t
-pub record TextIs (s starts words : List ℕ) (q : ℕ) (t : Tree) : Type 0 where
-  pub text : nth_text s starts words q ≡ canonical t
-  pub mark : get_or words q 0 ≡ fingerprint (canonical t)
+-- h is the place, from 1 on, of the first of the marks from one place on that belongs to bucket b of so many as there are marks, 0 where
+-- none does
+pub record FirstOf (marks : List ℕ) (b from h : ℕ) : Type 0 where
+  pub high : h ≤ length marks
+  pub low : 0 < h → from < h
+  pub inside : 0 < h → get_or marks (h - 1) 0 % length marks ≡ b
+  pub passed : (q : ℕ) → from ≤ q → q < length marks → (0 < h → q + 1 < h) → get_or marks q 0 % length marks ≡ b → ⊥
 
--- it is that of some tree
-abbrev pub SomeTree : List ℕ → List ℕ → List ℕ → ℕ → Type 0
-SomeTree s starts words q = (t : Tree) × TextIs s starts words q t
+-- heads has the first place of each bucket, and links the next one after each place
+pub record Bucketed (marks heads links : List ℕ) : Type 0 where
+  pub heads_len : length heads ≡ length marks
+  pub links_len : length links ≡ length marks
+  pub first : (b : ℕ) → b < length marks → FirstOf marks b 0 (get_or heads b 0)
+  pub next : (k : ℕ) → k < length marks → FirstOf marks (get_or marks k 0 % length marks) (k + 1) (get_or links k 0)
 
--- the texts from the k-th on are those of the cells that are not struck out
-abbrev pub TextsIn : Area → List ℕ → ℕ → List ℕ → List ℕ → Type 0
-TextsIn a cs k starts words = (q : ℕ) → q < length cs → 0 < get_or cs q 0 → TextFits a.sheet.now starts words (k + q) × TextIs a.sheet.now starts words (k + q) (tree_in a (get_or cs q 0))
+-- n words are enough to compare cell i with each of the cells that is not struck out
+pub record Comparable (a : Area) (i : ℕ) (cs : List ℕ) (n : ℕ) : Type 0 where
+  pub cells : (q : ℕ) → q < length cs → get_or cs q 0 < a.free
+  pub small : (q : ℕ) → q < length cs → 0 < get_or cs q 0 → (5 * size (tree_in a i) < 65536) × (5 * size (tree_in a (get_or cs q 0)) < 65536)
+  pub room : (q : ℕ) → q < length cs → 0 < get_or cs q 0 → 15 * (size (tree_in a i) + size (tree_in a (get_or cs q 0))) ≤ n
 
 -- the first of the cells whose tree is equal to t, if there is one
 abbrev pub FindsPartner : Area → Tree → List ℕ → Option ℕ → Type 0

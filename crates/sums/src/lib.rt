@@ -3,7 +3,7 @@
 
 mod gathering; // gathering.rt: the cells of summands
 pub mod striking; // striking.rt: summands that cancel
-mod texts; // texts.rt: their canonical texts
+mod texts; // texts.rt: their fingerprints
 
 ghost use Rattle.std.specs.Prelude.{◌≡◌, true, ℕ, ◌+◌, ◌-◌, ◌*◌, ◌<◌, ◌≤◌, ◌^◌, length, get_or};
 ghost use Rattle.rules.specs.Tree.{size, plus};

@@ -16,8 +16,9 @@ pub enum Symbol {
     Stop,
 }
 
-// The next symbol, if there is a token or the text ends.
-#[tactic(auto, unfolding(crate::specs::Next::next_symbol))]
+// The next symbol, if there is a token or the text ends. Inlined, so that a bracket or a comma costs its reader no call.
+#[tactic(auto, unfolding(crate::specs::Next::next_symbol, rules::specs::Tokens::rest_length))]
+#[inline(always)]
 pub fn next_symbol(text: &[u8], at: usize) -> Option<Symbol>
     ensures { result ≡ next_symbol text.now at }
 {
@@ -25,11 +26,13 @@ pub fn next_symbol(text: &[u8], at: usize) -> Option<Symbol>
     let Some(b) = text.get(from) else {
         return Some(Symbol::Stop);
     };
-    let to = token_end(text, from)?;
     Some(match *b {
-        b'(' => Symbol::Begin(to),
-        b')' => Symbol::Shut(to),
-        b',' => Symbol::Comma(to),
-        _ => Symbol::Name(Place { from, to }),
+        b'(' => Symbol::Begin(from + 1),
+        b')' => Symbol::Shut(from + 1),
+        b',' => Symbol::Comma(from + 1),
+        _ => {
+            let to = token_end(text, from)?;
+            Symbol::Name(Place { from, to })
+        }
     })
 }

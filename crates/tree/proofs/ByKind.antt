@@ -1,5 +1,5 @@
 -- The tree of a cell by its kind.
-use Prim.Native.Nat.{ℕ, zero, suc, ◌+◌, ◌<◌, ◌≤◌}
+use Prim.Native.Nat.{ℕ, ◌+◌, ◌<◌, ◌≤◌}
 use mathlib.Core.Path.{◌≡◌, refl, sym, ap, ◌∙◌}
 use mathlib.Core.Bool.{false}
 use native.Mathlib.Omega.{arith}
@@ -13,7 +13,7 @@ use Rattle.rules.specs.Sorts.{variable_sort}
 use Rattle.tree.specs.declared.area.Area.{Area}
 use Rattle.tree.specs.declared.kinds.Kind.TheVariants.{Application, Variable, Atom}
 use Rattle.tree.specs.Cells.{kind_of, kind_of_sort}
-use Rattle.tree.specs.Kinds.{coded_sort, coded_kind, kind_number}
+use Rattle.tree.specs.Kinds.{coded_sort, coded_kind}
 use Rattle.tree.specs.Areas.{cell_kind, first_in, name_in, tree_in, trees_in, sort_of, sum_in}
 use Rattle.tree.proofs.Decoding.{Kind as Coded, application, a_variable, an_atom, kind, tree_variable, tree_atom, tree_apply, trees_none}
 
@@ -59,25 +59,6 @@ sort_coded (Some Fresh) = refl
 sort_coded (Some Msg) = refl
 sort_coded (Some TamNat) = refl
 sort_coded (Some Node) = refl
-
--- the number of a kind is the one that it stands for
-pub number_coded : (n : ℕ) → kind_number (coded_kind n) ≡ n
-number_coded n = go (kind n)
-  where
-    few : (n : ℕ) → 0 < n → n < 7 → kind_of_sort (coded_sort n) ≡ n
-    few zero p q = absurd (omega arith)
-    few (suc zero) p q = refl
-    few (suc (suc zero)) p q = refl
-    few (suc (suc (suc zero))) p q = refl
-    few (suc (suc (suc (suc zero)))) p q = refl
-    few (suc (suc (suc (suc (suc zero))))) p q = refl
-    few (suc (suc (suc (suc (suc (suc zero)))))) p q = refl
-    few (suc (suc (suc (suc (suc (suc (suc n))))))) p q = absurd (omega arith)
-
-    go : Coded n → kind_number (coded_kind n) ≡ n
-    go (application f) = ap kind_number (application_kind n f) ∙ sym f
-    go (a_variable p q) = ap kind_number (variable_kind n p q) ∙ few n p q
-    go (an_atom p) = ap kind_number (atom_kind n p)
 
 -- the tree of a cell
 module _ (a : Area) (k : ℕ) where

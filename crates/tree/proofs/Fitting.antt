@@ -15,7 +15,6 @@ use Rattle.laws.proofs.Renaming.Unspelled.{unspelled_sort}
 use Rattle.sheet.specs.declared.Place.{Place as Text_place}
 use Rattle.sheet.specs.Places.{word_of}
 use Rattle.tree.specs.declared.area.Area.{Area}
-use Rattle.tree.specs.declared.kinds.Kind.{Kind}
 use Rattle.tree.specs.declared.kinds.Kind.TheVariants.{Application, Variable, Atom}
 use Rattle.tree.specs.declared.writing.Cell.{Cell}
 use Rattle.tree.specs.Cells.{start_of, length_of, kind_of, fixed_name, named, name_at, kind_of_sort, made, tree_at}
@@ -24,7 +23,7 @@ use Rattle.tree.specs.Areas.{cell_kind, count_in, first_in, name_in, tree_in, tr
 use Rattle.tree.specs.Kinds.{kind_number}
 use Rattle.tree.specs.Pushed.{word_name, cell_name, cell_tree, Fits}
 use Rattle.tree.specs.Spelled.{Spelled}
-use Rattle.tree.proofs.ByKind.{number_application, number_coded}
+use Rattle.tree.proofs.ByKind.{number_application}
 use Rattle.tree.proofs.Decoding.{made_apply, made_variable, made_atom}
 use Rattle.tree.proofs.FixedNames.{fixed_unspelled, fixed_plain}
 use Rattle.tree.proofs.Pushing.{name_push, arena_push, linked}
@@ -153,24 +152,16 @@ module _ {a : Area} {x next letter : ℕ} {t : Text} (y : Word a.sheet.now x t) 
     few = omega arith;
   }
 
--- a tree shared
-module _ (a : Area) (k : ℕ) {kind : Kind} {first : ℕ} (e : kind ≡ cell_kind a k) (f : first ≡ first_in a k) where
-  pub shared_tree : made (kind_number kind) (word_name a.sheet.now (get_or a.work.now (4 * k) 0)) (trees_in a first) ≡ tree_in a k
-  unfolding start_of length_of name_at tree_at
-  shared_tree = rw (e, f, number_coded (kind_of a.work.now k)) refl
-
-  pub shared_fits : {next count : ℕ} → 0 < k → k < a.free → next < a.free → count ≡ count_in a k → count < 65536 → first < k
-      → Fits a (record { name = get_or a.work.now (4 * k) 0; kind = kind; first = first; next = next; count = count })
-  unfolding start_of length_of name_at
-  shared_fits {next} {count} p q g n few less =
-      let c = a.arena.cell k p q in
-      let m : kind_number kind ≡ kind_of a.work.now k = ap kind_number e ∙ number_coded (kind_of a.work.now k) in
-      record {
-        first = omega arith;
-        next = g;
-        placed = c.placed;
-        sorted = rw m c.sorted;
-        plain = rw m c.plain;
-        counted = n ∙ c.counted ∙ ap size (sym shared_tree);
-        few = few;
-      }
+-- a cell once more, before the list at another link
+pub shared_linked : (a : Area) (k : ℕ) {v : List ℕ} {next : ℕ} → 0 < k → k < a.free → next < a.free → 4 * a.free + 4 ≤ length a.work.now
+    → WroteCell a.work.now v a.free (start_of a.work.now k) (length_of a.work.now k) (kind_of a.work.now k) (first_in a k) next (count_in a k) → Linked a.sheet.now a.work.now v a.free next (tree_in a k)
+unfolding name_at tree_at
+shared_linked a k {v} {next} p q g room x =
+    let s = a.sheet.now in
+    let w = a.work.now in
+    let c = a.arena.cell k p q in
+    let l = a.arena.links.first k p q in
+    let f : first_in a k < a.free = omega (arith, l) in
+    let m : name_at s v a.free ≡ name_at s w k = name_push x s in
+    let t : made (kind_of w k) (name_at s v a.free) (trees_in a (first_in a k)) ≡ tree_in a k = ap (λ (n : Text). made (kind_of w k) n (trees_in a (first_in a k))) m in
+    linked x s a.arena.links g f (arena_push x s a.arena room f g c.placed c.small (rw m c.sorted) (rw m c.plain) (c.counted ∙ ap size (sym t))) t

@@ -71,6 +71,24 @@ wrote w n start len kind first next count room l c =
       count_is = ap (λ (x : ℕ). x % 65536) (at_1 w n a b first next room) ∙ rest kind count c;
     }
 
+-- the words of a cell once more, but for its link
+pub wrote_again : (w : List ℕ) (n k next : ℕ) → 4 * n + 4 ≤ length w
+    → WroteCell w (w₄ w n (get_or w (4 * k) 0) (get_or w (4 * k + 1) 0) (get_or w (4 * k + 2) 0) next) n (start_of w k) (length_of w k) (kind_of w k) (first_of w k) next (nodes_of w k)
+unfolding start_of length_of kind_of nodes_of
+wrote_again w n k next room =
+    let a = get_or w (4 * k) 0 in
+    let b = get_or w (4 * k + 1) 0 in
+    let d = get_or w (4 * k + 2) 0 in
+    record {
+      grown = new_words w n a b d next;
+      start_is = ap (λ (x : ℕ). x / 65536) (at_0 w n a b d next room);
+      length_is = ap (λ (x : ℕ). x % 65536) (at_0 w n a b d next room);
+      kind_is = ap (λ (x : ℕ). x / 65536) (at_1 w n a b d next room);
+      first_is = at_2 w n a b d next room;
+      next_is = at_3 w n a b d next room;
+      count_is = ap (λ (x : ℕ). x % 65536) (at_1 w n a b d next room);
+    }
+
 -- a cell below n is in v as in w
 pub cell_frame : {w v : List ℕ} {n : ℕ} (s : Text) → Links w n → Agree w v n → (k : ℕ) → 0 < k → k < n → Cell s w k → Cell s v k
 cell_frame {w} {v} s l e k p q h =

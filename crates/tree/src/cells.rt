@@ -1,7 +1,7 @@
 // The words of cells (specs/Cells.antt). Functions of words and not of an area: they ask for no more than that the words are there.
 // 65536 is bare: each splits or makes one word.
 ghost use Rattle.std.specs.Prelude.{◌≡◌, ◌+◌, ◌*◌, ◌<◌, ◌≤◌, ◌^◌, length};
-ghost use Rattle.tree.specs.Cells.{start_of, length_of, kind_of, nodes_of};
+ghost use Rattle.tree.specs.Cells.{start_of, length_of, kind_of, nodes_of, first_of};
 ghost use Rattle.tree.specs.Arena.{WroteCell};
 
 // The start of a cell's name in the sheet, or the code of its name.
@@ -56,6 +56,23 @@ pub(crate) fn push_cell(
     work[at] = (start * 65536 + len) as u32;
     work[at + 1] = (kind * 65536 + count) as u32;
     work[at + 2] = first as u32;
+    work[at + 3] = next as u32;
+    free + 1
+}
+
+// Writes cell `free` as cell k is but for its link, and returns the free end after it.
+pub(crate) fn push_again(work: &mut [u32], free: usize, k: usize, next: usize) -> usize
+    requires room { (4 * free + 4 ≤ length work.old) × (k < free) }
+    requires link { next < 2 ^ 32 }
+    ensures { (result ≡ free + 1) × WroteCell work.old work.new free (start_of work.old k) (length_of work.old k) (kind_of work.old k) (first_of work.old k) next (nodes_of work.old k) }
+{
+    let name = work[4 * k];
+    let kind = work[4 * k + 1];
+    let first = work[4 * k + 2];
+    let at = 4 * free;
+    work[at] = name;
+    work[at + 1] = kind;
+    work[at + 2] = first;
     work[at + 3] = next as u32;
     free + 1
 }

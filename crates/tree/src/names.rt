@@ -55,7 +55,8 @@ impl Name<'_> {
     }
 }
 
-// Whether the n-th name that no sheet spells is a text.
+// Whether the n-th name that no sheet spells is a text. A call, since such names are rare.
+#[inline(never)]
 fn is_unspelled(n: u8, text: &[u8]) -> bool
     ensures { result ≡ same (unspelled n) text.now }
 {

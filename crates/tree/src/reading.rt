@@ -122,7 +122,8 @@ impl Area<'_, '_> {
         self.name(k).len()
     }
 
-    // Whether the name of cell k is a text.
+    // Whether the name of cell k is a text. Inlined: most names differ in their lengths.
+    #[inline(always)]
     pub fn name_is(&self, k: usize, text: &[u8]) -> bool
         requires { CellIn self.now k }
         ensures { result ≡ same (name_in self.now k) text.now }

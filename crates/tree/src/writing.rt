@@ -54,14 +54,9 @@ impl Area<'_, '_> {
         requires room { HasRoom self.old 1 }
         ensures { Pushes self.old self.new result next (tree_in self.old k) }
     {
-        let cell = Cell {
-            name: self.work[4 * k],
-            kind: self.kind(k),
-            first: self.first_of(k),
-            next,
-            count: self.count_of(k),
-        };
-        self.push(cell)
+        let at = self.free;
+        self.free = cells::push_again(self.work, at, k, next);
+        at
     }
 
     // Writes an application with the name of the application k over the list at `first`, `count` nodes, before the list at `next`, and

@@ -14,8 +14,10 @@ use lib.ListN.{length, take, drop}
 use lib.Seq.{take-append_seam}
 use Rattle.rules.specs.Bytes.{Text}
 use Rattle.rules.specs.Text.{bytes}
+use Rattle.rules.specs.Order.{order_name}
 use Rattle.rules.specs.Tree.{Tree}
 use Rattle.rules.specs.Substitution.{Substitution, Binding, Pair}
+use Rattle.rules.specs.Sums.{comparison}
 use Rattle.rules.specs.Equality.{Ac}
 use Rattle.rules.specs.Grouping.{read_written, SameSums}
 use Rattle.rules.specs.Tidy.{Arity, TidyPairs}
@@ -25,14 +27,14 @@ use Rattle.rules.specs.Derivation.{UnifyDerives, MatcherDerives}
 use Rattle.rules.specs.Families.{SoundMeans, CoveredMeans, CompleteMeans}
 use Rattle.rules.specs.Saying.{Says, Decides, SaysNormal}
 use Rattle.rules.specs.Reading.{parse}
-use Rattle.rules.specs.Sheet.{Sheet, Entry, Member, asks_equal, asks_unify, asks_match, asks_reduce, asks_cover, asks_sound, asks_complete}
+use Rattle.rules.specs.Sheet.{Sheet, Entry, Member, asks_equal, asks_order, asks_unify, asks_match, asks_reduce, asks_cover, asks_sound, asks_complete}
 use Rattle.rules.specs.SheetLines.{IsSheet}
-use Rattle.rules.specs.Answer.{read_pairs}
+use Rattle.rules.specs.Answer.{line, read_pairs}
 use Rattle.rules.specs.AnswerReading.{read_answer, Answered}
 use Rattle.rules.specs.Call.{Reply, passed, call, refusal_number, written, overwritten}
 use Rattle.rules.specs.Refusals.{Outcome}
 use Rattle.rules.specs.Page.{page, read_page}
-use Rattle.laws.proofs.Promises.{call_gives, call_number, page_call_number, page_call_read, sheet_lines, unify_pairs, match_pairs, unify_sheet_derived, match_sheet_derived, unify_sheet_solved, unify_sheet_failed, match_sheet_solved, match_sheet_failed, equal_sheet, equal_sheet_parsed, reduce_sheet, cover_sheet, sound_sheet, complete_sheet}
+use Rattle.laws.proofs.Promises.{call_gives, call_number, page_call_number, page_call_read, sheet_lines, unify_pairs, match_pairs, unify_sheet_derived, match_sheet_derived, unify_sheet_solved, unify_sheet_failed, match_sheet_solved, match_sheet_failed, equal_sheet, equal_sheet_parsed, order_sheet, reduce_sheet, cover_sheet, sound_sheet, complete_sheet}
 use Rattle.yukhtsami.specs.Answering.{Calls, PageCalls}
 
 -- Every call: the refusal or the answer on its condition, and the output after it
@@ -125,6 +127,13 @@ module _ (s : Text) (w v : List ℕ) (out after : Text) (count : ℕ) (c : Calls
     pub equal_means_parsed : {t u : Tree} → parse left ≡ Some t → parse right ≡ Some u → Says (bytes "equal=") (Decides (Ac t u)) (take count after)
     equal_means_parsed {t} {u} =
         equal_sheet_parsed s (length w) (length out) (take count after) answered left right ((sheet_lines s (asks_equal left right)).1 f) t u
+
+  -- Order: `order=` and `less`, `equal` or `greater`, as the sides compare by their canonical texts
+
+  pub order_means : {left right : Text} → IsSheet s (asks_order left right) → (t : Tree) × (u : Tree) × (read_written left ≡ Some t) × (read_written right ≡ Some u)
+      × (take count after ≡ line (bytes "order=") (order_name (comparison t u)))
+  order_means {left} {right} f =
+      order_sheet s (length w) (length out) (take count after) answered left right ((sheet_lines s (asks_order left right)).1 f)
 
   -- Reduce: `normal=` and a text that reads as the reduced term
 

@@ -1,5 +1,8 @@
 // The bridge: questions in the types of this crate, answered by the Rust sources.
-use std::collections::{BTreeMap, BTreeSet};
+use std::{
+    cmp::Ordering,
+    collections::{BTreeMap, BTreeSet},
+};
 
 use crate::{
     Member, Term, certificate,
@@ -39,6 +42,16 @@ pub fn render(term: &Term) -> String {
 /// Equality of two texts; none where one is unreadable.
 pub fn equivalent(left: &str, right: &str) -> Option<bool> {
     certificate::equivalent(left, right).ok()
+}
+
+/// The order of two texts: the middle answer is the Rust's own, the others are its two renderings'.
+/// None where a text is unreadable.
+pub fn order(left: &str, right: &str) -> Option<Ordering> {
+    if equivalent(left, right)? {
+        return Some(Ordering::Equal);
+    }
+    let [left, right] = [left, right].map(certificate::rendering);
+    Some(left.ok()?.as_bytes().cmp(right.ok()?.as_bytes()))
 }
 
 fn add_variables(tree: &Tree, found: &mut BTreeSet<String>) {

@@ -1,4 +1,4 @@
-// Sheets to time: of `equal` and `reduce`.
+// Sheets to time: of `equal`, `order` and `reduce`.
 use super::{Sample, Workload, nested, numbered, reversed, sum};
 
 pub const EQUALITIES: &[Workload] = &[
@@ -8,6 +8,15 @@ pub const EQUALITIES: &[Workload] = &[
     Workload::new("sums under f, swapped", "levels", 134, sums_under_f),
     Workload::new("balanced sums of f, mirrored", "leaves", 64, |leaves| {
         balanced_sums(leaves.ilog2() as usize)
+    }),
+];
+
+pub const ORDERS: &[Workload] = &[
+    Workload::new("chains", "levels", 675, |depth| {
+        ordered(&equal_chains(depth))
+    }),
+    Workload::new("flat sums, reversed", "summands", 225, |count| {
+        ordered(&flat_sums(count))
     }),
 ];
 
@@ -25,6 +34,11 @@ fn equal(name: &'static str, left: &str, right: &str) -> Sample {
 
 fn equality(left: &str, right: &str) -> String {
     format!("kind=equal\nleft={left}\nright={right}\n")
+}
+
+// The sheet of kind `order` with the sides of one of kind `equal`.
+fn ordered(sheet: &str) -> String {
+    sheet.replacen("equal", "order", 1)
 }
 
 fn reduce(name: &'static str, term: &str) -> Sample {
@@ -151,6 +165,15 @@ pub fn equalities() -> Vec<Sample> {
     list.extend(flat());
     list.extend(deep());
     list
+}
+
+/// The same terms for `order`.
+pub fn orders() -> Vec<Sample> {
+    let order = |sample: Sample| Sample {
+        name: sample.name,
+        sheet: ordered(&sample.sheet),
+    };
+    equalities().into_iter().map(order).collect()
 }
 
 // A name over `h` so many levels deep.

@@ -15,7 +15,7 @@ const FUELS: [&str; 9] = [
     "fuel=-1",
 ];
 
-const LINES: [&str; 12] = [
+const LINES: [&str; 13] = [
     "",
     "left",
     "=",
@@ -27,6 +27,7 @@ const LINES: [&str; 12] = [
     "fuel=3",
     "term=a",
     "kind=equal",
+    "kind=order",
     "key=x0:Msg\nvalue=a",
 ];
 

@@ -42,7 +42,7 @@ fn pair_lines(rng: &mut Rng, pairs: &[Pair]) -> String {
     lines
 }
 
-// A text that is unreadable, or that only `equal` reads.
+// A text that is unreadable, or that only `equal` and `order` read.
 fn loose(rng: &mut Rng) -> &'static str {
     rng.pick(&[
         "tamtplus(t(1))",
@@ -88,6 +88,45 @@ pub fn equal(rng: &mut Rng) -> String {
         }
     }
     format!("left={}\nright={}\n", texts[0], texts[1])
+}
+
+// Sides that differ late: by a digit more, by a list, by a summand more, or by a byte before and after a letter or a bracket.
+const CLOSE: [(&str, &str); 10] = [
+    ("t(1)", "t(10)"),
+    ("t(10)", "t(2)"),
+    ("g", "g(a)"),
+    ("a(b)", "a1"),
+    ("a", "tamtplus(a)"),
+    ("tamtplus(a,b)", "tamtplus(a,b,b)"),
+    ("tamtplus(a,b)", "t(0)"),
+    ("tamtplus", "tamtplus(a)"),
+    ("#0:Msg", "%0:Msg"),
+    ("x0:Msg", "x0:Pub"),
+];
+
+pub fn order(rng: &mut Rng) -> String {
+    if rng.once_in(2) {
+        return equal(rng);
+    }
+    let (depth, tidy) = (rng.between(1, 4), tidy(rng));
+    let mut terms = Terms {
+        rng,
+        variables: 3,
+        tidy,
+    };
+    let around = terms.any(depth);
+    let (left, right) = CLOSE[rng.below(CLOSE.len())];
+    let (mut left, mut right) = (left.to_owned(), right.to_owned());
+    if rng.once_in(2) {
+        let beside = [spelled(rng, &around), spelled(rng, &around)];
+        let name = rng.pick(&["tamtplus", "g"]);
+        left = format!("{name}({left},{})", beside[0]);
+        right = format!("{name}({right},{})", beside[1]);
+    }
+    if rng.once_in(2) {
+        (left, right) = (right, left);
+    }
+    format!("left={left}\nright={right}\n")
 }
 
 // Enough fuel, or close to what the run takes on either side.

@@ -167,6 +167,33 @@ pub fn canonical(term: &Term) -> Term {
     Term::Apply(name.clone(), listed.into())
 }
 
+// The texts of a term in a sum around it: of a sum those of its summands.
+fn summands(term: &Term) -> Vec<String> {
+    match term.is(SUM) && !term.children().is_empty() {
+        true => term.children().iter().flat_map(summands).collect(),
+        false => vec![canonical_text(term)],
+    }
+}
+
+/// The text in which sums are flat and their summands sorted by bytes, everywhere.
+pub fn canonical_text(term: &Term) -> String {
+    let Term::Apply(name, children) = term else {
+        return term.to_string();
+    };
+    if children.is_empty() {
+        return name.to_string();
+    }
+    let texts: Vec<_> = match term.is(SUM) {
+        true => {
+            let mut texts = summands(term);
+            texts.sort_unstable();
+            texts
+        }
+        false => children.iter().map(canonical_text).collect(),
+    };
+    format!("{name}({})", texts.join(","))
+}
+
 pub fn ac_equal(left: &Term, right: &Term) -> bool {
     canonical(left) == canonical(right)
 }

@@ -1,5 +1,5 @@
 // The model's answers, one function to a kind; none where a term is unreadable.
-use super::claim;
+use super::{claim, ordered};
 use crate::{
     model::{self, Outcome, Verdict},
     sheet::{Pair, Sheet},
@@ -9,6 +9,13 @@ pub fn equal(sheet: &Sheet) -> Option<String> {
     let left = model::read_loosely(sheet.terms[0])?;
     let right = model::read_loosely(sheet.terms[1])?;
     Some(claim("equal", Some(model::ac_equal(&left, &right))))
+}
+
+pub fn order(sheet: &Sheet) -> Option<String> {
+    let left = model::read_loosely(sheet.terms[0])?;
+    let right = model::read_loosely(sheet.terms[1])?;
+    let [left, right] = [left, right].map(|term| model::canonical_text(&term));
+    Some(ordered(left.as_bytes().cmp(right.as_bytes())))
 }
 
 fn read_all(pairs: &[Pair]) -> Option<Vec<model::Pair>> {

@@ -2,7 +2,7 @@
 // writing. The lines are told apart and the members put into the Rust's form before.
 use oracle::texts;
 
-use super::claim;
+use super::{claim, ordered};
 use crate::sheet::{Member, Sheet};
 
 /// A question that is ready to be asked again and again; no answer where a term is unreadable. The
@@ -12,6 +12,11 @@ pub type Question<'a> = Box<dyn Fn() -> Option<String> + Send + Sync + 'a>;
 pub fn equal<'a>(sheet: &'a Sheet<'a>) -> Question<'a> {
     let (left, right) = (sheet.terms[0], sheet.terms[1]);
     Box::new(move || Some(claim("equal", Some(oracle::equivalent(left, right)?))))
+}
+
+pub fn order<'a>(sheet: &'a Sheet<'a>) -> Question<'a> {
+    let (left, right) = (sheet.terms[0], sheet.terms[1]);
+    Box::new(move || Some(ordered(oracle::order(left, right)?)))
 }
 
 pub fn unify<'a>(sheet: &'a Sheet<'a>) -> Question<'a> {

@@ -25,8 +25,8 @@ complete_of-requires-clause-asked c = complete_asked _ _ _ c.args.form c.in-Comp
 pub complete_of-requires-clause-words : goal.complete_of-requires-clause-words
 complete_of-requires-clause-words c = words_for _ c.args.form c.requires.decoded c.requires.enough_words
 
-pub returns-in-Equal : goal.returns-in-Equal
-returns-in-Equal c = rw c.in-Equal.is c.equal.ensures
+pub returns-in-Compare : goal.returns-in-Compare
+returns-in-Compare c = rw c.in-Compare.is c.compare_sides.ensures
 
 pub returns-in-Reduce : goal.returns-in-Reduce
 returns-in-Reduce c = rw c.in-Reduce.is c.reduce.ensures

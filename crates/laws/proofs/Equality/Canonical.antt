@@ -1,5 +1,5 @@
 -- Trees as reading builds them are Ac equal exactly where their canonical texts are one.
-use mathlib.Core.Path.{◌≡◌, refl, ◌∙◌, ap}
+use mathlib.Core.Path.{◌≡◌, refl, sym, ◌∙◌, ap}
 use mathlib.Core.Bool.{true}
 use mathlib.Core.List.Permᴰ
 use mathlib.Core.List.{List, [], ◌∷◌, ◌++◌, append-nil, map, nil≢cons, cons≢nil, head-eq_of_cons-eq, tail-eq_of_cons-eq, Permᴰ}
@@ -7,10 +7,11 @@ use Rattle.rules.specs.Bytes.{same, sort}
 use Rattle.rules.specs.Names.{word, variable_token, letter_name}
 use Rattle.rules.specs.Tree.{Tree, variable, apply, Trees, none, tamtplus}
 use Rattle.rules.specs.Writing.{render}
-use Rattle.rules.specs.Sums.{shown, parts, canon, canonical, equivalent}
+use Rattle.rules.specs.Sums.{shown, parts, canon, canonical, comparison, equivalent}
 use Rattle.rules.specs.Equality.{Ac, symmetric, transitive}
 use Rattle.rules.specs.Tidy.{Built, a_variable, an_atom, a_leaf, a_list, a_sum, Builts}
 use Rattle.laws.proofs.Basics.Tests.{same_eq, same_of_eq}
+use Rattle.laws.proofs.Basics.Comparing.{compare_same}
 use Rattle.laws.proofs.Basics.Spelling.{Plain, number_plain, word_plain, variable_plain, token_plain, word_no_variable}
 use Rattle.laws.proofs.Equality.Sound.{sound}
 use Rattle.laws.proofs.Equality.Texts.{leaf_of, Named, Nameds, render_injective}
@@ -95,10 +96,13 @@ by_parts {a} {b} p q e =
 
 -- the test
 
+-- whether the canonical texts are one
+pub equivalent_is : (a b : Tree) → equivalent a b ≡ same (canonical a) (canonical b)
+unfolding equivalent comparison
+equivalent_is a b = compare_same (canonical a) (canonical b)
+
 pub equivalent_complete : {a b : Tree} → Ac a b → equivalent a b ≡ true
-unfolding equivalent
-equivalent_complete h = same_of_eq (canonical_sound h)
+equivalent_complete {a} {b} h = equivalent_is a b ∙ same_of_eq (canonical_sound h)
 
 pub equivalent_sound : {a b : Tree} → Built a → Built b → equivalent a b ≡ true → Ac a b
-unfolding equivalent
-equivalent_sound {a} {b} p q e = canonical_complete p q (same_eq (canonical a) (canonical b) e)
+equivalent_sound {a} {b} p q e = canonical_complete p q (same_eq (canonical a) (canonical b) (sym (equivalent_is a b) ∙ e))

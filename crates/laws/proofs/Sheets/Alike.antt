@@ -19,7 +19,7 @@ use Rattle.rules.specs.Lines.{lines, after_key, value}
 use Rattle.rules.specs.Substitution.{Pair}
 use Rattle.rules.specs.Solving.{Answer, unify}
 use Rattle.rules.specs.Matching.{matcher}
-use Rattle.rules.specs.Sheet.{Sheet, Entry, asks_unify, asks_match, pairs, members_from, at_end, Kind, Equal, Unify, Match, Reduce, Cover, Sound, Complete, kind_in, kinds, read_kind, read_sheet, words_needed}
+use Rattle.rules.specs.Sheet.{Sheet, Entry, asks_unify, asks_match, pairs, members_from, at_end, Kind, Equal, Order, Unify, Match, Reduce, Cover, Sound, Complete, kind_in, kinds, read_kind, read_sheet, words_needed}
 use Rattle.rules.specs.SheetLines.{ended as joined, IsSheet}
 use Rattle.rules.specs.Answer.{verdict_lines, read_pairs, answer_of}
 use Rattle.rules.specs.Alike.{AlikeButFuel, SolvedOrFailed, AlikeOutcome}
@@ -75,6 +75,7 @@ unfolding read_kind value after_key pairs members_from
 fuelled Unify digits ls sheet e = fuelled_unify
 fuelled Match digits ls sheet e = fuelled_match
 fuelled Equal digits ls sheet e = absurd (none_ne_some sheet e)
+fuelled Order digits ls sheet e = absurd (none_ne_some sheet e)
 fuelled Reduce digits ls sheet e = absurd (none_ne_some sheet e)
 fuelled Sound digits ls sheet e = absurd (none_ne_some sheet e)
 fuelled Complete digits ls sheet e = absurd (none_ne_some sheet e)

@@ -12,7 +12,7 @@ use Rattle.rules.specs.Text.{bytes, is_one_of}
 use Rattle.rules.specs.Maybe.{◌>>=◌, guard}
 use Rattle.rules.specs.Decimal.{number_up_to, decimal}
 use Rattle.rules.specs.Lines.{lines, after_key, value}
-use Rattle.rules.specs.Sheet.{Entry, Member, Members, Sheet, asks_equal, asks_unify, asks_match, asks_reduce, asks_cover, asks_sound, asks_complete, with_entry, pairs, entry_before, distinct_keys, member_before, members_from, none_waiting, at_end, one_member, Kind, Equal, Unify, Match, Reduce, Cover, Sound, Complete, KindName, kind_in, kinds, read_kind, read_sheet}
+use Rattle.rules.specs.Sheet.{Entry, Member, Members, Sheet, asks_equal, asks_order, asks_unify, asks_match, asks_reduce, asks_cover, asks_sound, asks_complete, with_entry, pairs, entry_before, distinct_keys, member_before, members_from, none_waiting, at_end, one_member, Kind, Equal, Order, Unify, Match, Reduce, Cover, Sound, Complete, KindName, kind_in, kinds, read_kind, read_sheet}
 use Rattle.rules.specs.SheetLines.{PairLines, NoSuchKey, DistinctKeys, MemberLines, FuelLine, KindLines, IsSheet}
 use Rattle.laws.proofs.Basics.Tests.{and_left, and_right, and_both, neither, neither_left, neither_right, same_eq, ne_of_differ, differ_of_ne}
 use Rattle.laws.proofs.Basics.Options.{bound, guarded}
@@ -167,6 +167,7 @@ members_unpaired (MemberLines.member {l = l} {v = v} {ls = ls} a d c) = go ls
 
 abbrev name_of : Kind → Text
 name_of Equal = bytes "equal"
+name_of Order = bytes "order"
 name_of Unify = bytes "unify"
 name_of Match = bytes "match"
 name_of Reduce = bytes "reduce"
@@ -189,7 +190,7 @@ kind_named (r ∷ rs) n name kind h = go (same name r.0) refl (kind_named rs n.1
     go false e ih i = ih i
 
 all_named : Named kinds
-all_named = (refl, (refl, (refl, (refl, (refl, (refl, (refl, tt)))))))
+all_named = (refl, (refl, (refl, (refl, (refl, (refl, (refl, (refl, tt))))))))
 
 at_the_end : (ls : List Text) (a sheet : Sheet) → at_end ls a ≡ Some sheet → (ls ≡ []) × (a ≡ sheet)
 at_the_end [] a sheet h = (refl, some_injective a sheet h)
@@ -220,17 +221,24 @@ fuel_found asks kind make ls sheet h =
     (subst (λ (z : Sheet). Forms kind ((bytes "fuel=" ++ v.0) ∷ v.1) z) j
     (make (bytes "fuel=" ++ v.0) fuel v.1 p.0 (record { line = ap (λ (z : Text). bytes "fuel=" ++ z) d; bound = k }) c))
 
-kind_found : (kind : Kind) (ls : List Text) (sheet : Sheet) → read_kind kind ls ≡ Some sheet → Forms kind ls sheet
-unfolding read_kind
-kind_found Equal ls sheet h =
+-- kinds with two sides
+sides_found : (asks : Text → Text → Sheet) (kind : Kind) → ((l r : Text) → Forms kind ((bytes "left=" ++ l) ∷ (bytes "right=" ++ r) ∷ []) (asks l r))
+    → (ls : List Text) (sheet : Sheet)
+    → (value (bytes "left=") ls >>= λ v. value (bytes "right=") v.1 >>= λ w. at_end w.1 (asks v.0 w.0)) ≡ Some sheet → Forms kind ls sheet
+sides_found asks kind make ls sheet h =
     let (v, e, h₁) = bound (value (bytes "left=") ls) _ sheet h in
-    let (w, f, h₂) = bound (value (bytes "right=") v.1) (λ r. at_end r.1 (asks_equal v.0 r.0)) sheet h₁ in
-    let (i, j) = at_the_end w.1 (asks_equal v.0 w.0) sheet h₂ in
+    let (w, f, h₂) = bound (value (bytes "right=") v.1) (λ r. at_end r.1 (asks v.0 r.0)) sheet h₁ in
+    let (i, j) = at_the_end w.1 (asks v.0 w.0) sheet h₂ in
     let a : ls ≡ (bytes "left=" ++ v.0) ∷ (bytes "right=" ++ w.0) ∷ [] =
     value_found (bytes "left=") ls v e
     ∙ ap (λ (z : List Text). (bytes "left=" ++ v.0) ∷ z) (value_found (bytes "right=") v.1 w f ∙ ap (λ (z : List Text). (bytes "right=" ++ w.0) ∷ z) i) in
-    subst (λ (z : List Text). Forms Equal z sheet) (sym a)
-    (subst (λ (z : Sheet). Forms Equal ((bytes "left=" ++ v.0) ∷ (bytes "right=" ++ w.0) ∷ []) z) j (KindLines.equal refl refl refl))
+    subst (λ (z : List Text). Forms kind z sheet) (sym a)
+    (subst (λ (z : Sheet). Forms kind ((bytes "left=" ++ v.0) ∷ (bytes "right=" ++ w.0) ∷ []) z) j (make v.0 w.0))
+
+kind_found : (kind : Kind) (ls : List Text) (sheet : Sheet) → read_kind kind ls ≡ Some sheet → Forms kind ls sheet
+unfolding read_kind
+kind_found Equal ls sheet h = sides_found asks_equal Equal (λ l r. KindLines.equal refl refl refl) ls sheet h
+kind_found Order ls sheet h = sides_found asks_order Order (λ l r. KindLines.order refl refl refl) ls sheet h
 kind_found Unify ls sheet h = fuel_found asks_unify Unify (λ f fuel ms es a c. KindLines.unify refl a c) ls sheet h
 kind_found Match ls sheet h = fuel_found asks_match Match (λ f fuel ms es a c. KindLines.match refl a c) ls sheet h
 kind_found Reduce ls sheet h =
@@ -270,6 +278,7 @@ lines_form ls sheet h =
 first_line : (kind : Kind) (k : Text) (ls : List Text) → k ≡ bytes "kind=" ++ name_of kind → of_lines (k ∷ ls) ≡ read_kind kind ls
 unfolding value after_key kind_in same
 first_line Equal k ls e = subst (λ (z : Text). of_lines (z ∷ ls) ≡ read_kind Equal ls) (sym e) refl
+first_line Order k ls e = subst (λ (z : Text). of_lines (z ∷ ls) ≡ read_kind Order ls) (sym e) refl
 first_line Unify k ls e = subst (λ (z : Text). of_lines (z ∷ ls) ≡ read_kind Unify ls) (sym e) refl
 first_line Match k ls e = subst (λ (z : Text). of_lines (z ∷ ls) ≡ read_kind Match ls) (sym e) refl
 first_line Reduce k ls e = subst (λ (z : Text). of_lines (z ∷ ls) ≡ read_kind Reduce ls) (sym e) refl
@@ -290,16 +299,20 @@ fuel_read asks f fuel ls es a c =
     ∙ ap (λ (o : Option ℕ). o >>= λ k. pairs ls >>= λ p. at_end p.1 (asks k p.0)) (number_read 65536 fuel a.bound)
     ∙ ap (λ (o : Option (List Entry × List Text)). o >>= λ p. at_end p.1 (asks fuel p.0)) (pairs_read c refl)
 
+sides_read : (asks : Text → Text → Sheet) {l r left right : Text} → l ≡ bytes "left=" ++ left → r ≡ bytes "right=" ++ right
+    → (value (bytes "left=") (l ∷ r ∷ []) >>= λ v. value (bytes "right=") v.1 >>= λ w. at_end w.1 (asks v.0 w.0)) ≡ Some (asks left right)
+sides_read asks {l} {r} {left} {right} b c =
+    ap (λ (o : Option (Text × List Text)). o >>= λ v. value (bytes "right=") v.1 >>= λ w. at_end w.1 (asks v.0 w.0))
+    (line_value (bytes "left=") l left (r ∷ []) b)
+    ∙ ap (λ (o : Option (Text × List Text)). o >>= λ w. at_end w.1 (asks left w.0)) (line_value (bytes "right=") r right [] c)
+
 members_all : {ls : List Text} {ms : List Member} → MemberLines ls [] ms → none_waiting (members_from ls) ≡ Some ms
 members_all c = ap none_waiting (members_read c)
 
 form_read : {ls : List Text} {sheet : Sheet} → KindLines ls sheet → of_lines ls ≡ Some sheet
 unfolding read_kind
-form_read (KindLines.equal {k} {l} {r} {left} {right} a b c) =
-    first_line Equal k (l ∷ r ∷ []) a
-    ∙ ap (λ (o : Option (Text × List Text)). o >>= λ v. value (bytes "right=") v.1 >>= λ w. at_end w.1 (asks_equal v.0 w.0))
-    (line_value (bytes "left=") l left (r ∷ []) b)
-    ∙ ap (λ (o : Option (Text × List Text)). o >>= λ w. at_end w.1 (asks_equal left w.0)) (line_value (bytes "right=") r right [] c)
+form_read (KindLines.equal {k} {l} {r} a b c) = first_line Equal k (l ∷ r ∷ []) a ∙ sides_read asks_equal b c
+form_read (KindLines.order {k} {l} {r} a b c) = first_line Order k (l ∷ r ∷ []) a ∙ sides_read asks_order b c
 form_read (KindLines.unify {k} {f} {fuel} {ls} {es} a b c) = first_line Unify k (f ∷ ls) a ∙ fuel_read asks_unify f fuel ls es b c
 form_read (KindLines.match {k} {f} {fuel} {ls} {es} a b c) = first_line Match k (f ∷ ls) a ∙ fuel_read asks_match f fuel ls es b c
 form_read (KindLines.reduce {k} {t} {term} a b) =

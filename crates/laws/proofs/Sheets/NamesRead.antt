@@ -14,7 +14,7 @@ use Rattle.rules.specs.Maybe.{every}
 use Rattle.rules.specs.Tree.{Tree, variable, atom, apply, Trees, none, more, size, variable_names, variable_names_in}
 use Rattle.rules.specs.Substitution.{Pair, size_pairs}
 use Rattle.rules.specs.Reading.{parse}
-use Rattle.rules.specs.Sheet.{Entry, Sheet, asks_equal, asks_unify, asks_match, asks_reduce, asks_cover, asks_sound, asks_complete, read_sheet, member_texts}
+use Rattle.rules.specs.Sheet.{Entry, Sheet, asks_equal, asks_order, asks_unify, asks_match, asks_reduce, asks_cover, asks_sound, asks_complete, read_sheet, member_texts}
 use Rattle.rules.specs.Answer.{read_pair, read_pairs}
 use Rattle.laws.specs.Memory.{variable_names_of_pairs, Over, Overs, OverPairs, side_texts, sheet_texts, sheet_keys, sheet_pairs, names_read}
 use Rattle.laws.proofs.Basics.Tests.{or_left, or_right, same_self}
@@ -143,6 +143,7 @@ read_append f (x ∷ xs) ys = go (parse x) (read_append f xs ys)
 sides_within : (f : Tree → ℕ) (sheet : Sheet) → total_read f (side_texts (sheet_pairs sheet)) ≤ total_read f (sheet_texts sheet)
 unfolding sheet_texts side_texts total_read
 sides_within f (asks_equal l r) = omega arith
+sides_within f (asks_order l r) = omega arith
 sides_within f (asks_unify fuel es) = omega arith
 sides_within f (asks_match fuel es) = omega arith
 sides_within f (asks_reduce t) = omega arith
@@ -236,6 +237,7 @@ module _ (ns : List Text) where
   pub sides_held : (sheet : Sheet) → Held (sheet_texts sheet) → Held (side_texts (sheet_pairs sheet))
   unfolding sheet_texts side_texts
   sides_held (asks_equal l r) h = tt
+  sides_held (asks_order l r) h = tt
   sides_held (asks_unify fuel es) h = h
   sides_held (asks_match fuel es) h = h
   sides_held (asks_reduce t) h = tt

@@ -7,20 +7,24 @@ use Rattle.laws.proofs.Basics.Somes.{some_injective}
 use Prim.Native.Nat.{ℕ, ◌+◌, ◌/◌, ◌≤◌}
 use native.Mathlib.Omega.{arith}
 use lib.ListN.{length}
-use Rattle.rules.specs.Bytes.{Text, same}
+use Rattle.std.specs.declared.cmp.Ordering.{Ordering}
+use Rattle.std.specs.declared.cmp.Ordering.TheVariants.{Less, Equal, Greater}
+use Rattle.std.specs.Ordering.{is_eq}
+use Rattle.rules.specs.Bytes.{Text}
 use Rattle.rules.specs.Text.{bytes}
+use Rattle.rules.specs.Order.{order_name}
 use Rattle.rules.specs.Names.{all}
 use Rattle.rules.specs.Maybe.{◌>>=◌}
 use Rattle.rules.specs.Decimal.{decimal}
 use Rattle.rules.specs.Writing.{render}
-use Rattle.rules.specs.Reading.{parse, canonical_text}
+use Rattle.rules.specs.Reading.{parse, text_order}
 use Rattle.rules.specs.Reduction.{normalize}
 use Rattle.rules.specs.Substitution.{Binding}
 use Rattle.rules.specs.Solving.{Verdict, solved, failed, unsupported, unify}
 use Rattle.rules.specs.Matching.{matcher}
 use Rattle.rules.specs.Cover.{covered}
 use Rattle.rules.specs.Variants.{sound, complete}
-use Rattle.rules.specs.Sheet.{Sheet, Entry, asks_equal, asks_unify, asks_match, asks_reduce, asks_cover, asks_sound, asks_complete}
+use Rattle.rules.specs.Sheet.{Sheet, Entry, asks_equal, asks_order, asks_unify, asks_match, asks_reduce, asks_cover, asks_sound, asks_complete}
 use Rattle.rules.specs.Answer.{line, claim, binding_lines, verdict_lines, read_pairs, answer_of}
 use Rattle.rules.specs.Page.{page_count}
 use Rattle.laws.specs.Laying.{solid, key_fits, columned, all_columned, entry_lines, Columned, binding_entries, first_entries, verdict_entries, line_count}
@@ -71,6 +75,12 @@ unfolding all
 claim_solid None = refl
 claim_solid (Some true) = refl
 claim_solid (Some false) = refl
+
+order_solid : (o : Ordering) → all solid (order_name o) ≡ true
+unfolding all
+order_solid Less = refl
+order_solid Equal = refl
+order_solid Greater = refl
 
 claim_line : (key : Text) (o : Option Bool) → key_fits key ≡ true → Columned (line (key ++ (61 ∷ [])) (claim o))
 claim_line key o h = one_line key (claim o) h (claim_solid o)
@@ -145,9 +155,11 @@ given_by {A} {f} o a e = let (x, p, q) = bound o (λ x. Some (f x)) a e in (x, p
 pub answer_columned : (sheet : Sheet) (a : Text) → answer_of sheet ≡ Some a → Columned a
 unfolding answer_of all
 answer_columned (asks_equal left right) a e =
-    let (l, p, e₁) = bound (canonical_text left) _ a e in
-    let (r, q, e₂) = given_by (canonical_text right) a e₁ in
-    subst Columned e₂ (claim_line (bytes "equal") (Some (same l r)) refl)
+    let (o, p, q) = given_by (text_order left right) a e in
+    subst Columned q (claim_line (bytes "equal") (Some (is_eq o)) refl)
+answer_columned (asks_order left right) a e =
+    let (o, p, q) = given_by (text_order left right) a e in
+    subst Columned q (one_line (bytes "order") (order_name o) refl (order_solid o))
 answer_columned (asks_unify k texts) a e =
     let (ps, r, q) = unify_text k texts a e in
     subst Columned q (verdict_columned (unify k ps).0 (unify k ps).1 (unify_writable k ps (pairs_read texts ps r).0))

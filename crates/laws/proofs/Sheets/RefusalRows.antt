@@ -33,6 +33,7 @@ kind_first k name ls e = subst (λ (z : Text). get_or (ended (z ∷ ls)) 0 0 ≡
 
 first_byte : {ls : List Text} {sheet : Sheet} → KindLines ls sheet → get_or (ended ls) 0 0 ≡ 107
 first_byte (KindLines.equal {k} {l} {r} e f g) = kind_first k (bytes "equal") (l ∷ r ∷ []) e
+first_byte (KindLines.order {k} {l} {r} e f g) = kind_first k (bytes "order") (l ∷ r ∷ []) e
 first_byte (KindLines.unify {k} {f = f} {ls = ls} e g h) = kind_first k (bytes "unify") (f ∷ ls) e
 first_byte (KindLines.match {k} {f = f} {ls = ls} e g h) = kind_first k (bytes "match") (f ∷ ls) e
 first_byte (KindLines.reduce {k} {t} e f) = kind_first k (bytes "reduce") (t ∷ []) e

@@ -15,7 +15,7 @@ use Rattle.rules.specs.Lines.{on_first, lines, after_key, value}
 use Rattle.rules.specs.Tree.{Tree}
 use Rattle.rules.specs.Substitution.{Binding}
 use Rattle.rules.specs.Reading.{parse}
-use Rattle.rules.specs.Sheet.{Entry, Member, Members, Sheet, asks_equal, asks_unify, asks_match, asks_reduce, asks_cover, asks_sound, asks_complete, with_entry, pairs, entry_before, distinct_keys, member_before, members_from, none_waiting, at_end, one_member, Kind, Equal, Unify, Match, Reduce, Cover, Sound, Complete, kind_in, kinds, read_kind, read_sheet, entry_values, member_texts}
+use Rattle.rules.specs.Sheet.{Entry, Member, Members, Sheet, asks_equal, asks_order, asks_unify, asks_match, asks_reduce, asks_cover, asks_sound, asks_complete, with_entry, pairs, entry_before, distinct_keys, member_before, members_from, none_waiting, at_end, one_member, Kind, Equal, Order, Unify, Match, Reduce, Cover, Sound, Complete, kind_in, kinds, read_kind, read_sheet, entry_values, member_texts}
 use Rattle.rules.specs.Variants.{Variant, read_entry, read_member}
 use Rattle.laws.specs.Memory.{side_texts, sheet_texts}
 use Rattle.laws.specs.Parts.{PartOf}
@@ -172,14 +172,21 @@ module _ (s : Text) where
       let (p, g, h₃) = bound (pairs v.1) (λ r. at_end r.1 (asks fuel r.0)) sheet h₂ in
       subst SheetParts (ended p.1 (asks fuel p.0) sheet h₃) (q fuel p.0 (pair_parts v.1 p g (value_part (bytes "fuel=") ls v e k).1).0)
 
-  kind_parts : (kind : Kind) (ls : List Text) (sheet : Sheet) → read_kind kind ls ≡ Some sheet → Parts ls → SheetParts sheet
-  unfolding read_kind sheet_texts
-  kind_parts Equal ls sheet h k =
+  -- the kinds with two sides
+  sided_parts : (asks : Text → Text → Sheet) → ((l r : Text) → Parts (l ∷ r ∷ []) → SheetParts (asks l r)) → (ls : List Text) (sheet : Sheet)
+      → (value (bytes "left=") ls >>= λ v. value (bytes "right=") v.1 >>= λ w. at_end w.1 (asks v.0 w.0)) ≡ Some sheet
+      → Parts ls → SheetParts sheet
+  sided_parts asks q ls sheet h k =
       let (v, e, h₁) = bound (value (bytes "left=") ls) _ sheet h in
-      let (w, f, h₂) = bound (value (bytes "right=") v.1) (λ r. at_end r.1 (asks_equal v.0 r.0)) sheet h₁ in
+      let (w, f, h₂) = bound (value (bytes "right=") v.1) (λ r. at_end r.1 (asks v.0 r.0)) sheet h₁ in
       let i = value_part (bytes "left=") ls v e k in
       let j = value_part (bytes "right=") v.1 w f i.1 in
-      subst SheetParts (ended w.1 (asks_equal v.0 w.0) sheet h₂) (i.0, (j.0, tt))
+      subst SheetParts (ended w.1 (asks v.0 w.0) sheet h₂) (q v.0 w.0 (i.0, (j.0, tt)))
+
+  kind_parts : (kind : Kind) (ls : List Text) (sheet : Sheet) → read_kind kind ls ≡ Some sheet → Parts ls → SheetParts sheet
+  unfolding read_kind sheet_texts
+  kind_parts Equal ls sheet h k = sided_parts asks_equal (λ l r p. p) ls sheet h k
+  kind_parts Order ls sheet h k = sided_parts asks_order (λ l r p. p) ls sheet h k
   kind_parts Unify ls sheet h k = fuelled_parts asks_unify (λ n es p. p) ls sheet h k
   kind_parts Match ls sheet h k = fuelled_parts asks_match (λ n es p. p) ls sheet h k
   kind_parts Reduce ls sheet h k =

@@ -12,7 +12,7 @@ use Rattle.rules.specs.Text.{bytes}
 use Rattle.rules.specs.Maybe.{◌>>=◌, guard}
 use Rattle.rules.specs.Decimal.{number_up_to}
 use Rattle.rules.specs.Lines.{on_first, lines, after_key, value}
-use Rattle.rules.specs.Sheet.{Entry, Member, Members, Sheet, asks_equal, asks_unify, asks_match, asks_reduce, asks_cover, asks_sound, asks_complete, with_entry, pairs, entry_before, distinct_keys, member_before, members_from, none_waiting, at_end, one_member, Kind, Equal, Unify, Match, Reduce, Cover, Sound, Complete, kind_in, kinds, read_kind, read_sheet, entry_values, member_texts}
+use Rattle.rules.specs.Sheet.{Entry, Member, Members, Sheet, asks_equal, asks_order, asks_unify, asks_match, asks_reduce, asks_cover, asks_sound, asks_complete, with_entry, pairs, entry_before, distinct_keys, member_before, members_from, none_waiting, at_end, one_member, Kind, Equal, Order, Unify, Match, Reduce, Cover, Sound, Complete, kind_in, kinds, read_kind, read_sheet, entry_values, member_texts}
 use Rattle.laws.specs.Memory.{side_texts, entry_keys, member_keys, sheet_texts, sheet_keys}
 use Rattle.laws.proofs.Basics.Tests.{eqb_true}
 use Rattle.laws.proofs.Basics.Options.{bound}
@@ -202,15 +202,23 @@ module _ (byte : ℕ → ℕ) where
       let l = q fuel p.0 in
       omega arith
 
-  kind_within : (kind : Kind) (ls : List Text) (sheet : Sheet) → read_kind kind ls ≡ Some sheet → sheet_total sheet ≤ texts ls
-  unfolding read_kind sheet_texts sheet_keys total
-  kind_within Equal ls sheet h =
+  -- the kinds with two sides
+  sided_within : (asks : Text → Text → Sheet) → ((l r : Text) → sheet_total (asks l r) ≡ text l + text r) → (ls : List Text) (sheet : Sheet)
+      → (value (bytes "left=") ls >>= λ v. value (bytes "right=") v.1 >>= λ w. at_end w.1 (asks v.0 w.0)) ≡ Some sheet
+      → sheet_total sheet ≤ texts ls
+  sided_within asks q ls sheet h =
       let (v, e, h₁) = bound (value (bytes "left=") ls) _ sheet h in
-      let (w, f, h₂) = bound (value (bytes "right=") v.1) (λ r. at_end r.1 (asks_equal v.0 r.0)) sheet h₁ in
+      let (w, f, h₂) = bound (value (bytes "right=") v.1) (λ r. at_end r.1 (asks v.0 r.0)) sheet h₁ in
       let i = value_within (bytes "left=") ls v e in
       let j = value_within (bytes "right=") v.1 w f in
-      let k = ap sheet_total (ended w.1 (asks_equal v.0 w.0) sheet h₂) in
+      let k = ap sheet_total (ended w.1 (asks v.0 w.0) sheet h₂) in
+      let l = q v.0 w.0 in
       omega arith
+
+  kind_within : (kind : Kind) (ls : List Text) (sheet : Sheet) → read_kind kind ls ≡ Some sheet → sheet_total sheet ≤ texts ls
+  unfolding read_kind sheet_texts sheet_keys total
+  kind_within Equal ls sheet h = sided_within asks_equal (λ l r. omega arith) ls sheet h
+  kind_within Order ls sheet h = sided_within asks_order (λ l r. omega arith) ls sheet h
   kind_within Unify ls sheet h = fuelled_within asks_unify (λ k es. omega arith) ls sheet h
   kind_within Match ls sheet h = fuelled_within asks_match (λ k es. omega arith) ls sheet h
   kind_within Reduce ls sheet h =

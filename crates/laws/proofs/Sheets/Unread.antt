@@ -1,15 +1,16 @@
 -- A sheet has no answer exactly where one of its `left`, `right` or `term` lines does not read.
 use mathlib.Core.Path.{◌≡◌, refl, sym, ap}
 use mathlib.Core.List.{List, [], ◌∷◌, map}
-use mathlib.Core.Logic.{◌↔◌, ◌⊎◌, inl, inr}
+use mathlib.Core.Logic.{◌↔◌, ◌⊎◌, inl, inr, ⊎_elim}
 use Rattle.std.specs.Prelude.{Option, Some, None}
 use Rattle.laws.proofs.Basics.Somes.{none_ne_some}
 use Rattle.rules.specs.Bytes.{Text}
+use Rattle.rules.specs.Order.{compare}
 use Rattle.rules.specs.Maybe.{◌>>=◌, every}
 use Rattle.rules.specs.Tree.{Tree}
 use Rattle.rules.specs.Substitution.{Pair}
-use Rattle.rules.specs.Reading.{parse, canonical_text}
-use Rattle.rules.specs.Sheet.{Entry, Member, Sheet, asks_equal, asks_unify, asks_match, asks_reduce, asks_cover, asks_sound, asks_complete}
+use Rattle.rules.specs.Reading.{parse, canonical_text, text_order}
+use Rattle.rules.specs.Sheet.{Entry, Member, Sheet, asks_equal, asks_order, asks_unify, asks_match, asks_reduce, asks_cover, asks_sound, asks_complete}
 use Rattle.rules.specs.Answer.{read_pair, read_pairs, answer_of}
 use Rattle.rules.specs.Refusals.{UnreadablePair, UnreadableSheet}
 
@@ -83,13 +84,19 @@ unread_pairs (UnreadablePair.later {e} {es} h) =
 
 -- Sheets
 
+-- the sides of `equal` and `order`
+order_none : (l r : Text) → (text_order l r ≡ None) ↔ ((canonical_text l ≡ None) ⊎ (canonical_text r ≡ None))
+unfolding text_order
+order_none l r = (λ h. one_of_two (canonical_text l) (canonical_text r) compare h, go)
+  where
+    go : (canonical_text l ≡ None) ⊎ (canonical_text r ≡ None) → text_order l r ≡ None
+    go (inl h) = first_ends (canonical_text l) _ h
+    go (inr h) = whatever (canonical_text l) _ (λ a. first_ends (canonical_text r) _ h)
+
 no_answer : (sheet : Sheet) → answer_of sheet ≡ None → UnreadableSheet sheet
 unfolding answer_of
-no_answer (asks_equal l r) h = go (one_of_two (canonical_text l) (canonical_text r) _ h)
-  where
-    go : (canonical_text l ≡ None) ⊎ (canonical_text r ≡ None) → UnreadableSheet (asks_equal l r)
-    go (inl i) = UnreadableSheet.equal_left i
-    go (inr i) = UnreadableSheet.equal_right i
+no_answer (asks_equal l r) h = ⊎_elim (λ i. UnreadableSheet.equal_left i) (λ i. UnreadableSheet.equal_right i) ((order_none l r).0 (only_first (text_order l r) _ h))
+no_answer (asks_order l r) h = ⊎_elim (λ i. UnreadableSheet.order_left i) (λ i. UnreadableSheet.order_right i) ((order_none l r).0 (only_first (text_order l r) _ h))
 no_answer (asks_unify k es) h = UnreadableSheet.unify_pair (pairs_unread es (only_first (read_pairs es) _ h))
 no_answer (asks_match k es) h = UnreadableSheet.match_pair (pairs_unread es (only_first (read_pairs es) _ h))
 no_answer (asks_reduce t) h = UnreadableSheet.reduce_term (only_first (parse t) _ h)
@@ -99,8 +106,10 @@ no_answer (asks_complete t ms) h = UnreadableSheet.complete_term (only_first (pa
 
 none_answered : {sheet : Sheet} → UnreadableSheet sheet → answer_of sheet ≡ None
 unfolding answer_of
-none_answered (UnreadableSheet.equal_left {l} {r} h) = first_ends (canonical_text l) _ h
-none_answered (UnreadableSheet.equal_right {l} {r} h) = whatever (canonical_text l) _ (λ a. first_ends (canonical_text r) _ h)
+none_answered (UnreadableSheet.equal_left {l} {r} h) = first_ends (text_order l r) _ ((order_none l r).1 (inl h))
+none_answered (UnreadableSheet.equal_right {l} {r} h) = first_ends (text_order l r) _ ((order_none l r).1 (inr h))
+none_answered (UnreadableSheet.order_left {l} {r} h) = first_ends (text_order l r) _ ((order_none l r).1 (inl h))
+none_answered (UnreadableSheet.order_right {l} {r} h) = first_ends (text_order l r) _ ((order_none l r).1 (inr h))
 none_answered (UnreadableSheet.unify_pair {fuel = k} {es} h) = first_ends (read_pairs es) _ (unread_pairs h)
 none_answered (UnreadableSheet.match_pair {fuel = k} {es} h) = first_ends (read_pairs es) _ (unread_pairs h)
 none_answered (UnreadableSheet.reduce_term {t} h) = first_ends (parse t) _ h
@@ -110,6 +119,12 @@ none_answered (UnreadableSheet.complete_term {t} {ms} h) = first_ends (parse t) 
 
 pub sheet_unread : (sheet : Sheet) → (answer_of sheet ≡ None) ↔ UnreadableSheet sheet
 sheet_unread sheet = (no_answer sheet, none_answered)
+
+-- `order` has none where `equal` has none
+pub order_unread : (l r : Text) → (answer_of (asks_order l r) ≡ None) ↔ (answer_of (asks_equal l r) ≡ None)
+unfolding answer_of
+order_unread l r =
+    (λ h. first_ends (text_order l r) _ (only_first (text_order l r) _ h), λ h. first_ends (text_order l r) _ (only_first (text_order l r) _ h))
 
 -- so the texts of members give none
 

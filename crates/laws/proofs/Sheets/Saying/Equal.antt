@@ -1,22 +1,26 @@
 -- Answered sheets of kind `equal`: yes exactly where the sides are equal up to order and grouping of sums.
-use mathlib.Core.Path.{◌≡◌, sym, ◌∙◌}
+use mathlib.Core.Path.{◌≡◌, sym, ◌∙◌, ap}
 use mathlib.Core.Logic.{◌↔◌}
 use Rattle.std.specs.Prelude.{Some}
 use Rattle.laws.proofs.Basics.Somes.{some_injective}
 use Prim.Native.Nat.{ℕ}
-use Rattle.rules.specs.Bytes.{Text, same}
+use Rattle.std.specs.declared.cmp.Ordering.{Ordering}
+use Rattle.std.specs.Ordering.{is_eq}
+use Rattle.rules.specs.Bytes.{Text}
 use Rattle.rules.specs.Text.{bytes}
+use Rattle.rules.specs.Order.{compare}
+use Rattle.rules.specs.Maybe.{◌>>=◌}
 use Rattle.rules.specs.Tree.{Tree}
 use Rattle.rules.specs.Sums.{canonical}
 use Rattle.rules.specs.Equality.{Ac}
 use Rattle.rules.specs.Grouping.{read_written, SameSums}
-use Rattle.rules.specs.Reading.{parse, canonical_text}
+use Rattle.rules.specs.Reading.{parse, canonical_text, text_order}
 use Rattle.rules.specs.Sheet.{asks_equal, read_sheet}
 use Rattle.rules.specs.Answer.{answer_of}
 use Rattle.rules.specs.Call.{passed, call}
 use Rattle.rules.specs.Saying.{Says, Decides}
 use Rattle.laws.proofs.Basics.Options.{bound}
-use Rattle.laws.proofs.Basics.Tests.{same_eq, same_of_eq}
+use Rattle.laws.proofs.Basics.Comparing.{compare_equal, only_equal}
 use Rattle.laws.proofs.Equality.Canonical.{canonical_sound, canonical_complete}
 use Rattle.laws.proofs.Reading.Builds.{builds}
 use Rattle.laws.proofs.Reading.SameText.{same_text}
@@ -25,19 +29,28 @@ use Rattle.laws.proofs.Reading.Written.{same_canonical, canonical_same, text_wri
 use Rattle.laws.proofs.Sheets.Calls.{call_answer}
 use Rattle.laws.proofs.Sheets.Saying.Claims.{test_decides, claim_says, says_also}
 
+-- two texts that have an order have canonical texts
+pub ordered_texts : (left right : Text) (o : Ordering) → text_order left right ≡ Some o
+    → (l : Text) × (r : Text) × (canonical_text left ≡ Some l) × (canonical_text right ≡ Some r) × (compare l r ≡ o)
+unfolding text_order
+ordered_texts left right o e =
+    let (l, f, e₁) = bound (canonical_text left) (λ a. canonical_text right >>= λ b. Some (compare a b)) o e in
+    let (r, g, e₂) = bound (canonical_text right) (λ b. Some (compare l b)) o e₁ in (l, r, f, g, some_injective (compare l r) o e₂)
+
 module _ (left right answer : Text) (e : answer_of (asks_equal left right) ≡ Some answer) where
   -- the sides have canonical texts; yes exactly where these are the same
-  equal_texts : (l : Text) × (r : Text) × (canonical_text left ≡ Some l) × (canonical_text right ≡ Some r) × Says (bytes "equal=") (Decides (l ≡ r)) answer
+  pub equal_texts : (l : Text) × (r : Text) × (canonical_text left ≡ Some l) × (canonical_text right ≡ Some r) × Says (bytes "equal=") (Decides (l ≡ r)) answer
   unfolding answer_of
   equal_texts =
-      let (l, f, e₁) = bound (canonical_text left) _ answer e in
-      let (r, g, e₂) = bound (canonical_text right) _ answer e₁ in (
+      let (o, d, e₁) = bound (text_order left right) _ answer e in
+      let (l, r, f, g, k) = ordered_texts left right o d in
+      let h = compare_equal l r in (
         l,
         r,
         f,
         g,
-        claim_says (bytes "equal=") (Decides (l ≡ r)) answer (Some (same l r)) (some_injective _ answer e₂)
-            (test_decides (same l r) (λ z. same_of_eq z, λ z. same_eq l r z)),
+        claim_says (bytes "equal=") (Decides (l ≡ r)) answer (Some (is_eq o)) (some_injective _ answer e₁)
+            (test_decides (is_eq o) (λ z. ap is_eq (sym k ∙ h.1 z), λ z. h.0 (k ∙ only_equal o z))),
       )
 
   -- what holds exactly where they are the same decides the answer

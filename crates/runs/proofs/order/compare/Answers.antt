@@ -1,7 +1,5 @@
 use Rattle.std.proofs.Common.{get_or, refl, sym, ◌∙◌, arith}
-use Rattle.std.specs.Ordering.{nat_cmp}
-use mathlib.Core.Path.{ap₂}
-use Rattle.runs.proofs.WordTexts.{width_bounds, word_at, byte_at}
+use Rattle.runs.proofs.WordTexts.{width_bounds, word_at, past_at}
 use Rattle.runs.proofs.Comparing.{ended, skip, skip_falls, told_less, told_greater, told, goes_on, falls}
 use Rattle.runs.proofs.order.compare.Goals as goal
 use Rattle.runs.proofs.order.compare.Goals.{then-loop-i-test+else-j-right, else-loop-i-test}
@@ -53,17 +51,17 @@ returns-then-is_ne c =
     let l = c.loop-i in
     let p = c.loop-i-test.true in
     let q = c.if-j-right.true in
-    told a.sheet.now a.left.now a.right.now c.requires.left_tokens c.requires.right_tokens l.i l.j l.invariant.0 l.invariant.1 p q c.cmp-order.result (c.cmp-order.ensures ∙ ap₂ nat_cmp c.byte_of.ensures c.byte_of-in-loop-i.ensures) (sym c.is_ne.ensures ∙ c.if-is_ne.true) ∙ sym l.invariant.2
+    told a.sheet.now a.left.now a.right.now c.requires.left_tokens c.requires.right_tokens l.i l.j l.invariant.0 l.invariant.1 p q c.compare_some-compared.ensures (sym c.is_ne.ensures ∙ c.if-is_ne.true) ∙ sym l.invariant.2
 
-pub next_byte-i-requires : goal.next_byte-i-requires
-next_byte-i-requires c =
+pub past-i-requires : goal.past-i-requires
+past-i-requires c =
     let l = c.loop-i in
-    omega (arith, l.invariant.0.within c.loop-i-test.true, width_bounds (get_or c.args.left.now l.i.word 0))
+    omega (arith, c.compare_some-compared.ensures.left, width_bounds (get_or c.args.left.now l.i.word 0))
 
-pub next_byte-j-requires : goal.next_byte-j-requires
-next_byte-j-requires c =
+pub past-j-requires : goal.past-j-requires
+past-j-requires c =
     let l = c.loop-i in
-    omega (arith, l.invariant.1.within c.if-j-right.true, width_bounds (get_or c.args.right.now l.j.word 0))
+    omega (arith, c.compare_some-compared.ensures.right, width_bounds (get_or c.args.right.now l.j.word 0))
 
 pub loop-i-smaller : goal.loop-i-smaller
 loop-i-smaller c =
@@ -71,7 +69,7 @@ loop-i-smaller c =
     let l = c.loop-i in
     let p = c.loop-i-test.true in
     let q = c.if-j-right.true in
-    rw c.next_byte-i.ensures (falls a.sheet.now a.left.now a.right.now c.requires.left_tokens c.requires.right_tokens l.i l.j l.invariant.0 l.invariant.1 p q)
+    rw c.past-i.ensures (falls a.sheet.now a.left.now a.right.now c.requires.left_tokens c.requires.right_tokens l.i l.j l.invariant.0 l.invariant.1 p q c.compare_some-compared.ensures)
 
 pub loop-i-preserved : goal.loop-i-preserved
 loop-i-preserved c =
@@ -79,8 +77,9 @@ loop-i-preserved c =
     let l = c.loop-i in
     let p = c.loop-i-test.true in
     let q = c.if-j-right.true in
-    let e = goes_on a.sheet.now a.left.now a.right.now c.requires.left_tokens c.requires.right_tokens l.i l.j l.invariant.0 l.invariant.1 p q c.cmp-order.result (c.cmp-order.ensures ∙ ap₂ nat_cmp c.byte_of.ensures c.byte_of-in-loop-i.ensures) (sym c.is_ne.ensures ∙ c.if-is_ne.false) in
-    rw (c.next_byte-i.ensures, c.next_byte-j.ensures) (byte_at a.sheet.now a.left.now l.i l.invariant.0 p, byte_at a.sheet.now a.right.now l.j l.invariant.1 q, l.invariant.2 ∙ e)
+    let m = c.compare_some-compared.ensures in
+    let e = goes_on a.sheet.now a.left.now a.right.now c.requires.left_tokens c.requires.right_tokens l.i l.j l.invariant.0 l.invariant.1 p q m (sym c.is_ne.ensures ∙ c.if-is_ne.false) in
+    rw (c.past-i.ensures, c.past-j.ensures) (past_at a.sheet.now a.left.now l.i _ l.invariant.0 p m.left, past_at a.sheet.now a.right.now l.j _ l.invariant.1 q m.right, l.invariant.2 ∙ e)
 
 pub returns : goal.returns
 returns c =

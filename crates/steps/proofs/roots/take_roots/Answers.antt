@@ -3,7 +3,7 @@ use Rattle.tree.specs.Areas.{tree_in}
 use Rattle.tree.proofs.Keeping.{grows_same}
 use Rattle.elimination.specs.Areas.{pairs_in}
 use Rattle.steps.proofs.Differing.{differing_pushed, common_both}
-use Rattle.steps.proofs.Pairing.{apart_pairs}
+use Rattle.steps.proofs.Pairing.{apart_pairs, apart_asked}
 use Rattle.steps.proofs.Rooting.{sum_head, no_sum_head, same_sum, roots_unlike, roots_sums, roots_children, children_room, children_wait}
 use Rattle.steps.proofs.roots.take_roots.Goals as goal
 
@@ -42,4 +42,4 @@ returns c =
     let h = sym c.same_head.ensures ∙ c.if-not-same_head.false in
     let n = no_sum_head c.requires.fit.0.built (sym c.is_sum.ensures ∙ c.if-is_sum.false) in
     children_wait a l r x y e f h c.args.cancelling c.args.front.rest c.requires.front.3 (roots_children c.args.cancelling l r ps h n) c.push_children-stack.ensures.lists c.push_children-stack.ensures.end
-    (rw c.paired-apart.ensures (λ d. apart_pairs _ _ (differing_pushed l r ps _ e f h d (common_both _ _ _ refl))))
+    (rw c.counted-apart.ensures (λ d. apart_asked c.args.cancelling _ _ (apart_pairs _ _ (differing_pushed l r ps _ e f h d (common_both _ _ _ refl)))))

@@ -1,33 +1,76 @@
-use Rattle.std.proofs.Common.{rules, true, false, ◌≡◌, ◌+◌, ◌<◌, length}
-use native.Mathlib.Omega.{arith}
-use Rattle.std.proofs.lemmas.Iterator.{YieldsList-from_slice, IsFirst-from_position}
-use Rattle.std.proofs.lemmas.Iterator.Adapters.{serves_from_places}
-use Rattle.std.proofs.lemmas.Iterator.Consumers.{YieldsList-at, YieldsList-from_enumerate}
-use Rattle.sums.specs.Summands.{TextFits}
-use Rattle.sums.proofs.Labelling.{one_told, texts_differ}
-use lib.ListN.{get_or}
-use Rattle.sums.proofs.Removing.{item_place, marks_of, marks_count, Partner, Other, finds_partner}
+use Rattle.std.proofs.Common.{◌≡◌, ◌+◌, ◌-◌, ◌<◌, ◌%◌, ℕ, length, get_or, sym, ◌∙◌, arith}
+use mathlib.Core.Path.{subst}
+use borrow.Author.Tests.{eqb-true, eqb-false}
+use Rattle.tree.specs.Areas.{tree_in}
+use Rattle.sums.proofs.Bucketing.{Seeking, seeking_starts, seeking_ends, seeking_inside, seeking_here, seeking_next, nearer}
+use Rattle.sums.proofs.Labelling.{mark_passed}
+use Rattle.sums.proofs.Removing.{Finding, finding_starts, finding_ends, finding_zero, finding_other, finding_finds}
 use Rattle.sums.proofs.texts.find.Goals as goal
+use Rattle.sums.proofs.texts.find.Goals.{else-buckets-k-via-then-buckets-k+then-rights-k-ne0+else-same_canonical, else-buckets-k-via-then-buckets-k+else-rights-k-ne0, else-buckets-k-via-else-buckets-k}
 
-pub position-requires-clause-callable : goal.position-requires-clause-callable
-position-requires-clause-callable c =
+pub returns-then-is_empty-clause-found : goal.returns-then-is_empty-clause-found
+returns-then-is_empty-clause-found c =
     let a = c.args in
-    let p = c.requires.text.0 in
-    let ms = marks_of a.texts.words.now a.first (length a.rights.now) in
-    let n = marks_count a.texts.words.now a.first (length a.rights.now) c.requires.marks in
-    serves_from_places (YieldsList-from_enumerate (YieldsList-at c.enumerate.ensures.source (YieldsList-from_slice ms c.iter.ensures.rest)) c.enumerate.ensures.count) (λ x q h. search rules) (λ x k l e.
-    let i = item_place ms k x.0 x.1.now l e in
-    let m : x.0 < length a.rights.now = omega (arith, i.0, n) in
-    let q : (get_or a.rights.now x.0 0 ≡ 0 → ⊥) → TextFits a.area.now.sheet.now a.texts.starts.now a.texts.words.now (a.first + x.0) = λ z. (c.requires.texts x.0 m (omega arith)).0 in
-    (omega (arith, m, c.requires.marks, c.ranges.texts), search m, omega (arith, m, c.requires.marks, c.ranges.texts), search (p, q)))
+    let t = tree_in a.area.now a.left in
+    let z : length a.rights.now ≡ 0 = eqb-true (length a.rights.now) 0 (sym c.is_empty.ensures ∙ c.if-is_empty.true) in
+    finding_ends a.area.now t (finding_starts a.area.now t a.rights.now) (omega arith)
 
-pub returns : goal.returns
-returns c =
+pub loop-next-init : goal.loop-next-init
+loop-next-init c =
     let a = c.args in
-    let s = a.area.now.sheet.now in
-    let starts = a.texts.starts.now in
-    let words = a.texts.words.now in
-    let cs = a.rights.now in
-    let ms = marks_of words a.first (length cs) in
-    λ t u. finds_partner a.area.now t a.p cs a.first c.requires.marks u c.requires.texts c.position.result
-    (IsFirst-from_position _ _ c.position.result (Partner s starts words cs a.p a.first) (Other s starts words cs a.p a.first) c.position.ensures.ran (YieldsList-from_enumerate (YieldsList-at c.enumerate.ensures.source (YieldsList-from_slice ms c.iter.ensures.rest)) c.enumerate.ensures.count) (λ x q h. (search rules, λ t u k l. search (rules, one_told {r = true} k l))) (λ x q h. (search rules, λ e m t u k l. search (rules, e, texts_differ k l, one_told {r = false} k l))))
+    let n = eqb-false (length a.rights.now) 0 (sym c.is_empty.ensures ∙ c.if-is_empty.false) in
+    let l = c.requires.marks.0 in
+    let s = seeking_starts a.buckets.marks.now c.requires.mark c.requires.marks.1 l c.requires.buckets (omega arith) in
+    subst (λ (i : ℕ). Seeking a.area.now (tree_in a.area.now a.left) a.rights.now a.buckets.marks.now (a.mark % length a.buckets.marks.now) (get_or a.buckets.heads.now (a.mark % i) 0)) (sym l) s
+
+pub bounds-buckets-k : goal.bounds-buckets-k
+bounds-buckets-k c = let a = c.args in seeking_inside a.buckets.marks.now c.requires.mark c.requires.marks.1 c.requires.marks.0 c.loop-next.invariant (omega (arith, c.loop-next-test.true))
+
+pub bounds-rights-k : goal.bounds-rights-k
+bounds-rights-k c =
+    let a = c.args in
+    omega (arith, c.requires.marks.0, seeking_inside a.buckets.marks.now c.requires.mark c.requires.marks.1 c.requires.marks.0 c.loop-next.invariant (omega (arith, c.loop-next-test.true)))
+
+pub bounds-buckets-k-in-loop-next : goal.bounds-buckets-k-in-loop-next
+bounds-buckets-k-in-loop-next c =
+    let a = c.args in
+    omega (arith, c.requires.buckets.links_len, seeking_inside a.buckets.marks.now c.requires.mark c.requires.marks.1 c.requires.marks.0 c.loop-next.invariant (omega (arith, c.loop-next-test.true)))
+
+pub returns-then-same_canonical-clause-found : goal.returns-then-same_canonical-clause-found
+returns-then-same_canonical-clause-found c =
+    let a = c.args in
+    let s = c.loop-next.invariant in
+    let p : 0 < c.loop-next.next = omega (arith, c.loop-next-test.true) in
+    let f = seeking_here a.buckets.marks.now c.requires.mark c.requires.marks.1 c.requires.marks.0 s p in
+    let i = seeking_inside a.buckets.marks.now c.requires.mark c.requires.marks.1 c.requires.marks.0 s p in
+    finding_finds a.area.now (tree_in a.area.now a.left) f (omega (arith, i, c.requires.marks.0)) c.if-rights-k-ne0.true (sym c.same_canonical.ensures.value ∙ c.if-same_canonical.true)
+
+pub loop-next-smaller : goal.loop-next-smaller
+loop-next-smaller c =
+    let a = c.args in
+    let s = c.loop-next.invariant in
+    let p : 0 < c.loop-next.next = omega (arith, c.loop-next-test.true) in
+    let i = seeking_inside a.buckets.marks.now c.requires.mark c.requires.marks.1 c.requires.marks.0 s p in
+    let f = c.requires.buckets.next (c.loop-next.next - 1) i in
+    nearer p (omega (arith, s.first.high, c.requires.marks.0)) (λ o. omega (arith, f.low o))
+
+pub loop-next-preserved : goal.loop-next-preserved
+loop-next-preserved c =
+    let a = c.args in
+    let t = tree_in a.area.now a.left in
+    let s = c.loop-next.invariant in
+    let p : 0 < c.loop-next.next = omega (arith, c.loop-next-test.true) in
+    let f = seeking_here a.buckets.marks.now c.requires.mark c.requires.marks.1 c.requires.marks.0 s p in
+    let i = seeking_inside a.buckets.marks.now c.requires.mark c.requires.marks.1 c.requires.marks.0 s p in
+    let l : c.loop-next.next - 1 < length a.rights.now = omega (arith, i, c.requires.marks.0) in
+    let g : Finding a.area.now t a.rights.now (c.loop-next.next - 1 + 1) = elim c.else-buckets-k.branch [
+      | else-buckets-k-via-then-buckets-k+then-rights-k-ne0+else-same_canonical w ↦ finding_other a.area.now t f l w.if-rights-k-ne0.true (sym w.same_canonical.ensures.value ∙ w.if-same_canonical.false)
+      | else-buckets-k-via-then-buckets-k+else-rights-k-ne0 w ↦ finding_zero a.area.now t f l w.if-rights-k-ne0.false
+      | else-buckets-k-via-else-buckets-k w ↦ mark_passed a.buckets.marks.now f l c.requires.mark c.requires.marks.1 w.if-buckets-k.false
+    ] in
+    seeking_next a.buckets.marks.now c.requires.mark c.requires.marks.1 c.requires.marks.0 s p c.requires.buckets g
+
+pub returns-clause-found : goal.returns-clause-found
+returns-clause-found c =
+    let a = c.args in
+    finding_ends a.area.now (tree_in a.area.now a.left) (seeking_ends a.buckets.marks.now c.requires.mark c.requires.marks.1 c.requires.marks.0 c.loop-next.invariant (omega (arith, c.loop-next-test.false))) (omega arith)

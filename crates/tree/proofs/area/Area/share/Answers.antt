@@ -1,12 +1,19 @@
-use Rattle.tree.proofs.Fitting.{shared_fits, shared_tree, pushes_as}
+use mathlib.Core.Path.{refl}
+use native.Mathlib.Omega.{arith}
+use Rattle.tree.proofs.Fitting.{shared_linked}
 use Rattle.tree.proofs.area.Area.share.Goals as goal
 
-pub push-requires-clause-fits : goal.push-requires-clause-fits
-push-requires-clause-fits c =
+pub invariant_of-self : goal.invariant_of-self
+invariant_of-self c =
     let k = c.requires.k_cell in
-    let f = c.first_of.ensures in
-    let n = c.count_of.ensures in
-    shared_fits c.args.self.now c.args.k c.kind.ensures f.first k.0.0 k.0.1 k.1 n.count n.small f.below
+    record { arena = rw c.push_again-self.ensures.0 (shared_linked c.args.self.now c.args.k k.0.0 k.0.1 k.1 (omega (arith, c.requires.room.0)) c.push_again-self.ensures.1).arena }
 
 pub returns : goal.returns
-returns c = pushes_as (shared_tree c.args.self.now c.args.k c.kind.ensures c.first_of.ensures.first) c.push.ensures
+returns c =
+    let k = c.requires.k_cell in
+    record {
+      lent = record { work = refl; sheet = refl };
+      cell = refl;
+      end = c.push_again-self.ensures.0;
+      linked = shared_linked c.args.self.now c.args.k k.0.0 k.0.1 k.1 (omega (arith, c.requires.room.0)) c.push_again-self.ensures.1;
+    }
