@@ -78,6 +78,7 @@ fn number_of(refusal: Refusal) -> u32
         Refusal::ShortWorkArea => 11,
         Refusal::UnreadableTerm => 4,
         Refusal::ShortOutput => 12,
+        Refusal::TooManyPages => 13,
     }
 }
 
