@@ -7,3 +7,4 @@ pub mod Sorting
 pub mod Order
 pub mod Spelling
 pub mod Numerals
+pub mod Powers

@@ -43,7 +43,7 @@ number_last (b ∷ s) d p q =
 mod_ten : (n : ℕ) → n % 10 < 10
 mod_ten n = omega arith
 
-abbrev last_digit : Bool → ℕ → ℕ → Text
+abbrev pub last_digit : Bool → ℕ → ℕ → Text
 last_digit b w n = elim b [ true ↦ (48 + n) ∷ [] | false ↦ digits_in w (n / 10) ++ ((48 + n % 10) ∷ []) ]
 
 all_digits : (w n : ℕ) → all digit (digits_in w n) ≡ true
