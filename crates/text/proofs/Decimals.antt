@@ -1,18 +1,23 @@
 -- Decimal numbers at a position of a text, and the digits of a number one at a time from the last.
-use mathlib.Core.Path.{◌≡◌, refl, ap, sym, ◌∙◌}
+use mathlib.Core.Path.{◌≡◌, refl, ap, sym, subst, ◌∙◌}
 use mathlib.Core.List.{List, [], ◌∷◌, ◌++◌, append_assoc}
-use mathlib.Core.Bool.{Bool, true, false, not, ◌&&◌, and-false}
-use Prim.Native.Nat.{ℕ, zero, suc, ◌+◌, ◌-◌, ◌*◌, ◌/◌, ◌%◌, ◌<◌, ◌≤◌, ◌^◌}
+use mathlib.Core.Bool.{Bool, true, false, cond, not, ◌&&◌, and-false}
+use Prim.Native.Nat.{ℕ, zero, suc, ◌+◌, ◌-◌, ◌*◌, ◌/◌, ◌%◌, ◌<◌, ◌≤◌}
+use mathlib.Core.Logic.{inl}
 use native.Mathlib.Omega.{arith}
 use native.Mathlib.Decide.{dec_lt}
 use lib.ListN.{length, get_or, take, drop, set, drop_of_length-le, length-append, take-append-drop}
-use lib.Seq.{drop-cons, get_or-set_same, drop-set-lt, take-set-le, lt-length-set}
+use lib.Seq.{drop-set-lt}
 use lib.Dec.{eqb, leb, ltb}
 use borrow.Author.Tests.{eq-eqb, lt-ltb, le-ltb, lt-leb, le-leb}
 use Rattle.rules.specs.Names.{digit, all}
 use Rattle.rules.specs.Decimal.{value_from, proper, number_up_to, digits_in, decimal}
+use Rattle.rules.specs.Powers.{power, powers, powers_down, digits_by}
 use Rattle.laws.proofs.Basics.Tests.{and_left, and_right, leb_true}
-use Rattle.std.specs.Prelude.{Option, Some, None, IfNone, IfSome, MatchOption}
+use Rattle.laws.proofs.Basics.Powers.{power_some, one_digit, first_digit, last_apart}
+use Rattle.text.specs.Powers.{powers_for}
+use Rattle.std.proofs.lemmas.List.{take_more_set}
+use Rattle.std.specs.Prelude.{Some, None}
 use Rattle.text.proofs.Loops.{drop_next}
 
 -- ---- reading
@@ -122,64 +127,140 @@ width_one n h = ap length (decimal_one n h)
 pub width_more : (n : ℕ) → 10 ≤ n → length (decimal n) ≡ suc (length (decimal (n / 10)))
 width_more n h = ap length (decimal_more n h) ∙ length-append (decimal (n / 10)) ((48 + n % 10) ∷ []) ∙ omega arith
 
--- the digits of a number between two powers of ten
-pub width_by : (k n : ℕ) → 10 ^ k ≤ n → n < 10 * 10 ^ k → length (decimal n) ≡ k + 1
-width_by zero n p q = width_one n (omega (arith, q))
-width_by (suc k) n p q =
-    let e : 10 ^ suc k ≡ 10 * 10 ^ k = omega arith in
-    let z : 1 ≤ 10 ^ k = omega arith in
-    width_more n (omega arith) ∙ ap suc (width_by k (n / 10) (omega arith) (omega arith)) ∙ omega arith
+-- the digits of a number below a power of ten
+pub width_by : (k n : ℕ) → n < power (suc k) → (1 ≤ k → power k ≤ n) → length (decimal n) ≡ suc k
+width_by zero n h l = width_one n (omega arith)
+width_by (suc k) n h l =
+    let i = power_some k in
+    let j = l (omega arith) in
+    width_more n (omega arith) ∙ ap suc (width_by k (n / 10) (omega arith) (λ m. omega arith))
 
--- the same by the logarithm, if there is one
-pub width_told : (n : ℕ) {r : ℕ} (o : Option ℕ) (Q : ℕ → Type 0) → IfNone o (n ≡ 0) → IfSome o (λ k. 10 ^ k ≤ n) → IfSome o (λ k. n < 10 * 10 ^ k) → MatchOption o (r ≡ 1) Q → ((k : ℕ) → Q k → r ≡ k + 1)
-    → r ≡ length (decimal n)
-width_told n None Q z p q e f = e ∙ sym (width_one n (omega (arith, z)))
-width_told n (Some k) Q z p q e f = f k e ∙ sym (width_by k n p q)
+-- by subtracting powers, from the first that is not above the number on
+pub decimal_by : (k n : ℕ) → n < power (suc k) → (1 ≤ k → power k ≤ n) → decimal n ≡ digits_by (powers_down (suc k)) true n
+decimal_by zero n h l = decimal_one n (omega arith) ∙ ap (λ (d : ℕ). (48 + d) ∷ []) (omega arith) ∙ sym (one_digit true n (omega arith))
+decimal_by (suc k) n h l =
+    let i = power_some k in
+    let j = l (omega arith) in
+    decimal_more n (omega arith)
+    ∙ ap (◌++ ((48 + n % 10) ∷ [])) (decimal_by k (n / 10) (omega arith) (λ m. omega arith))
+    ∙ sym (last_apart k n true h (inl refl))
 
--- the last w digits of a number
-unfoldable pub padded : ℕ → ℕ → List ℕ
-padded zero n = []
-padded (suc w) n = padded w (n / 10) ++ ((48 + n % 10) ∷ [])
+power_up : (k j : ℕ) → k ≤ j → power k ≤ power j
+power_up zero j h = power_some j
+power_up (suc k) zero h = absurd (omega arith)
+power_up (suc k) (suc j) h = let i = power_up k j (omega arith) in omega arith
 
-padded_at : (j i m : ℕ) → i ≡ suc j → padded i m ≡ padded j (m / 10) ++ ((48 + m % 10) ∷ [])
-unfolding padded
-padded_at j i m e = rw e
+-- a number of w digits is below the w-th power and not below the one before it
+record Between (n w : ℕ) : Type 0 where
+  some : 1 ≤ w
+  below : n < power w
+  above : 2 ≤ w → power (w - 1) ≤ n
 
-padded_one : (i m : ℕ) → i ≡ 1 → padded i m ≡ (48 + m % 10) ∷ []
-unfolding padded
-padded_one i m e = rw e
-
-decimal_padded_to : (k n : ℕ) → n ≤ k → decimal n ≡ padded (length (decimal n)) n
-decimal_padded_to zero n h = decimal_one n (omega arith) ∙ sym (padded_one (length (decimal n)) n (width_one n (omega arith)))
-decimal_padded_to (suc k) n h = go (dec_lt n 10) (λ i. decimal_padded_to k (n / 10) (omega arith))
+between : (k n : ℕ) → n ≤ k → Between n (length (decimal n))
+between zero n h = rw (width_one n (omega arith)) (record { some = omega arith; below = omega arith; above = λ l. omega arith })
+between (suc k) n h = go (dec_lt n 10) (λ l. between k (n / 10) (omega arith))
   where
-    go : Dec (n < 10) → (10 ≤ n → decimal (n / 10) ≡ padded (length (decimal (n / 10))) (n / 10)) → decimal n ≡ padded (length (decimal n)) n
-    go (yes l) h = decimal_one n l ∙ sym (padded_one (length (decimal n)) n (width_one n l))
-    go (no l) h =
-        let i : 10 ≤ n = omega arith in
-        decimal_more n i ∙ ap (last_digit false n) (h i) ∙ sym (padded_at (length (decimal (n / 10))) (length (decimal n)) n (width_more n i))
+    first : {w : ℕ} → Dec (w < 2) → power w ≡ 10 * power (w - 1) → (2 ≤ w → power (w - 1) ≤ n / 10) → (w < 2 → power w ≤ n) → power w ≤ n
+    first (yes l) f a o = o l
+    first (no l) f a o = let i = a (omega arith) in omega arith
 
-pub decimal_padded : (n : ℕ) → decimal n ≡ padded (length (decimal n)) n
-decimal_padded n = decimal_padded_to n n (omega arith)
+    go : Dec (n < 10) → (10 ≤ n → Between (n / 10) (length (decimal (n / 10)))) → Between n (length (decimal n))
+    go (yes l) r = rw (width_one n l) (record { some = omega arith; below = omega arith; above = λ m. omega arith })
+    go (no l) r =
+        let b = r (omega arith) in
+        let w = length (decimal (n / 10)) in
+        let i : w ≡ suc (w - 1) = omega (arith, b.some) in
+        let e : power (suc w - 1) ≡ power w = ap power (omega arith) in
+        let f : power w ≡ 10 * power (w - 1) = ap power i in
+        rw (width_more n (omega arith)) (record { some = omega arith; below = omega (arith, b.below); above = λ m. rw e (first (dec_lt w 2) f b.above (λ k. let g : power w ≡ 10 = ap power {x = w} {y = 1} (omega (arith, b.some)) in omega arith)) })
 
-drop_set : (l : List ℕ) (i v : ℕ) → i < length l → drop i (set l i v) ≡ v ∷ drop (suc i) l
-drop_set l i v h =
-    drop-cons (set l i v) i 0 (lt-length-set l i v h)
-    ∙ rw (get_or-set_same l i v 0 h, drop-set-lt (suc i) l i v (omega arith))
+-- a number by its digits: how many, and that its powers serve
+pub power_above : (n : ℕ) → n < power (length (decimal n))
+power_above n = (between n n (omega arith)).below
 
--- a turn of the printer: the digit before i
-pub print_turn : (out rest : List ℕ) (at i m : ℕ) → at < i → i ≤ length out → take at out ++ (padded (i - at) m ++ drop i out) ≡ rest
-    → take at (set out (i - 1) (48 + m % 10)) ++ (padded (i - 1 - at) (m / 10) ++ drop (i - 1) (set out (i - 1) (48 + m % 10))) ≡ rest
-print_turn out rest at i m h l inv =
-    let e : i ≡ suc (i - 1) = omega arith in
-    let p : i - at ≡ suc (i - 1 - at) = omega arith in
-    let d : drop (i - 1) (set out (i - 1) (48 + m % 10)) ≡ (48 + m % 10) ∷ drop i out = drop_set out (i - 1) (48 + m % 10) (omega arith) ∙ ap (λ (n : ℕ). (48 + m % 10) ∷ drop n out) (sym e) in
-    let k : take at (set out (i - 1) (48 + m % 10)) ≡ take at out = take-set-le at out (i - 1) (48 + m % 10) (omega arith) in
-    rw (k, d) (ap (take at out ++◌) (sym (append_assoc (padded (i - 1 - at) (m / 10)) ((48 + m % 10) ∷ []) (drop i out)) ∙ ap (◌++ drop i out) (sym (padded_at (i - 1 - at) (i - at) m p))) ∙ inv)
+pub width_within : (n k : ℕ) → 1 ≤ k → n < power k → length (decimal n) ≤ k
+width_within n k p h = go (dec_lt k (length (decimal n)))
+  where
+    go : Dec (k < length (decimal n)) → length (decimal n) ≤ k
+    go (yes l) = let i = power_up k (length (decimal n) - 1) (omega arith) in let j = (between n n (omega arith)).above (omega arith) in absurd (omega arith)
+    go (no l) = omega arith
 
-pub print_end : (out rest : List ℕ) (at i m : ℕ) → at ≤ i → i ≤ at → take at out ++ (padded (i - at) m ++ drop i out) ≡ rest → out ≡ rest
-unfolding padded
-print_end out rest at i m g h inv =
-    let e : i ≡ at = omega arith in
-    let z : at - at ≡ 0 = omega arith in
-    sym (take-append-drop at out) ∙ (rw (e, z) at inv)
+pub decimal_digits : (n : ℕ) → decimal n ≡ digits_by (powers_down (length (decimal n))) true n
+decimal_digits n =
+    let b = between n n (omega arith) in
+    let i : length (decimal n) ≡ suc (length (decimal n) - 1) = omega (arith, b.some) in
+    decimal_by (length (decimal n) - 1) n (subst (λ (w : ℕ). n < power w) i b.below) (λ l. b.above (omega arith)) ∙ ap (λ (w : ℕ). digits_by (powers_down w) true n) (sym i)
+
+-- the powers that serve a number
+
+down_length : (k : ℕ) → length (powers_down k) ≡ k
+down_length zero = refl
+down_length (suc k) = ap suc (down_length k)
+
+suc_less : (k w : ℕ) → suc k - suc w ≡ k - w
+suc_less k w = omega arith
+
+less_one : (w : ℕ) → suc w - 1 ≡ w
+less_one w = omega arith
+
+down_at : (k w : ℕ) → 1 ≤ w → w ≤ k → get_or (powers_down k) (k - w) 0 ≡ power (w - 1)
+down_at zero w p q = absurd (omega arith)
+down_at (suc k) zero p q = absurd (omega arith)
+down_at (suc k) (suc w) p q = rw (suc_less k w, less_one w) (go (k - w) refl (λ l. down_at k (suc w) (omega arith) l ∙ ap power (less_one w)))
+  where
+    go : (i : ℕ) → k - w ≡ i → (suc w ≤ k → get_or (powers_down k) (k - suc w) 0 ≡ power w) → get_or (powers_down (suc k)) i 0 ≡ power w
+    go zero e r = ap power (omega arith)
+    go (suc i) e r = ap (λ (j : ℕ). get_or (powers_down k) j 0) (omega arith) ∙ r (omega arith)
+
+module _ (n : ℕ) (ps : List ℕ) (e : ps ≡ powers_for n) where
+  served : ps ≡ powers_down (length ps)
+  served = e ∙ go (leb n 4294967295) ∙ ap (λ (qs : List ℕ). powers_down (length qs)) (sym e)
+    where
+      go : (b : Bool) → cond b powers (powers_down 20) ≡ powers_down (length (cond b powers (powers_down 20)))
+      go true = refl
+      go false = refl
+
+  pub serves : n < 18446744073709551616 → (n < power (length ps)) × (1 ≤ length ps)
+  serves h = rw e (go (leb n 4294967295) refl)
+    where
+      go : (b : Bool) → leb n 4294967295 ≡ b → (n < power (length (cond b powers (powers_down 20)))) × (1 ≤ length (cond b powers (powers_down 20)))
+      go true i = let j = leb_true n 4294967295 i in (omega arith, omega arith)
+      go false i = (omega arith, omega arith)
+
+  pub served_at : (w : ℕ) → 1 ≤ w → w ≤ length ps → get_or ps (length ps - w) 0 ≡ power (w - 1)
+  served_at w p q = ap (λ (qs : List ℕ). get_or qs (length ps - w) 0) served ∙ down_at (length ps) w p q
+
+  -- a digit by the power of its place
+  pub turn_room : (w rest : ℕ) → 1 ≤ w → w ≤ length ps → rest < power w → rest < 10 * get_or ps (length ps - w) 0
+  turn_room w rest p q h =
+      let i : power w ≡ 10 * power (w - 1) = ap power {x = w} {y = suc (w - 1)} (omega arith) in
+      omega (arith, served_at w p q)
+
+pub digit_small : (d p r n : ℕ) → n ≡ d * p + r → n < 10 * p → d ≤ 9
+digit_small d p r n e h = go (dec_lt 9 d)
+  where
+    go : Dec (9 < d) → d ≤ 9
+    go (yes l) = let i : d * p ≡ (10 + (d - 10)) * p = ap (◌* p) (omega arith) in absurd (omega arith)
+    go (no l) = omega arith
+
+pub width_is : (n w : ℕ) → 1 ≤ w → n < power w → (2 ≤ w → power (w - 1) ≤ n) → w ≡ length (decimal n)
+width_is n zero p h l = absurd (omega arith)
+width_is n (suc k) p h l = sym (width_by k n h (λ m. rw (less_one k) at (l (omega arith))))
+
+-- a turn of the printer: the digit at i
+pub print_turn : (out rest : List ℕ) (i end n d r : ℕ) → i < end → end ≤ length out → n ≡ d * power (end - i - 1) + r → r < power (end - i - 1) → d ≤ 9
+    → take i out ++ (digits_by (powers_down (end - i)) true n ++ drop end out) ≡ rest
+    → take (i + 1) (set out i (48 + d)) ++ (digits_by (powers_down (end - (i + 1))) true r ++ drop end (set out i (48 + d))) ≡ rest
+print_turn out rest i end n d r h l e m g inv =
+    let k : end - i ≡ suc (end - i - 1) = omega arith in
+    let j : end - (i + 1) ≡ end - i - 1 = omega arith in
+    let f : digits_by (powers_down (end - i)) true n ≡ (48 + d) ∷ digits_by (powers_down (end - i - 1)) true r =
+    ap (λ (w : ℕ). digits_by (powers_down w) true n) k ∙ first_digit (end - i - 1) n d r true e m g in
+    rw (j, take_more_set out i (48 + d) (omega arith), drop-set-lt end out i (48 + d) h) (append_assoc (take i out) ((48 + d) ∷ []) _ ∙ ap (λ (t : List ℕ). take i out ++ (t ++ drop end out)) (sym f) ∙ inv)
+
+pub print_end : (out rest : List ℕ) (i end n : ℕ) → end ≤ i → i ≤ end → take i out ++ (digits_by (powers_down (end - i)) true n ++ drop end out) ≡ rest → out ≡ rest
+unfolding digits_by
+print_end out rest i end n g h inv =
+    let e : i ≡ end = omega arith in
+    let z : end - end ≡ 0 = omega arith in
+    sym (take-append-drop end out) ∙ (rw (e, z) at inv)

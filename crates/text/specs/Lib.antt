@@ -5,3 +5,4 @@ pub mod Sorting
 pub mod Printing
 pub mod Places
 pub mod Totality
+pub mod Powers

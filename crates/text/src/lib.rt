@@ -2,6 +2,7 @@
 #![tactic(auto)]
 
 pub mod decimal; // decimal.rt: decimal numbers
+mod powers; // powers.rt: the powers of ten below 2^64
 pub mod places; // places.rt: texts named by places, and sorting by them
 pub mod sorting; // sorting.rt: words sorted by a test
 

@@ -45,19 +45,19 @@ split p n h l =
 pub powers_row : powers ≡ powers_down 10
 powers_row = refl
 
-power_some : (k : ℕ) → 0 < power k
+pub power_some : (k : ℕ) → 0 < power k
 power_some zero = omega arith
 power_some (suc k) = let i = power_some k in omega arith
 
 -- the digits after the first power
-abbrev after_first : ℕ → Bool → ℕ × ℕ → Text
+abbrev pub after_first : ℕ → Bool → ℕ × ℕ → Text
 after_first k b r = printed (λ c m. digits_by (powers_down k) c m) b (is_last (powers_down k)) r
 
-first_digit : (k n d r : ℕ) (b : Bool) → n ≡ d * power k + r → r < power k → d ≤ 9 → digits_by (powers_down (suc k)) b n ≡ after_first k b (d, r)
+pub first_digit : (k n d r : ℕ) (b : Bool) → n ≡ d * power k + r → r < power k → d ≤ 9 → digits_by (powers_down (suc k)) b n ≡ after_first k b (d, r)
 unfolding digits_by
 first_digit k n d r b e l h = ap (after_first k b) (subtracted_is 9 (power k) n d r e l h)
 
-one_digit : (b : Bool) (n : ℕ) → n < 10 → digits_by (powers_down 1) b n ≡ (48 + n) ∷ []
+pub one_digit : (b : Bool) (n : ℕ) → n < 10 → digits_by (powers_down 1) b n ≡ (48 + n) ∷ []
 unfolding digits_by
 one_digit b n h = first_digit 0 n n 0 b (omega arith) (omega arith) (omega arith) ∙ go b
   where
@@ -74,10 +74,10 @@ shown false true (suc d) (inr h) = refl
 shown false false (suc d) (inr h) = ap not (eqb-suc-zero d)
 
 -- all digits but the last are those of the tenth, where one is printed already or there is more than one
-abbrev LastApart : ℕ → ℕ → Bool → Type 0
+abbrev pub LastApart : ℕ → ℕ → Bool → Type 0
 LastApart k n b = digits_by (powers_down (suc (suc k))) b n ≡ digits_by (powers_down (suc k)) b (n / 10) ++ ((48 + n % 10) ∷ [])
 
-last_apart : (k n : ℕ) (b : Bool) → n < 10 * power (suc k) → (b ≡ true) ⊎ (10 ≤ n) → LastApart k n b
+pub last_apart : (k n : ℕ) (b : Bool) → n < 10 * power (suc k) → (b ≡ true) ⊎ (10 ≤ n) → LastApart k n b
 last_apart zero n b h g =
     first_digit 1 n (n / 10) (n % 10) b (omega arith) (omega arith) (omega arith)
     ∙ ap (λ (c : Bool). cond c ((48 + n / 10) ∷ digits_by (powers_down 1) true (n % 10)) (digits_by (powers_down 1) false (n % 10))) (shown b false (n / 10) (tenth g))
