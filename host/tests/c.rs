@@ -58,6 +58,26 @@ fn run(program: &Path, input: Vec<u8>) -> Output {
     output
 }
 
+// Of the C library memset alone: whoever links the archive without one brings no more.
+#[test]
+fn the_archive_asks_for_memset_alone() {
+    if compiler_absent("nm", "what the archive asks for was not looked at")
+        || notice::library_absent("what the archive asks for was not looked at")
+    {
+        return;
+    }
+    let mut command = Command::new("nm");
+    command.arg("--undefined-only").arg(yukhtsami::file());
+    let output = command.output().unwrap();
+    assert!(output.status.success());
+    let said = String::from_utf8(output.stdout).unwrap();
+    let asked: Vec<&str> = said
+        .lines()
+        .filter_map(|line| line.trim_start().strip_prefix("U "))
+        .collect();
+    assert_eq!(asked, ["memset"]);
+}
+
 #[test]
 fn the_example_answers_and_refuses() {
     if compiler_absent("gcc", "the example was not compiled")

@@ -13,7 +13,7 @@ use Rattle.laws.specs.Laying.{all_columned, verdict_entries}
 use Rattle.tree.specs.declared.area.Area.{Area}
 use Rattle.tree.specs.Areas.{tree_in}
 use Rattle.substitution.specs.Answers.{answer_in}
-use Rattle.verdicts.specs.Verdicts.{VerdictHeld}
+use Rattle.verdicts.specs.Verdicts.{VerdictHeld, Stopped}
 use Rattle.answers.specs.declared.deciding.Key.{Key}
 use Rattle.answers.specs.declared.deciding.Key.TheVariants as keys
 use Rattle.answers.specs.declared.deciding.Lines.{Lines}
@@ -54,6 +54,13 @@ reply_of a (Ok l) = passed (lines_text a l)
 abbrev pub Standing : Area → Result Lines Refusal → Type 0
 Standing a (Err x) = Unit {0}
 Standing a (Ok l) = LinesHeld a l
+
+-- a decision that names no cell: a refusal, a claim, or a run of `unify` or `match` that ends without a solution
+abbrev pub NamesNone : Result Lines Refusal → Type 0
+NamesNone (Err x) = Unit {0}
+NamesNone (Ok (Claim k c)) = Unit {0}
+NamesNone (Ok (Term k i)) = ⊥
+NamesNone (Ok (Verdict r)) = Stopped r.verdict
 
 -- the columns of a page can hold the keys and texts
 abbrev pub FitsColumns : Area → Result Lines Refusal → Type 0

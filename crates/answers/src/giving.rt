@@ -1,6 +1,7 @@
 // A decision in the output: measured, then written where it fits.
 ghost use Rattle.std.specs.Prelude.{length};
-ghost use Rattle.answers.specs.Deciding.{reply_of, Standing};
+ghost use Rattle.answers.specs.Deciding.{reply_of, Standing, NamesNone};
+ghost use Rattle.tree.specs.declared.area.Area.{Area};
 ghost use Rattle.answers.specs.Settling.{within_room, Settles};
 
 use crate::deciding::Decision;
@@ -33,4 +34,26 @@ pub fn give(area: &Area, decision: Decision, output: &mut [u8]) -> Reply
     out.pass = Pass::Write;
     put_lines(&mut out, area, lines).unwrap();
     Ok(out.at)
+}
+
+// The same for a decision that names no cell, which says one thing in every area.
+fn give_alike(area: &Area, decision: Decision, output: &mut [u8]) -> Reply
+    requires { NamesNone decision }
+    ensures { (a : Area) → Settles (within_room (reply_of a decision) (length output.old)) output.old output.new result }
+{
+    give(area, decision, output)
+}
+
+// The same for a decision that names no cell, of a caller who has no work area.
+pub fn give_told(decision: Decision, output: &mut [u8]) -> Reply
+    requires { NamesNone decision }
+    ensures { (a : Area) → Settles (within_room (reply_of a decision) (length output.old)) output.old output.new result }
+{
+    let mut words = [0u32; 4];
+    let area = Area {
+        sheet: b"",
+        work: &mut words,
+        free: 1,
+    };
+    give_alike(&area, decision, output)
 }

@@ -18,11 +18,12 @@ use Rattle.tree.specs.declared.kinds.Kind.TheVariants.{Application, Variable, At
 use Rattle.tree.specs.Cells.{start_of, length_of, named, name_at}
 use Rattle.tree.specs.Areas.{cell_kind, first_in, next_in, name_in, tree_in, trees_in, Pushes}
 use Rattle.tree.proofs.ByKind.{tree_application, tree_a_variable, tree_an_atom}
-use Rattle.tree.proofs.Keeping.{adds_same, adds_push, pushed_some, pushed_inside, pushed_trees}
+use Rattle.tree.proofs.Keeping.{adds_push, pushed_some, pushed_inside, pushed_trees}
 use Rattle.tree.proofs.Lists.{list_none, list_more}
 use Rattle.closing.specs.Machine.{back}
 use Rattle.closing.specs.Areas.{room_for, AloneIn, Shuts, ClosesIn}
 use Rattle.closing.proofs.AtomTrees.{around, atom_back, no_atom, no_digits}
+use Rattle.closing.proofs.Shuts.{closes_not}
 
 pub alone_none : (a : Area) (k : ℕ) → k ≡ 0 → AloneIn a k false
 unfolding atom_of
@@ -89,7 +90,7 @@ module _ (a : Area) (k : ℕ) (p : 0 < k) (q : k < a.free) where
 
 module _ (a : Area) (chain : ℕ) where
   pub atom_closes_not : (n : Text) (next : ℕ) → AloneIn a chain false → ClosesIn a a (room_for a chain) next (atom_of n (back (trees_in a chain) none)) None
-  atom_closes_not n next h = (no_atom n (trees_in a chain) (h n), adds_same a, omega arith)
+  atom_closes_not n next h = closes_not a (room_for a chain) next (no_atom n (trees_in a chain) (h n))
 
   pub atom_shut : {b : Area} {letter next k : ℕ} → AloneIn a chain true → Pushes a b k next (atom letter (name_in a chain)) → Shuts a b (room_for a chain) next (atom_of (letter ∷ []) (back (trees_in a chain) none)) k
   unfolding size atom_of
@@ -101,5 +102,7 @@ module _ (a : Area) (chain : ℕ) where
     used = omega (arith, x.end);
     some_cell = pushed_some x;
     inside = pushed_inside x;
+    new = omega (arith, x.cell);
+    last = omega (arith, x.cell, x.end);
     trees = pushed_trees x;
   }

@@ -1,5 +1,5 @@
 -- What a closed list of an area is: an application, or nothing.
-use Prim.Native.Nat.{ℕ, ◌+◌, ◌<◌, ◌≤◌}
+use Prim.Native.Nat.{ℕ, ◌+◌, ◌*◌, ◌<◌, ◌≤◌}
 use native.Mathlib.Omega.{arith}
 use mathlib.Core.Path.{◌≡◌, refl, sym, ap, ap₂, subst, ◌∙◌}
 use mathlib.Core.List.{[], ◌∷◌}
@@ -17,10 +17,12 @@ use Rattle.sheet.specs.declared.Place.{Place}
 use Rattle.tree.specs.declared.area.Area.{Area}
 use Rattle.tree.specs.Areas.{trees_in, Pushes}
 use Rattle.tree.specs.Spelled.{text_in}
-use Rattle.tree.proofs.Keeping.{adds_grows, adds_then, adds_push, grows_trees, pushed_some, pushed_inside, pushed_trees}
+use Rattle.text.proofs.Frames.{outside_same, outside_within}
+use Rattle.tree.proofs.Keeping.{lent_same, adds_grows, adds_then, adds_push, grows_trees, pushed_some, pushed_inside, pushed_trees}
 use Rattle.tree.proofs.Spelling.{text_lent}
 use Rattle.closing.specs.declared.Ordered.{Ordered}
 use Rattle.closing.specs.Machine.{back}
+use Rattle.closing.specs.Closing.{NoTree}
 use Rattle.closing.specs.Areas.{room_for, OrdersIn, PutsInOrder, Shuts, ClosesIn}
 use Rattle.closing.proofs.AtomTrees.{letter_only}
 use Rattle.closing.proofs.Turns.{back_sizes}
@@ -28,6 +30,10 @@ use Rattle.closing.proofs.Turns.{back_sizes}
 -- what is known of the answer
 pub closes_none : (a b : Area) (room next : ℕ) (o : Option Tree) {r : Option ℕ} → r ≡ None → ClosesIn a b room next o None → ClosesIn a b room next o r
 closes_none a b room next o e h = subst (ClosesIn a b room next o) (sym e) h
+
+-- nothing is written
+pub closes_not : (a : Area) (room next : ℕ) {o : Option Tree} → NoTree o → ClosesIn a a room next o None
+closes_not a room next h = (h, lent_same a, refl, outside_same a.work.now (4 * a.free) (4 * (a.free + room)))
 
 pub closes_of : (a b : Area) (room next : ℕ) {o q : Option Tree} (r : Option ℕ) → o ≡ q → ClosesIn a b room next o r → ClosesIn a b room next q r
 closes_of a b room next r e h = subst (λ (p : Option Tree). ClosesIn a b room next p r) e h
@@ -39,8 +45,9 @@ list_over a b chain next n h = (
   (λ t e.
       let z : 1 + sizes (back (trees_in a chain) none) ≡ size t = ap size (some_injective (apply n (back (trees_in a chain) none)) t e) in
       omega (arith, back_sizes (trees_in a chain) none, h.0)),
-  h.1,
-  omega (arith, h.2),
+  h.1.lent,
+  h.2,
+  outside_within (omega arith) (omega (arith, h.2)) h.1.grown,
 )
 
 module _ {a b : Area} {chain : ℕ} {r : Ordered} (o : OrdersIn a b chain r) where
@@ -61,6 +68,8 @@ module _ {a b : Area} {chain : ℕ} {r : Ordered} (o : OrdersIn a b chain r) whe
         used = omega (arith, o.used, x.end);
         some_cell = pushed_some x;
         inside = pushed_inside x;
+        new = omega (arith, o.adds.grew, x.cell);
+        last = omega (arith, x.cell, x.end);
         trees = pushed_trees x ∙ ap₂ more e (grows_trees (adds_grows o.adds) next q);
       }
 

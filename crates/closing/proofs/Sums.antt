@@ -9,15 +9,17 @@ use Rattle.rules.specs.Tree.{Tree, Trees, apply, none, more, size, sizes, count,
 use Rattle.rules.specs.Reading.{sum_of}
 use Rattle.sheet.specs.declared.Place.{Place}
 use Rattle.tree.specs.declared.area.Area.{Area}
-use Rattle.tree.specs.Areas.{count_in, next_in, tree_in, trees_in, Adds, Pushes, CellIn, HasRoom}
+use Rattle.tree.specs.Areas.{count_in, next_in, tree_in, trees_in, Lent, Adds, Pushes, CellIn, HasRoom}
 use Rattle.tree.specs.Spelled.{text_in}
-use Rattle.tree.proofs.Keeping.{adds_same, adds_grows, adds_then, adds_push, grows_length, grows_next, grows_tree, grows_trees, pushed_some, pushed_inside, pushed_tree, pushed_trees}
+use Rattle.text.proofs.Frames.{outside_within}
+use Rattle.tree.proofs.Keeping.{lent_then, adds_grows, adds_then, adds_push, grows_length, grows_next, grows_tree, grows_trees, pushed_some, pushed_inside, pushed_tree, pushed_trees}
 use Rattle.tree.proofs.Lists.{list_none, list_more, list_count, count_size}
 use Rattle.tree.proofs.Rooms.{room_after}
 use Rattle.tree.proofs.Spelling.{text_lent}
 use Rattle.closing.specs.Machine.{back}
 use Rattle.closing.specs.Closing.{summed}
-use Rattle.closing.specs.Areas.{room_for, Shuts, ClosesIn}
+use Rattle.closing.specs.Areas.{room_for, Shuts, ClosesIn, NestsIn}
+use Rattle.closing.proofs.Shuts.{closes_not}
 use Rattle.closing.proofs.SumTrees.{summed_size, sum_is, no_sum, no_second}
 
 -- the only tree of a cell's list
@@ -34,6 +36,7 @@ pub record Summing (a₀ : Area) (tail chain : ℕ) (a : Area) (last k : ℕ) : 
   pub trees : trees_in a last ≡ more tree none
   pub sum : summed tree (trees_in a₀ k) ≡ summed (tree_in a₀ tail) (trees_in a₀ chain)
   pub small : (0 < k) ⊎ (size tree ≤ 4096)
+  pub pushed : (0 < k) ⊎ ((a₀.free ≤ last) × (last + 1 ≡ a.free))
   pub room : a.free + 2 * count (trees_in a₀ k) ≤ a₀.free + 2 * count (trees_in a₀ chain)
 
 module _ {a₀ a : Area} {tail chain last k : ℕ} (h : Summing a₀ tail chain a last k) where
@@ -49,6 +52,7 @@ module _ {a₀ a : Area} {tail chain last k : ℕ} (h : Summing a₀ tail chain 
   summing_ends z =
       let e : k ≡ 0 = omega arith in
       let b : size h.tree ≤ 4096 = ⊎_elim (λ b. absurd (omega arith)) (λ b. b) h.small in
+      let c : (a₀.free ≤ last) × (last + 1 ≡ a.free) = ⊎_elim (λ c. absurd (omega arith)) (λ c. c) h.pushed in
       record {
         tree = h.tree;
         is = ap Some (sym h.sum ∙ ap (summed h.tree) (list_none a₀ k e));
@@ -57,6 +61,8 @@ module _ {a₀ a : Area} {tail chain last k : ℕ} (h : Summing a₀ tail chain 
         used = omega (arith, h.room);
         some_cell = h.some_cell;
         inside = h.inside;
+        new = c.0;
+        last = c.1;
         trees = h.trees ∙ ap (more h.tree) (sym (list_none a₀ 0 refl));
       }
 
@@ -78,7 +84,7 @@ module _ {a₀ a : Area} {tail chain last k : ℕ} (h : Summing a₀ tail chain 
         (omega (arith, m.0, grows_length (adds_grows h.adds)), omega (arith, m.1))
 
     -- too many nodes
-    pub summing_over : {x y : ℕ} → x ≡ count_in a k → y ≡ count_in a last → 4096 < 1 + x + y → ClosesIn a₀ a (2 * count (trees_in a₀ chain)) 0 (Some (summed (tree_in a₀ tail) (trees_in a₀ chain))) None
+    pub summing_over : {x y : ℕ} → x ≡ count_in a k → y ≡ count_in a last → 4096 < 1 + x + y → NestsIn a₀ a (2 * count (trees_in a₀ chain)) (Some (summed (tree_in a₀ tail) (trees_in a₀ chain))) None
     unfolding summed size
     summing_over {x} {y} e f o =
         let b = summand_count e in
@@ -117,16 +123,17 @@ module _ {a₀ a : Area} {tail chain last k : ℕ} (h : Summing a₀ tail chain 
             trees = pushed_trees z ∙ ap₂ more t (list_none b 0 refl);
             sum = sym (ap (summed h.tree) (next_summand ∙ ap (λ j. more (tree_in a₀ k) (trees_in a₀ j)) (sym n))) ∙ h.sum;
             small = inr (omega arith);
+            pushed = inr (omega (arith, ab.grew, z.cell), omega (arith, z.cell, z.end));
             room = omega (arith, h.room, list_count a₀ k p h.at n, l.end, z.end);
           }
 
 -- The whole sum: the last summand without a link, the sum in front of it, and the sum with its link
 pub sum_of_none : (a : Area) (chain next : ℕ) → chain ≡ 0 → ClosesIn a a (room_for a chain) next (sum_of (back (trees_in a chain) none)) None
-sum_of_none a chain next e = (no_sum (trees_in a chain) (list_none a chain e), adds_same a, omega arith)
+sum_of_none a chain next e = closes_not a (room_for a chain) next (no_sum (trees_in a chain) (list_none a chain e))
 
 module _ {a : Area} {chain k : ℕ} (c : 0 < chain) (at : chain < a.free) (e : k ≡ next_in a chain) where
   pub sum_of_one : (next : ℕ) → k ≡ 0 → ClosesIn a a (room_for a chain) next (sum_of (back (trees_in a chain) none)) None
-  sum_of_one next f = (no_second (trees_in a chain) (tree_in a chain) (list_more a chain c at e ∙ ap (more (tree_in a chain)) (list_none a k f)), adds_same a, omega arith)
+  sum_of_one next f = closes_not a (room_for a chain) next (no_second (trees_in a chain) (tree_in a chain) (list_more a chain c at e ∙ ap (more (tree_in a chain)) (list_none a k f)))
 
   module _ {b : Area} {tail : ℕ} (x : Pushes a b tail 0 (tree_in a chain)) (q : k < chain) (p : 0 < k) where
     pub tail_only : CellIn b tail × (trees_in b tail ≡ more (tree_in b tail) none)
@@ -149,8 +156,17 @@ module _ {a : Area} {chain k : ℕ} (c : 0 < chain) (at : chain < a.free) (e : k
         ∙ ap₂ (λ (t : Tree) (y : Trees). Some (summed t y)) (sym (pushed_tree x)) (sym (front ∙ f))
 
     module _ {d : Area} where
-      pub sum_over : (next : ℕ) → ClosesIn b d (2 * count (trees_in b k)) 0 (Some (summed (tree_in b tail) (trees_in b k))) None → ClosesIn a d (room_for a chain) next (sum_of (back (trees_in a chain) none)) None
-      sum_over next h = let f = front_count in ((λ t g. h.0 t (sym whole ∙ g)), adds_then (adds_push x) h.1, omega (arith, h.2, x.end))
+      -- the tail is the first cell that is given back
+      pub sum_over : (next : ℕ) {u : Area} → NestsIn b d (2 * count (trees_in b k)) (Some (summed (tree_in b tail) (trees_in b k))) None → Lent d u → u.free ≡ tail → u.work.now ≡ d.work.now
+          → ClosesIn a u (room_for a chain) next (sum_of (back (trees_in a chain) none)) None
+      sum_over next h l m w =
+          let f = front_count in
+          let g = adds_then (adds_push x) h.1 in (
+            (λ t y. h.0 t (sym whole ∙ y)),
+            lent_then g.lent l,
+            m ∙ x.cell,
+            rw w (outside_within (omega arith) (omega (arith, h.2, x.end)) g.grown),
+          )
 
       module _ {j next : ℕ} (h : Shuts b d (2 * count (trees_in b k)) 0 (Some (summed (tree_in b tail) (trees_in b k))) j) (g : next < a.free) where
         pub sum_links : (0 < j) × (j < d.free) × (next < d.free)
@@ -172,5 +188,7 @@ module _ {a : Area} {chain k : ℕ} (c : 0 < chain) (at : chain < a.free) (e : k
               used = omega (arith, h.used, x.end, y.end);
               some_cell = pushed_some y;
               inside = pushed_inside y;
+              new = omega (arith, ad.grew, y.cell);
+              last = omega (arith, y.cell, y.end);
               trees = pushed_trees y ∙ ap₂ more t (grows_trees (adds_grows ad) next g);
             }

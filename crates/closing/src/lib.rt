@@ -8,7 +8,7 @@ ghost use Rattle.tree.specs.Areas.{tree_in, trees_in, CellIn, HasRoom};
 ghost use Rattle.tree.specs.Spelled.{text_in, Spelled};
 ghost use Rattle.closing.specs.Machine.{back};
 ghost use Rattle.closing.specs.Closing.{summed};
-ghost use Rattle.closing.specs.Areas.{room_for, PutsInOrder, ClosesIn, AloneIn};
+ghost use Rattle.closing.specs.Areas.{room_for, PutsInOrder, ClosesIn, NestsIn, AloneIn};
 
 use leaves::{all_digits, letter_of};
 use rules::SUM;
@@ -55,7 +55,7 @@ fn nest(area: &mut Area, plus: Place, tail: usize, chain: usize) -> Option<usize
     requires chain { CellIn area.old chain }
     requires room { HasRoom area.old (2 * count (trees_in area.old chain)) }
     requires name { Spelled area.old.sheet.now plus × (text_in area.old plus ≡ tamtplus) }
-    ensures { ClosesIn area.old area.new (2 * count (trees_in area.old chain)) 0 (Some (summed (tree_in area.old tail) (trees_in area.old chain))) result }
+    ensures { NestsIn area.old area.new (2 * count (trees_in area.old chain)) (Some (summed (tree_in area.old tail) (trees_in area.old chain))) result }
 {
     let mut last = tail;
     let mut k = chain;
@@ -87,7 +87,11 @@ fn sum(area: &mut Area, plus: Place, chain: usize, next: usize) -> Option<usize>
         return None;
     }
     let tail = area.share(chain, 0);
-    let nested = nest(area, plus, tail, second)?;
+    // No `?`: the cells of a sum that is too large are given back first.
+    let Some(nested) = nest(area, plus, tail, second) else {
+        area.truncate(tail);
+        return None;
+    };
     Some(area.share(nested, next))
 }
 

@@ -3,8 +3,7 @@ use Prim.Native.Nat.{ℕ, ◌+◌, ◌*◌, ◌-◌, ◌<◌, ◌≤◌, ◌^◌
 use mathlib.Core.Path.{◌≡◌, refl, sym, ap, subst, ◌∙◌}
 use mathlib.Core.Bool.{Bool}
 use mathlib.Core.List.{List, map}
-use Rattle.std.specs.Prelude.{Option, Some, None, Result, Ok, Err}
-use Rattle.std.specs.Result.{result_ok}
+use Rattle.std.specs.Prelude.{Option, Some, None, Ok, Err}
 use lib.ListN.{length}
 use native.Mathlib.Omega.{arith}
 use Rattle.rules.specs.Bytes.{Text}
@@ -38,10 +37,6 @@ use Rattle.cover.specs.Areas.{CoverInputIn, NamesIn, AllMatchableIn, CoversAnyIn
 use Rattle.cover.proofs.Rooms.{run_end, asked_nodes, asked_few, asked_names, asked_colons, asked_over, asked_matched}
 use Rattle.cover.proofs.Solutions.{covered_by}
 use Rattle.variables.proofs.Listed.{names_count, variables_grown}
-
-ok_is : (v : Result ℕ Ending) (k : ℕ) → Some k ≡ result_ok v → v ≡ Ok k
-ok_is (Ok b) k o = cc
-ok_is (Err x) k o = cc
 
 module _ {a b : Area} {stack at names : ℕ} (p : stack < a.free) (k : CoverInputIn a stack at) (h : NamesIn a b stack names) where
   abbrev ps : List Pair
@@ -90,20 +85,16 @@ module _ {a b : Area} {stack at names : ℕ} (p : stack < a.free) (k : CoverInpu
       verdict_is = ap (λ (ts : Trees). (unify 65536 (pairs_of ts)).0) (sym stack_kept) ∙ ap (λ (x : Answer). x.0) y.is
 
       -- the pairs are not solved
-      pub unsolved : None ≡ result_ok r.verdict → ClaimsCoveredIn a e stack at None
-      unsolved o = record { grows = all_grows; claim = λ ms f. sym (covered_by ps ms verdict_is ∙ none r.verdict ms o) }
+      pub unsolved : {x : Ending} → r.verdict ≡ Err x → ClaimsCoveredIn a e stack at None
+      unsolved {x} o = record { grows = all_grows; claim = λ ms f. sym (covered_by ps ms (verdict_is ∙ ap (verdict_in e) o) ∙ none x ms) }
         where
-          none : (v : Result ℕ Ending) (ms : List Member) → None ≡ result_ok v
-              → ◌≡◌ {A = Option Bool} (elim (verdict_in e v) [ solved bs ↦ Some (any_covers (variables_of ps) bs ms) | failed ↦ None | unsupported ↦ None ]) None
-          none (Ok b) ms o = cc
-          none (Err Failed) ms o = refl
-          none (Err Unsupported) ms o = refl
+          none : (x : Ending) (ms : List Member)
+              → ◌≡◌ {A = Option Bool} (elim (verdict_in e (Err x)) [ solved bs ↦ Some (any_covers (variables_of ps) bs ms) | failed ↦ None | unsupported ↦ None ]) None
+          none Failed ms = refl
+          none Unsupported ms = refl
 
       -- they are solved
-      module _ (bindings : ℕ) (o : Some bindings ≡ result_ok r.verdict) (z : EndsIn e r.verdict (spared_end b.free nodes 65536 c)) where
-        v : r.verdict ≡ Ok bindings
-        v = ok_is r.verdict bindings o
-
+      module _ (bindings : ℕ) (v : r.verdict ≡ Ok bindings) (z : EndsIn e r.verdict (spared_end b.free nodes 65536 c)) where
         is_solved : (unify 65536 ps).0 ≡ solved (bindings_in e bindings)
         is_solved = verdict_is ∙ ap (verdict_in e) v
 

@@ -38,6 +38,9 @@ pub fn covered(area: &mut Area, stack: usize, members: Cursor) -> Option<bool>
     let nodes = area.nodes_in(stack);
     let colons = count_of(area.sheet, b':');
     let answer = unify_sparing(area, stack, 65536, nodes, colons);
-    let bindings = answer.verdict.ok()?;
+    // No `?`: the wrong program that says no where the pairs are not solved changes only the value returned here.
+    let Ok(bindings) = answer.verdict else {
+        return None;
+    };
     Some(any_covers(area, Solution { names, bindings }, members))
 }

@@ -31,9 +31,12 @@ pub fn read_members(area: &mut Area, start: Cursor) -> Option<usize>
 {
     let mut cursor = start;
     let mut list = 0;
-    // Three lines of its own: a trait for the loops that read lines into a list would be longer than they are.
+    // A loop of its own: a trait for the loops that read lines into a list would be longer than they are.
     while next_member(area.sheet, cursor).is_some() {
-        let member = read_member(area, cursor)?;
+        // No `?`: the wrong program that ends the list at a member that cannot be read changes only the value returned here.
+        let Some(member) = read_member(area, cursor) else {
+            return None;
+        };
         list = push_member(area, member.value, member.bindings, list);
         cursor = member.next;
     }

@@ -29,13 +29,13 @@ mixed_none h = refl
 
 -- ---- a byte
 
-pub byte_zero : (h b : ℕ) → b ≡ 48 → (h + 2654435769) % 4294967296 ≡ mixed_byte h b
+pub byte_zero : (h b v : ℕ) → b ≡ 48 → v ≡ h → (v + 2654435769) % 4294967296 ≡ mixed_byte h b
 unfolding mixed_byte
-byte_zero h b e = rw (eq-eqb b 48 e)
+byte_zero h b v z e = rw (e, eq-eqb b 48 z)
 
-pub byte_other : (h b w : ℕ) → (b ≡ 48 → ⊥) → w ≡ b → (h * 16777619 % 4294967296 + w) % 4294967296 ≡ mixed_byte h b
+pub byte_other : (h b v w : ℕ) → (b ≡ 48 → ⊥) → v ≡ h → w ≡ b → (v * 16777619 + w) % 4294967296 ≡ mixed_byte h b
 unfolding mixed_byte
-byte_other h b w n e = let m : (h * 16777619 % 4294967296 + w) % 4294967296 ≡ (h * 16777619 + b) % 4294967296 = omega arith in m ∙ rw (ne_eqb b 48 n)
+byte_other h b v w n e f = rw (e, f, ne_eqb b 48 n)
 
 -- ---- a run of zeros
 
@@ -47,11 +47,11 @@ mixed_zeros (suc n) h t l =
     let e : (k + n * 2654435769) % 4294967296 ≡ (h + suc n * 2654435769) % 4294967296 = omega arith in
     mixed_zeros n k t (omega arith) ∙ ap (λ (h : ℕ). mixed h t) e
 
-pub mixed_name : (n h f r : ℕ) → f < 4294967296 → f ≡ mixed_byte h 120 → r ≡ mixed ((f + n * 2654435769 % 4294967296) % 4294967296) (bytes ":Msg") → r ≡ mixed h (zeros_name n)
+pub mixed_name : (n h f v r : ℕ) → f < 4294967296 → f ≡ mixed_byte h 120 → v ≡ f → r ≡ mixed ((v + n * 2654435769) % 4294967296) (bytes ":Msg") → r ≡ mixed h (zeros_name n)
 unfolding mixed
-mixed_name n h f r l e g =
-    let z : (f + n * 2654435769 % 4294967296) % 4294967296 ≡ (f + n * 2654435769) % 4294967296 = omega arith in
-    g ∙ ap (λ (z : ℕ). mixed z (bytes ":Msg")) z ∙ sym (mixed_zeros n f (bytes ":Msg") l) ∙ ap (λ (f : ℕ). mixed f (zeros n ++ bytes ":Msg")) e
+mixed_name n h f v r l e k g =
+    g ∙ ap (λ (v : ℕ). mixed ((v + n * 2654435769) % 4294967296) (bytes ":Msg")) k
+    ∙ sym (mixed_zeros n f (bytes ":Msg") l) ∙ ap (λ (f : ℕ). mixed f (zeros n ++ bytes ":Msg")) e
 
 -- ---- the text of a run of words
 

@@ -17,21 +17,23 @@ use runs::order::{Piece, piece_of};
 use tree::area::Area;
 use tree::names::ZEROS;
 
-// The fingerprint of no bytes, what it is multiplied by at each byte, and what a zero adds to it.
+// The fingerprint of no bytes, what it is multiplied by at each byte, what a zero adds to it, and what it stays below.
 const BASIS: u32 = 2166136261;
 
-const PRIME: u32 = 16777619;
+const PRIME: u64 = 16777619;
 
-const ZERO: u32 = 2654435769;
+const ZERO: u64 = 2654435769;
+
+const MODULUS: u64 = 4294967296;
 
 // The fingerprint h, carried on through the byte b.
 fn mix_byte(h: u32, b: u8) -> u32
     ensures { result ≡ mixed_byte h b }
 {
     if b == b'0' {
-        return h.wrapping_add(ZERO);
+        return ((u64::from(h) + ZERO) % MODULUS) as u32;
     }
-    h.wrapping_mul(PRIME).wrapping_add(u32::from(b))
+    ((u64::from(h) * PRIME + u64::from(b)) % MODULUS) as u32
 }
 
 // The same through a text.
@@ -46,8 +48,8 @@ fn mix_zeros(h: u32, n: usize) -> u32
     requires { n < 131072 }
     ensures { result ≡ mixed h (zeros_name n) }
 {
-    let zeros = (n as u32).wrapping_mul(ZERO);
-    mix_bytes(mix_byte(h, b'x').wrapping_add(zeros), b":Msg")
+    let zeros = u64::from(mix_byte(h, b'x')) + n as u64 * ZERO;
+    mix_bytes((zeros % MODULUS) as u32, b":Msg")
 }
 
 // The same through the text of the word x.

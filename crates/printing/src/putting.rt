@@ -6,6 +6,7 @@ ghost use Rattle.tree.specs.Areas.{name_in, CellIn};
 ghost use Rattle.printing.specs.Putting.{PutInto};
 
 use crate::output::{Output, Pass};
+use text::copying::copy;
 use text::decimal::{print, width_of};
 use tree::area::Area;
 
@@ -30,7 +31,7 @@ impl Output<'_> {
     pub(crate) fn text(&mut self, text: &[u8]) -> Option<()>
         ensures { PutInto self.old self.new text.now 0 result }
     {
-        self.put(text.len(), |part| part.copy_from_slice(text))
+        self.put(text.len(), |part| copy(part, text))
     }
 
     // A number in decimal.

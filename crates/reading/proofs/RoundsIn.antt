@@ -182,7 +182,7 @@ module _ {a b : Area} {p : Place} {v_at : ℕ} {k : Stack} {at : ℕ} (h : HasIn
         record {
           lent = lent_then h.lent x.adds.lent;
           task = h.task;
-          has = has_shut h.task h.has here t e g x.tree i x.small x.grew m y;
+          has = has_shut h.task h.has here t e g x.tree i x.small (omega (arith, x.grew)) m y;
         }
 
 -- at the end of the text

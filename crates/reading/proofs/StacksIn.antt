@@ -84,9 +84,9 @@ module _ (a : Area) (k : Stack) {from len chain : ℕ} (e₁ : from ≡ get_or a
         → ClosesIn a b (room_for a chain) next (close (part a.sheet.now from (from + len - from)) (back (trees_in a chain) none)) None → ClosesOn a b k None
     level_refused q x = (
       (λ t f. x.0 t (level_closed ∙ f)),
-      x.1.lent,
-      outside_within (omega arith) (omega (arith, room_is, x.2)) x.1.grown,
-      x.1.grew,
+      x.1,
+      outside_within (omega arith) (omega (arith, room_is)) x.3,
+      x.2,
     )
 
     pub level_shut : {d : Area} {cell : ℕ} → HeldIn a k.limit (k.depth + 1) → most a.sheet.now a.work.now a.free (get_or a.work.now (4 * k.limit + 3 * k.depth + 3) 0) ≤ k.limit
@@ -96,7 +96,7 @@ module _ (a : Area) (k : Stack) {from len chain : ℕ} (e₁ : from ≡ get_or a
       tree = x.tree;
       is = sym level_closed ∙ x.is;
       small = x.small;
-      grew = omega (arith, x.adds.grew, y.end);
+      grew = omega (arith, x.new, x.last, y.end);
       room = omega (arith, room_is, x.used, y.end);
       adds = put_adds k (held_below (held_of a h)) (omega (arith, room_is, x.used)) x.adds.lent
           (subst (λ (j : ℕ). Put a.sheet.now a.work.now b.work.now a.free b.free cell j x.tree) e₀ (put_cell x.adds x.inside x.trees)) y;

@@ -41,14 +41,14 @@ pub record ClosedOn (a b : Area) (k : Stack) : Type 0 where
   pub tree : Tree
   pub is : level_tree a k ≡ Some tree
   pub small : size tree ≤ 4096
-  pub grew : a.free ≤ b.free
+  pub grew : a.free < b.free
   pub room : b.free ≤ most a.sheet.now a.work.now a.free (get_or a.work.now (4 * k.limit + 3 * k.depth + 3) 0)
   pub adds : AddsTo a b k tree
 
--- or there is none, or too large a one
+-- or there is none, or too large a one, and no new cell
 abbrev pub ClosesOn : Area → Area → Stack → Option ℕ → Type 0
 ClosesOn a b k (Some i) = ClosedOn a b k
-ClosesOn a b k None = NoTree (level_tree a k) × Lent a b × Outside a.work.now b.work.now (4 * a.free) (4 * k.limit) × (a.free ≤ b.free)
+ClosesOn a b k None = NoTree (level_tree a k) × Lent a b × Outside a.work.now b.work.now (4 * a.free) (4 * k.limit) × (b.free ≡ a.free)
 
 -- the tree of the bottom, where no list is open
 abbrev pub bottom_of : List ℕ → ℕ → ℕ → Option ℕ

@@ -60,9 +60,8 @@ fn root(area: &mut Area, i: usize, first: usize, next: usize) -> usize
     }
 }
 
-// The normal forms of the trees of the list from cell `list` on. By recursion, as the definition is: the cells of later trees are made
-// first.
-#[cycle(normalize_normalize_list)]
+// The normal forms of the trees of the list from cell `list` on. It alone calls itself, for the later trees, whose cells are made first,
+// and for the children: one frame for each level of a term, which may be 4,096 deep.
 fn normalize_list(area: &mut Area, list: usize) -> usize
     requires list { list < area.old.free }
     requires small { sizes (trees_in area.old list) ≤ 4096 }
@@ -74,11 +73,17 @@ fn normalize_list(area: &mut Area, list: usize) -> usize
     }
     let rest = area.next_of(list);
     let next = normalize_list(area, rest);
-    normalize(area, list, next)
+    match area.kind(list) {
+        Kind::Application => {
+            let children = area.first_of(list);
+            let first = normalize_list(area, children);
+            root(area, list, first, next)
+        }
+        Kind::Variable(_) | Kind::Atom(_) => keep(area, list, next),
+    }
 }
 
 // The normal form of the tree of cell i, before the list from cell next on. The words above the cells are scratch.
-#[cycle(normalize_normalize_list)]
 pub fn normalize(area: &mut Area, i: usize, next: usize) -> usize
     requires cells { CellIn area.old i × (next < area.old.free) }
     requires small { size (tree_in area.old i) ≤ 4096 }

@@ -3,6 +3,7 @@ ghost use Rattle.std.specs.Prelude.{◌≡◌, ◌+◌, ◌*◌, ◌<◌, ◌≤
 ghost use Rattle.rules.specs.declared.Rule.TheVariants.{Flip, Sdec, Kdec};
 ghost use Rattle.rules.specs.Tree.{size, sizes};
 ghost use Rattle.rules.specs.Reduction.{fire, opens};
+ghost use Rattle.tree.specs.Names.{fixed_code};
 ghost use Rattle.tree.specs.Areas.{tree_in, trees_in, CellIn, KeepsCells};
 ghost use Rattle.rewriting.specs.Building.{key_room};
 ghost use Rattle.rewriting.specs.Values.{PartsIn, fixed_tree, value_tree, ValueIn};
@@ -23,7 +24,7 @@ pub enum Value {
 
 // The parts, which are messages, of the pair that is the one child from cell `list` on.
 #[tactic(auto, unfolding(rules::specs::Reduction::fire))]
-fn parts_of(area: &Area, list: usize) -> Option<Two>
+pub fn parts_of(area: &Area, list: usize) -> Option<Two>
     requires { list < area.now.free }
     ensures parts { PartsIn area.now list result }
     ensures cells { IfSome result (λ two. CellIn area.now two.first × CellIn area.now two.second) }
@@ -35,9 +36,10 @@ fn parts_of(area: &Area, list: usize) -> Option<Two>
 
 // The other role than the one child from cell `list` on.
 #[tactic(auto, unfolding(rules::specs::Reduction::fire, rules::specs::Reduction::flipped))]
-fn flipped(area: &Area, list: usize) -> Option<Fixed>
+pub fn flipped(area: &Area, list: usize) -> Option<Fixed>
     requires { list < area.now.free }
-    ensures { fire Flip (trees_in area.now list) ≡ option_map fixed_tree result }
+    ensures fires { fire Flip (trees_in area.now list) ≡ option_map fixed_tree result }
+    ensures role { IfSome result (λ name. fixed_code name < 3) }
 {
     let role = one_argument(area, list)?;
     if is_constant(area, role, Fixed::RoleA) {
@@ -61,9 +63,10 @@ fn opens(area: &mut Area, payload: usize, key: usize, other: usize) -> bool
     message(area, payload) && message(area, key) && equivalent(area, key, other)
 }
 
-// The payload of the cipher, the first of two children from cell `list` on, under the key, the second.
+// The payload of the cipher, the first of two children from cell `list` on, under the key, the second. The words above the cells are
+// scratch.
 #[tactic(auto, unfolding(rules::specs::Reduction::fire))]
-fn decrypted(area: &mut Area, list: usize) -> Option<usize>
+pub fn decrypted(area: &mut Area, list: usize) -> Option<usize>
     requires list { list < area.old.free }
     requires small { sizes (trees_in area.old list) ≤ 4096 }
     requires room { 4 * area.old.free + key_room ≤ length area.old.work.now }
@@ -78,7 +81,7 @@ fn decrypted(area: &mut Area, list: usize) -> Option<usize>
 
 // The same where the key of the cipher is boxed: it lies one level deeper, and what the two share is `opens`.
 #[tactic(auto, unfolding(rules::specs::Reduction::fire))]
-fn unboxed(area: &mut Area, list: usize) -> Option<usize>
+pub fn unboxed(area: &mut Area, list: usize) -> Option<usize>
     requires list { list < area.old.free }
     requires small { sizes (trees_in area.old list) ≤ 4096 }
     requires room { 4 * area.old.free + key_room ≤ length area.old.work.now }

@@ -97,9 +97,9 @@ pub(crate) fn is_one(area: &Area, k: usize, name: Fixed) -> Option<usize>
 
 // The cells of two arguments.
 #[derive(Clone, Copy, Debug, PartialEq, Eq)]
-pub(crate) struct Two {
-    pub(crate) first: usize,
-    pub(crate) second: usize,
+pub struct Two {
+    pub first: usize,
+    pub second: usize,
 }
 
 // The cells of the two arguments under a name at cell k.

@@ -2,6 +2,7 @@ pub mod Differing
 pub mod Children
 pub mod Resting
 pub mod Fitting
+pub mod Counting
 pub mod Pairing
 pub mod Settling
 pub mod Rooting

@@ -63,7 +63,7 @@ rest_later : {a m : Area} (b : Area) (kept : ℕ) (d : rules.Rest) → KeepsCell
 rest_later b kept d k (Ok None) h = (h.0, keeps_then k h.1)
 rest_later b kept d k (Ok (Some e)) h =
     record { is = h.is; grows = grows_then (grows_keeps k) h.grows; left_inside = h.left_inside; right_inside = h.right_inside; used = omega (arith, h.used, k.end) }
-rest_later b kept d k (Err e) h = (h.0, grows_then (grows_keeps k) h.1)
+rest_later b kept d k (Err e) h = (h.0, keeps_then k h.1)
 
 pub sum_kept : {a m : Area} (k : ℕ) → KeepsCells a m → 0 < k → k < a.free → sum_in (tree_in a k) ≡ true → sum_in (tree_in m k) ≡ true
 sum_kept k h p q e = ap sum_in (grows_tree (grows_keeps h) k q p) ∙ e

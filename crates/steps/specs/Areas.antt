@@ -59,7 +59,7 @@ rest_at_end ending.Unsupported = rules.stuck
 abbrev pub RestIn : Area → Area → ℕ → rules.Rest → Result (Option Equation) Ending → Type 0
 RestIn a b kept d (Ok None) = (d ≡ rules.emptied) × KeepsCells a b
 RestIn a b kept d (Ok (Some e)) = EquationIn a b kept d e.left e.right
-RestIn a b kept d (Err e) = (d ≡ rest_at_end e) × Grows a b
+RestIn a b kept d (Err e) = (d ≡ rest_at_end e) × KeepsCells a b
 
 -- what is left on both sides is settled
 abbrev pub RemainderIn : Area → Area → Cancelling → List Tree → List Tree → Result (Option Equation) Ending → Type 0

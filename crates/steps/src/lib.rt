@@ -2,6 +2,6 @@
 // (unifier.rs, `push_children`, `cancel_sums`).
 #![tactic(auto)]
 
-mod rest; // rest.rt: what is left of two sums
-mod pushing; // pushing.rt: the children of two trees on the stack
+pub mod rest; // rest.rt: what is left of two sums
+pub mod pushing; // pushing.rt: the children of two trees on the stack, and their number
 pub mod roots; // roots.rt: the pair of two roots

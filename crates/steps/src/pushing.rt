@@ -1,6 +1,9 @@
 // The children of two trees of an area, pairwise on the stack, and their number.
 ghost use Rattle.std.specs.Prelude.{◌≡◌, ◌+◌, ◌*◌, ◌<◌};
+ghost use Rattle.rules.specs.Bytes.{Text};
 ghost use Rattle.laws.specs.Memory.{pushed};
+ghost use Rattle.tree.specs.Cells.{trees_at};
+ghost use Rattle.tree.specs.Arena.{Links};
 ghost use Rattle.tree.specs.Areas.{trees_in, HasRoom};
 ghost use Rattle.tree.specs.Lists.{Lists};
 ghost use Rattle.elimination.specs.Stack.{pushes};
@@ -9,6 +12,30 @@ ghost use Rattle.steps.specs.Areas.{some_pairs};
 
 use substitution::pairing::push_pair;
 use tree::area::Area;
+
+// How many trees the lists from cells left and right on have, if both have as many; else 0. Of words alone: it asks for links that fall,
+// and for no trees.
+pub fn common_count(work: &[u32], free: usize, left: usize, right: usize) -> usize
+    requires links { Links work.now free }
+    requires lists { (left < free) × (right < free) }
+    ensures { (s : Text) → result ≡ common_count (trees_at s work.now left) (trees_at s work.now right) }
+{
+    let mut a = left;
+    let mut b = right;
+    let mut pairs: usize = 0;
+    while a != 0 {
+        if b == 0 {
+            return 0;
+        }
+        a = work[4 * a + 3] as usize;
+        b = work[4 * b + 3] as usize;
+        pairs += 1;
+    }
+    if b != 0 {
+        return 0;
+    }
+    pairs
+}
 
 // How many pairs the lists from cells left and right on make, if both are of one length and not empty.
 pub(crate) fn paired(area: &Area, left: usize, right: usize) -> Option<usize>

@@ -32,9 +32,9 @@ fn first_two(area: &Area, at: usize, end: usize) -> (Option<usize>, Option<usize
 
 // Two trees that are to be paired.
 #[derive(Clone, Copy, Debug, PartialEq, Eq)]
-pub(crate) struct Equation {
-    pub(crate) left: usize,
-    pub(crate) right: usize,
+pub struct Equation {
+    pub left: usize,
+    pub right: usize,
 }
 
 // Several summands are left of the left sum. Only where every summand cancels is one on the right paired with them.
@@ -86,8 +86,8 @@ fn settle(
     }
 }
 
-// What is left of the sums of cells left and right.
-pub(crate) fn rest_of(
+// What is left of the sums of cells left and right. The words above the cells are scratch; where it ends a run no cell is written.
+pub fn rest_of(
     area: &mut Area,
     left: usize,
     right: usize,

@@ -3,9 +3,30 @@ ghost use Rattle.std.specs.Prelude.{◌≡◌, ◌<◌};
 ghost use Rattle.rules.specs.Tree.{variable};
 ghost use Rattle.rules.specs.Substitution.{lookup};
 ghost use Rattle.tree.specs.Areas.{name_in, tree_in, CellIn};
+ghost use Rattle.tree.specs.Arena.{Links};
+ghost use Rattle.tree.specs.Cells.{next_of};
 ghost use Rattle.substitution.specs.Areas.{bindings_in, FindsIn};
 
 use tree::area::Area;
+use tree::cells::next_of;
+
+// The value's cell of the binding whose key is cell b, 0 for none.
+pub fn value_of(work: &[u32], free: usize, b: usize) -> usize
+    requires links { Links work.now free }
+    requires b_nonzero { (0 < b) × (b < free) }
+    ensures { (result ≡ next_of work.now b) × (result < b) }
+{
+    next_of(work, free, b)
+}
+
+// The bindings after the one whose value is cell v, 0 for none.
+pub fn rest_of(work: &[u32], free: usize, v: usize) -> usize
+    requires links { Links work.now free }
+    requires v_nonzero { (0 < v) × (v < free) }
+    ensures { (result ≡ next_of work.now v) × (result < v) }
+{
+    next_of(work, free, v)
+}
 
 // The value in the first of the bindings from cell b on whose key has the name of cell x. Two cells a step: a key and
 // its value.

@@ -15,7 +15,7 @@ use Rattle.tree.specs.Areas.{tree_in, Lent}
 use Rattle.tree.proofs.Parting.{Parted, joined_below, joined_outside}
 use Rattle.flattening.proofs.WriterSteps.{wrote_append}
 use Rattle.sums.specs.Sums.{remaining}
-use Rattle.sums.specs.Areas.{remaining_in, CancelsIn, Prepared}
+use Rattle.sums.specs.Areas.{remaining_in, CancelsIn, PreparedAt}
 use Rattle.sums.specs.Summands.{every_cancels, test_of, trees_of, heft_in, AreCells, CollectsCells, StrikesCells}
 use Rattle.sums.specs.declared.striking.Cancelling.{Cancelling}
 use Rattle.sums.proofs.Summanding.{remaining_frame, heft_append}
@@ -87,7 +87,7 @@ part_after c v d at x y e l =
 pub whole_length : (v r : List ℕ) (m : ℕ) → m ≤ length r → length v ≡ length (take m r) → length (v ++ drop m r) ≡ length r
 whole_length v r m l e = omega (arith, length-append v (drop m r), length-drop m r, e, length-take-le m r l)
 
-module _ {a b t : Area} {c r v : List ℕ} {at m k mid end : ℕ} {l s : Tree} {d : Cancelling} (h : Parted a.work.now c r at) (start : at ≡ 4 * (a.free + 2 * k)) (em : m ≡ 17 * k + 2) (long : m ≤ length r) (len : length v ≡ length (take m r))
+module _ {a b t : Area} {c r v : List ℕ} {at m k mid end : ℕ} {l s : Tree} {d : Cancelling} (h : Parted a.work.now c r at) (above : 4 * a.free ≤ at) (em : m ≡ 17 * k + 2) (long : m ≤ length r) (len : length v ≡ length (take m r))
     (lent : Lent a b) (fb : b.free ≡ a.free) (wb : b.work.now ≡ c ++ (v ++ drop m r)) (st : t.sheet.now ≡ a.sheet.now) (wt : t.work.now ≡ c) (ft : t.free ≡ a.free) (g : CancelsIn t v mid end k l s d) where
   long_v : length v ≡ m
   long_v = len ∙ length-take-le m r long
@@ -112,21 +112,21 @@ module _ {a b t : Area} {c r v : List ℕ} {at m k mid end : ℕ} {l s : Tree} {
   left x y n o =
       let e = g.bound in
       remaining_frame t.sheet.now t.work.now b.work.now t.free t.arena.links
-      (λ p q. ap (λ (w : List ℕ). get_or w p 0) wt ∙ sym (ap (λ (w : List ℕ). get_or w p 0) wb ∙ get_or-append c (v ++ drop m r) 0 p (omega (arith, h.first, start, ft))))
+      (λ p q. ap (λ (w : List ℕ). get_or w p 0) wt ∙ sym (ap (λ (w : List ℕ). get_or w p 0) wb ∙ get_or-append c (v ++ drop m r) 0 p (omega (arith, h.first, above, ft))))
       v x y n (omega (arith, long_v, em)) (λ q i j. g.cells q (omega arith))
       ∙ ap (λ (s : List ℕ). remaining s b.work.now (slice x y v)) (st ∙ sym (ap (λ s. s.now) lent.sheet))
       ∙ ap (remaining b.sheet.now b.work.now) (sym (ap (slice (at + x) (at + y)) wb ∙ part_after c v (drop m r) at x y h.first (omega (arith, long_v, em))))
 
-  pub prepares : Prepared a b (record { at = at; mid = at + mid; end = at + end }) k l s (every_cancels d)
+  pub prepares : PreparedAt a b (record { at = at; mid = at + mid; end = at + end }) at k l s (every_cancels d)
   prepares =
       let e = g.bound in
       let f = g.high in
       let z : at + 0 ≡ at = omega arith in
       let y : at + m ≡ at + 17 * k + 2 = omega arith in
       record {
-        keeps = record { lent = lent; end = fb; below = rw wb (joined_below h a.free (omega (arith, start)) (v ++ drop m r) long_u) };
+        keeps = record { lent = lent; end = fb; below = rw wb (joined_below h a.free above (v ++ drop m r) long_u) };
         outside = rw wb (joined_outside h outside (omega arith) (omega arith));
-        start = start;
+        start = refl;
         low = omega arith;
         high = omega arith;
         bound = omega arith;

@@ -23,17 +23,21 @@ pub record CancelsIn (a : Area) (v : List ℕ) (mid end k : ℕ) (l r : Tree) (c
   pub cells : (q : ℕ) → q < end → get_or v q 0 < a.free
   pub are : cancel (test_of c) (summands l) (summands r) ≡ (trees_of a (take mid v), trees_of a (slice mid end v))
 
--- b has the cells of the summands of l and r, cancelled: p says where those of l start, where those of r start and where they end; k is
--- the nodes of both
-pub record Prepared (a b : Area) (p : Summands) (k : ℕ) (l r : Tree) (every : Bool) : Type 0 where
+-- b has the cells of the summands of l and r, cancelled, in the words from `at` on: p says where those of l start, where those of r start
+-- and where they end; k is the nodes of both
+pub record PreparedAt (a b : Area) (p : Summands) (at k : ℕ) (l r : Tree) (every : Bool) : Type 0 where
   pub keeps : KeepsCells a b
   pub outside : Outside a.work.now b.work.now p.at (p.at + 17 * k + 2)
-  pub start : p.at ≡ 4 * (a.free + 2 * k)
+  pub start : p.at ≡ at
   pub low : p.at ≤ p.mid
   pub high : p.mid ≤ p.end
   pub bound : p.end ≤ p.at + k
   pub cells : (q : ℕ) → p.at ≤ q → q < p.end → get_or b.work.now q 0 < a.free
   pub are : cancel (test every) (summands l) (summands r) ≡ (remaining_in b p.at p.mid, remaining_in b p.mid p.end)
+
+-- the same above the cells, with room for two cells for each node below them
+abbrev pub Prepared : Area → Area → Summands → ℕ → Tree → Tree → Bool → Type 0
+Prepared a b p k l r every = PreparedAt a b p (4 * (a.free + 2 * k)) k l r every
 
 -- b is a with two new cells: cell i is the tree t, and has no next sibling
 pub record AddsSum (a b : Area) (i : ℕ) (t : Tree) : Type 0 where

@@ -10,7 +10,7 @@ ghost use Rattle.rules.specs.Tree.{size, plus};
 ghost use Rattle.tree.specs.Areas.{next_in, tree_in, sum_in, CellIn, HasRoom};
 ghost use Rattle.sums.specs.Sums.{heavy};
 ghost use Rattle.sums.specs.Summands.{every_cancels};
-ghost use Rattle.sums.specs.Areas.{remaining_in, CancelsIn, Prepared, AddsSum, Summed};
+ghost use Rattle.sums.specs.Areas.{remaining_in, CancelsIn, PreparedAt, Prepared, AddsSum, Summed};
 
 use crate::gathering::gather;
 use crate::striking::{Cancelling, strike};
@@ -49,16 +49,21 @@ fn cancel_in(
     (mid, end)
 }
 
-// Gathers the cells of the summands of the trees of cells left and right above the cells, with room for two cells for each node below
-// them, and cancels them.
-pub fn prepare(area: &mut Area, left: usize, right: usize, cancelling: Cancelling) -> Summands
+// Gathers the cells of the summands of the trees of cells left and right from `at` on, and cancels them. Seventeen words for each node of
+// the two, and two, are scratch.
+pub fn prepare_at(
+    area: &mut Area,
+    left: usize,
+    right: usize,
+    at: usize,
+    cancelling: Cancelling,
+) -> Summands
     requires cells { CellIn area.old left × CellIn area.old right × (area.old.free < 2 ^ 32) }
     requires small { 5 * (size (tree_in area.old left) + size (tree_in area.old right)) < 65536 }
-    requires room { 4 * area.old.free + 25 * (size (tree_in area.old left) + size (tree_in area.old right)) + 2 ≤ length area.old.work.now }
-    ensures { Prepared area.old area.new result (size (tree_in area.old left) + size (tree_in area.old right)) (tree_in area.old left) (tree_in area.old right) (every_cancels cancelling) }
+    requires room { (4 * area.old.free ≤ at) × (at + 17 * (size (tree_in area.old left) + size (tree_in area.old right)) + 2 ≤ length area.old.work.now) }
+    ensures { PreparedAt area.old area.new result at (size (tree_in area.old left) + size (tree_in area.old right)) (tree_in area.old left) (tree_in area.old right) (every_cancels cancelling) }
 {
     let nodes = area.count_of(left) + area.count_of(right);
-    let at = 4 * (area.free + 2 * nodes);
     // Tried on area.work itself: the words that come back have no name that a proof can cite.
     let work = &mut *area.work;
     let (cells, words) = work.split_at_mut(at);
@@ -79,6 +84,18 @@ pub fn prepare(area: &mut Area, left: usize, right: usize, cancelling: Cancellin
         mid: at + mid,
         end: at + end,
     }
+}
+
+// The same above the cells, with room for two cells for each node below them.
+pub fn prepare(area: &mut Area, left: usize, right: usize, cancelling: Cancelling) -> Summands
+    requires cells { CellIn area.old left × CellIn area.old right × (area.old.free < 2 ^ 32) }
+    requires small { 5 * (size (tree_in area.old left) + size (tree_in area.old right)) < 65536 }
+    requires room { 4 * area.old.free + 25 * (size (tree_in area.old left) + size (tree_in area.old right)) + 2 ≤ length area.old.work.now }
+    ensures { Prepared area.old area.new result (size (tree_in area.old left) + size (tree_in area.old right)) (tree_in area.old left) (tree_in area.old right) (every_cancels cancelling) }
+{
+    let nodes = area.count_of(left) + area.count_of(right);
+    let at = 4 * (area.free + 2 * nodes);
+    prepare_at(area, left, right, at, cancelling)
 }
 
 // Writes the sum of the trees of cells a and b, and answers its cell. The cell like is a sum; b has no next sibling.

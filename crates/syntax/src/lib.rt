@@ -17,11 +17,14 @@ pub trait Class {
         ensures { result ≡ has b };
 }
 
-pub(crate) struct Blank;
+#[derive(Clone, Copy)]
+pub struct Blank;
 
+#[derive(Clone, Copy)]
 pub struct Digit;
 
-struct Word;
+#[derive(Clone, Copy)]
+pub struct Word;
 
 impl Class for Blank {
     ghost has = { blank };

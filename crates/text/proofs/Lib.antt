@@ -5,6 +5,7 @@ pub mod Slices
 pub mod Frames
 pub mod Merging
 pub mod Halves
+pub mod Copies
 pub mod Decimals
 pub mod PlaceLaws
 pub mod Library

@@ -1,6 +1,7 @@
 // Bytes and texts: classes of bytes, the screening of a sheet, counting.
 #![tactic(auto)]
 
+pub mod copying; // copying.rt: slices copied
 pub mod decimal; // decimal.rt: decimal numbers
 pub mod places; // places.rt: texts named by places, and sorting by them
 pub mod sorting; // sorting.rt: words sorted by a test

@@ -1,5 +1,6 @@
 pub mod Decoding
 pub mod ByKind
+pub mod Children
 pub mod Bounded
 pub mod FixedNames
 pub mod Pushing

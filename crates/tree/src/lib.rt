@@ -2,7 +2,7 @@
 #![tactic(auto)]
 
 pub mod area; // area.rt: a work area with its sheet and its free end
-mod cells;
+pub mod cells; // cells.rt: the words of cells, for words alone
 pub mod fixed; // fixed.rt: the names that reduction and schemes make
 mod iter; // iter.rt: the cells of a list, one after another
 pub mod kinds; // kinds.rt: the kinds of cells

@@ -7,6 +7,7 @@ ghost use Rattle.tree.specs.Names.{name_text};
 ghost use Rattle.text.specs.Printing.{Printed};
 
 use crate::fixed::Fixed;
+use text::copying::copy;
 
 // How many zeros the first name has that no sheet spells.
 pub const ZEROS: usize = 65536;
@@ -85,6 +86,6 @@ pub fn print_text(out: &mut [u8], at: usize, text: &[u8]) -> usize
     ensures { Printed out.old out.new at text.now result }
 {
     let end = at + text.len();
-    out[at..end].copy_from_slice(text);
+    copy(&mut out[at..end], text);
     end
 }

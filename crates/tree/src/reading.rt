@@ -6,6 +6,7 @@ ghost use Rattle.text.specs.Printing.{Printed};
 ghost use Rattle.tree.specs.Cells.{length_of};
 ghost use Rattle.tree.specs.Names.{name_text};
 ghost use Rattle.tree.specs.Areas.{cell_kind, count_in, first_in, next_in, name_in, tree_in, trees_in, sort_of, sum_in, CellIn};
+ghost use Rattle.tree.specs.declared.kinds.Kind.TheVariants.{Application};
 
 use crate::area::Area;
 use crate::cells;
@@ -78,6 +79,8 @@ impl Area<'_, '_> {
         requires { CellIn self.now k }
         ensures children { trees_in self.now result ≡ children (tree_in self.now k) }
         ensures below { result < k }
+        ensures first { cell_kind self.now k ≡ Application → result ≡ first_in self.now k }
+        ensures application { 0 < result → cell_kind self.now k ≡ Application }
     {
         match self.kind(k) {
             Kind::Application => self.first_of(k),

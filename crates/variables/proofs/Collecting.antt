@@ -22,7 +22,7 @@ use Rattle.tree.proofs.Walks.{walk_ends, walk_goes}
 use Rattle.flattening.specs.declared.writer.Writer.{Writer}
 use Rattle.flattening.specs.Writers.{Appended}
 use Rattle.variables.specs.Variables.{Readable, ReadableAll, VariablePlaces, PlacesWritten, Ordered, repeats}
-use Rattle.variables.specs.Areas.{GathersIn}
+use Rattle.variables.specs.Areas.{GathersFrom}
 use Rattle.variables.proofs.Dropping.{ordered_above}
 use Rattle.variables.proofs.Naming.{named_append, named_empty, named_variable, named_atom, named_list, list_spelled, parts_spelled, parts_names}
 
@@ -151,14 +151,14 @@ pub record CollectingInto (a : Area) (x y : Writer) (list : ℕ) (left : List �
 
 -- ---- all together
 
--- the words of an area are parted above as many cells as the sheet has bytes, and the places are in the second part
-pub gathers_all : {a b : Area} {list k : ℕ} {c r u : List ℕ} (h : Parted a.work.now c r (4 * (a.free + length a.sheet.now))) → list < a.free
+-- the words of an area are parted above its cells, and the places are in the second part
+pub gathers_all : {a b : Area} {list from k : ℕ} {c r u : List ℕ} (h : Parted a.work.now c r from) → 4 * a.free ≤ from → list < a.free
     → Ordered a.sheet.now r u 0 k (sizes (trees_at a.sheet.now c list)) (variable_names_in (trees_at a.sheet.now c list)) → Lent a b → b.free ≡ a.free → b.work.now ≡ c ++ u
-    → GathersIn a b list record { from = 4 * (a.free + length a.sheet.now); to = 4 * (a.free + length a.sheet.now) + k }
-gathers_all {a} {b} {list} {k} {c} {r} {u} h p o l e f =
-    let t = part_trees h a.free (omega arith) a.sheet.now a.arena list p in
+    → GathersFrom a b list from record { from = from; to = from + k }
+gathers_all {a} {b} {list} {from} {k} {c} {r} {u} h above p o l e f =
+    let t = part_trees h a.free above a.sheet.now a.arena list p in
     record {
-      keeps = record { lent = l; end = e; below = rw f (joined_below h a.free (omega arith) u o.kept.len) };
+      keeps = record { lent = l; end = e; below = rw f (joined_below h a.free above u o.kept.len) };
       start = refl;
       ordered = rw f (ordered_above h (rw t at o));
     }

@@ -17,11 +17,15 @@ use Rattle.variables.specs.declared.pairing.Solution.{Solution}
 abbrev pub names_in : Area → ℕ → List Text
 names_in a k = names_at a.sheet.now a.work.now k
 
--- b has the places of the variables of the trees of a list, in byte order and each once, above as many cells as the sheet has bytes
-pub record GathersIn (a b : Area) (list : ℕ) (p : Places) : Type 0 where
+-- b has the places of the variables of the trees of a list, in byte order and each once, from a position on
+pub record GathersFrom (a b : Area) (list from : ℕ) (p : Places) : Type 0 where
   pub keeps : KeepsCells a b
-  pub start : p.from ≡ 4 * (a.free + length a.sheet.now)
+  pub start : p.from ≡ from
   pub ordered : Ordered a.sheet.now a.work.now b.work.now p.from p.to (sizes (trees_in a list)) (variable_names_in (trees_in a list))
+
+-- above as many cells as the sheet has bytes
+abbrev pub GathersIn : Area → Area → ℕ → Places → Type 0
+GathersIn a b list p = GathersFrom a b list (4 * (a.free + length a.sheet.now)) p
 
 -- variables stand at places above as many cells as there are of them
 pub record Listable (a : Area) (p : Places) : Type 0 where

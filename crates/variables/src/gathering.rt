@@ -4,7 +4,7 @@ ghost use Rattle.rules.specs.Tree.{size, sizes, variable_names, variable_names_i
 ghost use Rattle.text.specs.Places.{text_at};
 ghost use Rattle.tree.specs.Areas.{CellIn, tree_in, trees_in};
 ghost use Rattle.variables.specs.Variables.{Readable, ReadableAll, PlacesWritten, Dropped, Ordered, repeats};
-ghost use Rattle.variables.specs.Areas.{GathersIn};
+ghost use Rattle.variables.specs.Areas.{GathersFrom, GathersIn};
 
 use flattening::writer::Writer;
 use text::places::{sort_by_texts, text_at};
@@ -86,15 +86,13 @@ fn order(area: &Area, list: usize, words: &mut [u32]) -> usize
     drop_repeats(area.sheet, places)
 }
 
-// Writes the places of the variables of the trees of the list, in byte order and each once, above as many cells as the sheet has bytes. As
-// many words as the trees have nodes, and as many again, are scratch.
-pub fn variables_of(area: &mut Area, list: usize) -> Places
+// Writes the places of the variables of the trees of the list, in byte order and each once, from a position above the cells on. As many
+// words as the trees have nodes, and as many again, are scratch.
+pub fn variables_from(area: &mut Area, list: usize, from: usize) -> Places
     requires list { (list < area.old.free) × ReadableAll (trees_in area.old list) }
-    requires few { sizes (trees_in area.old list) ≤ length area.old.sheet.now }
-    requires room { 4 * (area.old.free + length area.old.sheet.now) + 2 * length area.old.sheet.now ≤ length area.old.work.now }
-    ensures { GathersIn area.old area.new list result }
+    requires room { (4 * area.old.free ≤ from) × (from + 2 * sizes (trees_in area.old list) ≤ length area.old.work.now) }
+    ensures { GathersFrom area.old area.new list from result }
 {
-    let from = 4 * (area.free + area.sheet.len());
     let Area { sheet, free, .. } = *area;
     // Lent to a variable first: the words that come back of a field have no name that a proof can cite.
     let work = &mut *area.work;
@@ -109,4 +107,15 @@ pub fn variables_of(area: &mut Area, list: usize) -> Places
         from,
         to: from + count,
     }
+}
+
+// The same above as many cells as the sheet has bytes.
+pub fn variables_of(area: &mut Area, list: usize) -> Places
+    requires list { (list < area.old.free) × ReadableAll (trees_in area.old list) }
+    requires few { sizes (trees_in area.old list) ≤ length area.old.sheet.now }
+    requires room { 4 * (area.old.free + length area.old.sheet.now) + 2 * length area.old.sheet.now ≤ length area.old.work.now }
+    ensures { GathersIn area.old area.new list result }
+{
+    let from = 4 * (area.free + area.sheet.len());
+    variables_from(area, list, from)
 }

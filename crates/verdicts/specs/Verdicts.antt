@@ -27,3 +27,8 @@ head_count verdict spent = lines_for (length verdict) + lines_for (length (decim
 abbrev pub VerdictHeld : Area → Result ℕ Ending → Type 0
 VerdictHeld a (Ok b) = (b < a.free) × Chain (trees_in a b)
 VerdictHeld a (Err e) = Unit {0}
+
+-- a run that ends without a solution
+abbrev pub Stopped : Result ℕ Ending → Type 0
+Stopped (Ok b) = ⊥
+Stopped (Err e) = Unit {0}

@@ -27,7 +27,7 @@ fn word_of(ending: Ending) -> &'static [u8]
 }
 
 // The verdict's line and the line `spent`.
-fn put_head(out: &mut Output, verdict: &[u8], spent: usize) -> Option<()>
+pub fn put_head(out: &mut Output, verdict: &[u8], spent: usize) -> Option<()>
     ensures { PutInto out.old out.new (head_lines verdict.now spent) (head_count verdict.now spent) result }
 {
     out.word_line(b"verdict=", verdict)?;

@@ -1,5 +1,5 @@
 use native.Mathlib.Omega.{arith}
-use Rattle.closing.proofs.Shuts.{closes_none}
+use Rattle.tree.proofs.Keeping.{pushed_some}
 use Rattle.closing.proofs.Sums.{sum_of_none, sum_of_one, tail_only, front_room, sum_over, sum_room, sum_shut}
 use Rattle.closing.proofs.sum.Goals as goal
 
@@ -15,13 +15,18 @@ nest-requires-clause-tail c = tail_only (omega arith) c.requires.links.0 c.next_
 pub nest-requires-clause-room : goal.nest-requires-clause-room
 nest-requires-clause-room c = front_room (omega arith) c.requires.links.0 c.next_of-second.ensures.next c.share-tail.ensures c.next_of-second.ensures.below (omega arith) c.requires.room
 
-pub returns-in_err-nested : goal.returns-in_err-nested
-returns-in_err-nested c = closes_none _ _ _ _ _ c.from_residual.ensures (sum_over (omega arith) c.requires.links.0 c.next_of-second.ensures.next c.share-tail.ensures c.next_of-second.ensures.below (omega arith) c.args.next c.in_err-nested.ensures)
+pub truncate-requires : goal.truncate-requires
+truncate-requires c = omega (arith, pushed_some c.share-tail.ensures, c.share-tail.ensures.cell, c.share-tail.ensures.end, c.in_default.ensures.1.grew)
+
+pub returns-in_default : goal.returns-in_default
+returns-in_default c =
+    let t = c.truncate.ensures in
+    sum_over (omega arith) c.requires.links.0 c.next_of-second.ensures.next c.share-tail.ensures c.next_of-second.ensures.below (omega arith) c.args.next c.in_default.ensures t.lent t.end t.words
 
 pub share-requires-clause-room : goal.share-requires-clause-room
 share-requires-clause-room c =
-    let r = sum_room (omega arith) c.requires.links.0 c.next_of-second.ensures.next c.share-tail.ensures c.next_of-second.ensures.below (omega arith) c.in_ok-nested.ensures c.requires.links.1 c.requires.room in
+    let r = sum_room (omega arith) c.requires.links.0 c.next_of-second.ensures.next c.share-tail.ensures c.next_of-second.ensures.below (omega arith) c.in-Some.ensures c.requires.links.1 c.requires.room in
     (omega (arith, r.0), omega (arith, r.1))
 
 pub returns : goal.returns
-returns c = sum_shut (omega arith) c.requires.links.0 c.next_of-second.ensures.next c.share-tail.ensures c.next_of-second.ensures.below (omega arith) c.in_ok-nested.ensures c.requires.links.1 c.share.ensures
+returns c = sum_shut (omega arith) c.requires.links.0 c.next_of-second.ensures.next c.share-tail.ensures c.next_of-second.ensures.below (omega arith) c.in-Some.ensures c.requires.links.1 c.share.ensures

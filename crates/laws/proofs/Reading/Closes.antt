@@ -25,7 +25,7 @@ use Rattle.laws.proofs.Reading.Closing.{closed, all_closed, text_closed}
 
 -- What is read as it is written
 
-leaf_written : (n : Text) → (word n || variable_token n) ≡ true → Written (leaf n)
+pub leaf_written : (n : Text) → (word n || variable_token n) ≡ true → Written (leaf n)
 unfolding leaf
 leaf_written n h = go (word n) refl h
   where

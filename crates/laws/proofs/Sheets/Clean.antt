@@ -5,7 +5,7 @@ use mathlib.Core.List.{List, [], ◌∷◌, ◌++◌, append_assoc}
 use Rattle.std.specs.Prelude.{Option, Some}
 use lib.Dec.{eqb}
 use Rattle.rules.specs.Bytes.{Text}
-use Rattle.rules.specs.Names.{all, number, variable_token}
+use Rattle.rules.specs.Names.{all, number, word, variable_token}
 use Rattle.rules.specs.Tree.{Tree}
 use Rattle.rules.specs.Writing.{render}
 use Rattle.rules.specs.Lines.{lines, on_first}
@@ -13,7 +13,7 @@ use Rattle.rules.specs.Tidy.{Built}
 use Rattle.laws.specs.Laying.{solid}
 use Rattle.laws.proofs.Basics.Tests.{and_left, and_right}
 use Rattle.laws.proofs.Basics.Bytes.{not_byte}
-use Rattle.laws.proofs.Sheets.Solid.{number_solid, variable_solid, render_solid}
+use Rattle.laws.proofs.Sheets.Solid.{number_solid, word_solid, variable_solid, render_solid}
 
 abbrev pub Clean : Text → Type 0
 Clean [] = Unit {0}
@@ -30,6 +30,9 @@ solid_clean (b ∷ n) e = (not_byte solid 10 refl b (and_left (solid b) (all sol
 
 pub number_clean : (n : Text) → number n ≡ true → Clean n
 number_clean n e = solid_clean n (number_solid n e)
+
+pub word_clean : (n : Text) → word n ≡ true → Clean n
+word_clean n e = solid_clean n (word_solid n e)
 
 pub variable_clean : (x : Text) → variable_token x ≡ true → Clean x
 variable_clean x e = solid_clean x (variable_solid x e)

@@ -5,7 +5,7 @@ use mathlib.Core.List.{[], ◌∷◌, ◌++◌}
 use Prim.Native.Nat.{ℕ}
 use lib.Dec.{eqb}
 use Rattle.rules.specs.Bytes.{Text}
-use Rattle.rules.specs.Names.{digit, alphabetic, alphanumeric, all, number, variable_token, letter}
+use Rattle.rules.specs.Names.{digit, alphabetic, alphanumeric, all, number, word, variable_token, letter}
 use Rattle.rules.specs.Tree.{Tree, Trees, none, more, tamtplus}
 use Rattle.rules.specs.Writing.{render, renders, listed, commas}
 use Rattle.rules.specs.Tidy.{Built, a_variable, an_atom, a_leaf, a_list, a_sum, Builts, nil, both}
@@ -24,6 +24,9 @@ solid_bytes = all_weaker name_byte solid (solid_by name_byte refl refl)
 
 pub number_solid : (n : Text) → number n ≡ true → all solid n ≡ true
 number_solid n e = solid_bytes n (number_bytes n e)
+
+pub word_solid : (n : Text) → word n ≡ true → all solid n ≡ true
+word_solid n e = solid_bytes n (word_bytes n e)
 
 pub variable_solid : (x : Text) → variable_token x ≡ true → all solid x ≡ true
 variable_solid x e = solid_bytes x (variable_bytes x e)
@@ -44,7 +47,7 @@ mutual
   pub render_solid : {t : Tree} → Built t → all solid (render t) ≡ true
   render_solid (a_variable {x} v) = variable_solid x v
   render_solid (an_atom {c} {d} l n) = all_more solid c (40 ∷ (d ++ (41 ∷ []))) (solid_letter c l) (all_more solid 40 (d ++ (41 ∷ [])) refl (all_both solid d (41 ∷ []) (number_solid d n) refl))
-  render_solid (a_leaf {f} w) = solid_bytes f (word_bytes f w)
+  render_solid (a_leaf {f} w) = word_solid f w
   render_solid (a_list {f} {t} {ts} w l q b bs) = listed_solid f (render t) (commas (renders ts)) (solid_bytes f (token_bytes f w)) (render_solid b) (commas_solid bs)
   render_solid (a_sum {a} {b} p q) =
       listed_solid tamtplus (render a) (commas (renders (more b none))) refl (render_solid p)

@@ -25,27 +25,27 @@ pub any_covers-requires-clause-solution : goal.any_covers-requires-clause-soluti
 any_covers-requires-clause-solution c =
     let k = c.requires.stack in
     let y = c.unify_sparing-answer.ensures in
-    solution_there k.0 k.1 c.names_of-names.ensures _ _ c.nodes_in-nodes.ensures c.count_of-colons.ensures y.answers _ c.in_ok-bindings.ensures.value y.ends
+    solution_there k.0 k.1 c.names_of-names.ensures _ _ c.nodes_in-nodes.ensures c.count_of-colons.ensures y.answers _ c.in-Ok.is y.ends
 
 pub any_covers-requires-clause-room : goal.any_covers-requires-clause-room
 any_covers-requires-clause-room c =
     let k = c.requires.stack in
     let y = c.unify_sparing-answer.ensures in
-    all_room k.0 k.1 c.names_of-names.ensures _ _ c.nodes_in-nodes.ensures c.count_of-colons.ensures y.answers _ c.in_ok-bindings.ensures.value y.ends
+    all_room k.0 k.1 c.names_of-names.ensures _ _ c.nodes_in-nodes.ensures c.count_of-colons.ensures y.answers _ c.in-Ok.is y.ends
 
 pub any_covers-requires-clause-matchable : goal.any_covers-requires-clause-matchable
 any_covers-requires-clause-matchable c =
     let k = c.requires.stack in
     let y = c.unify_sparing-answer.ensures in
-    all_matchable k.0 k.1 c.names_of-names.ensures _ _ c.nodes_in-nodes.ensures c.count_of-colons.ensures y.answers _ c.in_ok-bindings.ensures.value y.ends
+    all_matchable k.0 k.1 c.names_of-names.ensures _ _ c.nodes_in-nodes.ensures c.count_of-colons.ensures y.answers _ c.in-Ok.is y.ends
 
 pub returns : goal.returns
 returns c =
     let k = c.requires.stack in
     let y = c.unify_sparing-answer.ensures in
-    claimed k.0 k.1 c.names_of-names.ensures _ _ c.nodes_in-nodes.ensures c.count_of-colons.ensures y.answers _ c.in_ok-bindings.ensures.value y.ends _ c.any_covers.ensures
+    claimed k.0 k.1 c.names_of-names.ensures _ _ c.nodes_in-nodes.ensures c.count_of-colons.ensures y.answers _ c.in-Ok.is y.ends _ c.any_covers.ensures
 
-pub returns-in_err-bindings : goal.returns-in_err-bindings
-returns-in_err-bindings c =
+pub returns-in_default : goal.returns-in_default
+returns-in_default c =
     let k = c.requires.stack in
-    rw c.from_residual.ensures (unsolved k.0 k.1 c.names_of-names.ensures _ _ c.nodes_in-nodes.ensures c.count_of-colons.ensures c.unify_sparing-answer.ensures.answers c.in_err-bindings.ensures.value)
+    unsolved k.0 k.1 c.names_of-names.ensures _ _ c.nodes_in-nodes.ensures c.count_of-colons.ensures c.unify_sparing-answer.ensures.answers c.in_default.is

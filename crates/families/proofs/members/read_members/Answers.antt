@@ -8,13 +8,12 @@ loop-cursor-init c = gathering_starts c.args.area.now c.args.start.at
 pub read_member-requires-clause-member_there : goal.read_member-requires-clause-member_there
 read_member-requires-clause-member_there c = gathering_next c.loop-cursor.invariant c.next_member.ensures (sym c.is_some.ensures ∙ c.loop-cursor-test.true) c.requires.members
 
-pub returns-in_err-member : goal.returns-in_err-member
-returns-in_err-member c =
-    rw c.from_residual.ensures (gathering_unread c.loop-cursor.invariant c.next_member.ensures (sym c.is_some.ensures ∙ c.loop-cursor-test.true) c.in_err-member.ensures)
+pub returns-in_default : goal.returns-in_default
+returns-in_default c = gathering_unread c.loop-cursor.invariant c.next_member.ensures (sym c.is_some.ensures ∙ c.loop-cursor-test.true) c.in_default.ensures
 
 pub loop-cursor-preserved : goal.loop-cursor-preserved
 loop-cursor-preserved c =
-    gathering_turn c.loop-cursor.invariant c.next_member.ensures (sym c.is_some.ensures ∙ c.loop-cursor-test.true) c.in_ok-member.ensures c.push_member-list.ensures.lists c.push_member-list.ensures.end
+    gathering_turn c.loop-cursor.invariant c.next_member.ensures (sym c.is_some.ensures ∙ c.loop-cursor-test.true) c.in-Some.ensures c.push_member-list.ensures.lists c.push_member-list.ensures.end
 
 pub returns : goal.returns
 returns c = gathering_ends c.loop-cursor.invariant c.next_member.ensures (sym c.is_some.ensures ∙ c.loop-cursor-test.false)
